@@ -232,38 +232,6 @@ static void test_puts(void) {
     }
 }
 
-/* Lines are the same however the stream is cut, but for those of data, which end with a call. */
-static void test_lines(void) {
-    static const uint8_t stream[] = "a\303\274\r\205\033[?1;2:3m\033P1$q+\n\033\\\033]2;;t\007\033[m\033[1;20;300;65536 !\"m\033(B\033( !C\377b\033]\033\\";
-    static const struct {
-        uint32_t kinds;
-        const char *lines;
-    } wanted[] = {
-        {VTE_ALL_KINDS, "a\303\274\nx0d\n\nx85\n\nc0m?1;2:3\n\nh0q$1\n\np2b\n\np0a\n\nu\n\ne0\\\n\no12;;t\n\nc0m0\n"
-                        "\nc1m !1;20;300;65535\n\ne0B(\n\ne1C( \n\357\277\275b\no0\n\ne0\\\n"},
-        {VTE_KIND(VTE_OSC), "\no12;;t\n\no0\n"},
-        {VTE_KIND(VTE_HOOK) | VTE_KIND(VTE_UNHOOK), "\nh0q$1\n\nu\n"},
-        {VTE_KIND(VTE_DATA), "\nd2b0a\n"},
-        {VTE_KIND(VTE_DATA) | VTE_KIND(VTE_PUT), "\nd2b0a\n"},
-        {0, ""},
-    };
-    for (size_t i = 0; i < 2 * sizeof wanted / sizeof *wanted; i++) {
-        char lines[512];
-        size_t size = 0, count = 0, all = sizeof stream - 1, step = i % 2 && !(wanted[i / 2].kinds & VTE_KIND(VTE_DATA)) ? 1 : all;
-        vte_long_parser *parser = vte_long_parser_new();
-        for (size_t at = 0; at < all; at += step) {
-            vte_long_counts counts = {77, NULL, 77, 77};
-            holds(vte_long_feed_lines(parser, stream + at, step, wanted[i / 2].kinds, &counts) == step && counts.stop == 0, "lines of all");
-            memcpy(lines + size, counts.data, counts.data_size);
-            size += counts.data_size, count += 2 * counts.events;
-        }
-        holds(size == strlen(wanted[i / 2].lines) && memcmp(lines, wanted[i / 2].lines, size) == 0, "the lines");
-        for (size_t at = 0; at < size; at++) count -= lines[at] == '\n';
-        holds(count == 0, "the number of lines");
-        vte_long_parser_free(parser);
-    }
-}
-
 static void count_input(void *user, const uint8_t *input, size_t length) {
     holds(length > 0 && *input == 'a', "an input has characters");
     *(size_t *)user += 1;
@@ -380,7 +348,6 @@ int main(void) {
     test_stops();
     test_puts();
     test_texts();
-    test_lines();
     test_most();
 #endif
     return status;

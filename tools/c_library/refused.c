@@ -88,21 +88,6 @@ static int read_long(void) {
     return 1;
 }
 
-static int read_lines(void) {
-    vte_long_counts counts;
-    vte_long_parser *parser = vte_long_parser_new();
-    if (parser == NULL) return 0;
-    for (size_t at = 0; at < stream_length;) {
-        size_t length = stream_length - at < most ? stream_length - at : most;
-        size_t read = vte_long_feed_lines(parser, stream + at, length, kinds, &counts);
-        put(counts.data, counts.data_size);
-        if (counts.stop ? counts.stop != VTE_REFUSED || !refused : read != length) abort();
-        at += read;
-    }
-    vte_long_parser_free(parser);
-    return 1;
-}
-
 static void input(void *user, const uint8_t *text, size_t length) { (void)user, put(text, length); }
 static void title(void *user, const uint8_t *text, size_t length) { (void)user, put("[", 1), put(text, length); }
 static void store(void *user, uint8_t clipboard, const uint8_t *text, size_t length) { title(user, text, length), put(&clipboard, 1); }
@@ -146,7 +131,7 @@ static int try_all(int (*way)(void)) {
 
 static void try_ways(size_t bytes, uint32_t wanted, int least) {
     most = bytes, kinds = wanted;
-    printf("%d %d %d\n", try_all(read_long) > least, try_all(read_lines) > least, try_all(process) > least);
+    printf("%d %d\n", try_all(read_long) > least, try_all(process) > least);
 }
 
 int main(void) {

@@ -1,14 +1,14 @@
 /* vte.h: a parser of the bytes that programs send to a terminal.
  *
  * Link with libvte_c.a or libvte_c.so. These functions allocate no memory, keep no pointer and have no state of their own: a parser is
- * plain data that you own, and so are the buffers for what it reports. Different threads may use different parsers.
+ * plain data that you own, and so are the buffers for what it reports.
  *
  *     vte_parser parser = {0};
  *     vte_event events[256];
  *     uint8_t data[8192];
  *     vte_counts counts;
  *     while (length > 0) {
- *         size_t read = vte_feed(&parser, bytes, length, events, 256, data, sizeof data, &counts);
+ *         size_t read = vte_feed(&parser, bytes, length, VTE_ALL_KINDS, 0, events, 256, data, sizeof data, &counts);
  *         for (size_t i = 0; i < counts.events; i++)
  *             if (events[i].kind == VTE_TEXT) draw(vte_text_of(&events[i], bytes, data), events[i].code);
  *         bytes += read;
@@ -19,7 +19,8 @@
  * nothing to call at the end of the stream. A VTE_TEXT stands for the characters of a text, one after another, and a VTE_DATA for bytes of
  * data. How these are split into events depends on the input and the buffers.
  *
- * No pointer may be null, even with a length of 0, and what a call writes may not overlap anything else that is passed.
+ * A pointer to bytes, events or text may be NULL if its length is 0; no other may. What a call writes may not overlap anything else that is
+ * passed. Threads may use different parsers at once. Nothing protects one parser: give it to one call at a time.
  */
 #ifndef VTE_H
 #define VTE_H
@@ -32,9 +33,10 @@ extern "C" {
 #endif
 
 /* The version of this interface; vte_version() returns that of the library. */
-#define VTE_VERSION 5
+#define VTE_VERSION 6
 
-/* A parser. All zeros is a new parser. It can be copied, stored and compared as bytes. Any content is safe to use. */
+/* A parser. All zeros is a new parser. It can be copied, stored and compared as bytes. With any other bytes, calls still keep to your
+ * buffers, but what they report means nothing. */
 typedef struct {
     uint64_t words[164];
 } vte_parser;
@@ -45,15 +47,18 @@ enum {
                         says that it is in the data area, and otherwise it is in the bytes of the call */
     VTE_EXECUTE = 1, /* a control function of one byte, 00..1F or 80..9F: code */
     VTE_HOOK = 2,    /* a device control string begins: as VTE_CSI */
-    VTE_PUT = 3,     /* a byte of its data: code. Only vte_long_feed writes it; vte_feed writes VTE_DATA */
+    VTE_DATA = 3,    /* bytes of its data, one or more: vte_text_of and code as with VTE_TEXT */
     VTE_UNHOOK = 4,  /* its end */
     VTE_OSC = 5,     /* an operating system command: pieces, at most 16, with 1,024 data bytes. Flag has VTE_BELL if BEL ended it, and
                         VTE_TRUNCATED if data bytes were dropped: later ones, and those of later pieces */
     VTE_CSI = 6,     /* a control sequence: groups of numbers, intermediates, and the final byte in code; flag says whether
                         numbers or intermediates were left out because there were too many */
-    VTE_ESC = 7,     /* an escape sequence: intermediates, and the final byte in code; flag as with VTE_CSI */
-    VTE_DATA = 8     /* bytes of the data of a device control string, one or more: vte_text_of and code as with VTE_TEXT */
+    VTE_ESC = 7      /* an escape sequence: intermediates, and the final byte in code; flag as with VTE_CSI */
 };
+
+/* Sets of kinds: VTE_KIND(VTE_OSC) | VTE_KIND(VTE_CSI). */
+#define VTE_KIND(kind) (1u << (kind))
+#define VTE_ALL_KINDS 0xffu
 
 /* The flags of a VTE_OSC. */
 enum {
@@ -85,24 +90,25 @@ typedef struct {
 #define VTE_LEAST_TEXT 16
 #define VTE_NO_ROOM ((size_t)-1)
 
-/* Reads bytes, and writes the events that they add to the stream. Returns how many bytes were read, or VTE_NO_ROOM.
+/* Reads bytes, and writes the events of some kinds that they add to the stream. Returns how many bytes were read, or VTE_NO_ROOM.
  *
- * It stops early when the buffers are nearly full, and after 4 GiB: call it again with the rest, or with the rest and more. A
- * sequence or a character that is unfinished at the end of the bytes continues in the next call. Texts and data stay in the
- * bytes: keep these until you have read the events. */
-size_t vte_feed(vte_parser *parser, const uint8_t *bytes, size_t length, vte_event *events, size_t event_room, uint8_t *data,
-                size_t data_room, vte_counts *counts);
-
-/* Reads bytes as vte_feed does, and also stops after the first event of a kind. At most one event follows it, and only if the same
- * byte gives both. With VTE_TEXT it may write that event and return 0, if the first byte breaks a character: call it again. */
-size_t vte_feed_until(vte_parser *parser, const uint8_t *bytes, size_t length, uint8_t kind, vte_event *events,
-                      size_t event_room, uint8_t *data, size_t data_room, vte_counts *counts);
+ * It stops early when the buffers are nearly full, after 4 GiB, and after the first event of the kinds `stops` that it writes: call it again
+ * with the rest, or with the rest and more. At most one event follows that which stops, and only if the same byte gives both. If texts stop,
+ * it may write one and return 0, because the first byte breaks a character.
+ *
+ * A sequence or a character that is unfinished at the end of the bytes continues in the next call. Texts and data stay in the bytes: keep
+ * these until you have read the events. */
+size_t vte_feed(vte_parser *parser, const uint8_t *bytes, size_t length, uint32_t kinds, uint32_t stops, vte_event *events,
+                size_t event_room, uint8_t *data, size_t data_room, vte_counts *counts);
 
 /* Reads bytes, and writes the text that is left without the sequences: characters in UTF-8, HT, LF and CR. Returns how many
  * bytes were read, or VTE_NO_ROOM. It stops early when the buffer is nearly full, as vte_feed does.
  *
  * Use a parser either for events or for text. */
 size_t vte_strip(vte_parser *parser, const uint8_t *bytes, size_t length, uint8_t *text, size_t text_room, size_t *written);
+
+/* Returns whether a sequence or a character is unfinished. */
+uint8_t vte_is_open(const vte_parser *parser);
 
 /* The version of the library, the sizes of its two structs, and its least room. */
 uint32_t vte_version(void);
@@ -159,8 +165,9 @@ static inline int vte_next_group(vte_items *items) {
 static inline int vte_next_piece(vte_items *items) {
     if (items->left == 0) return 0;
     items->left--;
-    items->length = (size_t)(items->next[0] | items->next[1] << 8);
-    items->at = items->next + 2;
+    items->length = 0;
+    for (int i = 3; i >= 0; i--) items->length = items->length << 8 | items->next[i];
+    items->at = items->next + 4;
     items->next = items->at + items->length;
     return 1;
 }

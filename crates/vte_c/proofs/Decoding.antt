@@ -1,9 +1,10 @@
 -- Records and their data stand for the events that they were written for.
-use Rattle.std.proofs.Common.{◌≡◌, ℕ, ◌+◌, ◌*◌, ◌/◌, ◌%◌, ◌≤◌, min, Bool, true, false, ◌&&◌, ◌==◌, List, [], ◌∷◌, ◌++◌}
+use Rattle.std.proofs.Common.{◌≡◌, ℕ, ◌+◌, ◌*◌, ◌/◌, ◌%◌, ◌≤◌, min, Bool, true, false, ◌&&◌, ◌==◌, List, [], ◌∷◌, ◌++◌, get_or, map, set, inl, inr, ◌∙◌}
 use Rattle.std.proofs.Common.{length, take, drop, Some, refl, sym, ap, append_assoc, append-nil, length-append, arith}
 use Rattle.std.proofs.Math.Nat.{add-zero}
-use Rattle.std.proofs.Math.Seq.{drop-append_seam, drop-drop, take-append_seam}
-use Rattle.std.proofs.lemmas.List.{take-append-drop}
+use Rattle.std.proofs.Math.Seq.{drop-append_seam, drop-drop, map-set_same, take-append_seam}
+use Rattle.std.proofs.lemmas.Bool.{cases_Bool, eqb-true}
+use Rattle.std.proofs.lemmas.List.{take-append-drop, take-map}
 use Rattle.std.proofs.lemmas.List.Sums.{sum_by-cons}
 use Rattle.std.proofs.lemmas.Str.{chars-encodes}
 use Rattle.std.specs.Char.{IsScalar, encode_utf8}
@@ -12,9 +13,9 @@ use Rattle.std.specs.Str.{chars}
 use Rattle.vte_core.specs.Brief.{IsBounded}
 use Rattle.vte_core.specs.Event.{Event, Print, Hook, Put, OscDispatch, CsiDispatch, EscDispatch}
 use Rattle.vte_core.specs.Parameters.{AreGroups, count_of}
-use Rattle.vte_c.specs.Feeding.{AreReadable}
+use Rattle.vte_c.specs.Feeding.{AreReadable, kinds_of}
 use Rattle.vte_c.specs.Record.{Run, TextRun, DataRun, Item, Single, InInput, count_byte, data_of, event_in, events_of, flag_byte, group_bytes, groups_in, intermediates_in, item_data, item_events}
-use Rattle.vte_c.specs.Record.{numbers_in, piece_bytes, pieces_in, placed, records_from, run_events, run_kind, run_record, two_bytes, with_intermediates}
+use Rattle.vte_c.specs.Record.{numbers_in, piece_bytes, pieces_in, placed, records_from, run_events, run_kind, run_record, two_bytes, with_intermediates, with_loss, without_loss}
 use Rattle.vte_c.specs.declared.event.VteEvent.{VteEvent}
 use Rattle.vte_c.proofs.Sizes.{few_groups, length_numbers}
 
@@ -42,14 +43,16 @@ groups_read groups back h =
     let few : count_byte (length groups) ≡ length groups = omega (arith, few_groups groups h) in
     rw few (read_groups groups back (omega (arith, h.few)))
 
-read_pieces : (pieces : List (List ℕ)) (back : List ℕ) → length (concat pieces) ≤ 65535
+read_pieces : (pieces : List (List ℕ)) (back : List ℕ) → length (concat pieces) ≤ 4294967295
     → pieces_in (length pieces) (flat_map piece_bytes pieces ++ back) ≡ pieces
 read_pieces [] back small = refl
 read_pieces (piece ∷ pieces) back small =
     let all = length-append piece (concat pieces) in
-    let size : min (length piece) 65535 % 256 + 256 * (min (length piece) 65535 / 256) ≡ length piece = omega arith in
+    let least : min (length piece) 4294967295 ≡ length piece = omega arith in
+    let n : ℕ = length piece in
+    let size : n % 256 + 256 * ((n / 256) % 256) + 65536 * ((n / 65536) % 256) + 16777216 * (n / 16777216) ≡ n = omega arith in
     let rest : List ℕ = flat_map piece_bytes pieces ++ back in
-    rw (append_assoc piece (flat_map piece_bytes pieces) back, size, take-append_seam piece rest, drop-append_seam piece rest, read_pieces pieces back (omega arith)) refl
+    rw (append_assoc piece (flat_map piece_bytes pieces) back, least, size, take-append_seam piece rest, drop-append_seam piece rest, read_pieces pieces back (omega arith)) refl
 
 -- ---- events
 
@@ -57,17 +60,9 @@ read_flag : (flag : Bool) → (flag_byte flag == 1) ≡ flag
 read_flag true = refl
 read_flag false = refl
 
-read_bell : (bell truncated : Bool) → ((flag_byte bell + 2 * flag_byte truncated) % 2 == 1) ≡ bell
-read_bell true true = refl
-read_bell true false = refl
-read_bell false true = refl
-read_bell false false = refl
-
-read_truncated : (bell truncated : Bool) → ((flag_byte bell + 2 * flag_byte truncated) / 2 == 1) ≡ truncated
-read_truncated true true = refl
-read_truncated true false = refl
-read_truncated false true = refl
-read_truncated false false = refl
+read_bell : (bell : Bool) → (flag_byte bell % 2 == 1) ≡ bell
+read_bell true = refl
+read_bell false = refl
 
 read_intermediates : (event : VteEvent) (intermediates : List ℕ) → length intermediates ≤ 2
     → intermediates_in (with_intermediates event intermediates) ≡ intermediates
@@ -86,9 +81,9 @@ unfolding events_of event_in
 read_single input area back place (Print c) h e = rw (e, take-append_seam (encode_utf8 c) back, chars-encode c h.0) refl
 read_single input area back place (Hook groups ints ignore final) h e = rw (e, groups_read groups back h.0, read_intermediates _ ints h.1, read_flag ignore) refl
 read_single input area back place (Put byte) h e = rw e refl
-read_single input area back place (OscDispatch pieces bell dropped) h e =
+read_single input area back place (OscDispatch pieces bell) h e =
     let few : count_byte (length pieces) ≡ length pieces = omega (arith, h.0) in
-    rw (e, few, read_pieces pieces back (omega (arith, h.1)), read_bell bell dropped, read_truncated bell dropped) refl
+    rw (e, few, read_pieces pieces back (omega (arith, h.1)), read_bell bell) refl
 read_single input area back place (CsiDispatch groups ints ignore final) h e = rw (e, groups_read groups back h.0, read_intermediates _ ints h.1, read_flag ignore) refl
 read_single input area back place (EscDispatch ints ignore byte) h e = rw (read_intermediates _ ints h.0, read_flag ignore) refl
 read_single input area back place _ h e = refl
@@ -110,6 +105,47 @@ read_items input area back place (Single event ∷ items) are e =
     let rest : List ℕ = flat_map item_data items ++ back in
     let left : drop (place + length (data_of event)) area ≡ rest = rw (← drop-drop (length (data_of event)) place area, e, parts) (drop-append_seam (data_of event) rest) in
     rw (read_single input area rest place event are.0 (rw parts at e), read_items input area back (place + length (data_of event)) items are.1 left) refl
+
+-- whether a command lost data isn't read
+events_without_loss : (input area : List ℕ) (event : VteEvent) → events_of input area (without_loss event) ≡ events_of input area event
+unfolding events_of event_in without_loss
+events_without_loss input area event = elim (cases_Bool (event.kind == 5)) [
+  | inl command ↦
+      let kind : event.kind ≡ 5 = eqb-true event.kind 5 command in
+      let flag : event.flag % 2 % 2 ≡ event.flag % 2 = omega arith in
+      rw (kind, flag) refl
+  | inr other ↦
+      let same : without_loss event ≡ event = rw other refl in
+      ap (events_of input area) same
+]
+
+pub all_without_loss : (input area : List ℕ) (records : List VteEvent)
+    → flat_map (events_of input area) (map without_loss records) ≡ flat_map (events_of input area) records
+all_without_loss input area [] = refl
+all_without_loss input area (event ∷ records) = rw (events_without_loss input area event, all_without_loss input area records) refl
+
+loss_plain : (event : VteEvent) → event.kind ≡ 5 → without_loss (with_loss event) ≡ without_loss event
+unfolding without_loss
+loss_plain event command =
+    let flag : (event.flag % 2 + 2) % 2 ≡ event.flag % 2 = omega arith in
+    rw (command, flag) refl
+
+-- nor is it seen when it is written later
+pub loss_unseen : (records : List VteEvent) (count place : ℕ) (default : VteEvent) → (get_or records place default).kind ≡ 5
+    → map without_loss (take count (set records place (with_loss (get_or records place default)))) ≡ map without_loss (take count records)
+loss_unseen records count place default command =
+    let event : VteEvent = get_or records place default in
+    sym (take-map without_loss count (set records place (with_loss event)))
+    ∙ ap (take count) (map-set_same without_loss records place (with_loss event) default (loss_plain event command))
+    ∙ take-map without_loss count records
+
+kind_without_loss : (event : VteEvent) → (without_loss event).kind ≡ event.kind
+unfolding without_loss
+kind_without_loss event = elim (cases_Bool (event.kind == 5)) [ | inl command ↦ rw command refl | inr other ↦ rw other refl ]
+
+pub kinds_without_loss : (records : List VteEvent) → kinds_of (map without_loss records) ≡ kinds_of records
+kinds_without_loss [] = refl
+kinds_without_loss (event ∷ records) = rw (kind_without_loss event, kinds_without_loss records) refl
 
 -- in an area whose first bytes are the data of all items, their records report their events
 pub items_read : (input area : List ℕ) (used : ℕ) (items : List Item) → AreReadable input items → take used area ≡ flat_map item_data items

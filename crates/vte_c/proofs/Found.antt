@@ -1,7 +1,8 @@
 -- What a caller finds in its buffers.
 use Rattle.std.proofs.Common.{◌≡◌, ℕ, ◌+◌, ◌<◌, ◌≤◌, List, [], ◌∷◌, ◌++◌}
-use Rattle.std.proofs.Common.{length, length-append, drop, min, take, length-take, refl, sym, ap, arith}
-use Rattle.std.proofs.lemmas.List.{drop-append-le, length-drop, take-append-le}
+use Rattle.std.proofs.Common.{length, length-append, drop, min, take, length-take, refl, sym, ap, ◌∙◌, arith}
+use Rattle.std.proofs.lemmas.List.{drop-append-le, length-drop, length-map, take-append-le}
+use Rattle.std.proofs.lemmas.List.Elements.{filter-append}
 use Rattle.std.specs.List.{flat_map}
 use Rattle.vte_core.specs.Event.{Event}
 use Rattle.vte_core.specs.Parser.{HasRead}
@@ -9,12 +10,12 @@ use Rattle.vte_core.specs.Saved.{HasReadSaved}
 use Rattle.vte_core.specs.declared.parser.Parser.{Parser}
 use Rattle.vte_core.specs.declared.parser.saved.Saved.{Saved}
 use Rattle.vte_c.specs.Events.{Room, Starts, room_of}
-use Rattle.vte_c.specs.Feeding.{AreReadable, HasGone, HasItems}
-use Rattle.vte_c.specs.Record.{Run, Item, Single, InInput, events_in, item_events}
-use Rattle.vte_c.specs.Told.{AreEncoded, AreRuns, HasFed, HasTold, HaveOtherKinds, IsRunAt}
+use Rattle.vte_c.specs.Feeding.{AreReadable, HasGone, HasItems, HaveOtherRecords}
+use Rattle.vte_c.specs.Record.{Run, Item, Single, InInput, events_in, item_events, without_loss}
+use Rattle.vte_c.specs.Told.{AreEncoded, AreRuns, HasFed, HasTold, IsRunAt}
 use Rattle.vte_c.specs.declared.event.VteEvent.{VteEvent}
 use Rattle.vte_c.specs.declared.events.Events.{Events}
-use Rattle.vte_c.proofs.Decoding.{items_read}
+use Rattle.vte_c.proofs.Decoding.{all_without_loss, items_read, kinds_without_loss}
 use Rattle.vte_c.proofs.Joining.{given_more}
 use Rattle.vte_c.proofs.Rooms.{length-records}
 
@@ -62,14 +63,15 @@ module _ (old new : Events) (input : List ℕ) (items : List Item) (starts : Sta
 
   -- a reader finds the events
   found : events_in new.count new.events.now (input ++ more) new.area.now ≡ flat_map (item_events (input ++ more)) items
-  found = rw encoded.recorded (items_read (input ++ more) new.area.now new.used items (readable_later input more items h.readable) encoded.held)
+  found = sym (all_without_loss (input ++ more) new.area.now (take new.count new.events.now))
+      ∙ rw encoded.recorded (items_read (input ++ more) new.area.now new.used items (readable_later input more items h.readable) encoded.held)
 
 -- ---- what a call did
 
 pub fed : {old new : Events} {parser : Parser 1024} {saved : Saved} {told : List Event} {stream bytes rest : List ℕ} {n : ℕ} → Starts (room_of old)
-    → {before : Saved} (h : HasTold before told stream (bytes ++ rest)) → HasGone (room_of old) (room_of new) parser h.since bytes 0 n
+    → {before : Saved} (h : HasTold (room_of old).kinds before told stream (bytes ++ rest)) → HasGone (room_of old) (room_of new) parser h.since bytes 0 n
     → ((since : List ℕ) → HasRead parser since → HasReadSaved saved since)
-    → (HaveOtherKinds (room_of old).kind (take new.count new.events.now) → 0 < length bytes → 0 < n)
+    → (HaveOtherRecords (room_of old).stops (room_of new).events → 0 < length bytes → 0 < n)
     → HasFed old new saved told stream bytes rest n
 fed {old} {new} {told = told} {stream = stream} {bytes = bytes} {rest = rest} {n = n} starts h gone saves further =
     let there = encoded old new bytes gone.goes.items starts gone.goes.holds in
@@ -77,13 +79,13 @@ fed {old} {new} {told = told} {stream = stream} {bytes = bytes} {rest = rest} {n
     record {
       events_name = ap (λ (r : Room). r.events_name) gone.goes.holds.room;
       area_name = ap (λ (r : Room). r.area_name) gone.goes.holds.room;
-      further = further;
-      first = rw ((there []).recorded, ← starts.used) gone.goes.holds.first;
+      further = λ others. further (rw (kinds_without_loss (take new.count new.events.now)) others);
+      first = rw (← kinds_without_loss (take new.count new.events.now), (there []).recorded, ← starts.used) gone.goes.holds.first;
       encodes = λ more. rw (finds more) (there more);
       tells = λ more.
           rw (finds more, item_events_later bytes more gone.goes.items gone.goes.holds.readable)
           (given_more (flat_map (item_events bytes) gone.goes.items) bytes rest n h (saves gone.next gone.reads)
-          (λ later. sym (gone.goes.continues.goes_on later)));
+          (λ later. rw (gone.goes.continues.goes_on later, filter-append, gone.goes.shows) refl));
     }
 
 -- The caller's counts, and what its slices hold, are those of the room.
@@ -102,7 +104,7 @@ counts_are room count used e records area least_count least_used =
     let few = length-take room.count room.events.now in
     let small = length-take room.used room.area.now in
     record {
-      same_count = omega (arith, e.number, length-records 0 e.items, ap length e.recorded, ap length records);
+      same_count = omega (arith, e.number, length-records 0 e.items, ap length e.recorded, length-map (take room.count room.events.now) without_loss, ap length records);
       same_used = omega (arith, e.size, ap length e.held, ap length area);
       same_records = records;
       same_area = area;

@@ -7,13 +7,14 @@ use Rattle.std.proofs.lemmas.Bool.{cases_Bool, cases_lt, false≢true}
 use Rattle.std.proofs.lemmas.Bool.Decides.{nat_tests}
 use Rattle.std.proofs.lemmas.Grind.{flat_map-append}
 use Rattle.std.proofs.lemmas.List.{length-drop}
+use Rattle.std.proofs.lemmas.List.Elements.{filter-append}
 use Rattle.std.proofs.lemmas.Str.{chars-nil, length-encode, len_utf8_bounds}
 use Rattle.std.specs.List.{flat_map}
-use Rattle.std.specs.Str.{IsUtf8}
+use Rattle.std.specs.Str.{IsUtf8, chars}
 use Rattle.vte_c.proofs.Added.{added_nothing}
 use Rattle.vte_core.specs.AdvanceToRun.{ReturnsRun, run_bytes, run_end, run_events as returned_events}
 use Rattle.vte_core.specs.EarlyStop.{ComesTo, breaks_at, stream_at, told}
-use Rattle.vte_core.specs.Event.{Event, Print, replacement}
+use Rattle.vte_core.specs.Event.{Event, Print, Put, replacement}
 use Rattle.vte_core.specs.Laws.{Grows, OpensSilently}
 use Rattle.vte_core.specs.Parser.{HasRead}
 use Rattle.vte_core.specs.Perform.{after}
@@ -22,29 +23,64 @@ use Rattle.vte_core.specs.Stream.{added}
 use Rattle.vte_core.specs.declared.parser.Parser.{Parser}
 use Rattle.vte_core.specs.declared.parser.to_run.Run.{Run as Returned}
 use Rattle.vte_core.proofs.stops.Kept.{kept_at}
-use Rattle.vte_c.specs.Events.{Room, Starts, is_full, is_kind, with_event, with_one, with_run}
-use Rattle.vte_c.specs.Feeding.{Goes, HasGone, HasItems}
-use Rattle.vte_c.specs.Record.{Run, TextRun, DataRun, Single, InInput, data_of, item_events, run_events, run_kind, run_record}
-use Rattle.vte_c.specs.Told.{HaveOtherKinds, IsRun, IsRunAt}
-use Rattle.vte_c.proofs.OtherKinds.{items_others, others_append, others_before, others_earlier, others_front, run_other, runs_other}
+use Rattle.vte_c.specs.Events.{Room, Starts, is_full, resumed, with_event, with_run, with_wanted}
+use Rattle.vte_c.specs.Feeding.{Goes, HasGone, HasItems, HaveOtherRecords, StopsAtNone, with_items}
+use Rattle.vte_c.specs.Record.{Run, TextRun, DataRun, Single, InInput, data_of, has, item_events, kind_of, reported, run_events, run_kind, run_record}
+use Rattle.vte_c.specs.Told.{IsRun, IsRunAt, is_stop}
+use Rattle.vte_c.proofs.OtherKinds.{items_others, others_append, others_before, others_earlier, others_front, others_reported, runs_other}
 use Rattle.vte_c.proofs.Continuing.{continues-added, continues-call, continues-nothing, continues-then}
-use Rattle.vte_c.proofs.Rooms.{event_written, items-nothing, items-run, items-then, items-unit_more, unmet}
+use Rattle.vte_c.proofs.Rooms.{HasRoomFor, event_passed, event_written, items-nothing, items-run, items-then, items-unit_more, items_of, paused_after, resumed_free, resumed_same, unmet, unpaused}
 
 -- ---- a run of the input
 
+each_reported : (kinds : ℕ) (call : ℕ → Event) → ((n : ℕ) → has kinds (kind_of (call n)) ≡ true) → (ns : List ℕ) → reported kinds (map call ns) ≡ map call ns
+each_reported kinds call wanted [] = refl
+each_reported kinds call wanted (n ∷ ns) = rw (wanted n, each_reported kinds call wanted ns) refl
+
+none_reported : (kinds : ℕ) (call : ℕ → Event) → ((n : ℕ) → has kinds (kind_of (call n)) ≡ false) → (ns : List ℕ) → reported kinds (map call ns) ≡ []
+none_reported kinds call other [] = refl
+none_reported kinds call other (n ∷ ns) = rw (other n) (none_reported kinds call other ns)
+
+run_reported : (kinds : ℕ) (run : Run) (bytes : List ℕ) → has kinds (run_kind run) ≡ true → reported kinds (run_events run bytes) ≡ run_events run bytes
+run_reported kinds TextRun bytes wanted = each_reported kinds Print (λ c. wanted) (chars bytes)
+run_reported kinds DataRun bytes wanted = each_reported kinds Put (λ b. wanted) bytes
+
+run_passed : (kinds : ℕ) (run : Run) (bytes : List ℕ) → has kinds (run_kind run) ≡ false → reported kinds (run_events run bytes) ≡ []
+run_passed kinds TextRun bytes other = none_reported kinds Print (λ c. other) (chars bytes)
+run_passed kinds DataRun bytes other = none_reported kinds Put (λ b. other) bytes
+
+run_stops : (room : Room) (run : Run) → StopsAtNone room → is_stop room.kinds room.stops (run_kind run) ≡ false
+run_stops room TextRun none = none.0
+run_stops room DataRun none = none.1
+
 goes-run : {old new : Room} {since bytes : List ℕ} (run : Run) {from size : ℕ} → Grows (Some 1024) → is_full old ≡ false
-    → new ≡ with_one old (run_record (run_kind run) from size) → IsRunAt bytes run from size
+    → new ≡ with_wanted old (run_record (run_kind run) from size) → IsRunAt bytes run from size
     → added (Some 1024) since (take size (drop from bytes)) ≡ run_events run (take size (drop from bytes))
     → Goes old new since (since ++ take size (drop from bytes)) bytes from size
-goes-run {old} {since = since} {bytes = bytes} run {from = from} {size = size} grows free is stands adds =
+goes-run {old} {new} {since = since} {bytes = bytes} run {from = from} {size = size} grows free is stands adds =
     let part : List ℕ = take size (drop from bytes) in
-    record {
-      items = InInput run from size ∷ [];
-      continues = rw (append-nil (run_events run part), ← adds) (continues-added grows since (drop from bytes) size);
-      holds = items-run bytes run from size free stands is;
-      before = λ not_text not_data i earlier.
-          others_earlier old.kind since (drop from bytes) i size (omega arith) grows (rw adds (runs_other old.kind run part (run_other old.kind run not_text not_data)));
-    }
+    let goes_on = rw adds at (continues-added grows since (drop from bytes) size) in
+    let before = λ (none : StopsAtNone old) (i : ℕ) (earlier : i < size).
+    others_earlier (is_stop old.kinds old.stops) since (drop from bytes) i size (omega arith) grows
+    (rw adds (runs_other (is_stop old.kinds old.stops) run part (run_stops old run none))) in
+    elim (cases_Bool (has old.kinds (run_kind run))) [
+      | inl wanted ↦ record {
+        told = run_events run part;
+        items = InInput run from size ∷ [];
+        continues = goes_on;
+        shows = rw (append-nil (run_events run part)) (sym (run_reported old.kinds run part wanted));
+        holds = items-run bytes run from size free stands (rw wanted at is);
+        before = before;
+      }
+      | inr other ↦ record {
+        told = run_events run part;
+        items = [];
+        continues = goes_on;
+        shows = sym (run_passed old.kinds run part other);
+        holds = rw (rw other at is) (items-nothing old bytes);
+        before = before;
+      }
+    ]
 
 -- ---- a call of the parser
 
@@ -54,14 +90,24 @@ events-singles input (event ∷ events) = ap (λ (es : List Event). event ∷ es
 
 -- before the first byte at most U+FFFD is told, for a character that it breaks, and that doesn't fill the room
 goes_on_at_first : (old : Room) (broken : Bool) → Starts old
-    → HaveOtherKinds old.kind (after with_event old (if broken then Print replacement ∷ [] else [])).events
+    → HaveOtherRecords old.stops (after with_event old (if broken then Print replacement ∷ [] else [])).events
     → is_full (after with_event old (if broken then Print replacement ∷ [] else [])) ≡ false
 goes_on_at_first old false starts others = grind (arith, nat_tests)
 goes_on_at_first old true starts others =
     let small : length (data_of (Print replacement)) ≤ 4 = omega (arith, length-encode replacement, (len_utf8_bounds replacement).1) in
-    let is = event_written old (Print replacement) (refl, refl) (omega arith) in
-    let other : is_kind old.kind 0 ≡ false = (rw (is, starts.events) at others).0 in
-    rw is (grind (arith, nat_tests, length-append))
+    let next : Room = with_event old (Print replacement) in
+    let going : next.paused ≡ false = paused_after old (Print replacement) ∙ starts.paused in
+    let same : resumed next ≡ next = resumed_same next going in
+    elim (cases_Bool (has old.kinds 0)) [
+      | inl wanted ↦
+          let is : next ≡ with_items old (Single (Print replacement) ∷ []) =
+          sym same ∙ event_written old (Print replacement) (refl, refl) starts.paused (record { events = omega (arith, starts.most, starts.count); data_fits = omega (arith, starts.size, starts.used) }) wanted in
+          let other : has old.stops 0 ≡ false = (rw (is, starts.events) at others).0 in
+          rw is (grind (arith, nat_tests, length-append))
+      | inr passed ↦
+          let is : next ≡ old = sym same ∙ event_passed old (Print replacement) starts.paused passed in
+          rw is (grind (arith, nat_tests))
+    ]
 
 -- the laws of the parser
 pub record Laws : Type 0 where
@@ -76,30 +122,36 @@ module _ (old new : Room) (since bytes : List ℕ) (from n : ℕ) (laws : Laws) 
   told_at i = told (Some 1024) since (drop from bytes) i
 
   -- all that was told is written, since the room wasn't full at any start that the call came to
-  told_written : (i : ℕ) → i ≤ n → HasItems old (after with_event old (told_at i)) bytes (map Single (told_at i))
+  told_written : (i : ℕ) → i ≤ n → HasItems old (resumed (after with_event old (told_at i))) bytes (items_of old (told_at i))
   told_written i come =
-      kept_at (λ events. HasItems old (after with_event old events) bytes (map Single events)) (λ events. is_full (after with_event old events) ≡ false)
-      since (drop from bytes) laws.units (items-nothing old bytes) free (items-unit_more bytes old) i (omega (arith, s.within)) (λ j earlier. s.earlier j (omega arith))
+      kept_at (λ events. HasItems old (resumed (after with_event old events)) bytes (items_of old events)) (λ events. is_full (after with_event old events) ≡ false)
+      since (drop from bytes) laws.units (rw (resumed_same old (unpaused old free)) (items-nothing old bytes)) free (items-unit_more bytes old)
+      i (omega (arith, s.within)) (λ j earlier. s.earlier j (omega arith))
 
-  goes-call : Goes old new since (stream_at since (drop from bytes) n) bytes from n
+  goes-call : Goes old (resumed new) since (stream_at since (drop from bytes) n) bytes from n
   goes-call = record {
-    items = map Single (told_at n);
-    continues = rw (events-singles bytes (told_at n)) (continues-call laws.grows laws.goes_on since (drop from bytes) n);
-    holds = subst (λ (r : Room). HasItems old r bytes (map Single (told_at n))) (sym s.performed) (told_written n (omega arith));
-    before = λ not_text not_data.
-        others_before old.kind not_text since (drop from bytes) n s.within laws.grows laws.silent
-        (λ i earlier start. rw (events-singles bytes (told_at i)) at
-        (items_others old.kind bytes old.used (map Single (told_at i)) (unmet (told_written i (omega arith)) (s.earlier i earlier start))));
+    told = told_at n;
+    items = items_of old (told_at n);
+    continues = continues-call laws.grows laws.goes_on since (drop from bytes) n;
+    shows = events-singles bytes (reported old.kinds (told_at n));
+    holds = subst (λ (r : Room). HasItems old (resumed r) bytes (items_of old (told_at n))) (sym s.performed) (told_written n (omega arith));
+    before = λ none.
+        others_before (is_stop old.kinds old.stops) none.0 since (drop from bytes) n s.within laws.grows laws.silent
+        (λ i earlier start. others_reported old.kinds old.stops (told_at i) (rw (events-singles bytes (reported old.kinds (told_at i))) at
+        (items_others old.stops bytes old.used (items_of old (told_at i))
+        (unmet (told_written i (omega arith)) (resumed_free (after with_event old (told_at i)) (s.earlier i earlier start))))));
   }
 
 -- ---- one after the other
 
 goes-nothing : {room : Room} {since bytes : List ℕ} {from : ℕ} → Goes room room since since bytes from 0
 goes-nothing {room} {since} {bytes} {from} = record {
+  told = [];
   items = [];
   continues = continues-nothing since (drop from bytes);
+  shows = refl;
   holds = items-nothing room bytes;
-  before = λ not_text not_data i earlier. absurd (omega arith);
+  before = λ none i earlier. absurd (omega arith);
 }
 
 goes-then : {old mid new : Room} {since next last bytes : List ℕ} {from n m : ℕ} (a : Goes old mid since next bytes from n)
@@ -108,20 +160,24 @@ goes-then {old} {mid} {since = since} {bytes = bytes} {from = from} {n = n} {m =
     let unread : List ℕ = drop from bytes in
     let size = length-drop from bytes in
     let rest : drop (from + n) bytes ≡ drop n unread = sym (drop-drop n from bytes) in
+    let kinds : mid.kinds ≡ old.kinds = ap (λ (r : Room). r.kinds) a.holds.room in
+    let stops : mid.stops ≡ old.stops = ap (λ (r : Room). r.stops) a.holds.room in
     record {
+      told = a.told ++ b.told;
       items = a.items ++ b.items;
-      continues = rw (flat_map-append (item_events bytes) a.items b.items) (continues-then a.continues (rw rest at b.continues) (omega (arith, within)));
+      continues = continues-then a.continues (rw rest at b.continues) (omega (arith, within));
+      shows = rw (flat_map-append (item_events bytes) a.items b.items, filter-append, a.shows) (rw kinds at (ap (λ (es : List Event). reported old.kinds a.told ++ es) b.shows));
       holds = items-then a.holds free b.holds;
-      before = λ not_text not_data i earlier. elim (cases_lt i n) [
-        | inl front ↦ a.before not_text not_data i front
+      before = λ none i earlier. elim (cases_lt i n) [
+        | inl front ↦ a.before none i front
         | inr after_it ↦
             let k : ℕ = i - n in
             let place : n + k ≡ i = omega arith in
             let front = a.continues.fronts k (omega (arith, within)) in
-            let kind : mid.kind ≡ old.kind = ap (λ (r : Room). r.kind) a.holds.room in
-            let told_others = items_others old.kind bytes old.used a.items (unmet a.holds free) in
-            let more = rw (kind, rest) at (b.before (rw kind not_text) (rw kind not_data) k (omega arith)) in
-            rw (← place) (others_front old.kind (added (Some 1024) since (take (n + k) unread)) front.others (rw front.parts at (others_append old.kind _ _ told_others more)))
+            let stop : ℕ → Bool = is_stop old.kinds old.stops in
+            let told_others = others_reported old.kinds old.stops a.told (rw a.shows at (items_others old.stops bytes old.used a.items (unmet a.holds free))) in
+            let more = rw (kinds, stops, rest) at (b.before (rw (kinds, stops) none) k (omega arith)) in
+            rw (← place) (others_front stop (added (Some 1024) since (take (n + k) unread)) front.others (rw front.parts at (others_append stop _ _ told_others more)))
       ];
     }
 
@@ -143,22 +199,22 @@ module _ (old mid new : Room) (since bytes : List ℕ) (from : ℕ) (run : Retur
   abbrev after_call : List ℕ
   after_call = stream_at since (drop from bytes) run.start
 
-  call : Goes old mid since after_call bytes from run.start
+  call : Goes old (resumed mid) since after_call bytes from run.start
   call = goes-call old mid since bytes from run.start laws free (r.comes since before)
 
   -- a run of this kind was recorded
-  goes-some : (kind : Run) → 0 < length (run_bytes run) → new ≡ with_one mid (run_record (run_kind kind) (from + run.start) (length (run_bytes run)))
+  goes-some : (kind : Run) → 0 < length (run_bytes run) → new ≡ with_wanted (resumed mid) (run_record (run_kind kind) (from + run.start) (length (run_bytes run)))
       → IsRun kind (run_bytes run) → returned_events run ≡ run_events kind (run_bytes run)
       → Goes old new since (after_call ++ run_bytes run) bytes from (run_end run)
   goes-some kind some is plain same =
       let here : take (length (run_bytes run)) (drop (from + run.start) bytes) ≡ run_bytes run =
       ap (take (length (run_bytes run))) (sym (drop-drop run.start from bytes)) ∙ sym r.stands.is in
       let within : from + run.start + length (run_bytes run) ≤ length bytes = omega (arith, begins, r.stands.within, length-drop from bytes) in
-      let open_room = r.may_go_on (omega arith) in
+      let open_room = resumed_free mid (r.may_go_on (omega arith)) in
       let more = goes-run {since = after_call} kind laws.grows open_room is (record { within = within; some = some; is = rw here plain }) (rw here (r.adds since before ∙ same)) in
       goes-then call open_room within (rw here at more)
 
-  pub goes-to-run : IsUtf8 run.text.now → new ≡ with_run mid from run → Goes old new since (after_call ++ run_bytes run) bytes from (run_end run)
+  pub goes-to-run : IsUtf8 run.text.now → new ≡ with_run (resumed mid) from run → Goes old new since (after_call ++ run_bytes run) bytes from (run_end run)
   goes-to-run utf8 is = elim (cases_Bool (nat_lt 0 (length run.text.now))) [
     | inl some ↦
         let no_data : run.data.now ≡ [] = elim r.stands.one [ inl none ↦ absurd (grind (arith, nat_tests)) | inr none ↦ none ] in
@@ -174,13 +230,13 @@ module _ (old mid new : Room) (since bytes : List ℕ) (from : ℕ) (run : Retur
               goes-some DataRun (rw whole filled) (rw whole (rw (no_text, some) at is)) tt (rw (whole, empty, chars-nil) refl)
           | inr no_data ↦
               let none : run_bytes run ≡ [] = whole ∙ nothing run.data.now no_data in
-              let same : new ≡ mid = rw (no_text, no_data) at is in
+              let same : new ≡ resumed mid = rw (no_text, no_data) at is in
               rw (none, append-nil after_call, add-zero, same) call
         ]
   ]
 
-  -- with room for what two bytes add a call reads one, unless a record of the kind was written
-  pub further : Starts old → from < length bytes → new ≡ with_run mid from run → HaveOtherKinds old.kind new.events → 0 < run_end run
+  -- with room for what two bytes add a call reads one, unless a record was written that stops
+  pub further : Starts old → from < length bytes → new ≡ with_run (resumed mid) from run → HaveOtherRecords old.stops new.events → 0 < run_end run
   unfolding told
   further starts some is others = elim (cases_lt 0 (run_end run)) [
     | inl more ↦ more
@@ -190,7 +246,7 @@ module _ (old mid new : Room) (since bytes : List ℕ) (from : ℕ) (run : Retur
         let start : run.start ≡ 0 = omega (arith, none) in
         let no_text : nat_lt 0 (length run.text.now) ≡ false = grind (arith, nat_tests) in
         let no_data : nat_lt 0 (length run.data.now) ≡ false = grind (arith, nat_tests) in
-        let same : new ≡ mid = rw (no_text, no_data) at is in
+        let same : new ≡ resumed mid = rw (no_text, no_data) at is in
         let performed = rw (start, added_nothing since) at (r.comes since before).performed in
         let goes_on = goes_on_at_first old (breaks_at since unread 0) starts (rw (same, performed) at others) in
         absurd (false≢true (sym goes_on ∙ ap is_full (sym performed) ∙ r.stops (omega (arith, none)) (omega (arith, length-drop from bytes, some))))

@@ -1,16 +1,33 @@
 -- From calls to streams, for events and for text.
-use Rattle.std.proofs.Common.{◌≡◌, ◌<◌, ℕ, List, [], ◌++◌, drop, Some, append_assoc, append-nil, arith, refl}
+use Rattle.std.proofs.Common.{◌≡◌, ◌<◌, ℕ, true, List, [], ◌∷◌, ◌++◌, drop, Some, append_assoc, append-nil, arith, refl}
 use Rattle.std.proofs.lemmas.Bool.Decides.{nat_tests}
 use Rattle.vte_c.proofs.Added.{added_nothing}
-use Rattle.vte_core.specs.Event.{Event}
+use Rattle.vte_core.specs.Event.{Event, Print, Execute, Hook, Put, Unhook, OscDispatch, CsiDispatch, EscDispatch}
 use Rattle.vte_core.specs.Saved.{HasReadSaved}
 use Rattle.vte_core.specs.Stream.{added, events}
 use Rattle.vte_core.specs.declared.parser.saved.Saved.{Saved}
+use Rattle.vte_c.specs.Record.{has, kind_of, reported}
 use Rattle.vte_c.specs.Told.{HasGiven, no_room, read_count}
 
 -- what a call has read that isn't short of room
 pub counted : (n : ℕ) → n < no_room → read_count n ≡ n
 counted n small = grind (arith, nat_tests)
+
+-- every event has one of eight kinds
+is_reported : (event : Event) → has 255 (kind_of event) ≡ true
+unfolding has
+is_reported (Print c) = refl
+is_reported (Execute byte) = refl
+is_reported (Hook groups ints ignore final) = refl
+is_reported (Put byte) = refl
+is_reported Unhook = refl
+is_reported (OscDispatch pieces bell) = refl
+is_reported (CsiDispatch groups ints ignore final) = refl
+is_reported (EscDispatch ints ignore final) = refl
+
+pub all_reported : (events : List Event) → reported 255 events ≡ events
+all_reported [] = refl
+all_reported (event ∷ events) = rw (is_reported event, all_reported events) refl
 
 module _ {A : Type 0} {of : List Event → List A} where
   pub given_first : {parser : Saved} → events (Some 1024) [] ≡ [] → HasReadSaved parser [] → HasGiven of parser [] [] []

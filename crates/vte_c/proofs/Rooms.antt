@@ -1,24 +1,25 @@
 -- What events leave in a room.
-use Rattle.std.proofs.Common.{◌≡◌, ℕ, ◌+◌, ◌≤◌, true, false, List, [], ◌∷◌, ◌++◌, map, Option, Some}
+use Rattle.std.proofs.Common.{◌≡◌, ℕ, ◌+◌, ◌%◌, ◌≤◌, Bool, true, false, ◌||◌, List, [], ◌∷◌, ◌++◌, map, Some, inl, inr, if◌then◌else◌}
 use Rattle.std.proofs.Common.{refl, sym, subst, ap, ◌∙◌, append_assoc, append-nil, length, length-append, nat_le, nat_lt, arith}
 use Rattle.std.proofs.Math.Bool.{or-false, or_assoc}
 use Rattle.std.proofs.Math.Nat.{add-zero}
-use Rattle.std.proofs.lemmas.Bool.{le-leb, or_parts}
+use Rattle.std.proofs.lemmas.Bool.{cases_Bool, le-leb, or_parts}
 use Rattle.std.proofs.lemmas.Bool.Decides.{nat_tests}
 use Rattle.std.proofs.lemmas.Grind.{flat_map-append}
-use Rattle.std.proofs.lemmas.List.{map-append}
+use Rattle.std.proofs.lemmas.List.{length-map, map-append}
+use Rattle.std.proofs.lemmas.List.Elements.{filter-append}
 use Rattle.std.proofs.lemmas.List.Folds.{list_any-append}
 use Rattle.std.specs.List.{flat_map}
 use Rattle.vte_core.proofs.streams.Performing.{after-append}
 use Rattle.vte_core.specs.Brief.{IsBounded, IsBrief}
-use Rattle.vte_core.specs.Event.{Event}
+use Rattle.vte_core.specs.Event.{Event, Print, Execute, Hook, Put, Unhook, OscDispatch, CsiDispatch, EscDispatch}
 use Rattle.vte_core.specs.Perform.{after}
-use Rattle.vte_c.specs.Events.{Room, has_room, is_full, most_added, packed_size, with_event, with_one, with_record}
-use Rattle.vte_c.specs.Feeding.{AreReadable, HasItems, has_kind, with_items}
-use Rattle.vte_c.specs.Record.{Run, Item, Single, InInput, data_of, item_data, records_from, run_kind, run_record}
-use Rattle.vte_c.specs.Told.{HaveOtherKinds, IsRunAt, StopsAtKind}
+use Rattle.vte_c.specs.Events.{Room, has_room, is_command, is_full, most_added, packed_size, resumed, with_event, with_one, with_record}
+use Rattle.vte_c.specs.Feeding.{AreReadable, HasItems, HaveOtherRecords, has_kind, kinds_of, with_items}
+use Rattle.vte_c.specs.Record.{Run, TextRun, DataRun, Item, Single, InInput, data_of, flag_byte, has, item_data, kind_of, placed, records_from, reported, run_kind, run_record, without_loss}
+use Rattle.vte_c.specs.Told.{IsRunAt, StopsAtKind}
 use Rattle.vte_c.specs.declared.event.VteEvent.{VteEvent}
-use Rattle.vte_c.proofs.Sizes.{data_size, packed_below, short_bounded, short_data}
+use Rattle.vte_c.proofs.Sizes.{data_most, data_size, short_bounded, short_data}
 use Rattle.vte_c.proofs.OtherKinds.{kinds-append, kinds_of_none}
 
 -- ---- items one after the other
@@ -42,13 +43,13 @@ with_items-append room front back =
     let count : room.count + length front + length back ≡ room.count + length (front ++ back) = omega (arith, length-append front back) in
     rw (← count, records-append, flat_map-append, ← size, list_any-append, append_assoc room.events, append_assoc room.area, or_assoc) refl
 
--- as long as a room isn't full, no record is of the kind
+-- as long as a room isn't full, no record stops
 pub unmet : {old new : Room} {input : List ℕ} {items : List Item} → HasItems old new input items → is_full new ≡ false
-    → HaveOtherKinds old.kind (records_from old.used items)
+    → HaveOtherRecords old.stops (records_from old.used items)
 unmet {old} {new} {input} {items} h free =
     let met : new.met ≡ false = grind (arith, nat_tests) in
-    kinds_of_none old.kind (records_from old.used items)
-    (or_parts old.met (has_kind old.kind (records_from old.used items)) (sym (ap (λ (r : Room). r.met) h.room) ∙ met)).1
+    kinds_of_none old.stops (records_from old.used items)
+    (or_parts old.met (has_kind old.stops (records_from old.used items)) (sym (ap (λ (r : Room). r.met) h.room) ∙ met)).1
 
 readable-append : (input : List ℕ) (front back : List Item) → AreReadable input front → AreReadable input back → AreReadable input (front ++ back)
 readable-append input [] back f b = b
@@ -56,31 +57,59 @@ readable-append input (Single event ∷ front) back f b = (f.0, readable-append 
 readable-append input (InInput run start size ∷ front) back f b = (f.0, readable-append input front back f.1 b)
 
 -- two are few
-pub stops_soon : (kind : Option ℕ) (place : ℕ) (items : List Item) → length items ≤ 2 → StopsAtKind kind (records_from place items)
-stops_soon kind place items few =
-    record { before = []; last = records_from place items; parts = refl; others = tt; few = omega (arith, length-records place items) }
+pub stops_soon : (stops place : ℕ) (items : List Item) → length items ≤ 2 → StopsAtKind stops (kinds_of (records_from place items))
+stops_soon stops place items few =
+    let count = length-map (records_from place items) (λ (event : VteEvent). event.kind) in
+    record {
+      before = [];
+      last = kinds_of (records_from place items);
+      parts = refl;
+      others = tt;
+      few = omega (arith, count, length-records place items);
+    }
 
 pub items-nothing : (room : Room) (input : List ℕ) → HasItems room room input []
-items-nothing room input = record { readable = tt; room = simp (append-nil, add-zero, or-false) refl; first = stops_soon room.kind room.used [] (omega arith) }
+items-nothing room input = record { readable = tt; room = simp (append-nil, add-zero, or-false) refl; first = stops_soon room.stops room.used [] (omega arith) }
 
 pub items-then : {old mid new : Room} {input : List ℕ} {front back : List Item} → HasItems old mid input front → is_full mid ≡ false
     → HasItems mid new input back → HasItems old new input (front ++ back)
 items-then {old} {mid} {new} {input} {front} {back} a free b =
     let before = records_from old.used front in
-    let s = subst (λ (r : Room). StopsAtKind r.kind (records_from r.used back)) a.room b.first in
+    let s = subst (λ (r : Room). StopsAtKind r.stops (kinds_of (records_from r.used back))) a.room b.first in
     record {
       readable = readable-append input front back a.readable b.readable;
       room = b.room ∙ ap (λ (r : Room). with_items r back) a.room ∙ with_items-append old front back;
       first = record {
-        before = before ++ s.before;
+        before = kinds_of before ++ s.before;
         last = s.last;
-        parts = records-append old.used front back ∙ ap (λ (rs : List VteEvent). before ++ rs) s.parts ∙ sym (append_assoc before s.before s.last);
-        others = kinds-append old.kind before s.before (unmet a free) s.others;
+        parts = rw (records-append old.used front back, map-append, append_assoc (kinds_of before), ← s.parts) refl;
+        others = kinds-append old.stops (kinds_of before) s.before (unmet a free) s.others;
         few = s.few;
       };
     }
 
 -- ---- a run of the input
+
+-- what is written has no bit for lost data
+run_plain : (run : Run) (start size : ℕ) → without_loss (run_record (run_kind run) start size) ≡ run_record (run_kind run) start size
+unfolding without_loss
+run_plain TextRun start size = refl
+run_plain DataRun start size = refl
+
+bell_plain : (bell : Bool) → flag_byte bell % 2 ≡ flag_byte bell
+bell_plain true = refl
+bell_plain false = refl
+
+single_plain : (place : ℕ) (event : Event) → without_loss (placed place (Single event)) ≡ placed place (Single event)
+unfolding without_loss
+single_plain place (OscDispatch pieces bell) = rw (bell_plain bell) refl
+single_plain place (Print c) = refl
+single_plain place (Execute byte) = refl
+single_plain place (Hook groups ints ignore final) = refl
+single_plain place (Put byte) = refl
+single_plain place Unhook = refl
+single_plain place (CsiDispatch groups ints ignore final) = refl
+single_plain place (EscDispatch ints ignore final) = refl
 
 pub items-run : {old new : Room} (input : List ℕ) (run : Run) (start size : ℕ) → is_full old ≡ false → IsRunAt input run start size
     → new ≡ with_one old (run_record (run_kind run) start size)
@@ -90,9 +119,45 @@ items-run {old} {new} input run start size free stands is =
     let some : nat_lt old.count old.most ≡ true = grind (arith, nat_tests) in
     record {
       readable = (stands, tt);
-      room = rw (is, some) (simp (append-nil, add-zero, or-false));
-      first = stops_soon old.kind old.used (InInput run start size ∷ []) (omega arith);
+      room = rw (is, some, run_plain run start size) (simp (append-nil, add-zero, or-false));
+      first = stops_soon old.stops old.used (InInput run start size ∷ []) (omega arith);
     }
+
+-- ---- a pause
+
+pub resumed_same : (room : Room) → room.paused ≡ false → resumed room ≡ room
+resumed_same room none = ap (λ (paused : Bool). record room { paused = paused }) (sym none)
+
+pub unpaused : (room : Room) → is_full room ≡ false → room.paused ≡ false
+unpaused room free = grind (arith, nat_tests)
+
+pub resumed_free : (room : Room) → is_full room ≡ false → is_full (resumed room) ≡ false
+resumed_free room free = ap is_full (resumed_same room (unpaused room free)) ∙ free
+
+either : (choice : Bool) (a b c d : Room) → resumed a ≡ resumed c → resumed b ≡ resumed d
+    → resumed (if choice then a else b) ≡ resumed (if choice then c else d)
+either true a b c d f g = f
+either false a b c d f g = g
+
+either_paused : (choice paused : Bool) (a b : Room) → a.paused ≡ paused → b.paused ≡ paused → (if choice then a else b).paused ≡ paused
+either_paused true paused a b f g = f
+either_paused false paused a b f g = g
+
+-- an event is written alike
+with_event_resumed : (room : Room) (event : Event) → resumed (with_event room event) ≡ resumed (with_event (resumed room) event)
+unfolding with_one with_record
+with_event_resumed room event =
+    either (has room.kinds (kind_of event)) _ _ _ _
+    (either (nat_le (length (data_of event)) (packed_size event)) _ _ _ _
+    (either (has_room room (length (data_of event))) _ _ _ _ (either (nat_lt room.count room.most) _ _ _ _ refl refl) refl) refl) refl
+
+pub paused_after : (room : Room) (event : Event) → (with_event room event).paused ≡ (is_command event || room.paused)
+unfolding with_one with_record
+paused_after room event =
+    let paused : Bool = is_command event || room.paused in
+    either_paused (has room.kinds (kind_of event)) paused _ _
+    (either_paused (nat_le (length (data_of event)) (packed_size event)) paused _ _
+    (either_paused (has_room room (length (data_of event))) paused _ _ (either_paused (nat_lt room.count room.most) paused _ _ refl refl) refl) refl) refl
 
 -- ---- events of the parser
 
@@ -105,50 +170,84 @@ pub record HasRoomFor (room : Room) (count size : ℕ) : Type 0 where
 roomy : (room : Room) → is_full room ≡ false → HasRoomFor room 2 most_added
 roomy room free = record { events = grind (arith, nat_tests); data_fits = grind (arith, nat_tests) }
 
-pub event_written : (room : Room) (event : Event) → IsBounded (Some 1024) event → HasRoomFor room 1 (length (data_of event))
-    → with_event room event ≡ with_items room (Single event ∷ [])
+pub event_written : (room : Room) (event : Event) → IsBounded (Some 1024) event → room.paused ≡ false → HasRoomFor room 1 (length (data_of event))
+    → has room.kinds (kind_of event) ≡ true → resumed (with_event room event) ≡ with_items room (Single event ∷ [])
 unfolding with_one with_record
-event_written room event bounded room_for =
+event_written room event bounded going room_for wanted =
     let fits : nat_le (length (data_of event)) (packed_size event) ≡ true = le-leb _ _ (data_size event bounded) in
-    let has : has_room room (length (data_of event)) ≡ true = grind (arith, nat_tests) in
+    let has_both : has_room room (length (data_of event)) ≡ true = grind (arith, nat_tests) in
     let some : nat_lt room.count room.most ≡ true = grind (arith, nat_tests) in
-    rw (fits, has, some) (simp (append-nil, or-false))
+    rw (wanted, fits, has_both, some, single_plain room.used event, going) (simp (append-nil, or-false))
+
+-- an event that isn't reported leaves the room
+pub event_passed : (room : Room) (event : Event) → room.paused ≡ false → has room.kinds (kind_of event) ≡ false → resumed (with_event room event) ≡ room
+event_passed room event going other = rw other (resumed_same room going)
+
+-- the items of events
+abbrev pub items_of : Room → List Event → List Item
+items_of room events = map Single (reported room.kinds events)
+
+items-event : (input : List ℕ) (room : Room) (event : Event) → IsBounded (Some 1024) event → room.paused ≡ false → HasRoomFor room 1 (length (data_of event))
+    → HasItems room (resumed (with_event room event)) input (items_of room (event ∷ []))
+items-event input room event bounded going room_for = elim (cases_Bool (has room.kinds (kind_of event))) [
+  | inl wanted ↦
+      rw (event_written room event bounded going room_for wanted, wanted)
+      (record { readable = (bounded, tt); room = refl; first = stops_soon room.stops room.used (Single event ∷ []) (omega arith) })
+  | inr other ↦ rw (event_passed room event going other, other) (items-nothing room input)
+]
+
+-- one event has at most one item, and no more data
+record AreFew (room : Room) (event : Event) : Type 0 where
+  pub count : length (items_of room (event ∷ [])) ≤ 1
+  pub size : length (flat_map item_data (items_of room (event ∷ []))) ≤ length (data_of event)
+
+are_few : (room : Room) (event : Event) → AreFew room event
+are_few room event = elim (cases_Bool (has room.kinds (kind_of event))) [
+  | inl wanted ↦ record { count = rw wanted (omega arith); size = rw wanted (omega (arith, length-append (data_of event) [])) }
+  | inr other ↦ record { count = rw other (omega arith); size = rw other (omega arith) }
+]
 
 items-unit : (input : List ℕ) (room : Room) (unit : List Event) → IsBrief (Some 1024) unit → is_full room ≡ false
-    → HasItems room (after with_event room unit) input (map Single unit)
-items-unit input room [] brief free = items-nothing room input
+    → HasItems room (resumed (after with_event room unit)) input (items_of room unit)
+items-unit input room [] brief free = rw (resumed_same room (unpaused room free)) (items-nothing room input)
 items-unit input room (event ∷ []) brief free =
     let room_for = roomy room free in
-    let size = data_size event brief in
-    let small = packed_below event in
-    record {
-      readable = (brief, tt);
-      room = event_written room event brief (omega arith);
-      first = stops_soon room.kind room.used (Single event ∷ []) (omega arith);
-    }
+    let size = data_most event brief in
+    items-event input room event brief (unpaused room free) (record { events = omega (arith, room_for.events); data_fits = omega (arith, room_for.data_fits) })
 items-unit input room (event ∷ last ∷ []) brief free =
     let room_for = roomy room free in
-    let size = data_size event brief.0 in
-    let small = packed_below event in
+    let size = data_most event brief.0 in
     let short = short_data last brief.1 in
-    let bounded = short_bounded last brief.1 in
-    let next : Room = with_event room event in
-    let first = event_written room event brief.0 (omega arith) in
-    let count = ap (λ (r : Room). r.count) first in
-    let most = ap (λ (r : Room). r.most) first in
-    let used = ap (λ (r : Room). r.used) first in
-    let room_size = ap (λ (r : Room). r.size) first in
-    record {
-      readable = (brief.0, (bounded, tt));
-      room = event_written next last bounded (omega (arith, length-append (data_of event) []))
-          ∙ ap (λ (r : Room). with_items r (Single last ∷ [])) first ∙ with_items-append room (Single event ∷ []) (Single last ∷ []);
-      first = stops_soon room.kind room.used (Single event ∷ Single last ∷ []) (omega arith);
-    }
+    let few = are_few room event in
+    let more = are_few room last in
+    let next : Room = resumed (with_event room event) in
+    let first = items-event input room event brief.0 (unpaused room free) (record { events = omega (arith, room_for.events); data_fits = omega (arith, room_for.data_fits) }) in
+    let kinds : next.kinds ≡ room.kinds = ap (λ (r : Room). r.kinds) first.room in
+    let room_for_last : HasRoomFor next 1 (length (data_of last)) = record {
+      events = omega (arith, room_for.events, few.count, ap (λ (r : Room). r.count) first.room, ap (λ (r : Room). r.most) first.room);
+      data_fits = omega (arith, room_for.data_fits, few.size, size, short, ap (λ (r : Room). r.used) first.room, ap (λ (r : Room). r.size) first.room);
+    } in
+    let second = subst (λ (k : ℕ). HasItems next (resumed (with_event next last)) input (map Single (reported k (last ∷ [])))) kinds
+        (items-event input next last (short_bounded last brief.1) refl room_for_last) in
+    let both : items_of room (event ∷ last ∷ []) ≡ items_of room (event ∷ []) ++ items_of room (last ∷ []) =
+    ap (map Single) (filter-append (λ e. has room.kinds (kind_of e)) (event ∷ []) (last ∷ [])) ∙ map-append Single _ _ in
+    rw (with_event_resumed (with_event room event) last, both) (record {
+      readable = readable-append input _ _ first.readable second.readable;
+      room = second.room ∙ ap (λ (r : Room). with_items r (items_of room (last ∷ []))) first.room ∙ with_items-append room _ _;
+      first = stops_soon room.stops room.used (items_of room (event ∷ []) ++ items_of room (last ∷ []))
+          (omega (arith, few.count, more.count, length-append (items_of room (event ∷ [])) (items_of room (last ∷ []))));
+    })
 items-unit input room (event ∷ last ∷ more ∷ events) brief free = absurd brief
 
-pub items-unit_more : {old : Room} (input : List ℕ) (room : Room) (before unit : List Event) → HasItems old (after with_event room before) input (map Single before)
+pub items-unit_more : {old : Room} (input : List ℕ) (room : Room) (before unit : List Event)
+    → HasItems old (resumed (after with_event room before)) input (items_of old before)
     → is_full (after with_event room before) ≡ false → IsBrief (Some 1024) unit
-    → HasItems old (after with_event room (before ++ unit)) input (map Single (before ++ unit))
-items-unit_more input room before unit h free brief =
-    rw (after-append with_event room before unit, map-append Single before unit)
-    (items-then h free (items-unit input (after with_event room before) unit brief free))
+    → HasItems old (resumed (after with_event room (before ++ unit))) input (items_of old (before ++ unit))
+items-unit_more {old} input room before unit h free brief =
+    let mid : Room = after with_event room before in
+    let same : resumed mid ≡ mid = resumed_same mid (unpaused mid free) in
+    let first : HasItems old mid input (items_of old before) = rw same at h in
+    let kinds : mid.kinds ≡ old.kinds = ap (λ (r : Room). r.kinds) first.room in
+    rw (after-append with_event room before unit, filter-append, map-append)
+    (items-then first free
+    (subst (λ (k : ℕ). HasItems mid (resumed (after with_event mid unit)) input (map Single (reported k unit))) kinds (items-unit input mid unit brief free)))

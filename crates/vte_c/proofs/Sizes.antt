@@ -1,5 +1,7 @@
 -- How many data bytes an event has.
-use Rattle.std.proofs.Common.{◌≡◌, ℕ, ◌+◌, ◌*◌, ◌<◌, ◌≤◌, List, [], ◌∷◌, length, Some, refl, length-append, arith}
+use Rattle.std.proofs.Common.{◌≡◌, ℕ, ◌+◌, ◌*◌, ◌<◌, ◌≤◌, List, [], ◌∷◌, ◌++◌, ap, drop, length, take, Some, refl, sym, ◌∙◌, length-append, arith}
+use Rattle.std.proofs.lemmas.Grind.{flat_map-append}
+use Rattle.std.proofs.lemmas.List.{take-append-drop}
 use Rattle.std.proofs.lemmas.List.Elements.{All-head, All-tail}
 use Rattle.std.proofs.lemmas.List.Sums.{sum_by-cons}
 use Rattle.std.proofs.lemmas.Str.{length-encode, len_utf8_bounds}
@@ -19,9 +21,18 @@ length_groups [] = refl
 length_groups (group ∷ groups) =
     omega (arith, length-append (group_bytes group) (flat_map group_bytes groups), length_numbers group, length_groups groups, sum_by-cons length group groups)
 
-length_pieces : (pieces : List (List ℕ)) → length (flat_map piece_bytes pieces) ≡ 2 * length pieces + length (concat pieces)
+length_pieces : (pieces : List (List ℕ)) → length (flat_map piece_bytes pieces) ≡ 4 * length pieces + length (concat pieces)
 length_pieces [] = refl
 length_pieces (piece ∷ pieces) = omega (arith, length-append (piece_bytes piece) (flat_map piece_bytes pieces), length-append piece (concat pieces), length_pieces pieces)
+
+-- the first pieces aren't longer than all
+pub front_of_pieces : (pieces : List (List ℕ)) (n : ℕ) → length (flat_map piece_bytes (take n pieces)) ≤ length (flat_map piece_bytes pieces)
+front_of_pieces pieces n =
+    let front : List ℕ = flat_map piece_bytes (take n pieces) in
+    let back : List ℕ = flat_map piece_bytes (drop n pieces) in
+    let parts : flat_map piece_bytes pieces ≡ front ++ back =
+    ap (flat_map piece_bytes) (sym (take-append-drop n pieces)) ∙ flat_map-append piece_bytes (take n pieces) (drop n pieces) in
+    omega (arith, ap length parts, length-append front back)
 
 abbrev HasNumber : List ℕ → Type 0
 HasNumber group = 0 < length group
@@ -42,14 +53,13 @@ groups_size groups h = omega (arith, length_groups groups, few_groups groups h, 
 pub data_size : (event : Event) → IsBounded (Some 1024) event → length (data_of event) ≤ packed_size event
 data_size (Print c) h = omega (arith, length-encode c, (len_utf8_bounds c).1)
 data_size (Hook groups ints ignore final) h = groups_size groups h.0
-data_size (OscDispatch pieces bell dropped) h =
-    omega (arith, length_pieces pieces, h.0, h.1)
+data_size (OscDispatch pieces bell) h = omega arith
 data_size (CsiDispatch groups ints ignore final) h = groups_size groups h.0
 data_size _ h = omega arith
 
-pub packed_below : (event : Event) → packed_size event ≤ most_data
-packed_below (OscDispatch pieces bell dropped) = omega arith
-packed_below _ = omega arith
+pub data_most : (event : Event) → IsBounded (Some 1024) event → length (data_of event) ≤ most_data
+data_most (OscDispatch pieces bell) h = omega (arith, length_pieces pieces, h.0, h.1)
+data_most event h = omega (arith, data_size event h)
 
 -- what is known of the second event that a byte adds
 pub short_bounded : (event : Event) → IsShort event → IsBounded (Some 1024) event

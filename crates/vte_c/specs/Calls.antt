@@ -1,11 +1,11 @@
 -- What the calls of the library ensure.
-use Rattle.std.specs.Prelude.{◌≡◌, ◌≢◌, ◌<◌, ◌≤◌, ℕ, List, ◌++◌, length, drop, take, Option, Some}
+use Rattle.std.specs.Prelude.{◌≡◌, ◌<◌, ◌≤◌, ℕ, false, List, ◌++◌, length, drop, take, Some}
 use Rattle.vte_core.specs.Event.{Event}
 use Rattle.vte_core.specs.Saved.{HasReadSaved}
 use Rattle.vte_core.specs.Stream.{added}
 use Rattle.vte_core.specs.declared.parser.saved.Saved.{Saved}
-use Rattle.vte_c.specs.Record.{events_in}
-use Rattle.vte_c.specs.Told.{AreEncoded, AreOthers, HasStripped, HasTold, HaveOtherKinds, StopsAtKind, no_room, read_count}
+use Rattle.vte_c.specs.Record.{events_in, kinds_in}
+use Rattle.vte_c.specs.Told.{AreEncoded, AreOthers, HasStripped, HasTold, HaveOtherKinds, StopsAtKind, is_stop, no_room, read_count}
 use Rattle.vte_c.specs.declared.event.VteEvent.{VteEvent}
 use Rattle.vte_c.specs.declared.feed.VteCounts.{VteCounts}
 
@@ -16,33 +16,33 @@ pub record FeedsNothing (parser next : Saved) (counts : VteCounts) (result : ℕ
   pub bytes : counts.bytes ≡ 0
   pub same : next ≡ parser
 
--- `vte_feed` and `vte_feed_until`
-pub record Feeds (parser next : Saved) (bytes : List ℕ) (old_events events : List VteEvent) (old_area area : List ℕ) (counts : VteCounts) (result : ℕ) : Type 0 where
+-- `vte_feed`
+pub record Feeds (kinds stops : ℕ) (parser next : Saved) (bytes : List ℕ) (old_events events : List VteEvent) (old_area area : List ℕ)
+    (counts : VteCounts) (result : ℕ) : Type 0 where
   -- With enough room, the result is how many bytes were read.
   pub enough : 4 ≤ length old_events → 2112 ≤ length old_area → result ≡ read_count result
   pub within : read_count result ≤ length bytes
-  -- Whatever was told before, what is written now comes next, and nothing else.
-  pub exact : (told : List Event) (stream rest : List ℕ) → HasTold parser told stream (bytes ++ rest) →
-      HasTold next (told ++ events_in counts.events events bytes area) stream (drop (read_count result) bytes ++ rest)
+  -- Whatever was told of these kinds before, what is written now comes next, and nothing else.
+  pub exact : (told : List Event) (stream rest : List ℕ) → HasTold kinds parser told stream (bytes ++ rest) →
+      HasTold kinds next (told ++ events_in counts.events events bytes area) stream (drop (read_count result) bytes ++ rest)
   -- The records and the data are the encoding of these events, and the counts are theirs.
-  pub encoded : (told : List Event) (stream rest : List ℕ) → HasTold parser told stream (bytes ++ rest) →
+  pub encoded : (told : List Event) (stream rest : List ℕ) → HasTold kinds parser told stream (bytes ++ rest) →
       AreEncoded (events_in counts.events events bytes area) counts.events counts.bytes events bytes area
   -- Whatever the parser's bytes are, what was written is in the buffers.
   pub room : (counts.events ≤ length events) × (counts.bytes ≤ length area)
   -- With less than the least room nothing is read or written.
   pub few : length old_events < 4 → FeedsNothing parser next counts result
   pub little : length old_area < 2112 → FeedsNothing parser next counts result
-
--- .. and `vte_feed_until` with a kind
-pub record FeedsUntil (kind : Option ℕ) (parser : Saved) (bytes : List ℕ) (old_events events : List VteEvent) (old_area : List ℕ) (counts : VteCounts) (result : ℕ) : Type 0 where
-  -- With enough room, it reads at least one byte, unless it writes a record of the kind.
-  pub further : (told : List Event) (stream rest : List ℕ) → HasTold parser told stream (bytes ++ rest) → 4 ≤ length old_events → 2112 ≤ length old_area →
-      HaveOtherKinds kind (take counts.events events) → 0 < length bytes → 0 < result
-  -- If a record of the kind is written, at most one follows it ..
-  pub first : (told : List Event) (stream rest : List ℕ) → HasTold parser told stream (bytes ++ rest) → StopsAtKind kind (take counts.events events)
-  -- .. and unless that is text or data, it came with the last byte that was read: no shorter front of the bytes adds one.
-  pub stops : (stream : List ℕ) → HasReadSaved parser stream → kind ≢ Some 0 → kind ≢ Some 8 → (i : ℕ) → i < read_count result →
-      AreOthers kind (added (Some 1024) stream (take i bytes))
+  -- With enough room, it reads at least one byte, unless it writes a record among the stops.
+  pub further : (told : List Event) (stream rest : List ℕ) → HasTold kinds parser told stream (bytes ++ rest) →
+      4 ≤ length old_events → 2112 ≤ length old_area →
+      HaveOtherKinds stops (kinds_in counts.events events) → 0 < length bytes → 0 < result
+  -- If a record among the stops is written, at most one follows it ..
+  pub first : (told : List Event) (stream rest : List ℕ) → HasTold kinds parser told stream (bytes ++ rest) →
+      StopsAtKind stops (kinds_in counts.events events)
+  -- .. and unless text or data stop, it came with the last byte that was read: no shorter front of the bytes adds one.
+  pub until : (stream : List ℕ) → HasReadSaved parser stream → is_stop kinds stops 0 ≡ false → is_stop kinds stops 3 ≡ false →
+      (i : ℕ) → i < read_count result → AreOthers (is_stop kinds stops) (added (Some 1024) stream (take i bytes))
 
 -- `vte_strip`
 pub record Strips (parser next : Saved) (bytes old_text text : List ℕ) (written result : ℕ) : Type 0 where

@@ -1,12 +1,13 @@
 -- The caller's buffers for events, and how an event changes them.
-use Rattle.std.specs.Prelude.{◌≡◌, ◌≤◌, ℕ, ◌+◌, ◌-◌, Bool, false, ◌&&◌, ◌||◌, List, [], ◌∷◌, ◌++◌, length, take, Option, Some, None, if◌then◌else◌, ◌==◌, nat_le, nat_lt}
+use Rattle.std.specs.Prelude.{◌≡◌, ◌≤◌, ℕ, ◌+◌, ◌-◌, Bool, true, false, ◌&&◌, ◌||◌, List, [], ◌∷◌, ◌++◌, length, map, take, Option, IfSome, is_some, if◌then◌else◌, nat_le, nat_lt}
 use Rattle.vte_core.specs.Event.{Event, OscDispatch}
 use Rattle.vte_core.specs.declared.parser.to_run.Run.{Run}
 use Rattle.vte_c.specs.declared.event.VteEvent.{VteEvent}
 use Rattle.vte_c.specs.declared.events.Events.{Events}
-use Rattle.vte_c.specs.Record.{data_of, record_of, run_record}
+use Rattle.vte_c.specs.Record.{data_of, has, record_of, run_record, without_loss}
 
--- What was written, how much that is, how much there is room for, and after which kind to stop. The names identify the caller's slices.
+-- What was written, how much that is, how much there is room for, which kinds to write and after which to stop. It is paused after a
+-- command. The names identify the caller's slices.
 pub record Room : Type 0 where
   pub events : List VteEvent
   pub count : ℕ
@@ -14,48 +15,44 @@ pub record Room : Type 0 where
   pub area : List ℕ
   pub used : ℕ
   pub size : ℕ
-  pub kind : Option ℕ
+  pub kinds : ℕ
+  pub stops : ℕ
   pub met : Bool
+  pub paused : Bool
   pub events_name : ℕ
   pub area_name : ℕ
 
--- The kind of a number: 256 stands for none.
-abbrev pub kind_wanted : ℕ → Option ℕ
-kind_wanted wanted = if wanted == 256 then None else Some wanted
-
 abbrev pub room_of : Events → Room
 room_of room = record {
-  events = take room.count room.events.now;
+  events = map without_loss (take room.count room.events.now);
   count = room.count;
   most = length room.events.now;
   area = take room.used room.area.now;
   used = room.used;
   size = room.size;
-  kind = kind_wanted room.wanted;
+  kinds = room.kinds;
+  stops = room.stops;
   met = room.met;
+  paused = room.paused;
   events_name = room.events.ghost_name;
   area_name = room.area.ghost_name;
 }
 
 -- The maximum number of data bytes of an event.
 abbrev pub most_data : ℕ
-most_data = 1056
+most_data = 1088
 
 -- The maximum number of data bytes of what one byte of a stream adds: an event, and a character after it.
 abbrev pub most_added : ℕ
-most_added = 1060
-
-abbrev pub is_kind : Option ℕ → ℕ → Bool
-is_kind None kind = false
-is_kind (Some wanted) kind = wanted == kind
+most_added = 1092
 
 -- A record is written if there is room for it.
 unfoldable pub with_one : Room → VteEvent → Room
 with_one room event =
     if nat_lt room.count room.most then record room {
-      events = room.events ++ event ∷ [];
+      events = room.events ++ without_loss event ∷ [];
       count = room.count + 1;
-      met = room.met || is_kind room.kind event.kind;
+      met = room.met || has room.stops event.kind;
     }
     else room
 
@@ -71,29 +68,57 @@ unfoldable pub with_record : Room → VteEvent → List ℕ → Room
 with_record room event bytes =
     if has_room room (length bytes) then with_one (with_data room bytes) (record event { start = room.used }) else room
 
--- The number of data bytes that fit into the `Packed` of an event.
+-- The number of data bytes that fit into the `Packed` of a sequence, and into that of no command.
 abbrev pub packed_size : Event → ℕ
-packed_size (OscDispatch pieces bell dropped) = most_data
+packed_size (OscDispatch pieces bell) = length (data_of (OscDispatch pieces bell))
 packed_size _ = 96
 
--- A record is written if its data fits into this many bytes.
+-- A record of the kinds is written if its data fits into this many bytes.
 abbrev pub with_packed : Room → VteEvent → List ℕ → ℕ → Room
-with_packed room event bytes packed = if nat_le (length bytes) packed then with_record room event bytes else room
+with_packed room event bytes packed =
+    if has room.kinds event.kind then (if nat_le (length bytes) packed then with_record room event bytes else room) else room
+
+abbrev pub is_command : Event → Bool
+is_command (OscDispatch pieces bell) = true
+is_command _ = false
+
+abbrev pub pausing : Room → Event → Room
+pausing room event = record room { paused = is_command event || room.paused }
+
+abbrev pub resumed : Room → Room
+resumed room = record room { paused = false }
 
 abbrev pub with_event : Room → Event → Room
-with_event room event = with_packed room (record_of event) (data_of event) (packed_size event)
+with_event room event = with_packed (pausing room event) (record_of event) (data_of event) (packed_size event)
+
+-- After what was written in a room, the area holds a text up to a place.
+pub record Holds (room : Room) (events : Events) (place : ℕ) (text : List ℕ) : Type 0 where
+  pub same : room_of events ≡ room
+  pub ends : place ≡ room.used + length text
+  pub fits : place ≤ room.size
+  pub held : take place events.area.now ≡ room.area ++ text
+
+-- It holds the text, unless there is no room for that.
+pub record HasGrown (room : Room) (events : Events) (text : List ℕ) (result : Option ℕ) : Type 0 where
+  pub same : room_of events ≡ room
+  pub some : IfSome result (λ place. Holds room events place text)
+  pub fits : is_some result ≡ nat_le (room.used + length text) room.size
+
+-- A run of the kinds is written.
+abbrev pub with_wanted : Room → VteEvent → Room
+with_wanted room event = if has room.kinds event.kind then with_one room event else room
 
 -- The record of a run that the parser returned for the bytes from a place on, if there is a run.
 abbrev pub with_run : Room → ℕ → Run → Room
 with_run room from run =
-    if nat_lt 0 (length run.text.now) then with_one room (run_record 0 (from + run.start) (length run.text.now))
-    else if nat_lt 0 (length run.data.now) then with_one room (run_record 8 (from + run.start) (length run.data.now))
+    if nat_lt 0 (length run.text.now) then with_wanted room (run_record 0 (from + run.start) (length run.text.now))
+    else if nat_lt 0 (length run.data.now) then with_wanted room (run_record 3 (from + run.start) (length run.data.now))
     else room
 
--- There may be no room for what one byte adds, or an event of the kind was written.
+-- There may be no room for what one byte adds, or a stop or a pause has come.
 abbrev pub is_full : Room → Bool
 is_full room =
-    room.met || nat_lt (room.most - room.count) 2 || nat_lt (room.size - room.used) most_added
+    room.met || room.paused || nat_lt (room.most - room.count) 2 || nat_lt (room.size - room.used) most_added
 
 -- An empty room, large enough for what two bytes add.
 pub record Starts (room : Room) : Type 0 where
@@ -102,5 +127,6 @@ pub record Starts (room : Room) : Type 0 where
   pub count : room.count ≡ 0
   pub used : room.used ≡ 0
   pub met : room.met ≡ false
+  pub paused : room.paused ≡ false
   pub most : 4 ≤ room.most
   pub size : 2112 ≤ room.size

@@ -1,14 +1,14 @@
 -- How far a call has come.
-use Rattle.std.specs.Prelude.{◌≡◌, ◌≢◌, ◌+◌, ◌<◌, ◌≤◌, ℕ, Bool, ◌||◌, List, [], ◌∷◌, ◌++◌, length, drop, take, Option, Some}
+use Rattle.std.specs.Prelude.{◌≡◌, ◌+◌, ◌<◌, ◌≤◌, ℕ, Bool, false, ◌||◌, List, [], ◌∷◌, ◌++◌, length, drop, map, take, Some}
 use Rattle.std.specs.List.{flat_map, list_any}
 use Rattle.vte_core.specs.Brief.{IsBounded}
 use Rattle.vte_core.specs.Event.{Event}
 use Rattle.vte_core.specs.Parser.{HasRead}
 use Rattle.vte_core.specs.Stream.{added}
 use Rattle.vte_core.specs.declared.parser.Parser.{Parser}
-use Rattle.vte_c.specs.Events.{Room, is_kind}
-use Rattle.vte_c.specs.Record.{Item, Single, InInput, item_data, item_events, records_from}
-use Rattle.vte_c.specs.Told.{AreOthers, IsRunAt, StopsAtKind}
+use Rattle.vte_c.specs.Events.{Room}
+use Rattle.vte_c.specs.Record.{Item, Single, InInput, has, item_data, item_events, records_from, reported}
+use Rattle.vte_c.specs.Told.{AreOthers, HaveOtherKinds, IsRunAt, StopsAtKind, is_stop}
 use Rattle.vte_c.specs.declared.event.VteEvent.{VteEvent}
 
 -- The events are the first of those of another list.
@@ -29,9 +29,24 @@ AreReadable input [] = Unit {0}
 AreReadable input (Single event ∷ items) = IsBounded (Some 1024) event × AreReadable input items
 AreReadable input (InInput run start size ∷ items) = IsRunAt input run start size × AreReadable input items
 
--- Whether a record is of the kind.
-abbrev pub has_kind : Option ℕ → List VteEvent → Bool
-has_kind kind records = list_any (λ event. is_kind kind event.kind) records
+-- Whether a record is of the kinds.
+abbrev pub has_kind : ℕ → List VteEvent → Bool
+has_kind kinds records = list_any (λ event. has kinds event.kind) records
+
+abbrev pub kinds_of : List VteEvent → List ℕ
+kinds_of records = map (λ event. event.kind) records
+
+-- No record is of the kinds.
+abbrev pub HaveOtherRecords : ℕ → List VteEvent → Type 0
+HaveOtherRecords stops records = HaveOtherKinds stops (kinds_of records)
+
+-- No event stops a call into this room.
+abbrev pub AreOthersIn : Room → List Event → Type 0
+AreOthersIn room events = AreOthers (is_stop room.kinds room.stops) events
+
+-- .. of text or data
+abbrev pub StopsAtNone : Room → Type 0
+StopsAtNone room = (is_stop room.kinds room.stops 0 ≡ false) × (is_stop room.kinds room.stops 3 ≡ false)
 
 -- The room with the records of these items, and their data.
 abbrev pub with_items : Room → List Item → Room
@@ -40,21 +55,24 @@ with_items room items = record room {
   count = room.count + length items;
   area = room.area ++ flat_map item_data items;
   used = room.used + length (flat_map item_data items);
-  met = room.met || has_kind room.kind (records_from room.used items);
+  met = room.met || has_kind room.stops (records_from room.used items);
 }
 
--- These items were written: the room holds their records and their data, and of the records at most two follow those of other kinds.
+-- These items were written: the room holds their records and their data, and of the records at most two follow those that don't stop.
 pub record HasItems (old new : Room) (input : List ℕ) (items : List Item) : Type 0 where
   pub readable : AreReadable input items
   pub room : new ≡ with_items old items
-  pub first : StopsAtKind old.kind (records_from old.used items)
+  pub first : StopsAtKind old.stops (kinds_of (records_from old.used items))
 
--- After bytes up to a place n more were read: their events are those of items, which were written, and the parser goes on as if it had read `next`.
+-- After bytes up to a place n more were read: their events of the kinds are those of items, which were written, and the parser goes on
+-- as if it had read `next`.
 pub record Goes (old new : Room) (since next bytes : List ℕ) (from n : ℕ) : Type 0 where
+  pub told : List Event
   pub items : List Item
-  pub continues : Continues since next (drop from bytes) n (flat_map (item_events bytes) items)
+  pub continues : Continues since next (drop from bytes) n told
+  pub shows : flat_map (item_events bytes) items ≡ reported old.kinds told
   pub holds : HasItems old new bytes items
-  pub before : old.kind ≢ Some 0 → old.kind ≢ Some 8 → (i : ℕ) → i < n → AreOthers old.kind (added (Some 1024) since (take i (drop from bytes)))
+  pub before : StopsAtNone old → (i : ℕ) → i < n → AreOthersIn old (added (Some 1024) since (take i (drop from bytes)))
 
 -- A call that had read bytes up to a place has read n more.
 pub record HasGone (old new : Room) (parser : Parser 1024) (since bytes : List ℕ) (from n : ℕ) : Type 0 where

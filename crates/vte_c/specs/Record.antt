@@ -1,7 +1,7 @@
 -- How records of a fixed size, a data area, and the input of a call represent events.
 use Rattle.std.specs.Char.{encode_utf8}
-use Rattle.std.specs.Prelude.{ℕ, suc, ◌+◌, ◌*◌, ◌/◌, ◌%◌, min, Bool, true, List, [], ◌∷◌, ◌++◌, length, take, drop, map, if◌then◌else◌, ◌==◌}
-use Rattle.std.specs.List.{flat_map}
+use Rattle.std.specs.Prelude.{ℕ, suc, ◌+◌, ◌*◌, ◌/◌, ◌%◌, ◌^◌, min, Bool, true, ◌&&◌, List, [], ◌∷◌, ◌++◌, length, take, drop, map, if◌then◌else◌, ◌==◌, nat_lt}
+use Rattle.std.specs.List.{filter, flat_map}
 use Rattle.std.specs.Str.{chars}
 use Rattle.vte_core.specs.Event.{Event, Print, Execute, Hook, Put, Unhook, OscDispatch, CsiDispatch, EscDispatch}
 use Rattle.vte_c.specs.declared.event.VteEvent.{VteEvent}
@@ -20,9 +20,13 @@ count_byte n = min n 255
 abbrev pub group_bytes : List ℕ → List ℕ
 group_bytes group = count_byte (length group) ∷ flat_map two_bytes group
 
+-- A number as four bytes.
+abbrev pub four_bytes : ℕ → List ℕ
+four_bytes n = n % 256 ∷ (n / 256) % 256 ∷ (n / 65536) % 256 ∷ n / 16777216 ∷ []
+
 -- A piece: how many bytes it has, then the bytes.
 abbrev pub piece_bytes : List ℕ → List ℕ
-piece_bytes piece = two_bytes (min (length piece) 65535) ++ piece
+piece_bytes piece = four_bytes (min (length piece) 4294967295) ++ piece
 
 -- A character or a byte that isn't in the input as it stands: its UTF-8, the byte. Of a command its pieces.
 abbrev pub data_of : Event → List ℕ
@@ -30,7 +34,7 @@ data_of (Print c) = encode_utf8 c
 data_of (Hook groups intermediates ignore final) = flat_map group_bytes groups
 data_of (CsiDispatch groups intermediates ignore final) = flat_map group_bytes groups
 data_of (Put byte) = byte ∷ []
-data_of (OscDispatch pieces bell dropped) = flat_map piece_bytes pieces
+data_of (OscDispatch pieces bell) = flat_map piece_bytes pieces
 data_of _ = []
 
 -- ---- the record of an event
@@ -75,9 +79,13 @@ with_intermediates event intermediates = record event {
 abbrev pub with_flag : VteEvent → Bool → VteEvent
 with_flag event flag = record event { flag = flag_byte flag }
 
--- The flags of a command: whether BEL ended it, and whether data bytes were dropped.
-abbrev pub with_flags : VteEvent → Bool → Bool → VteEvent
-with_flags event bell truncated = record event { flag = flag_byte bell + 2 * flag_byte truncated }
+-- The second bit of a command's flag says that it lost data bytes.
+abbrev pub with_loss : VteEvent → VteEvent
+with_loss event = record event { flag = event.flag % 2 + 2 }
+
+-- A record without that bit, of which no clause speaks.
+unfoldable pub without_loss : VteEvent → VteEvent
+without_loss event = if event.kind == 5 then record event { flag = event.flag % 2 } else event
 
 abbrev pub with_count : VteEvent → ℕ → VteEvent
 with_count event count = record event { count = count_byte count }
@@ -91,11 +99,23 @@ abbrev pub record_of : Event → VteEvent
 record_of (Print c) = with_flag (blank_record 0 (length (encode_utf8 c))) true
 record_of (Execute byte) = blank_record 1 byte
 record_of (Hook groups intermediates ignore final) = sequence_record 2 groups intermediates ignore final
-record_of (Put byte) = with_flag (blank_record 8 1) true
+record_of (Put byte) = with_flag (blank_record 3 1) true
 record_of Unhook = blank_record 4 0
-record_of (OscDispatch pieces bell dropped) = with_count (with_flags (blank_record 5 0) bell dropped) (length pieces)
+record_of (OscDispatch pieces bell) = with_count (with_flag (blank_record 5 0) bell) (length pieces)
 record_of (CsiDispatch groups intermediates ignore final) = sequence_record 6 groups intermediates ignore final
 record_of (EscDispatch intermediates ignore byte) = with_flag (with_intermediates (blank_record 7 byte) intermediates) ignore
+
+-- The number of an event's kind.
+abbrev pub kind_of : Event → ℕ
+kind_of event = (record_of event).kind
+
+-- A set of kinds has a bit for each.
+unfoldable pub has : ℕ → ℕ → Bool
+has kinds kind = nat_lt kind 32 && ((kinds / 2 ^ kind) % 2 == 1)
+
+-- The events of these kinds.
+abbrev pub reported : ℕ → List Event → List Event
+reported kinds events = filter (λ event. has kinds (kind_of event)) events
 
 -- What a run of bytes is: text, or data of a device control string.
 pub data Run : Type 0 where
@@ -104,7 +124,7 @@ pub data Run : Type 0 where
 
 abbrev pub run_kind : Run → ℕ
 run_kind TextRun = 0
-run_kind DataRun = 8
+run_kind DataRun = 3
 
 -- The events of a run: of a text each character is printed, of data each byte is put.
 abbrev pub run_events : Run → List ℕ → List Event
@@ -153,7 +173,9 @@ groups_in _ _ = []
 
 -- This many pieces.
 abbrev pub pieces_in : ℕ → List ℕ → List (List ℕ)
-pieces_in (suc n) (low ∷ high ∷ area) = take (low + 256 * high) area ∷ pieces_in n (drop (low + 256 * high) area)
+pieces_in (suc n) (a ∷ b ∷ c ∷ d ∷ area) =
+    let size : ℕ = a + 256 * b + 65536 * c + 16777216 * d in
+    take size area ∷ pieces_in n (drop size area)
 pieces_in _ _ = []
 
 abbrev pub intermediates_in : VteEvent → List ℕ
@@ -167,7 +189,7 @@ event_in area event =
     if event.kind == 1 then Execute event.code
     else if event.kind == 2 then Hook groups (intermediates_in event) (event.flag == 1) event.code
     else if event.kind == 4 then Unhook
-    else if event.kind == 5 then OscDispatch (pieces_in event.count behind) (event.flag % 2 == 1) (event.flag / 2 == 1)
+    else if event.kind == 5 then OscDispatch (pieces_in event.count behind) (event.flag % 2 == 1)
     else if event.kind == 6 then CsiDispatch groups (intermediates_in event) (event.flag == 1) event.code
     else EscDispatch (intermediates_in event) (event.flag == 1) event.code
 
@@ -179,8 +201,12 @@ run_in input area event = take event.code (drop event.start (if event.flag == 1 
 unfoldable pub events_of : List ℕ → List ℕ → VteEvent → List Event
 events_of input area event =
     if event.kind == 0 then run_events TextRun (run_in input area event)
-    else if event.kind == 8 then run_events DataRun (run_in input area event)
+    else if event.kind == 3 then run_events DataRun (run_in input area event)
     else event_in area event ∷ []
+
+-- The kinds of the first `count` records.
+abbrev pub kinds_in : ℕ → List VteEvent → List ℕ
+kinds_in count records = map (λ event. event.kind) (take count records)
 
 -- The events of the first `count` records.
 abbrev pub events_in : ℕ → List VteEvent → List ℕ → List ℕ → List Event

@@ -1,5 +1,5 @@
 -- What was reported of a stream to a caller.
-use Rattle.std.specs.Prelude.{◌≡◌, ◌+◌, ◌-◌, ◌^◌, ◌<◌, ◌≤◌, ℕ, false, List, [], ◌∷◌, ◌++◌, length, drop, take, Option, Some, if◌then◌else◌, ◌==◌}
+use Rattle.std.specs.Prelude.{◌≡◌, ◌+◌, ◌-◌, ◌^◌, ◌<◌, ◌≤◌, ℕ, Bool, false, ◌&&◌, List, [], ◌∷◌, ◌++◌, length, drop, map, take, Some, if◌then◌else◌, ◌==◌}
 use Rattle.std.specs.List.{flat_map}
 use Rattle.std.specs.Str.{IsUtf8}
 use Rattle.event_log.specs.Plain.{plain_text}
@@ -8,8 +8,8 @@ use Rattle.vte_core.specs.Saved.{HasReadSaved}
 use Rattle.vte_core.specs.Stream.{added, events}
 use Rattle.vte_core.specs.Text.{HasNoControls}
 use Rattle.vte_core.specs.declared.parser.saved.Saved.{Saved}
-use Rattle.vte_c.specs.Events.{is_kind, room_of}
-use Rattle.vte_c.specs.Record.{Run, TextRun, DataRun, Item, Single, InInput, events_in, item_data, item_events, record_of, records_from}
+use Rattle.vte_c.specs.Events.{room_of}
+use Rattle.vte_c.specs.Record.{Run, TextRun, DataRun, Item, Single, InInput, events_in, has, item_data, item_events, kind_of, kinds_in, records_from, reported, without_loss}
 use Rattle.vte_c.specs.declared.event.VteEvent.{VteEvent}
 use Rattle.vte_c.specs.declared.events.Events.{Events}
 use Rattle.vte_c.specs.declared.text.Text.{Text}
@@ -21,9 +21,9 @@ pub record HasGiven {A : Type 0} (of : List Event → List A) (parser : Saved) (
   pub reads : HasReadSaved parser since
   pub goes_on : (more : List ℕ) → given ++ of (added (Some 1024) since (unread ++ more)) ≡ of (events (Some 1024) (stream ++ more))
 
--- The events were reported.
-abbrev pub HasTold : Saved → List Event → List ℕ → List ℕ → Type 0
-HasTold parser told stream unread = HasGiven (λ (events : List Event). events) parser told stream unread
+-- The events of these kinds were reported.
+abbrev pub HasTold : ℕ → Saved → List Event → List ℕ → List ℕ → Type 0
+HasTold kinds parser told stream unread = HasGiven (reported kinds) parser told stream unread
 
 -- The text of the events was written.
 abbrev pub HasStripped : Saved → List ℕ → List ℕ → List ℕ → Type 0
@@ -37,26 +37,26 @@ no_room = 2 ^ 64 - 1
 abbrev pub read_count : ℕ → ℕ
 read_count result = if result == no_room then 0 else result
 
--- The number of an event's kind.
-abbrev pub kind_of : Event → ℕ
-kind_of event = (record_of event).kind
+-- Events of a kind stop a call if they are reported and among the stops.
+abbrev pub is_stop : ℕ → ℕ → ℕ → Bool
+is_stop kinds stops kind = has kinds kind && has stops kind
 
--- No event is of the kind.
-abbrev pub AreOthers : Option ℕ → List Event → Type 0
-AreOthers kind [] = Unit {0}
-AreOthers kind (event ∷ events) = (is_kind kind (kind_of event) ≡ false) × AreOthers kind events
+-- No event has a kind that stops.
+abbrev pub AreOthers : (ℕ → Bool) → List Event → Type 0
+AreOthers stops [] = Unit {0}
+AreOthers stops (event ∷ events) = (stops (kind_of event) ≡ false) × AreOthers stops events
 
--- No record is of the kind.
-abbrev pub HaveOtherKinds : Option ℕ → List VteEvent → Type 0
-HaveOtherKinds kind [] = Unit {0}
-HaveOtherKinds kind (event ∷ records) = (is_kind kind event.kind ≡ false) × HaveOtherKinds kind records
+-- None of these is among the stops.
+abbrev pub HaveOtherKinds : ℕ → List ℕ → Type 0
+HaveOtherKinds stops [] = Unit {0}
+HaveOtherKinds stops (kind ∷ kinds) = (has stops kind ≡ false) × HaveOtherKinds stops kinds
 
--- A call stops after the first record of a kind: at most one follows it.
-pub record StopsAtKind (kind : Option ℕ) (records : List VteEvent) : Type 0 where
-  pub before : List VteEvent
-  pub last : List VteEvent
-  pub parts : records ≡ before ++ last
-  pub others : HaveOtherKinds kind before
+-- A call stops after the first record that is among the stops: at most one follows it.
+pub record StopsAtKind (stops : ℕ) (kinds : List ℕ) : Type 0 where
+  pub before : List ℕ
+  pub last : List ℕ
+  pub parts : kinds ≡ before ++ last
+  pub others : HaveOtherKinds stops before
   pub few : length last ≤ 2
 
 -- A text is well-formed characters, none of them a control. Data may be any bytes: its events are these.
@@ -77,13 +77,13 @@ AreRuns input (Single event ∷ items) = AreRuns input items
 AreRuns input (InInput run start size ∷ items) = IsRunAt input run start size × AreRuns input items
 
 -- These events are encoded, and nothing else: by so many records, one for each item, and so many bytes of data, which begin in the
--- area where the record says. A run in the input has no data.
+-- area where the record says. A run in the input has no data. That the record of a command says whether data were lost is only tested.
 pub record AreEncoded (events : List Event) (count used : ℕ) (records : List VteEvent) (input area : List ℕ) : Type 0 where
   pub items : List Item
   pub told : flat_map (item_events input) items ≡ events
   pub runs : AreRuns input items
   pub number : count ≡ length items
-  pub recorded : take count records ≡ records_from 0 items
+  pub recorded : map without_loss (take count records) ≡ records_from 0 items
   pub size : used ≡ length (flat_map item_data items)
   pub held : take used area ≡ flat_map item_data items
 
@@ -91,11 +91,11 @@ pub record AreEncoded (events : List Event) (count used : ℕ) (records : List V
 pub record HasFed (old new : Events) (parser : Saved) (told : List Event) (stream bytes rest : List ℕ) (n : ℕ) : Type 0 where
   pub events_name : new.events.ghost_name ≡ old.events.ghost_name
   pub area_name : new.area.ghost_name ≡ old.area.ghost_name
-  pub further : HaveOtherKinds (room_of old).kind (take new.count new.events.now) → 0 < length bytes → 0 < n
-  pub first : StopsAtKind (room_of old).kind (take new.count new.events.now)
+  pub further : HaveOtherKinds (room_of old).stops (kinds_in new.count new.events.now) → 0 < length bytes → 0 < n
+  pub first : StopsAtKind (room_of old).stops (kinds_in new.count new.events.now)
   pub encodes : (more : List ℕ) →
       AreEncoded (events_in new.count new.events.now (bytes ++ more) new.area.now) new.count new.used new.events.now (bytes ++ more) new.area.now
-  pub tells : (more : List ℕ) → HasTold parser (told ++ events_in new.count new.events.now (bytes ++ more) new.area.now) stream (drop n bytes ++ rest)
+  pub tells : (more : List ℕ) → HasTold (room_of old).kinds parser (told ++ events_in new.count new.events.now (bytes ++ more) new.area.now) stream (drop n bytes ++ rest)
 
 -- The same for text.
 pub record StripsMore (old new : Text) (parser : Saved) (text stream bytes rest : List ℕ) (n : ℕ) : Type 0 where

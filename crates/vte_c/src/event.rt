@@ -1,6 +1,6 @@
 //! Events as records of a fixed size.
 ghost use Rattle.std.specs.Prelude.{◌≡◌};
-ghost use Rattle.vte_c.specs.Record.{blank_record, count_byte, run_record, with_count, with_flag, with_flags, with_intermediates};
+ghost use Rattle.vte_c.specs.Record.{blank_record, count_byte, has, run_record, with_count, with_flag, with_intermediates, with_loss};
 
 /// The kinds of events, by the numbers of `vte.h`.
 pub const TEXT: u8 = 0;
@@ -9,7 +9,7 @@ pub const EXECUTE: u8 = 1;
 
 pub const HOOK: u8 = 2;
 
-pub const PUT: u8 = 3;
+pub const DATA: u8 = 3;
 
 pub const UNHOOK: u8 = 4;
 
@@ -19,15 +19,15 @@ pub const CSI: u8 = 6;
 
 pub const ESC: u8 = 7;
 
-pub const DATA: u8 = 8;
-
-/// An event, or the events of a text or of data. Groups of numbers and pieces of an operating system command are in the data area, from
-/// `start` on; a text or data is there if `flag` is 1, and otherwise in the input of the call.
+/// An event, or the events of a text or of data. Groups of numbers and pieces of an operating system
+/// command are in the data area, from `start` on; a text or data is there if `flag` is 1, and
+/// otherwise in the input of the call.
 #[repr(C)]
 #[derive(Clone, Copy)]
 pub struct VteEvent {
     pub kind: u8,
-    // `ignore` of a sequence; of a command 1 if BEL ended it, and 2 if data bytes were dropped; whether a text or data is in the data area
+    // `ignore` of a sequence; of a command 1 if BEL ended it, and 2 if it lost data bytes; whether a
+    // text or data is in the data area
     pub flag: u8,
     pub intermediate_count: u8,
     // how many groups or pieces there are
@@ -96,12 +96,12 @@ impl VteEvent {
         }
     }
 
-    /// Returns the event with the flags of a command: whether BEL ended it, and whether data bytes were dropped.
-    pub(crate) fn with_flags(self, bell_terminated: bool, truncated: bool) -> Self
-        ensures { result ≡ with_flags self bell_terminated truncated }
+    /// Returns the record of a command that lost data bytes.
+    pub(crate) fn with_loss(self) -> Self
+        ensures { result ≡ with_loss self }
     {
         VteEvent {
-            flag: u8::from(bell_terminated) + 2 * u8::from(truncated),
+            flag: self.flag % 2 + 2,
             ..self
         }
     }
@@ -115,6 +115,15 @@ impl VteEvent {
             ..self
         }
     }
+}
+
+/// Returns whether a kind is in a set of kinds.
+#[inline(always)]
+#[tactic(auto, unfolding(crate::specs::Record::has))]
+pub fn has(kinds: u32, kind: u8) -> bool
+    ensures { result ≡ has kinds kind }
+{
+    kind < 32 && (kinds >> kind) % 2 == 1
 }
 
 /// Returns a count as a byte, at most 255.

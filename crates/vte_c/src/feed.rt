@@ -1,13 +1,13 @@
 //! From bytes to events.
-ghost use Rattle.std.specs.Prelude.{◌≡◌, ◌≢◌, ◌<◌, ◌≤◌, ◌+◌, ◌^◌, ◌++◌, ℕ, false, List, Some, length, take};
+ghost use Rattle.std.specs.Prelude.{◌≡◌, ◌<◌, ◌≤◌, ◌+◌, ◌^◌, ◌++◌, ℕ, false, List, Some, length, take};
 ghost use Rattle.vte_core.specs.Parser.{HasRead};
 ghost use Rattle.vte_core.specs.Event.{Event};
 ghost use Rattle.vte_core.specs.Saved.{HasReadSaved};
 ghost use Rattle.vte_core.specs.Stream.{added};
-ghost use Rattle.vte_c.specs.Calls.{Feeds, FeedsUntil};
+ghost use Rattle.vte_c.specs.Calls.{Feeds};
 ghost use Rattle.vte_c.specs.Events.{Starts, is_full, room_of};
-ghost use Rattle.vte_c.specs.Feeding.{HasGone};
-ghost use Rattle.vte_c.specs.Told.{AreOthers, HasFed, HasTold, HaveOtherKinds};
+ghost use Rattle.vte_c.specs.Feeding.{AreOthersIn, HasGone, HaveOtherRecords, StopsAtNone};
+ghost use Rattle.vte_c.specs.Told.{HasFed, HasTold};
 
 use crate::event::VteEvent;
 use crate::events::Events;
@@ -28,17 +28,17 @@ pub struct VteCounts {
     pub bytes: usize,
 }
 
-/// Reads bytes until they end, the buffers are nearly full, or an event of the kind was written. Returns how many were read.
+/// Reads bytes until they end, the buffers are nearly full, or an event that stops was written. Returns how many were read.
 pub(crate) fn feed(
     parser: &mut Saved,
     bytes: &[u8],
-    kind: Option<u8>,
+    kinds: u32,
+    stops: u32,
     events: &mut [VteEvent],
     area: &mut [u8],
     counts: &mut VteCounts,
 ) -> usize
-    ensures feeds { Feeds parser.old parser.new bytes.now events.old events.new area.old area.new counts.new result }
-    ensures until { FeedsUntil kind parser.old bytes.now events.old events.new area.old counts.new result }
+    ensures { Feeds kinds stops parser.old parser.new bytes.now events.old events.new area.old area.new counts.new result }
 {
     *counts = VteCounts {
         events: 0,
@@ -51,7 +51,7 @@ pub(crate) fn feed(
     // Records have 32 bits for places in the input.
     let end = bytes.len().min(u32::MAX as usize);
     let bytes = &bytes[..end];
-    let mut room = Events::new(events, area, kind);
+    let mut room = Events::new(events, area, kinds, stops);
     let read = read_into(parser, bytes, &mut room);
     *counts = VteCounts {
         events: room.count().min(most),
@@ -65,9 +65,9 @@ fn read_into(saved: &mut Saved, bytes: &[u8], room: &mut Events<'_>) -> usize
     requires starts { Starts (room_of room.old) }
     requires small { length bytes.now < 2 ^ 32 }
     ensures within { result ≤ length bytes.now }
-    ensures stops { (stream : List ℕ) → HasReadSaved saved.old stream → (room_of room.old).kind ≢ Some 0 → (room_of room.old).kind ≢ Some 8 → (i : ℕ) → i < result →
-        AreOthers (room_of room.old).kind (added (Some 1024) stream (take i bytes.now)) }
-    ensures feeds { (told : List Event) (stream rest : List ℕ) → HasTold saved.old told stream (bytes.now ++ rest) →
+    ensures stops { (stream : List ℕ) → HasReadSaved saved.old stream → StopsAtNone (room_of room.old) → (i : ℕ) → i < result →
+        AreOthersIn (room_of room.old) (added (Some 1024) stream (take i bytes.now)) }
+    ensures feeds { (told : List Event) (stream rest : List ℕ) → HasTold (room_of room.old).kinds saved.old told stream (bytes.now ++ rest) →
         HasFed room.old room.new saved.new told stream bytes.now rest result }
 {
     let mut parser = Parser::restored(saved);
@@ -83,7 +83,7 @@ fn read_all(parser: &mut Parser<1024>, bytes: &[u8], room: &mut Events<'_>) -> u
     ensures within { result ≤ length bytes.now }
     ensures goes { (since : List ℕ) → HasRead parser.old since →
         HasGone (room_of room.old) (room_of room.new) parser.new since bytes.now 0 result }
-    ensures further { (since : List ℕ) → HasRead parser.old since → HaveOtherKinds (room_of room.old).kind (room_of room.new).events →
+    ensures further { (since : List ℕ) → HasRead parser.old since → HaveOtherRecords (room_of room.old).stops (room_of room.new).events →
         0 < length bytes.now → 0 < result }
 {
     let mut position = 0;
@@ -106,12 +106,13 @@ fn read_more(parser: &mut Parser<1024>, bytes: &[u8], from: usize, room: &mut Ev
     ensures goes { (since : List ℕ) → HasRead parser.old since →
         HasGone (room_of room.old) (room_of room.new) parser.new since bytes.now from result }
     ensures further { (since : List ℕ) → HasRead parser.old since → Starts (room_of room.old) →
-        HaveOtherKinds (room_of room.old).kind (room_of room.new).events → 0 < result }
+        HaveOtherRecords (room_of room.old).stops (room_of room.new).events → 0 < result }
 {
     laws::early_stops();
     laws::events_grow();
     laws::opens_silently();
     let run = parser.advance_to_run(room, &bytes[from..]);
+    room.resume(parser.command_lost_data());
     room.add_run(from, run);
     run.end()
 }

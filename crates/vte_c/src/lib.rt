@@ -5,10 +5,8 @@
 //! written may not overlap anything else that is passed.
 #![tactic(auto)]
 
-ghost use Rattle.std.specs.Prelude.{◌≡◌, ◌<◌, ◌≤◌, ◌++◌, ℕ, List, Some, length};
-ghost use Rattle.vte_core.specs.Event.{Event};
-ghost use Rattle.vte_c.specs.Calls.{Feeds, FeedsUntil, Strips};
-ghost use Rattle.vte_c.specs.Told.{HasTold};
+ghost use Rattle.std.specs.Prelude.{◌≡◌};
+ghost use Rattle.vte_c.specs.Calls.{Feeds, Strips};
 
 mod event;
 mod events;
@@ -22,48 +20,35 @@ use feed::VteCounts;
 use std::mem::size_of;
 use vte_core::Saved;
 
-const VERSION: u32 = 5;
+const VERSION: u32 = 6;
 
 const PARSER_SIZE: usize = size_of::<Saved>();
 
 const EVENT_SIZE: usize = size_of::<VteEvent>();
 
-/// Reads bytes, and writes the events that they add to the stream. Returns how many bytes were read.
+/// Reads bytes, and writes the events of some kinds that they add to the stream. Returns how many
+/// bytes were read.
 ///
-/// Text is in runs, and so is the data of device control strings: a record says where one is in the bytes, or in the data area.
+/// Text is in runs, and so is the data of device control strings: a record says where one is in the
+/// bytes, or in the data area.
 ///
-/// It stops early when the buffers are nearly full: call it again with the rest. If there is room for fewer than `vte_least_events` events or
-/// `vte_least_data` data bytes, it reads nothing and returns `usize::MAX`.
+/// It stops early when the buffers are nearly full, and after an event of the kinds `stops`, which at
+/// most one follows: call it again with the rest. If there is room for fewer than
+/// `vte_least_events` events or `vte_least_data` data bytes, it reads nothing and returns
+/// `usize::MAX`.
 #[unsafe(no_mangle)]
 pub extern "C" fn vte_feed(
     parser: &mut Saved,
     bytes: &[u8],
+    kinds: u32,
+    stops: u32,
     events: &mut [VteEvent],
     area: &mut [u8],
     counts: &mut VteCounts,
 ) -> usize
-    ensures feeds { Feeds parser.old parser.new bytes.now events.old events.new area.old area.new counts.new result }
-    // With enough room, it reads at least one byte.
-    ensures further { (told : List Event) (stream rest : List ℕ) → HasTold parser.old told stream (bytes.now ++ rest) →
-        4 ≤ length events.old → 2112 ≤ length area.old → 0 < length bytes.now → 0 < result }
+    ensures { Feeds kinds stops parser.old parser.new bytes.now events.old events.new area.old area.new counts.new result }
 {
-    feed::feed(parser, bytes, None, events, area, counts)
-}
-
-/// Reads bytes as `vte_feed` does, and also stops after the first record of a kind. At most one record follows it.
-#[unsafe(no_mangle)]
-pub extern "C" fn vte_feed_until(
-    parser: &mut Saved,
-    bytes: &[u8],
-    kind: u8,
-    events: &mut [VteEvent],
-    area: &mut [u8],
-    counts: &mut VteCounts,
-) -> usize
-    ensures feeds { Feeds parser.old parser.new bytes.now events.old events.new area.old area.new counts.new result }
-    ensures until { FeedsUntil (Some kind) parser.old bytes.now events.old events.new area.old counts.new result }
-{
-    feed::feed(parser, bytes, Some(kind), events, area, counts)
+    feed::feed(parser, bytes, kinds, stops, events, area, counts)
 }
 
 /// Reads bytes, and writes the text that is left without the sequences. Returns how many bytes were read.
@@ -85,7 +70,7 @@ pub extern "C" fn vte_strip(
 /// Returns the version of this interface. It grows when programs compiled for an earlier version no longer work.
 #[unsafe(no_mangle)]
 pub extern "C" fn vte_version() -> u32
-    ensures { result ≡ 5 }
+    ensures { result ≡ 6 }
 {
     VERSION
 }

@@ -1,7 +1,7 @@
-//! The data of an event, as it is written into the data area.
-ghost use Rattle.std.specs.Prelude.{◌≡◌, ◌++◌, ℕ, List, [], length, map, nat_le, IfSome, is_some};
+//! The data of a sequence, as it is written into the data area.
+ghost use Rattle.std.specs.Prelude.{◌≡◌, ◌++◌, ℕ, List, [], length, nat_le, IfSome, is_some};
 ghost use Rattle.std.specs.List.{flat_map};
-ghost use Rattle.vte_c.specs.Record.{group_bytes, piece_bytes};
+ghost use Rattle.vte_c.specs.Record.{group_bytes};
 ghost use Rattle.vte_c.specs.Packed.{Packs};
 
 use crate::event::count_byte;
@@ -60,24 +60,6 @@ impl<const N: usize> Packed<N> {
     {
         for group in params {
             self.push_group(group);
-        }
-    }
-
-    /// Adds a piece after two bytes with its length.
-    fn push_piece(&mut self, piece: &[u8])
-        ensures { (text : List ℕ) → Packs self.old text → Packs self.new (text ++ piece_bytes piece.now) }
-    {
-        let length = piece.len().min(65535);
-        self.push(&[(length % 256) as u8, (length / 256) as u8]);
-        self.push(piece);
-    }
-
-    pub(crate) fn push_pieces(&mut self, pieces: &[&[u8]])
-        ensures { (text : List ℕ) → Packs self.old text →
-            Packs self.new (text ++ flat_map piece_bytes (map (λ piece. piece.now) pieces.now)) }
-    {
-        for piece in pieces {
-            self.push_piece(piece);
         }
     }
 }

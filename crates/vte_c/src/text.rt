@@ -85,11 +85,6 @@ impl Perform for Text<'_> {
     }
 
     #[tactic(auto, unfolding(event_log::specs::Plain::plain_text_of))]
-    fn osc_dispatch_truncated(&mut self, params: &[&[u8]], bell_terminated: bool) {
-        self.osc_dispatch(params, bell_terminated);
-    }
-
-    #[tactic(auto, unfolding(event_log::specs::Plain::plain_text_of))]
     fn csi_dispatch(
         &mut self,
         _params: &Params,

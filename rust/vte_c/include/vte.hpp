@@ -11,6 +11,10 @@
 #ifndef VTE_HPP
 #define VTE_HPP
 
+#if __cplusplus < 201703L && (!defined _MSVC_LANG || _MSVC_LANG < 201703L)
+#error "vte.hpp needs C++17: compile with -std=c++17"
+#endif
+
 #include "vte_handler.h"
 #include <memory>
 #include <new>
@@ -183,7 +187,7 @@ class Processor {
     }
 
 public:
-    explicit Processor(Handler &handler) : processor(vte_processor_new(&calls(), &handler)) {
+    explicit Processor(Handler &handler) : processor(vte_processor_new(&calls(), sizeof calls(), &handler)) {
         if (!processor) throw std::bad_alloc();
     }
 

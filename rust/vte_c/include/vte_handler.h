@@ -7,15 +7,20 @@
  *     static void go(void *user, int32_t line, size_t column) { .. }
  *
  *     vte_handler calls = {.input = input, .go_to = go};
- *     vte_processor *processor = vte_processor_new(&calls, screen);
+ *     vte_processor *processor = vte_processor_new(&calls, sizeof calls, screen);
  *     vte_processor_advance(processor, bytes, length, &read);
  *     vte_processor_free(processor);
  *
- * docs/CALLS.md says which sequences make which calls. The calls are those of the whole stream, in order, however you split it. A text
- * is passed in runs, of which there may be several one after another, and which aren't terminated by 0; a text that a call passes is
- * valid until the call returns. A call must return, and not by an exception or longjmp. It may not use its processor: that gets
- * VTE_BUSY. A processor takes its memory from malloc: 2 MiB for updates, and as much as the longest command has. It is in the library
- * that cargo builds.
+ * The calls are those of the whole stream, in order, however you split it. A text is passed in runs, of which there may be several one after
+ * another, and which aren't terminated by 0; a text that a call passes is valid until the call returns. A call must return, and not by an
+ * exception or longjmp. The calls come in the thread that calls vte_processor_advance or vte_processor_stop_sync.
+ *
+ * Threads may use different processors at once. Of one, the first call is made, and others get VTE_BUSY until it returns: those of another
+ * thread, and those that a function of the table makes. So do those of vte_processor_free, which then frees nothing. Free a processor
+ * once, when no other call can come.
+ *
+ * A processor takes its memory from malloc: 2 MiB for updates, and as much as the longest command has. It is in the library that cargo
+ * builds.
  */
 #ifndef VTE_HANDLER_H
 #define VTE_HANDLER_H
@@ -30,7 +35,7 @@ extern "C" {
 enum {
     VTE_OK = 0,
     VTE_NO_MEMORY = 1, /* memory was refused */
-    VTE_BUSY = 2       /* a call of the processor is under way: nothing was done */
+    VTE_BUSY = 2       /* another call of the processor is under way: nothing was done */
 };
 
 /* Parts of the screen. */
@@ -164,8 +169,9 @@ typedef struct {
     uint64_t deadline;  /* .. and until when: nanoseconds of CLOCK_MONOTONIC. Call vte_processor_stop_sync then */
 } vte_sync;
 
-/* Returns a new processor, or NULL if memory is refused. It copies the table. */
-vte_processor *vte_processor_new(const vte_handler *calls, void *user);
+/* Returns a new processor, or NULL if memory is refused. It copies the table, which has so many bytes: pass its size. Later versions may
+ * have more calls, at the end, and a program that was compiled without them keeps working. */
+vte_processor *vte_processor_new(const vte_handler *calls, size_t size, void *user);
 
 /* Frees a processor. NULL is no processor. */
 int vte_processor_free(vte_processor *processor);

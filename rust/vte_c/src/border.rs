@@ -1,8 +1,9 @@
 //! The functions of vte.h. C passes pointers, and the parser takes references, which needs `unsafe`.
 //!
-//! The callers' rules of vte.h are what makes it sound. No pointer is null, and each points to as many elements as its length
-//! says, or to one. What is written overlaps nothing else that is passed, and no other thread uses it during the call. All types
-//! here are plain numbers without padding that is read, so any bytes are values of them.
+//! The callers' rules of vte.h are what makes it sound. No pointer is null, unless its length is 0,
+//! and each points to as many elements as its length says, or to one. What is written overlaps
+//! nothing else that is passed, and no other thread uses it during the call. All types here are plain
+//! numbers without padding that is read, so any bytes are values of them.
 #![allow(unsafe_code)]
 #![allow(clippy::missing_safety_doc, clippy::too_many_arguments)]
 
@@ -11,12 +12,33 @@ use crate::proved::vte_c::{VteCounts, VteEvent};
 use core::slice::{from_raw_parts, from_raw_parts_mut};
 use vte::Saved;
 
-/// Reads bytes, and writes the events that they add to the stream. Returns how many bytes were read.
+/// Returns the elements at a place, which may be null if there are none.
+pub(crate) unsafe fn slice<'a, T>(place: *const T, length: usize) -> &'a [T] {
+    match length {
+        0 => &[],
+        // SAFETY: the callers' rules above
+        _ => unsafe { from_raw_parts(place, length) },
+    }
+}
+
+/// The same, to be written.
+pub(crate) unsafe fn slice_mut<'a, T>(place: *mut T, length: usize) -> &'a mut [T] {
+    match length {
+        0 => &mut [],
+        // SAFETY: the callers' rules above
+        _ => unsafe { from_raw_parts_mut(place, length) },
+    }
+}
+
+/// Reads bytes, and writes the events of some kinds that they add to the stream. Returns how many
+/// bytes were read.
 #[no_mangle]
 pub unsafe extern "C" fn vte_feed(
     parser: *mut Saved,
     bytes: *const u8,
     length: usize,
+    kinds: u32,
+    stops: u32,
     events: *mut VteEvent,
     event_room: usize,
     data: *mut u8,
@@ -27,35 +49,11 @@ pub unsafe extern "C" fn vte_feed(
     unsafe {
         vte_c::vte_feed(
             &mut *parser,
-            from_raw_parts(bytes, length),
-            from_raw_parts_mut(events, event_room),
-            from_raw_parts_mut(data, data_room),
-            &mut *counts,
-        )
-    }
-}
-
-/// Reads bytes as `vte_feed` does, and also stops after the first record of a kind.
-#[no_mangle]
-pub unsafe extern "C" fn vte_feed_until(
-    parser: *mut Saved,
-    bytes: *const u8,
-    length: usize,
-    kind: u8,
-    events: *mut VteEvent,
-    event_room: usize,
-    data: *mut u8,
-    data_room: usize,
-    counts: *mut VteCounts,
-) -> usize {
-    // SAFETY: the callers' rules above
-    unsafe {
-        vte_c::vte_feed_until(
-            &mut *parser,
-            from_raw_parts(bytes, length),
-            kind,
-            from_raw_parts_mut(events, event_room),
-            from_raw_parts_mut(data, data_room),
+            slice(bytes, length),
+            kinds,
+            stops,
+            slice_mut(events, event_room),
+            slice_mut(data, data_room),
             &mut *counts,
         )
     }
@@ -75,11 +73,18 @@ pub unsafe extern "C" fn vte_strip(
     unsafe {
         vte_c::vte_strip(
             &mut *parser,
-            from_raw_parts(bytes, length),
-            from_raw_parts_mut(text, text_room),
+            slice(bytes, length),
+            slice_mut(text, text_room),
             &mut *written,
         )
     }
+}
+
+/// Returns whether a sequence or a character is unfinished.
+#[no_mangle]
+pub unsafe extern "C" fn vte_is_open(parser: *const Saved) -> u8 {
+    // SAFETY: the callers' rules above
+    vte_c::vte_is_open(unsafe { &*parser })
 }
 
 #[no_mangle]

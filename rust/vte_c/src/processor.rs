@@ -1,15 +1,18 @@
 //! Processors for C, whose handlers are tables of functions. Written by hand: proved code can't call functions of C.
 //!
-//! The callers' rules of vte.h make it sound: a processor is one that `vte_processor_new` returned and that isn't freed, no other
-//! thread uses it during a call, and a function of the table may be called with what vte.h says, and returns.
+//! The callers' rules of vte_handler.h make it sound: a processor is one that `vte_processor_new`
+//! returned and that isn't freed, and a function of the table may be called with what the header says,
+//! in the thread that calls the processor, and returns.
 #![allow(unsafe_code)]
 #![allow(clippy::missing_safety_doc)]
 
+use crate::border::slice;
 use crate::memory;
 use alloc::boxed::Box;
 use core::ffi::c_void;
+use core::mem::{size_of, zeroed};
 use core::ptr;
-use core::slice::from_raw_parts;
+use core::sync::atomic::{AtomicBool, Ordering};
 use core::time::Duration;
 use vte::ansi::cursor_icon::CursorIcon;
 use vte::ansi::lent::{Handler, HandlerText, Hyperlink, LongProcessor};
@@ -259,7 +262,7 @@ fn now() -> u64 {
 
 /// A processor, its handler, and whether a call of it is under way.
 pub struct VteProcessor {
-    is_busy: bool,
+    is_busy: AtomicBool,
     processor: LongProcessor<Deadline>,
     calls: Calls,
 }
@@ -272,19 +275,19 @@ pub struct VteSync {
     deadline: u64,
 }
 
-/// Runs a call of a processor, unless one is under way. Only `is_busy` is looked at before: a call under way has the rest.
+/// Runs a call of a processor, unless one is under way, in this thread or another. Only `is_busy` is
+/// looked at before: a call under way has the rest.
 unsafe fn enter(
     processor: *mut VteProcessor,
     call: impl FnOnce(&mut LongProcessor<Deadline>, &mut Calls) -> i32,
 ) -> i32 {
     // SAFETY: the callers' rules above; references are to fields of which no call under way has others
     unsafe {
-        if (*processor).is_busy {
+        if (*processor).is_busy.swap(true, Ordering::Acquire) {
             return BUSY;
         }
-        (*processor).is_busy = true;
         let status = call(&mut (*processor).processor, &mut (*processor).calls);
-        (*processor).is_busy = false;
+        (*processor).is_busy.store(false, Ordering::Release);
         status
     }
 }
@@ -293,16 +296,20 @@ unsafe fn enter(
 #[no_mangle]
 pub unsafe extern "C" fn vte_processor_new(
     table: *const VteHandler,
+    size: usize,
     user: *mut c_void,
 ) -> *mut VteProcessor {
-    // SAFETY: the callers' rules above
-    let calls = Calls {
-        table: unsafe { *table },
-        user,
+    // SAFETY: no function is null, the table has as many bytes as its size says, and no part of one
+    let table = unsafe {
+        let mut known: VteHandler = zeroed();
+        let size = size.min(size_of::<VteHandler>());
+        ptr::copy_nonoverlapping(table.cast::<u8>(), ptr::addr_of_mut!(known).cast(), size);
+        known
     };
+    let calls = Calls { table, user };
     match LongProcessor::new(Deadline(None)) {
         Ok(processor) => memory::boxed(VteProcessor {
-            is_busy: false,
+            is_busy: AtomicBool::new(false),
             processor,
             calls,
         }),
@@ -318,11 +325,11 @@ pub unsafe extern "C" fn vte_processor_free(processor: *mut VteProcessor) -> i32
     }
     // SAFETY: the callers' rules above
     unsafe {
-        let status = enter(processor, |_, _| OK);
-        if status == OK {
-            drop(Box::from_raw(processor));
+        if (*processor).is_busy.swap(true, Ordering::Acquire) {
+            return BUSY;
         }
-        status
+        drop(Box::from_raw(processor));
+        OK
     }
 }
 
@@ -336,7 +343,7 @@ pub unsafe extern "C" fn vte_processor_advance(
 ) -> i32 {
     // SAFETY: the callers' rules above
     unsafe {
-        let bytes = from_raw_parts(bytes, length);
+        let bytes = slice(bytes, length);
         let mut count = 0;
         let status = enter(processor, |processor, calls| {
             match processor.advance_text(calls, bytes) {

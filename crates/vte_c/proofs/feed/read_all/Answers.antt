@@ -34,6 +34,6 @@ returns-then-read-eq0-clause-further c = λ since reads others some.
       | inl past ↦ past
       | inr none ↦
           let same : room_of c.loop-position.room ≡ room_of c.args.room.now = v.first (omega (arith, none)) in
-          let further : 0 < c.read_more-read.result = c.read_more-read.ensures.further a.next a.reads (rw same c.requires.starts) (rw (← ap (λ (r : Room). r.kind) same) at others) in
+          let further : 0 < c.read_more-read.result = c.read_more-read.ensures.further a.next a.reads (rw same c.requires.starts) (rw (← ap (λ (r : Room). r.stops) same) at others) in
           absurd (omega (arith, further, c.if-read-eq0.true))
     ]

@@ -1,8 +1,8 @@
-use Rattle.std.proofs.Common.{◌≡◌, ◌≤◌, ◌-◌, ◌++◌, List, Some, ℕ, drop, length, take, arith}
+use Rattle.std.proofs.Common.{◌≡◌, ◌≤◌, ◌-◌, ◌++◌, List, Some, ℕ, ap, drop, length, take, ◌∙◌, arith}
 use Rattle.std.proofs.lemmas.List.{length-drop, take_all}
 use Rattle.vte_core.specs.AdvanceToRun.{run_bytes}
 use Rattle.vte_core.specs.EarlyStop.{stream_at}
-use Rattle.vte_c.specs.Events.{room_of}
+use Rattle.vte_c.specs.Events.{Room, room_of, with_run}
 use Rattle.vte_c.proofs.Going.{Laws, further, goes-to-run}
 use Rattle.vte_c.proofs.feed.read_more.Goals as goal
 
@@ -22,14 +22,15 @@ returns c =
       grows = c.events_grow.ensures (Some 1024);
       silent = c.opens_silently.ensures (Some 1024);
     } in
+    let written = c.add_run.ensures.written ∙ ap (λ (r : Room). with_run r c.args.from run) c.resume.ensures in
     record {
       within = omega (arith, c.end.ensures, returned.stands.within, c.requires.within);
       goes = λ since reads. record {
         next = stream_at since rest run.start ++ run_bytes run;
         reads = rw unread at (call.ensures.reads since reads);
         goes = rw c.end.ensures (goes-to-run (room_of c.args.room.now) (room_of call.new.performer) (room_of c.add_run.new.self) since bytes c.args.from run laws
-            c.requires.roomy begins returned reads c.add_run.ensures.utf8 c.add_run.ensures.written);
+            c.requires.roomy begins returned reads c.add_run.ensures.utf8 written);
       };
       further = λ since reads starts others. rw c.end.ensures (further (room_of c.args.room.now) (room_of call.new.performer) (room_of c.add_run.new.self) since bytes c.args.from run laws
-          c.requires.roomy begins returned reads starts c.requires.within c.add_run.ensures.written others);
+          c.requires.roomy begins returned reads starts c.requires.within written others);
     }

@@ -1,12 +1,15 @@
 use Rattle.std.proofs.Common.{Some, refl, sym, ◌∙◌}
-use Rattle.vte_c.proofs.Joining.{given_all, given_before, given_first}
+use Rattle.vte_c.proofs.Joining.{all_reported, given_all, given_before, given_first}
 use Rattle.vte_c.proofs.laws.events_are_told.Goals as goal
 
 pub returns-clause-starts : goal.returns-clause-starts
-returns-clause-starts c = λ parser zero. given_first (c.empty_stream.ensures (Some 1024)) (rw (c.new.ensures.zeros ∙ sym zero) at c.new.ensures.reads)
+returns-clause-starts c = λ kinds parser zero. given_first (c.empty_stream.ensures (Some 1024)) (rw (c.new.ensures.zeros ∙ sym zero) at c.new.ensures.reads)
 
 pub returns-clause-more : goal.returns-clause-more
-returns-clause-more c = given_before
+returns-clause-more c = λ kinds. given_before
 
 pub returns-clause-all : goal.returns-clause-all
-returns-clause-all c = λ parser told stream h. given_all refl parser told stream h
+returns-clause-all c = λ kinds parser told stream h. given_all refl parser told stream h
+
+pub returns-clause-every : goal.returns-clause-every
+returns-clause-every c = all_reported

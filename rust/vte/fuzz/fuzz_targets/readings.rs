@@ -1,0 +1,26 @@
+//! However a stream is read, it has the same events and calls.
+//!
+//! The first two bytes of the input say where the stream, which follows them, is cut.
+#![no_main]
+
+#[path = "../../tests/rows/call_lines.rs"]
+mod call_lines;
+#[path = "../cutting.rs"]
+mod cutting;
+#[allow(dead_code)]
+#[path = "../../tests/rows/event_lines.rs"]
+mod event_lines;
+#[path = "../of_parsers.rs"]
+mod of_parsers;
+#[path = "../of_processors.rs"]
+mod of_processors;
+
+use libfuzzer_sys::fuzz_target;
+
+fuzz_target!(|input: &[u8]| {
+    if let [size, seed, stream @ ..] = input {
+        let pieces = cutting::pieces(stream, *size, *seed);
+        of_parsers::compare(stream, &pieces);
+        of_processors::compare(stream, &pieces);
+    }
+});

@@ -1,0 +1,149 @@
+//! Every way to read a stream by a parser.
+
+use vte::{LongParser, Parser, Perform, PerformText, Run};
+
+use crate::event_lines::{EventLines, Stop};
+
+/// So many data bytes of a command are kept where there is a limit.
+const LIMIT: usize = 64;
+
+/// What both parsers do. Memory isn't refused here.
+trait Read: Sized {
+    fn new() -> Self;
+    fn advance<P: Perform>(&mut self, performer: &mut P, bytes: &[u8]);
+    fn advance_text<P: PerformText>(&mut self, performer: &mut P, bytes: &[u8]);
+    fn advance_until_terminated<P: Perform>(&mut self, performer: &mut P, bytes: &[u8]) -> usize;
+    fn advance_to_run<'a, P: Perform>(&mut self, performer: &mut P, bytes: &'a [u8]) -> Run<'a>;
+    fn is_open(&self) -> bool;
+}
+
+macro_rules! read {
+    ($parser:ty, $new:ident $(, $granted:ident)?) => {
+        impl Read for $parser {
+            fn new() -> Self {
+                Self::$new()
+            }
+
+            fn advance<P: Perform>(&mut self, performer: &mut P, bytes: &[u8]) {
+                self.advance(performer, bytes)$(.$granted())?;
+            }
+
+            fn advance_text<P: PerformText>(&mut self, performer: &mut P, bytes: &[u8]) {
+                self.advance_text(performer, bytes)$(.$granted())?;
+            }
+
+            fn advance_until_terminated<P: Perform>(
+                &mut self,
+                performer: &mut P,
+                bytes: &[u8],
+            ) -> usize {
+                self.advance_until_terminated(performer, bytes)$(.$granted())?
+            }
+
+            fn advance_to_run<'a, P: Perform>(
+                &mut self,
+                performer: &mut P,
+                bytes: &'a [u8],
+            ) -> Run<'a> {
+                self.advance_to_run(performer, bytes)$(.$granted())?
+            }
+
+            fn is_open(&self) -> bool {
+                self.is_open()
+            }
+        }
+    };
+}
+
+read!(Parser<LIMIT>, new_with_size);
+read!(LongParser, new, unwrap);
+
+/// The lines of a stream, and whether it ends in the middle of something.
+type Outcome = (String, bool);
+
+fn whole<R: Read>(stream: &[u8]) -> Outcome {
+    in_pieces::<R>(&[stream])
+}
+
+fn in_pieces<R: Read>(pieces: &[&[u8]]) -> Outcome {
+    let (mut parser, mut lines) = (R::new(), EventLines::<false>::new(Stop::Never));
+    for piece in pieces {
+        parser.advance(&mut lines, piece);
+    }
+    (lines.text, parser.is_open())
+}
+
+fn in_runs<R: Read, const KEEPS: bool>(pieces: &[&[u8]]) -> Outcome {
+    let (mut parser, mut lines) = (R::new(), EventLines::<KEEPS>::new(Stop::Never));
+    for piece in pieces {
+        parser.advance_text(&mut lines, piece);
+    }
+    // in a run, HT, LF and CR are written as they are printed
+    let text = ["09", "0a", "0d"].iter().fold(lines.text, |text, byte| {
+        text.replace(&format!("print 00{byte}\n"), &format!("execute {byte}\n"))
+    });
+    (text, parser.is_open())
+}
+
+/// With a stop after each character, or after each escape sequence.
+fn with_stops<R: Read>(pieces: &[&[u8]], stop: Stop) -> Outcome {
+    let (mut parser, mut text) = (R::new(), String::new());
+    for piece in pieces {
+        let mut rest = *piece;
+        while !rest.is_empty() {
+            let mut lines = EventLines::<false>::new(stop);
+            let read = parser.advance_until_terminated(&mut lines, rest);
+            assert!(read == rest.len() || lines.terminated(), "an early end");
+            text += &lines.text;
+            rest = &rest[read..];
+        }
+    }
+    (text, parser.is_open())
+}
+
+/// With runs that are taken from the bytes.
+fn to_runs<R: Read>(pieces: &[&[u8]]) -> Outcome {
+    let (mut parser, mut lines) = (R::new(), EventLines::<false>::new(Stop::Never));
+    for piece in pieces {
+        let mut rest = *piece;
+        while !rest.is_empty() {
+            let run = parser.advance_to_run(&mut lines, rest);
+            assert_eq!(
+                &rest[run.start..run.end()],
+                [run.text.as_bytes(), run.data].concat()
+            );
+            run.text.chars().for_each(|c| lines.print(c));
+            run.data.iter().for_each(|byte| lines.put(*byte));
+            rest = &rest[run.end()..];
+        }
+    }
+    (lines.text, parser.is_open())
+}
+
+fn compare_with<R: Read>(stream: &[u8], pieces: &[&[u8]]) -> Outcome {
+    let wanted = whole::<R>(stream);
+    assert_eq!(in_pieces::<R>(pieces), wanted, "in pieces");
+    assert_eq!(in_runs::<R, false>(pieces), wanted, "in runs");
+    assert_eq!(in_runs::<R, true>(pieces), wanted, "in runs with line ends");
+    assert_eq!(
+        with_stops::<R>(pieces, Stop::AfterPrint),
+        wanted,
+        "with stops after characters"
+    );
+    assert_eq!(
+        with_stops::<R>(pieces, Stop::AfterEscape),
+        wanted,
+        "with stops after escapes"
+    );
+    assert_eq!(to_runs::<R>(pieces), wanted, "to runs");
+    wanted
+}
+
+/// Reads a stream in all ways. The parsers differ only at commands longer than the limit.
+pub fn compare(stream: &[u8], pieces: &[&[u8]]) {
+    let limited = compare_with::<Parser<LIMIT>>(stream, pieces);
+    let long = compare_with::<LongParser>(stream, pieces);
+    if stream.len() <= LIMIT {
+        assert_eq!(limited, long, "both parsers");
+    }
+}

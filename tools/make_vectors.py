@@ -22,22 +22,22 @@ from generating.rows import all_rows, bytes_of, lines_of  # noqa: E402
 from judging import definition  # noqa: E402
 from vector_functions import COMMANDS_HEADING, XTERM, functions_of  # noqa: E402
 from judging.house import CHOICES, House, house_of  # noqa: E402
-from judging.rules import AS_VTE, LEVELS, MAY, MUST, RULES, Rule  # noqa: E402
+from judging.rules import DIFFERS, LEVELS, MUST, RULES, SHOULD, Rule  # noqa: E402
 
 TOP = Path(__file__).resolve().parent.parent
 FOLDER = TOP / "vectors"
 # increases with each incompatible change of the form
-VERSION = 2
+VERSION = 3
 # streams and answers beyond this size keep their repetitions, in a list of their own
 LONG = 6000
 PAGES = {"plain-text": Rule("Printed characters, tabs, line feeds and carriage returns are the text of a stream.", "the-program-vtlog",
-                            MAY, "our definition"),
-         "stops": Rule("A performer can stop the parser before each character, malformed sequence and byte.", "early-stops", AS_VTE,
+                            SHOULD, "our definition"),
+         "stops": Rule("A performer can stop the parser before each character, malformed sequence and byte.", "early-stops", DIFFERS,
                        "no standard"),
-         "updates": Rule("What comes during a synchronized update is held until it ends.", "turns", MAY,
+         "updates": Rule("What comes during a synchronized update is held until it ends.", "turns", SHOULD,
                          "Synchronized Output (private mode 2026)"),
-         "colour-text": Rule("Texts that are colours.", COMMANDS_HEADING, MUST, "X11, XParseColor"),
-         "number-text": Rule("Texts that are numbers of the palette.", COMMANDS_HEADING, MAY, XTERM)}
+         "colour-text": Rule("Texts that are colours.", COMMANDS_HEADING, SHOULD, "X11, XParseColor"),
+         "number-text": Rule("Texts that are numbers of the palette.", COMMANDS_HEADING, SHOULD, XTERM)}
 PAGE_OF = {"plain-text": "docs/VTLOG.md", "updates": "docs/UPDATES.md", "colour-text": "docs/CALLS.md", "number-text": "docs/CALLS.md"}
 
 
@@ -145,8 +145,8 @@ def described(vectors, rules):
         levels = [rules[rule][0].level for rule in vector["rules"]]
         head = {"id": name, "name": vector["name"], "kind": vector["kind"], "level": max(levels, key=LEVELS.index, default=MUST),
                 "rules": vector["rules"]}
-        if vector["kind"] == "events" and not is_repeated(vector):
-            head["house"] = house_rules(bytes_of(vector["pieces"]), vector["limit"])
+        if vector["kind"] == "events":
+            head["house"] = house_rules(bytes_of(shortened(vector["pieces"])), vector["limit"])
         yield {**head, **{key: value for key, value in vector.items() if key not in head}}
 
 
@@ -159,6 +159,13 @@ def text_of(vectors):
     lists = [[json.dumps(vector) for vector in described(vectors, rules) if is_repeated(vector) == is_long] for is_long in (False, True)]
     return "\n".join(["{", f'"version": {VERSION},', about, '"rules": {', ",\n".join(shown_rules), "},", '"vectors": [',
                       ",\n".join(lists[0]), "],", '"long": [', ",\n".join(lists[1]), "]", "}", ""])
+
+
+def shortened(value):
+    """A list in which each repetition has three turns at most: the house rules are the same."""
+    if isinstance(value, list):
+        return [shortened(item) for item in value]
+    return {**value, "times": min(value["times"], 3)} if isinstance(value, dict) else value
 
 
 def is_repeated(vector):

@@ -2,7 +2,7 @@
 import re
 
 from judging.definition import lines_of
-from judging.rules import MAY, MUST, Rule
+from judging.rules import SHOULD, Rule
 
 XTERM = "xterm, control sequences"
 DEC = "DEC VT510 manual"
@@ -53,8 +53,8 @@ def functions_of(stream):
 
 def function_rule(name, source):
     heading = HEADINGS.get(name, SEQUENCES_HEADING)
-    source, level = (f"ECMA-48 8.3.{source}", MUST) if isinstance(source, int) else (source, MAY)
-    return Rule(f"The handler calls of {name}.", heading, level, source)
+    source = f"ECMA-48 8.3.{source}" if isinstance(source, int) else source
+    return Rule(f"The handler calls of {name}.", heading, SHOULD, source)
 
 
 def command_rule(line):
@@ -62,4 +62,4 @@ def command_rule(line):
     first = bytes.fromhex(line.split(" ")[3].replace("-", "")).decode("ascii", "replace")
     if not first.isdigit():
         return {}
-    return {f"OSC-{first}": Rule(f"The handler calls of operating system command {first}.", COMMANDS_HEADING, MAY, XTERM)}
+    return {f"OSC-{first}": Rule(f"The handler calls of operating system command {first}.", COMMANDS_HEADING, SHOULD, XTERM)}

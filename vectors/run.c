@@ -1,51 +1,127 @@
 // Tries a parser on events.json: cc run.c my_parser.c && ./a.out [WORD ..] <events.json
 //
-// Each vector is tried as it is, in one piece, and byte by byte. A word is a level, a rule, or a house rule (docs/VECTORS.md): vectors that
-// have it are left out.
+// Each vector is tried as it is, in one piece, and byte by byte. A word is a level, a rule, or a house rule
+// (docs/VECTORS.md): vectors that have it are left out.
+#include <signal.h>
 #include <stdio.h>
+#include <stdlib.h>
 #include <string.h>
 
 void reset(void);                                      // your parser: begins a stream,
-void parse(const unsigned char *bytes, size_t length); // reads a piece, and calls `event` for each event line
+void parse(const unsigned char *bytes, size_t length); // reads a piece, and calls `event` for each line
 
-static char row[1 << 16], told[1 << 16];
+typedef struct {
+    char *text;
+    size_t length, room;
+} Text;
+
+static Text row, wanted, told, shown, stream;
+static char id[200];
+
+static void add(Text *to, const char *text, size_t length) {
+    while (to->length + length + 1 > to->room) to->text = realloc(to->text, to->room = 2 * to->room + 99);
+    memcpy(to->text + to->length, text, length);
+    to->text[to->length += length] = 0;
+}
 
 void event(const char *line) {
-    size_t end = strlen(told);
-    snprintf(told + end, sizeof told - end, "%s\"%s\"", end ? ", " : "", line);
+    add(&told, line, strlen(line));
+    add(&told, "\n", 1);
+}
+
+// Appends what a value stands for: a text, to which an end is added, a list of values, or a repetition.
+static const char *write_out(Text *to, const char *at, const char *end) {
+    at += strspn(at, " ,");
+    if (*at == '[') {
+        for (at++; *at != ']';) at = write_out(to, at, end);
+        return at + 1;
+    }
+    if (*at == '"') {
+        for (at++; *at != '"'; at++) add(to, *at == '\\' ? "\n" : at, 1), at += *at == '\\';
+        add(to, end, strlen(end));
+        return at + 1;
+    }
+    if (at[2] == 'l') {
+        at = write_out(to, at + strlen("{\"line\": "), "") + 1;
+        add(to, end, strlen(end));
+        return at;
+    }
+    size_t before = to->length;
+    at = write_out(to, at + strlen("{\"repeat\": "), end);
+    size_t length = to->length - before;
+    char *once = memcpy(malloc(length + 1), to->text + before, length), *after;
+    for (long times = strtol(strchr(at, ':') + 1, &after, 10); times > 1; times--) add(to, once, length);
+    free(once);
+    return after + 1;
+}
+
+static void give(size_t from, size_t to) {
+    for (size_t i = from; i < to; i++) {
+        char hex[3];
+        add(&shown, hex, (size_t)sprintf(hex, "%02x", (unsigned char)stream.text[i]));
+    }
+    add(&shown, " ", 1);
+    parse((unsigned char *)stream.text + from, to - from);
 }
 
 // Gives the pieces of a vector to the parser: as they are, joined (1), or byte by byte (2).
-static int answers(const char *piece, const char *events, int way) {
-    static unsigned char bytes[sizeof row / 2];
-    size_t length = 0;
-    for (reset(), told[0] = 0; *piece != ']'; piece++) {
-        if (*piece != '"') continue;
-        for (piece++; *piece != '"'; piece += 2) {
-            sscanf(piece, "%2hhx", &bytes[length++]);
-            if (way == 2) parse(bytes, 1), length = 0;
+static int answers(const char *piece, int way) {
+    Text hex = {0};
+    reset();
+    for (stream.length = told.length = shown.length = 0, piece++; *piece != ']';) {
+        size_t before = stream.length;
+        hex.length = 0;
+        piece = write_out(&hex, piece, "");
+        for (size_t i = 0; i < hex.length; i += 2) {
+            unsigned byte;
+            sscanf(hex.text + i, "%2x", &byte);
+            add(&stream, &(char){(char)byte}, 1);
+            if (way == 2) give(stream.length - 1, stream.length);
         }
-        if (way == 0) parse(bytes, length), length = 0;
+        if (way == 0) give(before, stream.length);
     }
-    if (way == 1) parse(bytes, length);
-    return strncmp(events, told, strlen(told)) == 0 && events[strlen(told)] == ']';
+    free(hex.text);
+    if (way == 1) give(0, stream.length);
+    return told.length == wanted.length && (!told.length || !memcmp(told.text, wanted.text, told.length));
+}
+
+static void crashed(int number) {
+    printf("wrong: %s: signal %d\n", id, number);
+    fflush(stdout);
+    _Exit(1);
+}
+
+static int read_row(void) {
+    row.length = 0;
+    add(&row, "", 0);
+    for (int byte = getchar(); byte != '\n'; byte = getchar()) {
+        if (byte == EOF) return 0;
+        add(&row, &(char){(char)byte}, 1);
+    }
+    return 1;
 }
 
 int main(int count, char **words) {
     int wrong = 0, tried = 0;
-    while (fgets(row, sizeof row, stdin) && strncmp(row, "\"long\"", 6) != 0) { // the long ones have repetitions
-        char *limit = strstr(row, "\"limit\": 1024, \"pieces\": ["), word[100];
-        if (limit == NULL) continue;
+    signal(SIGSEGV, crashed), signal(SIGABRT, crashed), signal(SIGFPE, crashed);
+    while (read_row()) {
+        char *limit = strstr(row.text, "\"limit\": 1024, \"pieces\": "), word[100];
+        if (limit == NULL || sscanf(row.text, "{\"id\": \"%199[^\"]", id) != 1) continue;
         int left_out = 0;
         for (int i = 1; i < count; i++) {
             snprintf(word, sizeof word, "\"%s\"", words[i]);
-            left_out |= strstr(row, word) != NULL && strstr(row, word) < limit;
+            left_out |= strstr(row.text, word) != NULL && strstr(row.text, word) < limit;
         }
         if (left_out) continue;
-        char *piece = strchr(limit, '['), *events = strchr(strstr(limit, "\"events\": ["), '[') + 1;
+        wanted.length = 0;
+        write_out(&wanted, strstr(limit, "\"events\": ") + strlen("\"events\": "), "\n");
         tried++;
-        for (int way = 0; way < 3; way++)
-            if (!answers(piece, events, way)) { wrong++, printf("wrong: %.200s\n", row); break; }
+        for (int way = 0; way < 3; way++) {
+            if (answers(strchr(limit, '['), way)) continue;
+            add(&told, "", 0), add(&wanted, "", 0), wrong++;
+            printf("wrong: %s: %.300s\ngives\n%.300s\nnot\n%.300s\n", id, shown.text, told.text, wanted.text);
+            break;
+        }
     }
     printf("%d of %d wrong\n", wrong, tried);
     return wrong > 0 || tried == 0;

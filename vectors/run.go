@@ -1,7 +1,8 @@
 // Tries a parser on events.json: go run run.go my_parser.go [WORD ..] <events.json
 //
-// my_parser.go, of package main, has parsePieces, a function from pieces to event lines. Each vector is tried as it is, in one piece, and
-// byte by byte. A word is a level, a rule, or a house rule (docs/VECTORS.md): vectors that have it are left out.
+// my_parser.go, of package main, has parsePieces, a function from pieces to event lines. Each vector is tried
+// as it is, in one piece, and byte by byte. A word is a level, a rule, or a house rule (docs/VECTORS.md):
+// vectors that have it are left out.
 package main
 
 import (
@@ -13,18 +14,55 @@ import (
 )
 
 type vector struct {
-	ID, Level                    string
-	Rules, House, Pieces, Events []string
-	Limit                        *int
+	ID, Level      string
+	Rules, House   []string
+	Pieces, Events []any
+	Limit          *int
+}
+
+// writtenOut is the text of bytes in hex or, with a line feed as the end, of lines.
+func writtenOut(value any, end string) (text string) {
+	switch it := value.(type) {
+	case string:
+		return it + end
+	case []any:
+		for _, item := range it {
+			text += writtenOut(item, end)
+		}
+	case map[string]any:
+		if line, is := it["line"]; is {
+			return writtenOut(line, "") + end
+		}
+		return strings.Repeat(it["repeat"].(string)+end, int(it["times"].(float64)))
+	}
+	return text
+}
+
+func answer(pieces [][]byte) (told string) {
+	defer func() {
+		if fault := recover(); fault != nil {
+			told = fmt.Sprint("panic: ", fault)
+		}
+	}()
+	return strings.Join(append(parsePieces(pieces), ""), "\n")
+}
+
+func isRight(v vector, wanted string, pieces [][]byte) bool {
+	told := answer(pieces)
+	if told != wanted {
+		fmt.Printf("%s: %.300s gives %.300q, not %.300q (%s: %s)\n", v.ID, fmt.Sprintf("%x", pieces), told,
+			wanted, v.Level, v.Rules)
+	}
+	return told == wanted
 }
 
 func main() {
-	var file struct{ Vectors []vector }
+	var file struct{ Vectors, Long []vector }
 	if err := json.NewDecoder(os.Stdin).Decode(&file); err != nil {
 		panic(err)
 	}
 	wrong, tried, leftOut := 0, 0, "\n"+strings.Join(os.Args[1:], "\n")+"\n"
-	for _, v := range file.Vectors {
+	for _, v := range append(file.Vectors, file.Long...) {
 		skip := v.Limit == nil || *v.Limit != 1024
 		for _, word := range append(append(v.Rules, v.House...), v.Level) {
 			skip = skip || strings.Contains(leftOut, "\n"+word+"\n")
@@ -33,22 +71,18 @@ func main() {
 			continue
 		}
 		tried++
-		ways := make([][][]byte, 3)
+		var cut, single [][]byte
+		var stream []byte
 		for _, piece := range v.Pieces {
-			bytes, _ := hex.DecodeString(piece)
-			ways[0] = append(ways[0], bytes)
-			for i := range bytes {
-				ways[2] = append(ways[2], bytes[i:i+1])
-			}
+			bytes, _ := hex.DecodeString(writtenOut(piece, ""))
+			cut, stream = append(cut, bytes), append(stream, bytes...)
 		}
-		stream, _ := hex.DecodeString(strings.Join(v.Pieces, ""))
-		ways[1] = [][]byte{stream}
-		for _, pieces := range ways {
-			if lines := parsePieces(pieces); strings.Join(lines, "\n") != strings.Join(v.Events, "\n") {
-				wrong++
-				fmt.Printf("%s: %s gives %q, not %q (%s: %s)\n", v.ID, v.Pieces, lines, v.Events, v.Level, v.Rules)
-				break
-			}
+		for i := range stream {
+			single = append(single, stream[i:i+1])
+		}
+		wanted := writtenOut(v.Events, "\n")
+		if !(isRight(v, wanted, cut) && isRight(v, wanted, [][]byte{stream}) && isRight(v, wanted, single)) {
+			wrong++
 		}
 	}
 	fmt.Printf("%d of %d wrong\n", wrong, tried)

@@ -1,25 +1,44 @@
 // Tries a parser on events.json: node run.js MY_PARSER.js [WORD ..]
 //
-// MY_PARSER.js exports a function from pieces, which are buffers, to event lines. Each vector is tried as it is, in one piece, and byte by
-// byte. A word is a level, a rule, or a house rule (docs/VECTORS.md): vectors that have it are left out.
+// MY_PARSER.js exports a function from pieces, which are buffers, to event lines. Each vector is tried as it
+// is, in one piece, and byte by byte. A word is a level, a rule, or a house rule (docs/VECTORS.md): vectors
+// that have it are left out.
 const fs = require("fs");
 const path = require("path");
 const parsePieces = require(path.resolve(process.argv[2]));
 
-const { vectors } = JSON.parse(fs.readFileSync(path.join(__dirname, "events.json")));
+// The text of bytes in hex or, with a line feed as the end, of lines.
+function writtenOut(value, end = "") {
+  if (Array.isArray(value)) return value.map((item) => writtenOut(item, end)).join("");
+  if (typeof value === "string") return value + end;
+  return value.line ? writtenOut(value.line) + end : (value.repeat + end).repeat(value.times);
+}
+
+function answer(pieces) {
+  try {
+    return parsePieces(pieces).map((line) => `${line}\n`).join("");
+  } catch (error) {
+    return String(error);
+  }
+}
+
+const file = JSON.parse(fs.readFileSync(path.join(__dirname, "events.json")));
 const leftOut = new Set(process.argv.slice(3));
 let wrong = 0;
 let tried = 0;
-for (const { id, level, rules, house, limit, pieces, events } of vectors) {
+for (const { id, level, rules, house, limit, pieces, events } of [...file.vectors, ...file.long]) {
   if (limit !== 1024 || [level, ...rules, ...house].some((word) => leftOut.has(word))) continue;
-  const cut = pieces.map((piece) => Buffer.from(piece, "hex"));
+  const cut = pieces.map((piece) => Buffer.from(writtenOut(piece), "hex"));
   const stream = Buffer.concat(cut);
-  const answers = [cut, [stream], [...stream].map((byte) => Buffer.from([byte]))].map((some) => parsePieces(some));
-  const bad = answers.find((lines) => JSON.stringify(lines) !== JSON.stringify(events));
+  const wanted = writtenOut(events, "\n");
+  const ways = [cut, [stream], [...stream].map((byte) => Buffer.from([byte]))];
+  const bad = ways.find((way) => answer(way) !== wanted);
   tried += 1;
   if (bad) {
     wrong += 1;
-    console.log(`${id}: ${pieces} gives ${bad.join(" / ")}, not ${events.join(" / ")} (${level}: ${rules.join(", ")})`);
+    const shown = [bad.map((piece) => piece.toString("hex")), answer(bad), wanted];
+    const [given, told, right] = shown.map((it) => JSON.stringify(it).slice(0, 300));
+    console.log(`${id}: ${given} gives ${told}, not ${right} (${level}: ${rules.join(", ")})`);
   }
 }
 console.log(`${wrong} of ${tried} wrong`);

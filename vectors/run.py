@@ -1,8 +1,9 @@
 #!/usr/bin/env python3
 """Tries a parser on events.json: run.py [WORD ..]
 
-Import it here as `parse_pieces`, a function from pieces to event lines. Each vector is tried as it is, in one piece, and byte by byte. A word
-is a level, a rule, or a house rule (docs/VECTORS.md): vectors that have it are left out.
+Import it here as `parse_pieces`, a function from pieces to event lines. Each vector is tried as it is, in
+one piece, and byte by byte. A word is a level, a rule, or a house rule (docs/VECTORS.md): vectors that have
+it are left out.
 """
 import json
 import sys
@@ -11,19 +12,40 @@ from pathlib import Path
 sys.path.insert(0, str(Path.cwd()))
 from my_parser import parse_pieces
 
-vectors = json.loads((Path(__file__).parent / "events.json").read_text())["vectors"]
+
+def written_out(value, end=""):
+    """The text of bytes in hex or, with a line feed as the end, of lines."""
+    if isinstance(value, list):
+        return "".join(written_out(item, end) for item in value)
+    if isinstance(value, dict):
+        is_line = "line" in value
+        return written_out(value["line"]) + end if is_line else (value["repeat"] + end) * value["times"]
+    return value + end
+
+
+def answer(pieces):
+    try:
+        return "".join(f"{line}\n" for line in parse_pieces(pieces))
+    except Exception as error:
+        return repr(error)
+
+
+file = json.loads((Path(__file__).parent / "events.json").read_text())
 wrong = tried = 0
-for vector in vectors:
-    if vector["limit"] != 1024 or {vector["level"], *vector["rules"], *vector["house"]} & set(sys.argv[1:]):
+for vector in file["vectors"] + file["long"]:
+    words = {vector["level"], *vector["rules"], *vector["house"]}
+    if vector["limit"] != 1024 or words & set(sys.argv[1:]):
         continue
-    pieces = [bytes.fromhex(piece) for piece in vector["pieces"]]
-    stream = b"".join(pieces)
-    answers = [parse_pieces(pieces), parse_pieces([stream]), parse_pieces([bytes([byte]) for byte in stream])]
-    bad = next((lines for lines in answers if lines != vector["events"]), None)
+    pieces = [bytes.fromhex(written_out(piece)) for piece in vector["pieces"]]
+    stream, wanted = b"".join(pieces), written_out(vector["events"], "\n")
     tried += 1
-    if bad is not None:
-        wrong += 1
-        told = f"{vector['pieces']} gives {bad}, not {vector['events']}"
-        print(f"{vector['id']}: {told[:300]} ({vector['level']}: {', '.join(vector['rules'])})")
+    for cut in pieces, [stream], [bytes([byte]) for byte in stream]:
+        told = answer(cut)
+        if told != wanted:
+            wrong += 1
+            shown = str([piece.hex() for piece in cut])
+            print(f"{vector['id']}: {shown[:300]} gives {told[:300]!r}, not {wanted[:300]!r} "
+                  f"({vector['level']}: {', '.join(vector['rules'])})")
+            break
 print(f"{wrong} of {tried} wrong")
 sys.exit(wrong > 0 or not tried)

@@ -1,6 +1,7 @@
-"""Somebody's program: a stream goes to its standard input, whole or in framed pieces (docs/JUDGE.md), and event lines come back.
+"""Somebody's program: streams go in, whole or in framed pieces (docs/JUDGE.md), and event lines come back.
 
-If the program doesn't answer as it should, the last line of its answer is a mark, such as `(crash: signal 11)`.
+If the program doesn't answer as it should, the last line of its answer is a mark, such as
+`(crash: signal 11)`.
 """
 import concurrent.futures
 import os
@@ -15,11 +16,17 @@ from contextlib import suppress
 
 END_OF_STREAM = b"\xff\xff\xff\xff"
 MARK = re.compile(r"\((crash|hang|memory|output|protocol): .*\)")
-LINE = re.compile(r"(print [0-9a-f]{4,6}|execute [0-9a-f]{2}|put [0-9a-f]{2}|unhook|(csi|hook) \[[0-9:;]*\] \S+ \S+ [0-9a-f]{2}"
-                  r"|esc \S+ \S+ [0-9a-f]{2}|osc \S+ \d+( \S+)*)")
+HEX = r"(-|([0-9a-f]{2})+)"
+IGNORE = "(-|true|false)"
+LINE = re.compile(rf"print [0-9a-f]{{4,6}}|(execute|put) [0-9a-f]{{2}}|unhook"
+                  rf"|(csi|hook) \[[0-9:;]*\] {HEX} {IGNORE} [0-9a-f]{{2}}"
+                  rf"|esc {HEX} {IGNORE} [0-9a-f]{{2}}|osc {IGNORE} \d+( {HEX})*")
 HANG = "(hang: no answer in time)"
-# the most bytes of an answer, how many are kept of a longer one, and the hangs after which the limit of time is a tenth, or a second
-MOST_OUTPUT, KEPT_OUTPUT, MOST_HANGS = 1 << 25, 1 << 14, 3
+EXIT = "(protocol: it ended without a line `end`)"
+# the most bytes of an answer, and how many are kept of a longer one
+MOST_OUTPUT, KEPT_OUTPUT = 1 << 25, 1 << 14
+# the hangs after which the limit of time is a tenth, or a second
+MOST_HANGS = 3
 # a process that ends all groups of processes that it was told of, once the judge is gone
 GUARD = """
 import contextlib, os, signal, sys
@@ -37,7 +44,7 @@ class OutOfTime(Exception):
 
 
 class Broken(Exception):
-    """The program passed a limit or broke the protocol: what it printed, and the mark."""
+    """The program passed a limit or broke the protocol, in the words of the mark."""
 
 
 def framed(pieces):
@@ -45,8 +52,20 @@ def framed(pieces):
     return b"".join(len(piece).to_bytes(4, "little") + piece for piece in pieces) + END_OF_STREAM
 
 
-def text_lines(output):
-    return bytes(output[:KEPT_OUTPUT] if len(output) > MOST_OUTPUT else output).decode("ascii", "backslashreplace").splitlines()
+def plain(text):
+    """A text without control characters, such as a terminal or a file of text can take."""
+    return re.sub(r"[^ -~]", lambda found: found[0].encode("unicode_escape").decode(), text)
+
+
+def answer_of(output, mark=""):
+    """The lines of an output and a mark. If there is no mark, each must be the line of an event."""
+    kept = bytes(output[:KEPT_OUTPUT] if len(output) > MOST_OUTPUT else output)
+    lines = kept.decode("ascii", "backslashreplace").removesuffix("\n").split("\n") if kept else []
+    wrong = None if mark else next((line for line in lines if not LINE.fullmatch(line)), None)
+    if wrong is not None:
+        lines = lines[:lines.index(wrong)]
+        mark = f"(protocol: this is no event line: '{plain(wrong[:60])}')"
+    return [plain(line) for line in lines] + [mark] * bool(mark)
 
 
 def mark_of(lines):
@@ -63,9 +82,11 @@ class Program:
         # the time at which the run is over
         self.deadline = None
         self.hangs = 0
-        self.how = {"stdout": subprocess.PIPE, "stdin": subprocess.PIPE, "stderr": errors, "start_new_session": True,
+        self.how = {"stdout": subprocess.PIPE, "stdin": subprocess.PIPE, "stderr": errors,
+                    "start_new_session": True,
                     "env": {**os.environ, "JUDGE_HOUSE": ",".join(house)}}
-        self.guard = subprocess.Popen([sys.executable, "-S", "-c", GUARD], stdin=subprocess.PIPE, start_new_session=True)
+        self.guard = subprocess.Popen([sys.executable, "-S", "-c", GUARD], stdin=subprocess.PIPE,
+                                      start_new_session=True)
         self.lock = threading.Lock()
 
     def tell_guard(self, sign, process):
@@ -89,9 +110,11 @@ class Program:
             process.stdin.close()
 
     def time_limit(self, whole):
-        """When an answer must be there. After some hangs less time is given, unless the whole time is asked for."""
+        """When an answer must be there. After some hangs less time is given, unless the whole time
+        is asked for."""
         is_short = not whole and self.hangs >= MOST_HANGS
-        return time.monotonic() + (min(self.timeout, max(1, self.timeout / 10)) if is_short else self.timeout)
+        seconds = min(self.timeout, max(1, self.timeout / 10)) if is_short else self.timeout
+        return time.monotonic() + seconds
 
     def read_some(self, process, output, until):
         """Reads what comes next. False is the end of the output."""
@@ -101,7 +124,6 @@ class Program:
             if self.deadline is not None and now >= self.deadline:
                 raise OutOfTime
             if now >= until:
-                self.hangs += 1
                 raise Broken(HANG)
             if used_memory(process) > self.memory << 20:
                 raise Broken(f"(memory: more than {self.memory} MiB)")
@@ -115,12 +137,14 @@ class Program:
             if has_ended:
                 return False
 
-    def status(self, process, until):
-        """The status of a process that ended its output."""
+    def check_status(self, process, until):
+        """Whether a process that ended its output ended well, and in time."""
         try:
-            return process.wait(max(0, until - time.monotonic()))
+            status = process.wait(max(0, until - time.monotonic()))
         except subprocess.TimeoutExpired:
             raise Broken(HANG) from None
+        if status:
+            raise Broken(f"(crash: signal {-status})" if status < 0 else f"(crash: status {status})")
 
     def close(self):
         """Ends the guard, and with it all that is left."""
@@ -137,11 +161,7 @@ def used_memory(process):
         return 0
 
 
-def crash(status):
-    return f"(crash: signal {-status})" if status < 0 else f"(crash: status {status})"
-
-
-def write(pipe, data, closes=False):
+def write(pipe, data, closes):
     with suppress(OSError, ValueError):  # if the program ended, its answer says how
         pipe.write(data)
         pipe.flush()
@@ -149,8 +169,9 @@ def write(pipe, data, closes=False):
             pipe.close()
 
 
-def writer_of(process, data, closes=False):
-    writer = threading.Thread(target=write, args=(process.stdin, data, closes), daemon=True)
+def writer_of(process, data, closes):
+    words = (process.stdin, data, closes)
+    writer = threading.Thread(target=write, args=words, daemon=True)
     writer.start()
     return writer
 
@@ -159,6 +180,7 @@ class Whole(Program):
     """A program that reads one stream to its end."""
 
     takes_pieces = False
+    history = ()
     # the number of streams that it is judged on before what differs is examined
     batch = 40
     # the number of cases that are tried at once when one is shrunk
@@ -168,20 +190,21 @@ class Whole(Program):
         super().__init__(*given, **options)
         self.threads = concurrent.futures.ThreadPoolExecutor(self.at_once)
 
-    def answers(self, cases, whole=False):
-        """The lines for each case, a list of pieces."""
+    def answers(self, cases, whole=False, alone=False):
+        """The lines for each case, a list of pieces: each process gets one."""
         return list(self.threads.map(lambda pieces: self.answer(pieces, whole), cases))
 
     def answer(self, pieces, whole):
         process, output, until = self.started(), bytearray(), self.time_limit(whole)
         try:
-            writer_of(process, b"".join(pieces), closes=True)
+            writer_of(process, b"".join(pieces), True)
             while self.read_some(process, output, until):
                 pass
-            status = self.status(process, until)
-            return text_lines(output) + ([crash(status)] if status else [])
+            self.check_status(process, until)
+            return answer_of(output)
         except Broken as broken:
-            return [*text_lines(output), str(broken)]
+            self.hangs += str(broken) == HANG
+            return answer_of(output, str(broken))
         finally:
             self.ended(process)
 
@@ -198,58 +221,75 @@ class Framed(Program):
         self.process = None
         self.output = bytearray()
         self.for_one_process = self.batch
+        # the streams that the process has had
+        self.history = []
 
-    def answers(self, cases, whole=False):
+    def answers(self, cases, whole=False, alone=False):
+        """The lines for each case, by a new process if they come alone, which then has to end."""
+        if alone or len(self.history) >= self.batch:
+            self.close_process()
         answers = []
         while len(answers) < len(cases):
-            answers += self.answers_of_batch(cases[len(answers):len(answers) + self.for_one_process], whole)
+            some = cases[len(answers):len(answers) + self.for_one_process]
+            answers += self.answers_of_batch(some, whole, alone)
         return answers
 
-    def answers_of_batch(self, batch, whole):
+    def answers_of_batch(self, batch, whole, alone):
         """The answers up to the one at which the program ends or stops, if it does."""
         is_new = self.process is None
         if is_new:
-            self.process, self.output = self.started(), bytearray()
-        writer = writer_of(self.process, b"".join(map(framed, batch)))
+            self.process, self.output, self.history = self.started(), bytearray(), []
+        self.history += batch
+        writer = writer_of(self.process, b"".join(map(framed, batch)), alone)
         answers = []
         while len(answers) < len(batch) and self.process:
-            lines, mark = self.read_answer(whole)
-            if mark:
-                self.close_process()
-            if mark == "exit" and not lines and (answers or not is_new):
+            answer, ended = self.read_answer(whole)
+            if ended == EXIT and not self.output and (answers or not is_new):
                 # it exited after an answer: from now on each process gets one stream
                 self.for_one_process = 1
             else:
-                answers.append([*lines, *["(protocol: it ended without a line `end`)" if mark == "exit" else mark] * bool(mark)])
-        writer.join(self.timeout)
-        if self.process and (self.output or writer.is_alive()):
-            self.close_process()
-            answers[-1].append("(protocol: it prints more than it was asked for)")
+                answers.append(answer)
+            if ended:
+                self.close_process()
+        if self.process:
+            has_more = self.output or alone and self.prints_more()
+            writer.join(0 if has_more else self.timeout)
+            if has_more or writer.is_alive():
+                answers[-1].append("(protocol: it prints more than it was asked for)")
+            if has_more or writer.is_alive() or alone:
+                self.close_process()
         return answers
 
     def read_answer(self, whole):
-        """The lines of the next answer, and the mark of what came instead of `end`: `exit` if the program ended well."""
+        """The next answer, and how the program ended if it did: EXIT is without a fault."""
         searched, until = 0, self.time_limit(whole)
         try:
             while True:
-                place = 0 if self.output.startswith(b"end\n") else self.output.find(b"\nend\n", searched) + 1
-                if place or self.output.startswith(b"end\n"):
-                    lines, self.output = text_lines(self.output[:place]), self.output[place + 4:]
-                    return lines, None
+                begins = self.output.startswith(b"end\n")
+                place = 0 if begins else self.output.find(b"\nend\n", searched) + 1
+                if place or begins:
+                    answer, self.output = answer_of(self.output[:place]), self.output[place + 4:]
+                    return answer, None
                 if b"\nend\r\n" in b"\n" + self.output[max(0, searched - 1):]:
                     raise Broken("(protocol: its lines end in CR LF)")
                 searched = max(0, len(self.output) - 6)
                 if not self.read_some(self.process, self.output, until):
-                    status = self.status(self.process, until)
-                    if not status and not self.ends_without_line_feed():
-                        return text_lines(self.output), "exit"
-                    raise Broken(crash(status))
+                    self.check_status(self.process, until)
+                    raise Broken(EXIT)
         except Broken as broken:
-            missing = "(protocol: no line feed after `end`)"
-            return text_lines(self.output), missing if self.ends_without_line_feed() else str(broken)
+            ended = str(broken)
+            self.hangs += ended == HANG
+            if (b"\n" + self.output[-4:]).endswith(b"\nend"):
+                ended = "(protocol: no line feed after `end`)"
+            return answer_of(self.output, ended), ended
 
-    def ends_without_line_feed(self):
-        return (b"\n" + self.output[-4:]).endswith(b"\nend")
+    def prints_more(self):
+        """Whether something follows the last answer, within a second after the end of the input."""
+        until = time.monotonic() + 1
+        with suppress(Broken):
+            while not self.output and self.read_some(self.process, self.output, until):
+                pass
+        return bool(self.output)
 
     def close_process(self):
         process, self.process = self.process, None

@@ -1,4 +1,4 @@
-"""The streams on which a parser is judged: vectors, recorded streams, and random and hostile ones, all in pieces."""
+"""The streams on which a parser is judged: vectors, recorded, random and hostile ones, in pieces."""
 import json
 import random
 from pathlib import Path
@@ -6,6 +6,7 @@ from typing import NamedTuple
 
 from generating.hostile_streams import OF_TEXT, hostile_stream
 from generating.random_text import cut_at_random
+from generating.rows import bytes_of
 from generating.streams import recorded
 
 KINDS = ("vectors", "random", "recorded")
@@ -20,10 +21,13 @@ class Case(NamedTuple):
 
 
 def from_vectors():
+    """The streams of all vectors that have one: the text of a colour or of a number is none."""
     for name in ("events", "calls"):
-        for vector in json.loads((VECTORS / f"{name}.json").read_text())["vectors"]:
-            if "pieces" in vector:
-                yield Case(f"vector {vector['id']}", list(map(bytes.fromhex, vector["pieces"])))
+        file = json.loads((VECTORS / f"{name}.json").read_text())
+        for vector in file["vectors"] + file["long"]:
+            steps = [step.get("advance", step.get("bytes", "")) for step in vector.get("steps", [])]
+            if pieces := [*vector.get("pieces", []), *filter(None, [vector.get("before"), *steps])]:
+                yield Case(f"vector {vector['id']}", list(map(bytes_of, pieces)))
 
 
 def from_recordings(seed):
@@ -31,16 +35,19 @@ def from_recordings(seed):
     for name, pieces in recorded():
         yield Case(f"recorded stream {name}", pieces)
         chance = random.Random(f"recorded/{seed}/{name}")
-        yield Case(f"recorded stream {name} in random pieces", cut_at_random(chance, b"".join(pieces), chance.choice([0.003, 0.03, 0.3])))
+        share = chance.choice([0.003, 0.03, 0.3])
+        cut = cut_at_random(chance, b"".join(pieces), share)
+        yield Case(f"recorded stream {name} in random pieces", cut)
 
 
 def from_generators(seed, count):
-    """Random and hostile streams in turn. A stream depends only on the seed and its number."""
+    """Hostile streams, of all and mostly of text, in turn. One depends on the seed and its number."""
     for number in range(count):
         if number % 2:
-            yield Case(f"random stream {number} of seed {seed}", hostile_stream(f"text/{seed}", number, OF_TEXT))
+            yield Case(f"stream {number} of seed {seed}, mostly text",
+                       hostile_stream(f"text/{seed}", number, OF_TEXT))
         else:
-            yield Case(f"hostile stream {number} of seed {seed}", hostile_stream(seed, number))
+            yield Case(f"stream {number} of seed {seed}", hostile_stream(seed, number))
 
 
 def all_cases(kinds, seed, count):

@@ -1,29 +1,42 @@
 """Classes of differences: which rule a difference is about, and how a stream is freed of a rule.
 
-The class of a difference is the name of a rule, `/`, and the kind of the difference. The rule has `cut:` before it if the parser
-answers rightly as soon as the stream comes whole: then it is the rule of what a cut divides.
+The class of a difference is the name of a rule, `/`, and the kind of the difference. The rule has `cut:`
+before it if the parser answers rightly as soon as the stream comes whole: then it is the rule of what a
+cut divides.
 """
+import re
 from bisect import bisect_left, bisect_right
 from itertools import accumulate
 from typing import NamedTuple
 
 from generating.random_text import cut_at
-from judging.definition import steps_of
+from judging.definition import NEAR, steps_of
 from judging.kinds import FAILURES, FIELDS, KINDS
-from judging.rules import ALONE, CUT, LEAKS, MUST, ORDER, RULES, most_special
+from judging.rules import ALONE, CUT, MALFORMED, MUST, ORDER, RULES, most_special
 from judging.shrinking import cuts_of
 
 CUT_PREFIX = "cut:"
 # a cut that divides nothing
 BETWEEN = "cut:between"
+# the rules of a sequence's or a command's fields, and those that a difference in one field can be about
+NUMBERS = {"parameters", "empty-number", "colon", "largest", "numbers"}
+COLLECTED = {"intermediates", "many-intermediates"}
+DATA = {"pieces", "limit", "command-bytes", "byte-9c", "control-in-command", "empty-command"}
+OF_FIELDS = {*NUMBERS, *COLLECTED, *DATA, "command-bell"}
+ABOUT = {**dict.fromkeys(("count", "groups", "larger", "smaller"), NUMBERS), "final": set(),
+         "intermediates": COLLECTED, "ignore": {*COLLECTED, "numbers"}, "bell": {"command-bell"},
+         **dict.fromkeys(("pieces", "shorter", "longer", "data"), DATA)}
+# what an empty number is followed by; a digit after it makes a number of it
+EMPTY_NUMBER = re.compile(rb"(\x1b[\[P][<-?]?|[:;])(?![0-9])")
 
 
 class Difference(NamedTuple):
-    """A case, and both answers."""
+    """A case, both answers, and the streams that the program had to answer before."""
 
     pieces: list
     reference: list
     candidate: list
+    before: tuple = ()
 
 
 def is_class(text):
@@ -33,36 +46,56 @@ def is_class(text):
 
 
 def rule_of(name):
-    """The rule of a class: for a cut the one about cuts, which decides the level, and the one of what is cut, if there is one."""
+    """The rules of a class: for a cut the one about cuts, then the one of what is cut, if there is one."""
     rule = name.partition("/")[0]
     rest = rule.replace(CUT_PREFIX, "", 1)
     is_known = rest in RULES or rest in ALONE or rule == BETWEEN
-    return [CUT] * (is_known and rest != rule) + [rules[rest] for rules in (RULES, ALONE) if rest in rules]
+    return [CUT] * (is_known and rest != rule) + [
+        rules[rest] for rules in (RULES, ALONE) if rest in rules]
 
 
 def level_of(name):
-    """The level of a class: that of its rule, but a parser must answer, and must not print what isn't text."""
+    """The level of a class: that of its rule, unless each rule of this kind is a must."""
     rule, _, kind = name.partition("/")
-    return MUST if kind in FAILURES or kind == "leaked" and rule in LEAKS else rule_of(name)[0].level
+    is_read = rule in MALFORMED and kind != "replacement"
+    return MUST if kind in FAILURES or is_read else rule_of(name)[0].level
 
 
-def rule_needed(pieces, depends_on_cut, same, kind, house):
-    """The name of the rule that a case is about that differs after some lines. It is exact if the case is shrunk."""
+def rule_needed(pieces, depends_on_cut, same, kind, house, but=""):
+    """The name of the rule that a case is about that differs after some lines, but not a certain one.
+    It is exact if the case is shrunk."""
     steps = steps_of(b"".join(pieces), house)
     if not steps:
         return "text"
     if depends_on_cut:
-        divided = {name for index in steps_at_cuts(steps, cuts_of(pieces)).values() if index is not None for name in steps[index].rules}
+        divided = {name for index in steps_at_cuts(steps, cuts_of(pieces)).values()
+                   if index is not None for name in steps[index].rules if name in ORDER}
         return CUT_PREFIX + most_special(divided) if divided else BETWEEN
-    # what comes after an event that has another field doesn't matter, nor does a terminator after another event
+    # what comes after an event that has another field doesn't matter, nor does a terminator after
+    # another event
     ends = list(accumulate(len(step.lines) for step in steps))
     last = next((index for index, end in enumerate(ends) if end > same), len(steps) - 1)
-    needed = steps[:last + 1] if kind in FIELDS else [step for step in steps if "terminator" not in step.rules or step == steps[last]]
-    return most_special({name for step in needed for name in step.rules})
+    needed = steps[:last + 1] if kind in FIELDS else [
+        step for step in steps if "terminator" not in step.rules or step == steps[last]]
+    return most_special({name for step in needed for name in rules_about(step, kind) if name != but})
+
+
+def rules_about(step, kind):
+    """The rules of a step without those of other fields than the one that differs. What is near a
+    limit is about it, as the case is the smallest."""
+    others = OF_FIELDS - ABOUT[kind] if kind in ABOUT else set()
+    names = [name.replace(NEAR, "") for name in step.rules]
+    return [name for name in names if name not in others] or names[:1]
+
+
+def without_empty_numbers(pieces):
+    """The case with a digit for each empty number, uncut."""
+    return [EMPTY_NUMBER.sub(rb"\g<1>1", b"".join(pieces))]
 
 
 def steps_at_cuts(steps, cuts):
-    """For each cut the index of the smallest step that it divides. What is malformed or unfinished is found to be so after its end."""
+    """For each cut the index of the smallest step that it divides. What is malformed or unfinished is
+    found to be so after its end."""
     found = dict.fromkeys(cuts)
     for index, step in enumerate(steps):
         last = step.end if step.rules[0] in ("malformed", "unfinished") else step.end - 1
@@ -74,17 +107,18 @@ def steps_at_cuts(steps, cuts):
 
 
 def nearest(pieces, same, rules, house):
-    """Of the rules that occur in a case, the one that comes last before a place in its lines, the most special one of several; and all
-    rules of that step."""
+    """Of the rules that occur in a case, the one that comes last before a place in its lines, the
+    most special one of several; and all rules of that step."""
     steps = steps_of(b"".join(pieces), house)
     divided = set(steps_at_cuts(steps, cuts_of(pieces)).values())
     line, best, of_step = 0, (-1, -1, min(rules)), rules
     for index, step in enumerate(steps):
-        names = set(step.rules)
+        names = {name.replace(NEAR, "") for name in step.rules}
         if index in divided:
             names |= {CUT_PREFIX + name for name in step.rules}
         for name in rules.intersection(names):
-            best, of_step = max(best, (index, ORDER.get(name.replace(CUT_PREFIX, ""), 0), name)), names
+            place = (index, ORDER.get(name.replace(CUT_PREFIX, ""), 0), name)
+            best, of_step = max(best, place), names
         line += len(step.lines)
         if line > same and best[0] >= 0:
             break
@@ -94,7 +128,7 @@ def nearest(pieces, same, rules, house):
 # ---- freeing a case of rules
 
 def freed(pieces, rules, house):
-    """The case without what these rules are about: without their bytes, or without the cuts that divide them."""
+    """The case without what these rules are about: their bytes, or the cuts that divide them."""
     while rules:
         after = freed_once(pieces, rules, house)
         if after == pieces:
@@ -108,9 +142,12 @@ def freed_once(pieces, rules, house):
     steps = steps_of(stream, house)
     divided = {name[len(CUT_PREFIX):] for name in rules if name.startswith(CUT_PREFIX)}
     unwanted = {cut for cut, index in steps_at_cuts(steps, cuts if divided else []).items()
-                if (BETWEEN in rules if index is None else divided.intersection(steps[index].rules))}
-    dropped = {place for step in steps if rules.intersection(step.rules) for place in range(step.start, step.end)}
+                if (BETWEEN in rules if index is None
+                    else divided.intersection(steps[index].rules))}
+    dropped = {place for step in steps if rules.intersection(step.rules)
+               for place in range(step.start, step.end)}
     if not unwanted and not dropped:
         return pieces
     kept = [place for place in range(len(stream)) if place not in dropped]
-    return cut_at(bytes(stream[place] for place in kept), [bisect_left(kept, cut) for cut in cuts if cut not in unwanted])
+    cuts = [bisect_left(kept, cut) for cut in cuts if cut not in unwanted]
+    return cut_at(bytes(stream[place] for place in kept), cuts)

@@ -22,8 +22,13 @@ LEADS = {**{lead: (0x80, 0xBF, 2) for lead in range(0xC2, 0xE0)}, **{lead: (0x80
          0xF3: (0x80, 0xBF, 4), 0xF4: (0x80, 0x8F, 4)}
 
 
+# before the name of a rule about a limit: it isn't at work, but would be for a parser with a lower one
+NEAR = "near:"
+
+
 class Step(NamedTuple):
-    """What some bytes of a stream mean: the rules at work, the place of the bytes, and the lines of their events."""
+    """What some bytes of a stream mean: the rules at work, the place of the bytes, and the lines of
+    their events."""
 
     rules: tuple
     start: int
@@ -227,9 +232,11 @@ def head_fields(head, house):
     numbers = re.split(rb"[:;]", parameters)
     collected = marker + intermediates
     too_many = house.numbers is not None and len(numbers) > house.numbers
-    features = {"parameters": parameters, "intermediates": collected, "colon": b":" in parameters,
-                "largest": any(len(number) > 4 and number_of(number, 0x10000) == "65536" for number in numbers),
-                "numbers": too_many or len(numbers) > 32, "many-intermediates": len(collected) > 2}
+    is_large = any(len(number) > 4 and number_of(number, 0x10000) == "65536" for number in numbers)
+    features = {"parameters": parameters, "empty-number": b"" in numbers,
+                "intermediates": collected, "colon": b":" in parameters, "largest": is_large,
+                "numbers": too_many or len(numbers) > 32, "many-intermediates": len(collected) > 2,
+                NEAR + "largest": max(map(len, numbers)) > 2, NEAR + "numbers": len(numbers) > 2}
     rules = [name for name, is_there in features.items() if is_there]
     ignore = len(collected) > 2 or too_many
     return rules, f"[{shown_groups(parameters, house)}] {hex_of(collected[:2])} {str(ignore).lower()}"
@@ -355,4 +362,6 @@ def command_pieces(items, house):
     most = len(pieces) if house.pieces is None else house.pieces
     data = sum(item != 0x3B for item in items)
     is_limited = len(kept) < len(items) or data > 1024
-    return ["limit"] * is_limited + ["pieces"] * (len(pieces) > min(most, 16)), pieces[:most]
+    rules = {"limit": is_limited, "pieces": len(pieces) > min(most, 16),
+             NEAR + "limit": data > 16, NEAR + "pieces": len(pieces) > 2}
+    return [name for name, is_there in rules.items() if is_there], pieces[:most]

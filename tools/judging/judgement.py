@@ -5,27 +5,32 @@ from dataclasses import dataclass, field
 from itertools import islice
 from typing import Optional
 
-from judging.candidate import LINE, OutOfTime, mark_of
-from judging.classes import Difference, freed, nearest, rule_needed
-from judging.kinds import differences_of
+from judging.candidate import OutOfTime, mark_of
+from judging.classes import Difference, freed, nearest, rule_needed, without_empty_numbers
+from judging.definition import NEAR
+from judging.kinds import FAILURES, differences_of
 from judging.rules import ALONE
-from judging.shrinking import shrunk
+from judging.shrinking import Shrinker, shrunk
 
-# how many differences are shrunk that turn out to be of a class that was found before, and for one rule and kind; one that isn't shrunk,
-# because the kind doesn't show without the other rules, counts for a tenth
+# how many differences are shrunk that turn out to be of a class that was found before, and for one rule
+# and kind; one that isn't shrunk, because the kind doesn't show without the other rules, counts a tenth
 MOST_AGAIN, MOST_TRIES = 20, 3
 # how many cases are tried to shrink one
 MOST_CASES = 2000
-# how often a case is tried again before it is reported, and any once it is known that the answers differ from time to time
+# how often a case is tried again before it is told
 MORE_TRIES = 6
-NOT_DETERMINISTIC = "not-deterministic"
+NOT_DETERMINISTIC, KEPT_STATE, PROTOCOL = ALONE
+# the seconds after the end of the time in which what is found is tried once more
+GRACE = 3
+# what a program passes when it doesn't end, the first of them
+LIMITS = {"hang", "memory", "output"}
 # a stream that each program must answer
 PROBE = [b"a"]
 
 
 @dataclass
 class Finding:
-    """A class of differences: its smallest example, whether it is known, and in how many streams it shows."""
+    """A class of differences: its smallest example, whether it is known, and in how many streams it is."""
 
     name: str
     difference: Difference
@@ -60,155 +65,224 @@ class Judgement:
         """The findings that aren't known, or show in more streams than is known."""
         return [finding for finding in self.findings.values() if finding.is_new]
 
+    def status(self):
+        """0 if nothing is new, else 1, also if no stream was judged."""
+        return int(bool(self.new() or self.unexplained or not self.streams))
+
+
+def is_alike(one, other):
+    """Whether two answers are wrong in the same way."""
+    marks = mark_of(one.candidate), mark_of(other.candidate)
+    is_same = marks[0] == marks[1] or LIMITS.issuperset(marks)
+    return is_same if marks[0] else one[:3] == other[:3]
+
 
 class Judge:
     """Both sides, and what is to be left out."""
 
-    def __init__(self, reference, candidate, view, house, left_out=(), known=None, report=lambda finding: None):
+    def __init__(self, reference, candidate, view, house, left_out=(), known=None,
+                 report=lambda finding: None):
         self.reference, self.candidate, self.view, self.house = reference, candidate, view, house
         self.left_out, self.known, self.report = frozenset(left_out), known or {}, report
         self.result = Judgement()
-        self.again = 0
-        # for a rule and a kind of difference: the number of tries to find their class, and the class that was found last
+        self.again, self.is_over, self.end = 0, False, candidate.deadline
+        # for a rule and a kind: the number of tries to find their class, and the class found last
         self.tries, self.resolved = Counter(), {}
 
-    def run(self, cases, seconds=None):
+    def run(self, cases):
         """Judges cases until there are none left or the time is over."""
-        self.candidate.deadline = time.monotonic() + seconds if seconds else None
         cases, size = iter(cases), 2
         try:
             if self.probe():
                 while batch := list(islice(cases, size)):
                     start = time.monotonic()
                     self.judge_batch(batch)
-                    size = min(2 * size, self.candidate.batch) if time.monotonic() - start < 2 else max(1, size // 2)
+                    if self.is_over:
+                        raise OutOfTime
+                    is_fast = time.monotonic() - start < 2
+                    size = min(2 * size, self.candidate.batch) if is_fast else max(1, size // 2)
         except OutOfTime:
             self.result.ended_early = "the time was over"
         return self.result
 
     def probe(self):
         """Whether the program answers at all."""
-        reference, answer = self.both_answers([PROBE])[0]
+        reference, answer = self.both_answers([PROBE], alone=True)[0]
         kind = mark_of(answer)
-        wrong = None if kind else next((line for line in answer if not LINE.fullmatch(line)), None)
-        if wrong is not None:
-            answer, kind = [*answer, f"(protocol: this is no event line: {wrong[:60]})"], "protocol"
         if kind:
-            name = "protocol" if self.candidate.takes_pieces or kind == "protocol" else f"text/{kind}"
+            name = PROTOCOL if self.candidate.takes_pieces or kind == PROTOCOL else f"text/{kind}"
             self.add(name, Difference(PROBE, reference, answer), "the first stream", 1)
             self.result.ended_early = "the program doesn't answer the stream `a`"
         return not kind
 
+    def judge_case(self, streams):
+        """Judges the last of some streams, which one process gets in a row. Both answers."""
+        *before, pieces = [freed(pieces, self.left_out, self.house) for pieces in streams]
+        self.result.streams = 1
+        reference, answer = self.both_answers([*before, pieces], alone=True)[-1]
+        if reference != answer:
+            self.result.different = self.result.unexplained = 1
+            difference = Difference(pieces, reference, answer, tuple(before))
+            if steady := self.steady("--case", difference, MORE_TRIES):
+                self.add(self.named(steady), steady, "--case", sum(map(len, pieces)))
+                self.result.unexplained = 0
+        return reference, answer
+
     def judge_batch(self, batch):
         cases = [freed(case.pieces, self.left_out, self.house) for case in batch]
-        differing = []
-        for case, pieces, (reference, answer) in zip(batch, cases, self.both_answers(cases)):
+        differing, history = [], tuple(self.candidate.history)
+        for index, (reference, answer) in enumerate(self.both_answers(cases)):
             if reference != answer:
-                differing.append((case.name, Difference(pieces, reference, answer)))
+                before = (*history, *cases[:index]) if self.candidate.takes_pieces else ()
+                difference = Difference(cases[index], reference, answer, before)
+                differing.append((batch[index].name, difference))
         self.result.streams += len(batch)
         self.result.different += len(differing)
         self.result.unexplained += len(differing)
-        for (name, difference), is_explained in zip(differing, self.explained(differing)):
-            try:
-                (self.examine_kinds if is_explained else self.examine)(name, difference)
-            except OutOfTime:
-                if not self.result.findings:
-                    self.add(self.named(difference, is_over=True), difference, name, sum(map(len, difference.pieces)), False)
-                    self.result.unexplained -= 1
-                raise
+        explained = self.explained([difference for _, difference in differing])
+        for (name, difference), is_explained in zip(differing, explained):
+            before = self.result.unexplained
+            if is_explained:
+                self.examine_kinds(name, difference)
+            elif steady := self.steady(name, difference):
+                self.examine(name, steady)
+            elif self.result.unexplained == before:  # it was only slow
+                self.result.different -= 1
+                self.result.unexplained -= 1
 
     # ---- what is found so far
 
     def rules(self):
         """The rules of the classes found so far."""
-        return {finding.rule for finding in self.result.findings.values()} - ALONE.keys()
+        rules = {finding.rule for finding in self.result.findings.values()} - ALONE.keys()
+        return rules | {NEAR + name for name in rules}
 
     def excluded(self, but=frozenset()):
         return (self.rules() - but) | self.left_out
 
     def explained(self, differing):
-        """Whether each stream no longer differs without the rules of the classes found so far."""
-        rules = self.excluded()
-        if not self.rules():
+        """Whether each case no longer differs without the rules of the classes found so far."""
+        rules = self.rules()
+        if not rules:
             return [False] * len(differing)
-        rests = [freed(difference.pieces, rules, self.house) for _, difference in differing]
-        return [reference == answer for reference, answer in self.both_answers(rests)]
+        rests = [freed(difference.pieces, rules, self.house) for difference in differing]
+        return [one == other for one, other in self.both_answers(rests)]
 
-    def both_answers(self, cases, whole=False):
+    def both_answers(self, cases, whole=False, alone=False):
+        if self.candidate.deadline is not None and time.monotonic() >= self.candidate.deadline:
+            raise OutOfTime
         references = self.reference.answers([b"".join(pieces) for pieces in cases])
-        return [tuple(map(self.view.of, pair)) for pair in zip(references, self.candidate.answers(cases, whole))]
+        answers = self.candidate.answers(cases, whole, alone)
+        return [tuple(map(self.view.of, pair)) for pair in zip(references, answers)]
 
     # ---- one difference
 
-    def difference(self, pieces, whole=False):
+    def difference(self, pieces, whole=False, alone=False, before=()):
         """The difference at a case, or None."""
-        (reference, answer), = self.both_answers([pieces], whole)
+        reference, answer = self.both_answers([*before, pieces], whole, alone)[-1]
         return None if reference == answer else Difference(pieces, reference, answer)
 
     def examine(self, name, difference):
         """Assigns a case that differs to the classes found so far, or finds one of another rule."""
         excluded, size = self.excluded(), sum(map(len, difference.pieces))
         rest = freed(difference.pieces, excluded, self.house)
-        left = difference if rest == difference.pieces else self.difference(rest)
+        left = difference if rest == difference.pieces else self.difference(rest, alone=True)
         if not left:
             return self.examine_kinds(name, difference)
-        if self.again < MOST_AGAIN and not self.is_unsteady(name, left):
-            def is_new(case):
-                return self.difference(case) if freed(case, excluded, self.house) == case else None
+        if mark_of(left.candidate) == PROTOCOL and self.count(PROTOCOL):
+            return None
+        if self.again < MOST_AGAIN and (left is difference or self.steady(name, left)):
+            def is_new(case, **how):
+                is_free = freed(case, excluded, self.house) == case
+                return self.difference(case, **how) if is_free else None
 
             self.find(name, rest, is_new if is_new(rest) else self.difference, size)
 
     def examine_kinds(self, name, difference):
-        """Finds out whether a case differs in ways for which its rules have no class yet, and counts it."""
+        """Finds out whether a case differs in ways for which its rules have no class yet, and counts
+        it."""
         pieces, rules = difference.pieces, self.rules()
-        signatures = [(*nearest(pieces, place, rules, self.house), kind) for place, kind in differences_of(*difference[1:])]
+        signatures = [(*nearest(pieces, place, rules, self.house), kind)
+                      for place, kind in differences_of(*difference[1:3])]
         for rule, of_step, kind in signatures:
             # where several differences meet there is often another event, which says little
-            if kind != "other" and f"{rule}/{kind}" not in self.result.findings and self.tries[rule, kind] < MOST_TRIES:
+            is_known = kind == "other" or f"{rule}/{kind}" in self.result.findings
+            if not is_known and self.tries[rule, kind] < MOST_TRIES:
                 if self.find_kind(name, difference, rule, self.excluded(of_step), kind):
                     return
         rule, _, kind = signatures[0]
         self.count(self.class_found(rule, kind))
 
     def class_found(self, rule, kind):
-        """The class for which a difference counts: that of the rule and the kind, or the first of the rule."""
-        resolved = f"{rule}/{kind}" if f"{rule}/{kind}" in self.result.findings else self.resolved.get((rule, kind))
-        of_rule = [name for name, finding in self.result.findings.items() if finding.rule == rule]
+        """The class for which a difference counts: of the rule and the kind, or the rule's first."""
+        name = f"{rule}/{kind}"
+        resolved = name if name in self.result.findings else self.resolved.get((rule, kind))
+        of_rule = [it for it, finding in self.result.findings.items() if finding.rule == rule]
         return resolved if resolved in self.result.findings else next(iter(of_rule), None)
 
     def find_kind(self, name, difference, rule, excluded, kind):
-        """Finds the class of a kind of difference for a rule that has another class. Whether the stream was counted."""
+        """Finds the class of a kind of difference for a rule that has another class. Whether the
+        stream was counted."""
         size, before = sum(map(len, difference.pieces)), self.result.unexplained
 
-        def is_such(case):
-            left = self.difference(case) if freed(case, excluded, self.house) == case else None
-            return left if left and kind in [each for _, each in differences_of(*left[1:])] else None
+        def is_such(case, **how):
+            is_free = freed(case, excluded, self.house) == case
+            left = self.difference(case, **how) if is_free else None
+            return left if left and kind in [it for _, it in differences_of(*left[1:3])] else None
 
         rest = freed(difference.pieces, excluded, self.house)
-        left = is_such(rest)
+        left = is_such(rest, alone=True)
         self.tries[rule, kind] += 1 if left else 0.1
-        if left and not self.is_unsteady(name, left):
+        if left and self.steady(name, left):
             self.resolved[rule, kind] = self.find(name, rest, is_such, size, kind)
         return self.result.unexplained < before
 
-    def is_unsteady(self, name, difference, tries=1):
-        """Whether a case has another answer when it is tried again: a class of its own, which is reported or counted."""
-        mark = mark_of(difference.candidate)
-        for _ in range(1 if mark == "hang" else MORE_TRIES if NOT_DETERMINISTIC in self.result.findings else tries):
-            again = self.difference(difference.pieces, whole=True)
-            if not again or again != difference and not (mark and mark_of(again.candidate) == mark):
-                break
-        else:
-            return False
-        if mark == "hang":  # it was only slow
-            self.candidate.hangs = 0
-            return True
-        if not self.count(NOT_DETERMINISTIC):
+    def steady(self, name, difference, tries=1):
+        """The difference that a case has alone, each time in a new process, or None: what is told
+        then is why."""
+        for _ in range(tries):
+            again = self.difference(difference.pieces, whole=True, alone=True)
+            if again and is_alike(again, difference):
+                continue
+            if mark_of(difference.candidate) == "hang":  # it was only slow
+                self.candidate.hangs = 0
+                return again and self.steady(name, again, tries)
+            return self.tell_unsteady(name, difference, again)
+        return difference._replace(before=())
+
+    def tell_unsteady(self, name, difference, again):
+        """Tells or counts that a case has different answers: after other streams, or at any time."""
+        is_told = NOT_DETERMINISTIC in self.result.findings
+        after = self.after_others(difference) if difference.before and not is_told else None
+        if not self.count(KEPT_STATE if after else NOT_DETERMINISTIC):
             answer = again.candidate if again else difference.reference
-            shown = Difference(difference.pieces, difference.candidate, answer)
-            self.add(NOT_DETERMINISTIC, shown, name, sum(map(len, difference.pieces)))
+            shown = after or Difference(difference.pieces, difference.candidate, answer)
+            size = sum(map(len, difference.pieces))
+            self.add(KEPT_STATE if after else NOT_DETERMINISTIC, shown, name, size)
             self.result.unexplained -= 1
-        return True
+
+    def after_others(self, difference):
+        """The smallest streams of which the last is answered so after the others alone, or None."""
+        if KEPT_STATE in self.result.findings:
+            return difference
+        tries = iter(range(1, MOST_CASES // 4))
+
+        def wrong(streams):
+            *before, pieces = streams
+            found = next(tries, 0) and before and self.difference(pieces, True, True, before)
+            return found if found and not self.difference(pieces, True, True) else None
+
+        streams = [tuple(pieces) for pieces in (*difference.before, difference.pieces)]
+        if not wrong(streams) or not wrong(streams):
+            return None
+        others = Shrinker(lambda case: wrong([*case, streams[-1]]), 1).smallest(streams[:-1], list)
+        streams = [*others, streams[-1]]
+        for index, pieces in enumerate(streams):
+            streams[index] = shrunk(
+                pieces, lambda case: wrong([*streams[:index], case, *streams[index + 1:]]))
+        tries = iter(range(1, 9))
+        found = [wrong(streams) for _ in range(4)]
+        return all(found) and found[0]._replace(before=tuple(streams[:-1])) or None
 
     def count(self, name):
         """Counts a stream for a class. Whether there is one."""
@@ -219,43 +293,72 @@ class Judge:
 
     def find(self, stream_name, pieces, asked, size, kind=None):
         """Shrinks a case, and reports its class if it is new. The name of the class, or None."""
-        differences, is_over, most = {}, [], MOST_CASES // 4 if kind else MOST_CASES
-
-        def asked_in_time(case):
-            if is_over or len(differences) >= most:
-                return False
-            try:
-                differences[tuple(case)] = asked(case)
-            except OutOfTime:
-                is_over.append(True)
-            return bool(differences.get(tuple(case)))
-
-        smallest = shrunk(pieces, asked_in_time, self.candidate.at_once)
-        difference = differences.get(tuple(smallest))
+        difference, is_smallest = self.smallest(pieces, asked, kind)
+        if difference and not self.difference(difference.pieces, whole=True, alone=True):
+            # it only differs after other streams
+            difference, is_smallest = self.smallest(pieces, asked, kind, alone=True)
         # a kind that doesn't show alone comes from several differences in a row
-        is_mixed = difference and kind and len(differences_of(*difference[1:])) > 1
-        if not difference or is_mixed or not is_over and self.is_unsteady(stream_name, difference, MORE_TRIES):
+        is_mixed = difference and kind and len(differences_of(*difference[1:3])) > 1
+        if not difference or is_mixed or not self.steady(
+                stream_name, difference, 1 if self.is_over else MORE_TRIES):
             return None
-        name = self.named(difference, kind, is_over)
+        name = self.named(difference, kind)
+        name = self.same_as(name, difference) or name
         if self.count(name):
             self.again += 1
         else:
-            self.add(name, difference, stream_name, size, not is_over and len(differences) < most)
+            self.add(name, difference, stream_name, size, is_smallest)
             self.result.unexplained -= 1
-        if is_over:
-            raise OutOfTime
         return name
+
+    def same_as(self, name, difference):
+        """A class of the same rule whose smallest case stands within another, byte after byte: what
+        comes after it may differ in another way. None if there is none."""
+        rule, _, kind = name.partition("/")
+        for other, finding in self.result.findings.items():
+            rest = iter(b"".join(difference.pieces))
+            is_within = all(byte in rest for byte in b"".join(finding.difference.pieces))
+            if finding.rule == rule and kind not in FAILURES and is_within:
+                return other
+        return None
+
+    def smallest(self, pieces, asked, kind, alone=False):
+        """The smallest case for which `asked` gives a difference, after so many tries, and whether
+        there were enough."""
+        differences, most = {}, MOST_CASES // (4 if kind else 1) // (10 if alone else 1)
+
+        def differs(case):
+            if self.is_over or len(differences) >= most:
+                return False
+            try:
+                differences[tuple(case)] = asked(case, alone=alone)
+            except OutOfTime:
+                # what was found so far is tried alone
+                self.is_over = True
+                self.candidate.deadline = self.end + GRACE
+            return bool(differences.get(tuple(case)))
+
+        smallest = shrunk(pieces, differs, self.candidate.at_once)
+        is_smallest = not self.is_over and len(differences) < most
+        return differences.get(tuple(smallest)), is_smallest
 
     def add(self, name, difference, found_in, size, is_smallest=True):
         listed = name if name in self.known else name.partition("/")[0]
         known = (listed in self.known, self.known.get(listed))
-        self.result.findings[name] = Finding(name, difference, found_in, size, *known, is_smallest=is_smallest)
-        self.report(self.result.findings[name])
+        finding = Finding(name, difference, found_in, size, *known, is_smallest=is_smallest)
+        self.result.findings[name] = finding
+        self.report(finding)
 
-    def named(self, difference, kind=None, is_over=False):
+    def named(self, difference, kind=None):
         """The class of a difference that is shrunk."""
-        pieces, reference, candidate = difference
-        may_be_cut = self.candidate.takes_pieces and sum(map(bool, pieces)) > 1 and not is_over
+        pieces, reference, candidate, _ = difference
         same, first_kind = differences_of(reference, candidate)[0]
-        rule = rule_needed(pieces, may_be_cut and not self.difference([b"".join(pieces)]), same, kind or first_kind, self.house)
-        return f"{rule}/{kind or first_kind}"
+        if first_kind == PROTOCOL:
+            return PROTOCOL
+        is_cut = self.candidate.takes_pieces and sum(map(bool, pieces)) > 1 and not self.difference(
+            [b"".join(pieces)], alone=True)
+        kind = kind or first_kind
+        rule = rule_needed(pieces, is_cut, same, kind, self.house)
+        if rule == "empty-number" and self.difference(without_empty_numbers(pieces), alone=True):
+            rule = rule_needed(pieces, is_cut, same, kind, self.house, rule)
+        return f"{rule}/{kind}"

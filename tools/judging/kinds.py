@@ -1,4 +1,4 @@
-"""The kind of a difference between two answers, which is the second half of the name of its class: `largest/smaller`."""
+"""The kind of a difference between two answers, the second half of the name of its class."""
 import os
 import re
 from difflib import SequenceMatcher
@@ -7,29 +7,33 @@ from judging.candidate import mark_of
 
 # the same event comes with another field
 FIELDS = {
-    "character": "an event has another character or byte", "count": "a sequence has more or fewer numbers",
-    "groups": "numbers are grouped otherwise", "larger": "a number is larger", "smaller": "a number is smaller",
+    "character": "an event has another character or byte",
+    "count": "a sequence has more or fewer numbers", "groups": "numbers are grouped otherwise",
+    "larger": "a number is larger", "smaller": "a number is smaller",
     "intermediates": "a sequence has other intermediates", "ignore": "the field ignore differs",
-    "final": "a sequence has another final byte", "bell": "the field bell_terminated differs", "pieces": "a command has other pieces",
-    "shorter": "the data of a command are shorter", "longer": "the data of a command are longer", "data": "the data of a command differ"}
+    "final": "a sequence has another final byte", "bell": "the field bell_terminated differs",
+    "pieces": "a command has other pieces", "shorter": "the data of a command are shorter",
+    "longer": "the data of a command are longer", "data": "the data of a command differ"}
 # there is no right answer
 FAILURES = {
-    "crash": "the program failed", "hang": "it gave no answer in time", "memory": "it took more memory than it may",
-    "output": "it printed more than it may", "protocol": "it broke the protocol"}
+    "crash": "the program failed", "hang": "it gave no answer in time",
+    "memory": "it took more memory than it may", "output": "it printed more than it may"}
 KINDS = {
-    "missing": "an event isn't there", "extra": "there is an event too many", "leaked": "text is printed that is no text",
-    "other": "there is another event", **FIELDS, **FAILURES}
+    "missing": "an event isn't there", "extra": "there is an event too many",
+    "leaked": "text is printed that is no text", "other": "there is another event",
+    "replacement": "there are more or fewer U+FFFD, and nothing else differs", **FIELDS, **FAILURES}
 # answers with more lines between their common ends are compared at their first difference alone
 MOST_LINES = 600
+REPLACEMENT = "print fffd"
 
 
 def first_difference(reference, candidate):
-    """The number of lines with which both answers begin."""
+    """The number of lines, or of characters, with which both begin."""
     return len(os.path.commonprefix([reference, candidate]))
 
 
 def differences_of(reference, candidate):
-    """The places and kinds of the differences, in order. A place is a number of lines of the reference."""
+    """The places and kinds of the differences, in order. A place is a number of the reference's lines."""
     mark = mark_of(candidate)
     if mark:
         return [(min(len(candidate) - 1, len(reference)), mark)]
@@ -39,11 +43,14 @@ def differences_of(reference, candidate):
     if max(len(one), len(other)) > MOST_LINES:
         return [(start, kind_of(one[:1], other[:1]))]
     codes = SequenceMatcher(None, one, other, autojunk=False).get_opcodes()
-    return [(start + first, kind_of(one[first:last], other[begin:end])) for tag, first, last, begin, end in codes if tag != "equal"]
+    return [(start + first, kind_of(one[first:last], other[begin:end]))
+            for tag, first, last, begin, end in codes if tag != "equal"]
 
 
 def kind_of(reference, candidate):
     """The kind of the difference of lines, of which none is the same."""
+    if {*reference, *candidate} == {REPLACEMENT}:
+        return "replacement"
     if not candidate:
         return "missing"
     prints = [any(line.startswith("print ") for line in lines) for lines in (reference, candidate)]
@@ -64,17 +71,20 @@ def field_kind(one, other):
         return command_kind(fields, others)
     if method in ("csi", "hook", "esc") and len(fields) == len(others):
         names = ["numbers", "intermediates", "ignore", "final"][method == "esc":]
-        name = next((name for name, here, there in zip(names, fields, others) if here != there), "other")
+        pairs = zip(names, fields, others)
+        name = next((name for name, here, there in pairs if here != there), "other")
         return numbers_kind(fields[0], others[0]) if name == "numbers" else name
     return "character"
 
 
 def numbers_kind(one, other):
-    numbers, others = (re.findall(r"\d+", field) for field in (one, other))
+    """How numbers differ. They may have more digits than int() takes."""
+    numbers, others = ([(len(digits), digits) for digits in re.findall(r"0*(\d+)", field)]
+                       for field in (one, other))
     if len(numbers) != len(others):
         return "count"
-    pairs = [(len(here), here) < (len(there), there) for here, there in zip(numbers, others) if here != there]
-    return "groups" if not pairs else "larger" if pairs[0] else "smaller"
+    larger = [here < there for here, there in zip(numbers, others) if here != there]
+    return "groups" if not larger else "larger" if larger[0] else "smaller"
 
 
 def command_kind(fields, others):
@@ -82,5 +92,7 @@ def command_kind(fields, others):
         return "bell"
     if len(fields) != len(others):
         return "pieces"
-    data, other = "".join(fields[2:]).replace("-", ""), "".join(others[2:]).replace("-", "")
+    data, other = ("".join(pieces[2:]).replace("-", "") for pieces in (fields, others))
+    if data == other:
+        return "pieces"
     return "shorter" if data.startswith(other) else "longer" if other.startswith(data) else "data"

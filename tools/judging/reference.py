@@ -1,4 +1,4 @@
-"""The reference: what `vtlog` prints for a stream, and under other house rules docs/EVENTS.md in Python."""
+"""The reference: what `vtlog` prints, and under other house rules docs/EVENTS.md in Python."""
 import concurrent.futures
 import os
 import shutil
@@ -10,6 +10,8 @@ from judging.definition import lines_of
 from judging.house import DEFAULT
 
 TOP = Path(__file__).resolve().parents[2]
+# the longest time for one stream, on a machine that is busy
+SECONDS = 120
 CARGO_CRATE = TOP / "rust" / "vtlog"
 
 
@@ -23,14 +25,19 @@ class Reference:
         self.threads = concurrent.futures.ThreadPoolExecutor(os.cpu_count())
 
     def answer(self, stream):
-        done = subprocess.run([self.vtlog], input=stream, capture_output=True)
+        try:
+            done = subprocess.run([self.vtlog], input=stream, capture_output=True, timeout=SECONDS)
+        except subprocess.TimeoutExpired:
+            raise NoReference(f"{self.vtlog} gave no answer in {SECONDS} s") from None
         if done.returncode != 0:
-            raise NoReference(f"{self.vtlog} failed with status {done.returncode}: {done.stderr.decode(errors='replace')[:200]}")
+            said = done.stderr.decode(errors="replace")[:200]
+            raise NoReference(f"{self.vtlog} failed with status {done.returncode}: {said}")
         lines = done.stdout.decode().splitlines()
         if self.house == DEFAULT:
             return lines
         if lines != lines_of(stream):
-            raise NoReference(f"vtlog and judging/definition.py differ, which is a bug of this repository: {stream[:100].hex()}")
+            raise NoReference("vtlog and judging/definition.py differ, which is a bug of this "
+                              f"repository: {stream[:100].hex()}")
         return lines_of(stream, self.house)
 
     def answers(self, streams):
@@ -38,7 +45,8 @@ class Reference:
 
 
 def find_vtlog(given=None):
-    """The program: the given one, $VTLOG, the one of this repository, which cargo keeps up to date, or the one that is installed."""
+    """The program: the given one, $VTLOG, the one of this repository, which cargo keeps up to date,
+    or the one that is installed."""
     named = given or os.environ.get("VTLOG")
     if named:
         if not os.access(named, os.X_OK) or Path(named).is_dir():
@@ -47,18 +55,25 @@ def find_vtlog(given=None):
     proved = TOP / "crates" / "vtlog" / "out" / "vtlog"
     found = built_by_cargo() or (proved if proved.is_file() else shutil.which("vtlog"))
     if not found:
-        raise NoReference("there is no vtlog: give --vtlog PROGRAM, install cargo 1.63 or later, or build it with ./vtlog")
+        raise NoReference("there is no vtlog: give --vtlog PROGRAM, install cargo 1.63 or later, or "
+                          "build it with ./vtlog")
     return str(found)
 
 
 def built_by_cargo():
+    program = CARGO_CRATE / "target" / "release" / "vtlog"
+    sources = [file.stat().st_mtime for crate in (CARGO_CRATE, CARGO_CRATE.parent / "vte")
+               for file in (*crate.glob("Cargo.*"), *crate.glob("src/**/*"))]
+    if program.is_file() and program.stat().st_mtime > max(sources):
+        return program
     if not shutil.which("cargo"):
         return None
-    target = CARGO_CRATE / "target"
-    words = ["cargo", "build", "--quiet", "--release", "--manifest-path", CARGO_CRATE / "Cargo.toml", "--target-dir", target]
-    for more in (["--offline", "--locked"], ["--locked"]):
-        done = subprocess.run([*words, *more], stdin=subprocess.DEVNULL, stdout=subprocess.DEVNULL, stderr=subprocess.PIPE)
+    words = ["cargo", "build", "--quiet", "--release", "--locked", "--target-dir", CARGO_CRATE / "target",
+             "--manifest-path", CARGO_CRATE / "Cargo.toml"]
+    for more in (["--offline"], []):
+        done = subprocess.run([*words, *more], stdin=subprocess.DEVNULL, capture_output=True)
         if done.returncode == 0:
-            return target / "release" / "vtlog"
+            program.touch()
+            return program
     sys.stderr.buffer.write(done.stderr[-2000:])
     return None

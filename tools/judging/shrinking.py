@@ -7,7 +7,7 @@ from generating.random_text import cut_at
 # in longer cases all bytes of a value are replaced at once
 SHORT = 40
 # kinds of bytes by their last one, and the bytes that are tried instead of others of the kind, the plainest first
-PLAIN = [(0x1A, b"\x0a\x07\x18"), (0x1B, b""), (0x1F, b"\x0a"), (0x7E, b"a1;m"), (0x7F, b""), (0x9F, b"\x80"), (0xBF, b"\xa0"), (0xC1, b""),
+PLAIN = [(0x1A, b"\x0a\x07\x18"), (0x1B, b""), (0x1F, b"\x0a"), (0x7E, b"a1;mX"), (0x7F, b""), (0x9F, b"\x80"), (0xBF, b"\xa0"), (0xC1, b""),
          (0xDF, b"\xc3"), (0xEF, b"\xe4"), (0xF4, b"\xf0"), (0xFF, b"\xff")]
 
 

@@ -89,7 +89,11 @@ def items(folder, out, features):
     for name in ("serde_derive", "serde"):
         kind = "proc-macro" if name == "serde_derive" else "rlib"
         workshop.library(name, rust_builds.TOOLS / "surface" / f"{name}.rs", "2021", kind=kind)
-    workshop.vte(folder, features, is_built=False)
+    if folder == rust_builds.OURS:
+        for name, package in {**rust_builds.STAND_INS, "memchr": "memchr"}.items():
+            workshop.library(name, rust_builds.TOOLS / "stand_ins" / package / "src" / "lib.rs", "2021")
+    else:
+        workshop.vte(folder, features, is_built=False)
     source, edition = rust_builds.vte_source(Path(folder), workshop.out)
     words = ["rustdoc", "-Z", "unstable-options", "--output-format", "json", "--cap-lints", "allow", "-o", str(out / "json")]
     rust_builds.run([*words, *workshop.words("vte", source, edition, features)], f"the documentation of {folder}",

@@ -34,6 +34,7 @@ ANCHOR = "<!-- tools/compare rust surface -->"
 ITEMS = re.compile(r"^- ((?:`[^`]+`(?:,\s+)?)+)", re.M)
 # names of the crate for numbers that it doesn't export
 CONSTANTS = {"MAX_OSC_RAW": "1024"}
+AUTO = {"RefUnwindSafe", "Send", "Sync", "Unpin", "UnwindSafe"}
 
 
 def surface(comparison):
@@ -181,8 +182,15 @@ class Surface:
         # what `derive(PartialEq)` adds to itself isn't told
         if inner["blanket_impl"] or of_trait == "StructuralPartialEq":
             return
+        shown = "!" * inner["is_negative"] + of_trait
+        if inner["is_synthetic"]:
+            # those that a user can name
+            if of_trait in AUTO:
+                found = {*self.items.get(f"{path}: auto traits", "").split(), shown}
+                self.items[f"{path}: auto traits"] = " ".join(sorted(found))
+            return
         if of_trait:
-            self.items[f"{path}: {'!' * inner['is_negative']}{of_trait}"] = "impl"
+            self.items[f"{path}: {shown}"] = "impl"
             return
         for member in map(self.inner, inner["items"]):
             if member["visibility"] == "public":

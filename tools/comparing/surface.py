@@ -34,6 +34,7 @@ ANCHOR = "<!-- tools/compare rust surface -->"
 ITEMS = re.compile(r"^- ((?:`[^`]+`(?:,\s+)?)+)", re.M)
 # names of the crate for numbers that it doesn't export
 CONSTANTS = {"MAX_OSC_RAW": "1024"}
+AUTO = {"RefUnwindSafe", "Send", "Sync", "Unpin", "UnwindSafe"}
 
 
 def surface(comparison):
@@ -89,7 +90,11 @@ def items(folder, out, features):
     for name in ("serde_derive", "serde"):
         kind = "proc-macro" if name == "serde_derive" else "rlib"
         workshop.library(name, rust_builds.TOOLS / "surface" / f"{name}.rs", "2021", kind=kind)
-    workshop.vte(folder, features, is_built=False)
+    if folder == rust_builds.OURS:
+        for name, package in {**rust_builds.STAND_INS, "memchr": "memchr"}.items():
+            workshop.library(name, rust_builds.TOOLS / "stand_ins" / package / "src" / "lib.rs", "2021")
+    else:
+        workshop.vte(folder, features, is_built=False)
     source, edition = rust_builds.vte_source(Path(folder), workshop.out)
     words = ["rustdoc", "-Z", "unstable-options", "--output-format", "json", "--cap-lints", "allow", "-o", str(out / "json")]
     rust_builds.run([*words, *workshop.words("vte", source, edition, features)], f"the documentation of {folder}",
@@ -177,8 +182,15 @@ class Surface:
         # what `derive(PartialEq)` adds to itself isn't told
         if inner["blanket_impl"] or of_trait == "StructuralPartialEq":
             return
+        shown = "!" * inner["is_negative"] + of_trait
+        if inner["is_synthetic"]:
+            # those that a user can name
+            if of_trait in AUTO:
+                found = {*self.items.get(f"{path}: auto traits", "").split(), shown}
+                self.items[f"{path}: auto traits"] = " ".join(sorted(found))
+            return
         if of_trait:
-            self.items[f"{path}: {'!' * inner['is_negative']}{of_trait}"] = "impl"
+            self.items[f"{path}: {shown}"] = "impl"
             return
         for member in map(self.inner, inner["items"]):
             if member["visibility"] == "public":

@@ -58,6 +58,22 @@ class Plan:
         return [(name, home) for place in ("", crate) for home, names in self.homes.get(place, {}).items() for name in names.split()]
 
 
+# Why `unsafe` is right, said where it stands; tests run with the assertions.
+OF_TEXT = """// SAFETY: `to` is where a search found the end of a run that begins at `from`. Searches pass one
+// whole character at a time: a byte of ASCII, or a lead byte with all its continuation bytes, the
+// first of which `may_begin_three` and `may_begin_four` test. The automaton, which passes blocks,
+// goes back to where no character is open.
+"""
+OF_THREE = """// SAFETY: the masks leave at most FFFF. Callers have tested `may_begin_three`, by which the number
+// is no surrogate's, D800 to DFFF.
+debug_assert!(may_begin_three(first, second) && is_continuation(third));
+"""
+OF_FOUR = """// SAFETY: callers have tested `may_begin_four`, by which the front of the number is 10000 to
+// 10F000, and the masks leave at most FFF for its rest.
+debug_assert!(may_begin_four(first, second));
+debug_assert!(is_continuation(third) && is_continuation(fourth));
+"""
+
 # What the parser's text says of the count of looks (COUNTS), by file.
 WITHOUT_COUNTS = {
     "vte_core/looks": [
@@ -69,7 +85,7 @@ WITHOUT_COUNTS = {
         ("fn up_to(self, to: usize) -> Self", "fn up_to(input: &[u8], to: usize) -> &[u8]"),
         ("fn text(self, from: usize, to: usize) -> &'a str", "fn text(input: &[u8], from: usize, to: usize) -> &str"),
         ("fn data(self, from: usize, to: usize) -> &'a [u8]", "fn data(input: &[u8], from: usize, to: usize) -> &[u8]"),
-        ("unsafe {", "// SAFETY: the bytes are whole characters: crates/vte_core/src/looks.rt requires it, and has a proof for each call.\nunsafe {"),
+        ("unsafe {", f"{OF_TEXT}debug_assert!(str::from_utf8(bytes).is_ok());\nunsafe {{"),
     ],
 }
 
@@ -158,7 +174,13 @@ VTE = Plan(
         # .. whose `clear` writes nothing over what it held
         "vte_core/params": [("*self = Params::new();", "self.numbers.clear(); self.lengths.clear();")],
         "vte_core/utf8": [
-            ("unsafe {", "// SAFETY: the bytes are a character's: crates/vte_core/src/utf8.rt requires it, and has a proof for each call.\nunsafe {")],
+            # below the surrogates whatever the bytes are, as compilers see
+            ("unsafe { char::from_u32_unchecked(number_of_two($$a)) }",
+             "char::from_u32(number_of_two($a)).unwrap_or(char::REPLACEMENT_CHARACTER)"),
+            ("unsafe { char::from_u32_unchecked(number_of_three($$a)) }",
+             f"{OF_THREE}unsafe {{ char::from_u32_unchecked(number_of_three($a)) }}"),
+            ("unsafe { char::from_u32_unchecked(number_of_four($$a)) }",
+             f"{OF_FOUR}unsafe {{ char::from_u32_unchecked(number_of_four($a)) }}")],
         "vte_handler/timeout": [("trait Timeout", "trait Timeout: Default")],
     },
     has_idioms=True,
@@ -180,7 +202,7 @@ VTE = Plan(
         "vte_core/perform": {'#[doc = include_str!("../../docs/perform.md")]': ["pub trait Perform {"],
                              '#[doc = include_str!("../../docs/perform_text.md")]': ["pub trait PerformText: Perform {"]},
         "vte_core/looks": {"#[allow(unsafe_code)]": ["pub(crate) fn text"]},
-        "vte_core/utf8": {"#[allow(unsafe_code)]": [f"pub(crate) fn character_of_{count}" for count in ("two", "three", "four")]},
+        "vte_core/utf8": {"#[allow(unsafe_code)]": [f"pub(crate) fn character_of_{count}" for count in ("three", "four")]},
         # the loops over bytes: rustc compiles modules apart, and so would keep them from the performer that they call
         # the search stays out of the loop over bytes, which it would make longer
         "vte_core/parser/text": {INLINE: ["pub(crate) fn read_text"], "#[inline(never)]": ["fn search_text"]},

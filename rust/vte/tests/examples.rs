@@ -2,6 +2,9 @@
 #![cfg(all(feature = "ansi", feature = "std"))]
 
 #[allow(dead_code)]
+#[path = "../examples/parallel_strip.rs"]
+mod parallel_strip;
+#[allow(dead_code)]
 #[path = "../examples/parselog.rs"]
 mod parselog;
 #[allow(dead_code)]
@@ -138,4 +141,19 @@ fn examples_return_errors() {
     let mut input = io::repeat(b'a').take(100_000);
     assert!(parselog::write_events(&mut input, Broken).is_err());
     assert!(input.limit() > 0);
+}
+
+#[test]
+fn any_number_of_threads_writes_the_same_text() {
+    // an ESC ends text, a truncated character, a command, and another ESC
+    let stream = b"a\x1b[1mb\xe2\x82\x1b]0;t\x1b\\c\n\x1b\x1bPd\x1b\\\xf0\x9f\x1b\xc3";
+    for end in 0..=stream.len() {
+        let mut wanted = Vec::new();
+        strip::strip(&stream[..end], &mut wanted).unwrap();
+        for threads in 1..=end + 2 {
+            let mut found = Vec::new();
+            parallel_strip::strip(&stream[..end], threads, &mut found).unwrap();
+            assert_eq!(found, wanted, "{threads} threads, {end} bytes");
+        }
+    }
 }

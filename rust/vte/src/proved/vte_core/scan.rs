@@ -16,7 +16,11 @@ pub(crate) fn up_to(input: &[u8], to: usize) -> &[u8] {
 #[allow(unsafe_code)]
 pub(crate) fn text(input: &[u8], from: usize, to: usize) -> &str {
     let bytes = &input[from..to];
-    // SAFETY: the bytes are whole characters: crates/vte_core/src/looks.rt requires it, and has a proof for each call.
+    // SAFETY: `to` is where a search found the end of a run that begins at `from`. Searches pass one
+    // whole character at a time: a byte of ASCII, or a lead byte with all its continuation bytes, the
+    // first of which `may_begin_three` and `may_begin_four` test. The automaton, which passes blocks,
+    // goes back to where no character is open.
+    debug_assert!(str::from_utf8(bytes).is_ok());
     unsafe { str::from_utf8_unchecked(bytes) }
 }
 

@@ -120,17 +120,17 @@ fn whole(code: u32) -> Carried {
 
 /// The character of two bytes.
 #[inline(always)]
-#[allow(unsafe_code)]
 pub(crate) fn character_of_two(first: u8, second: u8) -> char {
-    // SAFETY: the bytes are a character's: crates/vte_core/src/utf8.rt requires it, and has a proof for each call.
-    unsafe { char::from_u32_unchecked(number_of_two(first, second)) }
+    char::from_u32(number_of_two(first, second)).unwrap_or(char::REPLACEMENT_CHARACTER)
 }
 
 /// The character of three bytes.
 #[inline(always)]
 #[allow(unsafe_code)]
 pub(crate) fn character_of_three(first: u8, second: u8, third: u8) -> char {
-    // SAFETY: the bytes are a character's: crates/vte_core/src/utf8.rt requires it, and has a proof for each call.
+    // SAFETY: the masks leave at most FFFF. Callers have tested `may_begin_three`, by which the number
+    // is no surrogate's, D800 to DFFF.
+    debug_assert!(may_begin_three(first, second) && is_continuation(third));
     unsafe { char::from_u32_unchecked(number_of_three(first, second, third)) }
 }
 
@@ -138,7 +138,10 @@ pub(crate) fn character_of_three(first: u8, second: u8, third: u8) -> char {
 #[inline(always)]
 #[allow(unsafe_code)]
 pub(crate) fn character_of_four(first: u8, second: u8, third: u8, fourth: u8) -> char {
-    // SAFETY: the bytes are a character's: crates/vte_core/src/utf8.rt requires it, and has a proof for each call.
+    // SAFETY: callers have tested `may_begin_four`, by which the front of the number is 10000 to
+    // 10F000, and the masks leave at most FFF for its rest.
+    debug_assert!(may_begin_four(first, second));
+    debug_assert!(is_continuation(third) && is_continuation(fourth));
     unsafe { char::from_u32_unchecked(number_of_four(first, second, third, fourth)) }
 }
 

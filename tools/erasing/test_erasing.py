@@ -215,6 +215,21 @@ OTHERS = [
     "{ for t in 0..a.len() { if n == a.len() { return n; } g(t); } }",
     "{ let mut n = m; for a in b { n = g(n, a); n += 1; } }",
     "{ (a % 10) as u32 + b >= 1 && b < c }",
+    "-> Option<u8> { let x = *g(); h()?; Some(x) }",
+    "-> Option<u8> { let x = *g()?; Some(y) }",
+    "{ !x >= 1 && x <= 5 }",
+    "{ -x >= 1 && x <= 5 }",
+    "{ a + x < 1 || x > 5 }",
+    "{ x >= 1 && x <= 5 + a }",
+    "{ x >= a && x <= b }",
+    "{ x >= 1 && y <= 5 }",
+    "{ (a % 1) as u8 }",
+    "{ (a % n) as u32 }",
+    "-> Result<u8, E> { match g(a) { Ok(b) => Ok(h(b)), Err(e) => Err(f), } }",
+    "-> Option<u8> { match a + g(b) { Ok(c) => Some(c), Err(_) => None, } }",
+    '-> &str { match g(a) { Ok(b) => b, Err(_) => "x", } }',
+    "{ for turn in 0..n { if a == n { return a; } a += g(); } }",
+    "{ let mut n = m; for a in b { g(n, a); n += 1; } h(n) }",
 ]
 
 

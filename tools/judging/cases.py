@@ -21,13 +21,15 @@ class Case(NamedTuple):
 
 
 def from_vectors():
-    """The streams of all vectors that have one: the text of a colour or of a number is none."""
+    """The streams of all vectors but those of texts, which are no streams."""
     for name in ("events", "calls"):
         file = json.loads((VECTORS / f"{name}.json").read_text())
         for vector in file["vectors"] + file["long"]:
             steps = [step.get("advance", step.get("bytes", "")) for step in vector.get("steps", [])]
-            if pieces := [*vector.get("pieces", []), *filter(None, [vector.get("before"), *steps])]:
-                yield Case(f"vector {vector['id']}", list(map(bytes_of, pieces)))
+            pieces = [*vector.get("pieces", []), vector.get("before", ""), *steps]
+            if "text" not in vector or "pieces" in vector:
+                stream = [bytes_of(piece) for piece in pieces if piece]
+                yield Case(f"vector {vector['id']}", stream or [b""])
 
 
 def from_recordings(seed):

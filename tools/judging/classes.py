@@ -18,16 +18,11 @@ from judging.shrinking import cuts_of
 CUT_PREFIX = "cut:"
 # a cut that divides nothing
 BETWEEN = "cut:between"
-# the rules of a sequence's or a command's fields, and those that a difference in one field can be about
-NUMBERS = {"parameters", "empty-number", "colon", "largest", "numbers"}
-COLLECTED = {"intermediates", "many-intermediates"}
-DATA = {"pieces", "limit", "command-bytes", "byte-9c", "control-in-command", "empty-command"}
-OF_FIELDS = {*NUMBERS, *COLLECTED, *DATA, "command-bell"}
-ABOUT = {**dict.fromkeys(("count", "groups", "larger", "smaller"), NUMBERS), "final": set(),
-         "intermediates": COLLECTED, "ignore": {*COLLECTED, "numbers"}, "bell": {"command-bell"},
-         **dict.fromkeys(("pieces", "shorter", "longer", "data"), DATA)}
-# what an empty number is followed by; a digit after it makes a number of it
-EMPTY_NUMBER = re.compile(rb"(\x1b[\[P][<-?]?|[:;])(?![0-9])")
+# the rules of what ends a command, and the kinds of its data, which aren't about these
+ENDS, DATA = {"command-bell", "command-cut-short"}, {"pieces", "shorter", "longer", "data"}
+# rules of what isn't there, and what comes before it: a digit in its place makes a case of others
+EMPTY = {"empty-number", "empty-command"}
+BEFORE_EMPTY = re.compile(rb"(\x1b[\[P][<-?]?|[:;])(?![0-9])|(\x1b\])(?=[\x07\x18\x1a\x1b])")
 
 
 class Difference(NamedTuple):
@@ -81,16 +76,15 @@ def rule_needed(pieces, depends_on_cut, same, kind, house, but=""):
 
 
 def rules_about(step, kind):
-    """The rules of a step without those of other fields than the one that differs. What is near a
-    limit is about it, as the case is the smallest."""
-    others = OF_FIELDS - ABOUT[kind] if kind in ABOUT else set()
+    """The rules of a step that a kind can be about. What is near a limit is about it, as the case is
+    the smallest."""
     names = [name.replace(NEAR, "") for name in step.rules]
-    return [name for name in names if name not in others] or names[:1]
+    return [name for name in names if kind not in DATA or name not in ENDS]
 
 
-def without_empty_numbers(pieces):
-    """The case with a digit for each empty number, uncut."""
-    return [EMPTY_NUMBER.sub(rb"\g<1>1", b"".join(pieces))]
+def filled(pieces):
+    """The case with a digit for each empty number and command, uncut."""
+    return [BEFORE_EMPTY.sub(rb"\g<1>\g<2>1", b"".join(pieces))]
 
 
 def steps_at_cuts(steps, cuts):

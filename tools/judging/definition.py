@@ -363,5 +363,5 @@ def command_pieces(items, house):
     data = sum(item != 0x3B for item in items)
     is_limited = len(kept) < len(items) or data > 1024
     rules = {"limit": is_limited, "pieces": len(pieces) > min(most, 16),
-             NEAR + "limit": data > 16, NEAR + "pieces": len(pieces) > 2}
+             NEAR + "limit": data > 16, NEAR + "pieces": len(pieces) > 4}
     return [name for name, is_there in rules.items() if is_there], pieces[:most]

@@ -6,7 +6,7 @@ from itertools import islice
 from typing import Optional
 
 from judging.candidate import OutOfTime, mark_of
-from judging.classes import Difference, freed, nearest, rule_needed, without_empty_numbers
+from judging.classes import EMPTY, Difference, filled, freed, nearest, rule_needed
 from judging.definition import NEAR
 from judging.kinds import FAILURES, differences_of
 from judging.rules import ALONE
@@ -359,6 +359,6 @@ class Judge:
             [b"".join(pieces)], alone=True)
         kind = kind or first_kind
         rule = rule_needed(pieces, is_cut, same, kind, self.house)
-        if rule == "empty-number" and self.difference(without_empty_numbers(pieces), alone=True):
+        if rule in EMPTY and self.difference(filled(pieces), alone=True):
             rule = rule_needed(pieces, is_cut, same, kind, self.house, rule)
         return f"{rule}/{kind}"

@@ -6,9 +6,10 @@ from generating.random_text import cut_at
 
 # in longer cases all bytes of a value are replaced at once
 SHORT = 40
-# kinds of bytes by their last one, and the bytes that are tried instead of others of the kind, the plainest first
-PLAIN = [(0x1A, b"\x0a\x07\x18"), (0x1B, b""), (0x1F, b"\x0a"), (0x7E, b"a1;mX"), (0x7F, b""), (0x9F, b"\x80"), (0xBF, b"\xa0"), (0xC1, b""),
-         (0xDF, b"\xc3"), (0xEF, b"\xe4"), (0xF4, b"\xf0"), (0xFF, b"\xff")]
+# kinds of bytes by their last one, and the bytes tried instead of others of the kind, the plainest first
+PLAIN = [(0x1A, b"a\x0a\x07\x18"), (0x1B, b""), (0x1F, b"a\x0a"), (0x7E, b"a1;mX"), (0x7F, b"a"),
+         (0x9F, b"a\x80"), (0xBF, b"a\xa0"), (0xC1, b"a"), (0xDF, b"a\xc3"), (0xEF, b"a\xe4"),
+         (0xF4, b"a\xf0"), (0xFF, b"a\xff")]
 
 
 def shrunk(pieces, differs, at_once=1):

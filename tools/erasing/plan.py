@@ -161,7 +161,8 @@ VTE = Plan(
         "": ALLOCATORS,
         "vte_core": COUNTS + PARAMETERS,
         "vte_core/parser": [("struct Parser<const OSC_RAW_BUF_SIZE: usize>", "struct Parser<const OSC_RAW_BUF_SIZE: usize = MAX_OSC_RAW>")],
-        "vte_core/perform": [("fn keeps_layout(&self) -> bool;", "fn keeps_layout(&self) -> bool { false }")],
+        "vte_core/perform": [
+            ("fn keeps_layout(&self) -> bool;", "fn keeps_layout(&self) -> bool { false }")],
         # a performer takes the parts of what is held of a sequence
         "vte_core/parser/escape": [
             ("esc_dispatch(looks, &self.collected, byte)", "esc_dispatch(self.collected.intermediates.as_slice(), self.collected.too_many, byte)")],

@@ -327,7 +327,7 @@ class WordForWord(unittest.TestCase):
         left = [(head, in_rusts_forms(head, without_counts(body, kept) if given.has_idioms else body, given)) for head, body in proved]
         with self.subTest(file=place):
             for head, body in written:
-                # the type of an input is another; a method without a body does nothing by default, or says no
+                # the type of an input is another; by default a method does nothing, or says no
                 alike = (body, ";") if body in ("{ }", "{ false }", "{}", "{ false}") else (body,)
                 while left and (left[0][0].split()[0] != head.split()[0] or left[0][1] not in alike):
                     left.pop(0)  # of a test, taken from elsewhere, or unused

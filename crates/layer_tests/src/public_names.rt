@@ -205,6 +205,7 @@ fn parsers_are_made_in_every_way(rt: HostRuntime) {
     assert_eq!(rt; (read, counts.numbers), (4, 2));
     laws::replay::<Counts, 4>(&mut counts, &[b"\x1b[", b"m"]);
     assert_eq!(rt; counts.numbers, 1);
+    assert!(rt; !parser.is_open() && !parser.command_lost_data());
     let mut long = LongParser::new(rt.alloc());
     match long.advance(&mut counts, b"\x1b[1;2;3;4m") {
         Ok(()) => assert_eq!(rt; counts.numbers, 4),

@@ -1,9 +1,10 @@
 -- The value of a performer.
-use Rattle.std.specs.Prelude.{◌≡◌, ℕ, ◌+◌, ◌≤◌, ◌||◌, ◌==◌, if◌then◌else◌, Option, List, ◌++◌, length, nat_lt}
+use Rattle.std.specs.Prelude.{◌≡◌, ℕ, ◌+◌, ◌≤◌, ◌||◌, ◌==◌, if◌then◌else◌, Option, List, ◌++◌}
+use Rattle.std.specs.Prelude.{length, nat_lt}
 use Rattle.std.specs.List.{All}
 use Rattle.vte.specs.BeginUpdate.{update_groups, update_mode}
 use Rattle.vte.specs.Change.{change_call, changes}
-use Rattle.vte.specs.Meaning.{Meaning, set_times}
+use Rattle.vte.specs.Meaning.{set_times}
 use Rattle.vte.specs.Numbers.{first_numbers}
 use Rattle.vte.specs.Performer.{FitsText, Lent}
 use Rattle.vte.specs.Rooms.{KeepsRoom, Reading}
@@ -13,9 +14,12 @@ use Rattle.vte_core.specs.EarlyStop.{StopsExactly, stream_at}
 use Rattle.vte_core.specs.Event.{Event}
 use Rattle.vte_core.specs.Perform.{after as performed}
 use Rattle.vte_core.specs.Stream.{added}
+use Rattle.vte_handler.specs.Call.{Call}
 use Rattle.vte_handler.specs.Handler.{after}
+use Rattle.vte_handler.specs.Timeout.{TimeoutMeaning}
 
-abbrev pub lent_of : {H T J G V W : Type 0} → (H → V) → (T → W) → (J → ℕ) → Performer H T J G → Lent V W
+abbrev pub lent_of : {H T J G V W : Type 0}
+    → (H → V) → (T → W) → (J → ℕ) → Performer H T J G → Lent V W
 lent_of handler_of timeout_of room_of performer = record {
   handler = handler_of performer.handler.now;
   timeout = timeout_of performer.state.now.timeout;
@@ -27,46 +31,55 @@ lent_of handler_of timeout_of room_of performer = record {
 }
 
 -- A private mode is set. The handler receives the call, and the update mode also begins an update.
-abbrev pub with_private_mode : {H W : Type 0} → Meaning H W → Lent H W → ℕ → Lent H W
-with_private_mode m lent number = record lent {
-  handler = m.step lent.handler (change_call SetPrivate number);
-  timeout = set_times m.timeout (if number == update_mode then 1 else 0) lent.timeout;
+abbrev pub with_private_mode : {H W : Type 0}
+    → (H → Call → H) → TimeoutMeaning W → Lent H W → ℕ → Lent H W
+with_private_mode step timeout lent number = record lent {
+  handler = step lent.handler (change_call SetPrivate number);
+  timeout = set_times timeout (if number == update_mode then 1 else 0) lent.timeout;
   terminated = lent.terminated || number == update_mode;
 }
 
 -- One is set for each group.
-abbrev pub with_private_modes : {H W : Type 0} → Meaning H W → Lent H W → List (List ℕ) → Lent H W
-with_private_modes m lent groups = record lent {
-  handler = after m.step lent.handler (changes SetPrivate (first_numbers groups));
-  timeout = set_times m.timeout (update_groups groups) lent.timeout;
+abbrev pub with_private_modes : {H W : Type 0}
+    → (H → Call → H) → TimeoutMeaning W → Lent H W → List (List ℕ) → Lent H W
+with_private_modes step timeout lent groups = record lent {
+  handler = after step lent.handler (changes SetPrivate (first_numbers groups));
+  timeout = set_times timeout (update_groups groups) lent.timeout;
   terminated = lent.terminated || nat_lt 0 (update_groups groups);
 }
 
 -- A parser has read bytes behind a stream, and performed what they add. It still has memory for so many.
 pub record HasPerformed {P V W : Type 0} (reading : Reading P) (limit : Option ℕ)
-    (step : Lent V W → Event → Lent V W) (next : P) (old new : Lent V W) (stream bytes : List ℕ) (n : ℕ) : Type 0 where
+    (step : Lent V W → Event → Lent V W) (next : P) (old new : Lent V W)
+    (stream bytes : List ℕ) (n : ℕ) : Type 0 where
   pub performs : new ≡ performed step old (added limit stream bytes)
   pub fits : All (FitsText old.room) (added limit stream bytes)
   pub reads : reading.has_read next (stream ++ bytes)
   pub room : reading.has_room next old.room (stream ++ bytes) n
 
 -- It has read so many, up to an event that terminates the performer.
-pub record HasStopped {P V W : Type 0} (reading : Reading P) (limit : Option ℕ) (step : Lent V W → Event → Lent V W) (next : P) (old new : Lent V W)
+pub record HasStopped {P V W : Type 0} (reading : Reading P) (limit : Option ℕ)
+    (step : Lent V W → Event → Lent V W) (next : P) (old new : Lent V W)
     (stream bytes : List ℕ) (read : ℕ) : Type 0 where
   pub stops : StopsExactly step (λ lent. lent.terminated) old new limit stream bytes read
   pub fits : All (FitsText old.room) (added limit stream bytes)
   pub reads : reading.has_read next (stream_at stream bytes read)
 
--- So it does behind each stream that it has read, if it has memory for all bytes. Memory that was there stays.
+-- So it does behind each stream that it has read, if it has memory for all bytes. Memory that was
+-- there stays.
 pub record ParsesLent {P V W : Type 0} (reading : Reading P) (limit : Option ℕ)
-    (step : Lent V W → Event → Lent V W) (parser next : P) (old new : Lent V W) (bytes : List ℕ) : Type 0 where
-  pub parses : (stream : List ℕ) (n : ℕ) → reading.has_read parser stream → reading.has_room parser old.room stream (length bytes + n)
+    (step : Lent V W → Event → Lent V W) (parser next : P) (old new : Lent V W)
+    (bytes : List ℕ) : Type 0 where
+  pub parses : (stream : List ℕ) (n : ℕ) → reading.has_read parser stream
+      → reading.has_room parser old.room stream (length bytes + n)
       → HasPerformed reading limit step next old new stream bytes n
   pub memory : (size : ℕ) → KeepsRoom reading.has_room parser size next size
 
 pub record StopsLent {P V W : Type 0} (reading : Reading P) (limit : Option ℕ)
-    (step : Lent V W → Event → Lent V W) (parser next : P) (old new : Lent V W) (bytes : List ℕ) (read : ℕ) : Type 0 where
+    (step : Lent V W → Event → Lent V W) (parser next : P) (old new : Lent V W)
+    (bytes : List ℕ) (read : ℕ) : Type 0 where
   pub within : read ≤ length bytes
-  pub stops : (stream : List ℕ) (n : ℕ) → reading.has_read parser stream → reading.has_room parser old.room stream (length bytes + n)
+  pub stops : (stream : List ℕ) (n : ℕ) → reading.has_read parser stream
+      → reading.has_room parser old.room stream (length bytes + n)
       → HasStopped reading limit step next old new stream bytes read
   pub memory : (size : ℕ) → KeepsRoom reading.has_room parser size next size

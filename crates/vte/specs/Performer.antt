@@ -1,15 +1,16 @@
--- The value of a performer: those of its handler and its timeout, the last printed character, the size of its buffer for
--- texts, whether an update has begun, and which state and handler it is lent.
+-- The value of a performer: those of its handler and its timeout, the last printed character, the
+-- size of its buffer for texts, whether an update has begun, which state and handler it is lent.
 use Rattle.std.specs.Prelude.{◌≡◌, ℕ, Bool, ◌||◌, List, [], nat_lt, if◌then◌else◌, Option}
 use Rattle.std.specs.Borrow.{GName}
 use Rattle.vte.specs.BeginUpdate.{begins_of}
 use Rattle.vte.specs.Calls.{calls_of, last_behind}
 use Rattle.vte.specs.CommandCalls.{system_command_calls}
-use Rattle.vte.specs.Meaning.{Meaning, set_times}
+use Rattle.vte.specs.Meaning.{set_times}
 use Rattle.vte.specs.TextRoom.{fits_room}
 use Rattle.vte_core.specs.Event.{Event, OscDispatch}
 use Rattle.vte_handler.specs.Call.{Call}
 use Rattle.vte_handler.specs.Handler.{after}
+use Rattle.vte_handler.specs.Timeout.{TimeoutMeaning}
 
 pub record Lent (H W : Type 0) : Type 0 where
   pub handler : H
@@ -22,7 +23,8 @@ pub record Lent (H W : Type 0) : Type 0 where
 
 -- The calls of an event. A command that doesn't fit the buffer for texts makes none.
 abbrev pub calls_made : ℕ → Option ℕ → Event → List Call
-calls_made room last (OscDispatch pieces bell) = if fits_room room pieces then system_command_calls pieces bell else []
+calls_made room last (OscDispatch pieces bell) =
+    if fits_room room pieces then system_command_calls pieces bell else []
 calls_made room last event = calls_of last event
 
 -- With this room, the calls of the event are made.
@@ -30,10 +32,11 @@ abbrev pub FitsText : ℕ → Event → Type 0
 FitsText room event = (last : Option ℕ) → calls_made room last event ≡ calls_of last event
 
 -- An event that begins an update terminates the performer.
-abbrev pub with_event : {H W : Type 0} → Meaning H W → Lent H W → Event → Lent H W
-with_event m lent event = record {
-  handler = after m.step lent.handler (calls_made lent.room lent.last event);
-  timeout = set_times m.timeout (begins_of event) lent.timeout;
+abbrev pub with_event : {H W : Type 0}
+    → (H → Call → H) → TimeoutMeaning W → Lent H W → Event → Lent H W
+with_event step timeout lent event = record {
+  handler = after step lent.handler (calls_made lent.room lent.last event);
+  timeout = set_times timeout (begins_of event) lent.timeout;
   last = last_behind lent.last event;
   room = lent.room;
   terminated = lent.terminated || nat_lt 0 (begins_of event);

@@ -20,6 +20,8 @@ mod processor;
 mod release;
 mod rendition;
 mod std_sync_handler;
+#[cfg(test)]
+mod tests;
 mod text_buffer;
 mod titles;
 mod turns;

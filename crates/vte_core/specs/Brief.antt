@@ -33,7 +33,8 @@ IsBounded limit (Execute byte) = IsExecuted byte
 IsBounded limit (Hook groups intermediates ignore final) = IsSequence groups intermediates final
 IsBounded limit (Put byte) = is_data (class_of byte) ≡ true
 IsBounded limit Unhook = Unit {0}
-IsBounded limit (OscDispatch pieces bell) = (length pieces ≤ most_pieces) × FitsStore limit pieces × (0 < length pieces)
+IsBounded limit (OscDispatch pieces bell) =
+    (length pieces ≤ most_pieces) × FitsStore limit pieces × (0 < length pieces)
 IsBounded limit (CsiDispatch groups intermediates ignore final) = IsSequence groups intermediates final
 IsBounded limit (EscDispatch intermediates ignore final) = (length intermediates ≤ 2) × (final < 0x7f) × (0x30 ≤ final)
 

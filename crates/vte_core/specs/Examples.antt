@@ -101,16 +101,21 @@ device_control_examples =
 -- With a buffer of 1,024 bytes, and with no limit.
 abbrev pub system_command_examples : List Example
 system_command_examples =
-    gives (codes "\u{1b}]2;jw\u{1b}\\") (OscDispatch (codes "2" ∷ codes "jw" ∷ []) false ∷ EscDispatch [] false 0x5c ∷ [])
-    ∷ gives (codes "\u{1b}]2;a\u{18}b") (OscDispatch (codes "2" ∷ codes "a" ∷ []) false ∷ Execute 0x18 ∷ Print 0x62 ∷ [])
+    gives (codes "\u{1b}]2;jw\u{1b}\\")
+    (OscDispatch (codes "2" ∷ codes "jw" ∷ []) false ∷ EscDispatch [] false 0x5c ∷ [])
+    ∷ gives (codes "\u{1b}]2;a\u{18}b")
+    (OscDispatch (codes "2" ∷ codes "a" ∷ []) false ∷ Execute 0x18 ∷ Print 0x62 ∷ [])
     ∷ gives (codes "\u{1b}]\u{7}") (OscDispatch ([] ∷ []) true ∷ [])
     ∷ gives (codes "\u{1b}]2;a") []
     -- C0 is dropped, 7F and 80..FF are kept
-    ∷ gives (codes "\u{1b}]a\0b\u{7f}" ++ 0x9c ∷ codes "\u{7}") (OscDispatch ((codes "ab\u{7f}" ++ 0x9c ∷ []) ∷ []) true ∷ [])
+    ∷ gives (codes "\u{1b}]a\0b\u{7f}" ++ 0x9c ∷ codes "\u{7}")
+    (OscDispatch ((codes "ab\u{7f}" ++ 0x9c ∷ []) ∷ []) true ∷ [])
     -- at most 16 pieces
-    ∷ gives (codes "\u{1b}]" ++ repeat 33 (codes ";") ++ codes "\u{1b}") (OscDispatch (repeat 16 ([] ∷ [])) false ∷ [])
+    ∷ gives (codes "\u{1b}]" ++ repeat 33 (codes ";") ++ codes "\u{1b}")
+    (OscDispatch (repeat 16 ([] ∷ [])) false ∷ [])
     -- data behind them is dropped
-    ∷ gives (codes "\u{1b}]" ++ repeat 16 (codes "a;") ++ codes ";b\u{7}") (OscDispatch (repeat 16 (codes "a" ∷ [])) true ∷ [])
+    ∷ gives (codes "\u{1b}]" ++ repeat 16 (codes "a;") ++ codes ";b\u{7}")
+    (OscDispatch (repeat 16 (codes "a" ∷ [])) true ∷ [])
     ∷ []
 
 -- With a buffer of 1,024 bytes: commands around its size.
@@ -119,21 +124,29 @@ letters n = replicate n 0x61
 
 abbrev pub full_store_examples : List Example
 full_store_examples =
-    gives (codes "\u{1b}]" ++ letters 1024 ++ codes "\u{7}") (OscDispatch (letters 1024 ∷ []) true ∷ [])
-    ∷ gives (codes "\u{1b}]" ++ letters 1025 ++ codes "\u{7}") (OscDispatch (letters 1024 ∷ []) true ∷ [])
-    ∷ gives (codes "\u{1b}]" ++ letters 1023 ++ codes ";b\u{7}") (OscDispatch (letters 1023 ∷ codes "b" ∷ []) true ∷ [])
-    ∷ gives (codes "\u{1b}]" ++ letters 1023 ++ codes ";bc\u{7}") (OscDispatch (letters 1023 ∷ codes "b" ∷ []) true ∷ [])
+    gives (codes "\u{1b}]" ++ letters 1024 ++ codes "\u{7}")
+    (OscDispatch (letters 1024 ∷ []) true ∷ [])
+    ∷ gives (codes "\u{1b}]" ++ letters 1025 ++ codes "\u{7}")
+    (OscDispatch (letters 1024 ∷ []) true ∷ [])
+    ∷ gives (codes "\u{1b}]" ++ letters 1023 ++ codes ";b\u{7}")
+    (OscDispatch (letters 1023 ∷ codes "b" ∷ []) true ∷ [])
+    ∷ gives (codes "\u{1b}]" ++ letters 1023 ++ codes ";bc\u{7}")
+    (OscDispatch (letters 1023 ∷ codes "b" ∷ []) true ∷ [])
     -- after the last byte no piece begins, but what is dropped of separators isn't data
-    ∷ gives (codes "\u{1b}]" ++ letters 1024 ++ codes ";;\u{7}") (OscDispatch (letters 1024 ∷ []) true ∷ [])
-    ∷ gives (codes "\u{1b}]" ++ letters 1024 ++ codes ";;b\u{7}") (OscDispatch (letters 1024 ∷ []) true ∷ [])
-    ∷ gives (codes "\u{1b}];" ++ letters 1024 ++ codes "\u{7}") (OscDispatch ([] ∷ letters 1024 ∷ []) true ∷ [])
+    ∷ gives (codes "\u{1b}]" ++ letters 1024 ++ codes ";;\u{7}")
+    (OscDispatch (letters 1024 ∷ []) true ∷ [])
+    ∷ gives (codes "\u{1b}]" ++ letters 1024 ++ codes ";;b\u{7}")
+    (OscDispatch (letters 1024 ∷ []) true ∷ [])
+    ∷ gives (codes "\u{1b}];" ++ letters 1024 ++ codes "\u{7}")
+    (OscDispatch ([] ∷ letters 1024 ∷ []) true ∷ [])
     ∷ []
 
 -- With a buffer of 5 bytes.
 abbrev pub store_of_five_examples : List Example
 store_of_five_examples =
     gives (codes "\u{1b}]2;s" ++ 0xe6 ∷ 0x9c ∷ 0xab ∷ codes "\u{1b}\\")
-    (OscDispatch (codes "2" ∷ (codes "s" ++ 0xe6 ∷ 0x9c ∷ 0xab ∷ []) ∷ []) false ∷ EscDispatch [] false 0x5c ∷ [])
+    (OscDispatch (codes "2" ∷ (codes "s" ++ 0xe6 ∷ 0x9c ∷ 0xab ∷ []) ∷ []) false
+    ∷ EscDispatch [] false 0x5c ∷ [])
     ∷ []
 
 -- With a buffer of 2 bytes: `;` takes no room, but is dropped once the buffer is full.
@@ -143,7 +156,8 @@ store_of_two_examples =
     ∷ gives (codes "\u{1b}]a;bc;d\u{7}") (OscDispatch (codes "a" ∷ codes "b" ∷ []) true ∷ [])
     ∷ []
 
--- With a buffer of 2 bytes: open commands, and whether they lost data. A `;` that is dropped isn't data.
+-- With a buffer of 2 bytes: open commands, and whether they lost data. A `;` that is dropped isn't
+-- data.
 pub record OpenExample : Type 0 where
   pub stream : List ℕ
   pub left : Open
@@ -155,7 +169,9 @@ abbrev pub loses : List ℕ → List (List ℕ) → OpenExample
 loses items pieces = record { stream = codes "\u{1b}]" ++ items; left = OpenCommand pieces true }
 
 abbrev pub AreLeft : Option ℕ → List OpenExample → Type 0
-AreLeft limit examples = map (λ example. (outcome limit example.stream).left) examples ≡ map (λ example. example.left) examples
+AreLeft limit examples =
+    map (λ example. (outcome limit example.stream).left) examples
+    ≡ map (λ example. example.left) examples
 
 abbrev pub open_command_examples : List OpenExample
 open_command_examples =
@@ -172,7 +188,8 @@ open_command_examples =
 -- With a buffer of 0 bytes.
 abbrev pub empty_store_examples : List Example
 empty_store_examples =
-    gives (codes "\u{1b}]52;" ++ repeat 132 (codes "a") ++ codes "\u{7}") (OscDispatch ([] ∷ []) true ∷ [])
+    gives (codes "\u{1b}]52;" ++ repeat 132 (codes "a") ++ codes "\u{7}")
+    (OscDispatch ([] ∷ []) true ∷ [])
     ∷ gives (codes "\u{1b}];;a;b\u{7}") (OscDispatch ([] ∷ []) true ∷ [])
     ∷ []
 

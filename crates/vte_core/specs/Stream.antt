@@ -1,7 +1,8 @@
 -- The events of a stream, which is cut at each ESC.
-use Rattle.std.specs.Prelude.{ℕ, List, [], ◌∷◌, ◌++◌, length, drop, Option, None, if◌then◌else◌, ◌==◌}
+use Rattle.std.specs.Prelude.{◌≡◌, ◌≢◌, ℕ, List, [], ◌∷◌, ◌++◌, length, drop, Option, None}
+use Rattle.std.specs.Prelude.{if◌then◌else◌, ◌==◌}
 use Rattle.vte_core.specs.Body.{body_outcome}
-use Rattle.vte_core.specs.Event.{Event}
+use Rattle.vte_core.specs.Event.{Event, Print}
 use Rattle.vte_core.specs.Outcome.{Outcome, unfinished, tell, closed}
 use Rattle.vte_core.specs.Text.{text_outcome}
 
@@ -37,6 +38,14 @@ events limit stream = (outcome limit stream).told
 -- The events that more bytes add.
 abbrev pub added : Option ℕ → List ℕ → List ℕ → List Event
 added limit stream more = drop (length (events limit stream)) (events limit (stream ++ more))
+
+-- Nothing is unfinished at the end of the stream: more bytes give what they give on their own.
+abbrev pub IsFinished : Option ℕ → List ℕ → Type 0
+IsFinished limit stream = (more : List ℕ) → added limit stream more ≡ events limit more
+
+-- A character or a sequence is unfinished there: a `0` isn't printed, or not alone.
+abbrev pub IsUnfinished : Option ℕ → List ℕ → Type 0
+IsUnfinished limit stream = added limit stream (0x30 ∷ []) ≢ Print 0x30 ∷ []
 
 -- The bytes of an unfinished character at the end of the stream. They are in text, so no limit affects them.
 unfoldable pub open_end : List ℕ → List ℕ

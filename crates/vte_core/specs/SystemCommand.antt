@@ -55,7 +55,8 @@ drops_data limit items = nat_lt (length (concat (pieces_of limit items))) (lengt
 -- BEL dispatches the command. CAN and SUB dispatch it and are executed.
 abbrev pub command_end : List (List ℕ) → ℕ → List Event
 command_end pieces end =
-    if end == bell then OscDispatch pieces true ∷ [] else OscDispatch pieces false ∷ Execute end ∷ []
+    if end == bell then OscDispatch pieces true ∷ []
+    else OscDispatch pieces false ∷ Execute end ∷ []
 
 -- The end, and the text that follows it. Without an end the command stays open.
 abbrev pub system_command_rest : List (List ℕ) → Bool → List ℕ → Outcome

@@ -5,7 +5,7 @@ ghost use Rattle.vte_core.specs.AdvanceUntilTerminated.{ReadsUntilTerminated};
 ghost use Rattle.vte_core.specs.EarlyStop.{NoCharacterStops};
 ghost use Rattle.vte_core.specs.Outcome.{IsLoss};
 ghost use Rattle.vte_core.specs.Parser.{HasRead, HoldsCommand};
-ghost use Rattle.vte_core.specs.Stream.{outcome};
+ghost use Rattle.vte_core.specs.Stream.{IsFinished, IsUnfinished, outcome};
 ghost use Rattle.vte_core.specs.SystemCommand.{drops_data};
 
 mod character;
@@ -147,10 +147,12 @@ impl<const OSC_RAW_BUF_SIZE: usize> Parser<OSC_RAW_BUF_SIZE> {
 
     /// Returns whether a character or a sequence is unfinished.
     pub fn is_open(&self) -> bool
-        // If not, it goes on as a new parser ..
-        ensures closed { result ≡ false → (stream : List ℕ) → HasRead self.now stream → HasRead self.now [] }
-        // .. and otherwise it doesn't.
-        ensures opens { result ≡ true → HasRead self.now [] → ⊥ }
+        // If not, it goes on as a new parser, and more bytes give what they give on their own.
+        ensures closed { result ≡ false → (stream : List ℕ) → HasRead self.now stream
+            → HasRead self.now [] × IsFinished (Some OSC_RAW_BUF_SIZE) stream }
+        // Otherwise they don't.
+        ensures opens { result ≡ true → (stream : List ℕ) → HasRead self.now stream
+            → IsUnfinished (Some OSC_RAW_BUF_SIZE) stream }
     {
         self.machine.is_open()
     }

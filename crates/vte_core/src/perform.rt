@@ -47,7 +47,8 @@ pub trait Perform {
     /// An operating system command: its pieces, which are 1 to 16, and whether BEL ended it.
     fn osc_dispatch(&mut self, params: &[&[u8]], bell_terminated: bool)
         ensures { value_of self.new
-            ≡ step (value_of self.old) (OscDispatch (map (λ piece. piece.now) params.now) bell_terminated) };
+            ≡ step (value_of self.old)
+            (OscDispatch (map (λ piece. piece.now) params.now) bell_terminated) };
 
     /// A control sequence with the final byte `action`. `intermediates` and `ignore` are as in [`hook`](Self::hook).
     fn csi_dispatch(&mut self, params: &Params, intermediates: &[u8], ignore: bool, action: char)

@@ -124,7 +124,8 @@ impl<B: Buffer> Store<B> {
         bell_terminated: bool,
     )
         ensures { Tells P.step (P.value_of performer.old) (P.value_of performer.new)
-            (OscDispatch (cut_pieces self.now.bytes self.now.ends) bell_terminated) looks.old looks.new }
+            (OscDispatch (cut_pieces self.now.bytes self.now.ends) bell_terminated)
+            looks.old looks.new }
     {
         let (bytes, ends) = (self.bytes.bytes(), self.ends.as_slice());
         // most commands have one piece or two

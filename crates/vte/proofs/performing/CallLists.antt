@@ -48,8 +48,13 @@ begun_more : (b t : Bool) (n : ℕ) → ((b || t) || nat_lt 0 n) ≡ (b || nat_l
 begun_more b t n = grind (arith, nat_tests)
 
 -- one mode more is set
-pub modes_more : {H W : Type 0} (m : Meaning H W) (lent : Lent H W) (group : List ℕ) (groups : List (List ℕ))
-    → with_private_modes m (with_private_mode m lent (first_number group)) groups ≡ with_private_modes m lent (group ∷ groups)
-modes_more m lent group groups =
+pub modes_more : {H W : Type 0} (step : H → Call → H) (timeout : TimeoutMeaning W) (lent : Lent H W)
+    (group : List ℕ) (groups : List (List ℕ))
+    → with_private_modes step timeout (with_private_mode step timeout lent (first_number group)) groups
+    ≡ with_private_modes step timeout lent (group ∷ groups)
+modes_more step timeout lent group groups =
     let begins : ℕ = if is_update_group group then 1 else 0 in
-    rw (begun_more lent.terminated (is_update_group group) (update_groups groups), set_times-add m.timeout lent.timeout begins (update_groups groups)) refl
+    rw (
+      begun_more lent.terminated (is_update_group group) (update_groups groups),
+      set_times-add timeout lent.timeout begins (update_groups groups),
+    ) refl

@@ -26,10 +26,10 @@ with_events m lent events = record {
 }
 
 performed-events : {H W : Type 0} (m : Meaning H W) (lent : Lent H W) (events : List Event) → All (FitsText lent.room) events
-    → performed (with_event m) lent events ≡ with_events m lent events
+    → performed (with_event m.step m.timeout) lent events ≡ with_events m lent events
 performed-events m lent [] fit = rw or-false
 performed-events m lent (event ∷ events) fit =
-    performed-events m (with_event m lent event) events (All-tail (FitsText lent.room) event events fit)
+    performed-events m (with_event m.step m.timeout lent event) events (All-tail (FitsText lent.room) event events fit)
     ∙ rw (
       All-head (FitsText lent.room) event events fit lent.last,
       ← after-append m.step lent.handler (calls_of lent.last event) (calls_behind (last_behind lent.last event) events),
@@ -41,7 +41,8 @@ performed-events m lent (event ∷ events) fit =
 
 module _ {H J T V W : Type 0} (handler_of : H → V) (timeout_of : T → W) (room_of : J → ℕ) (m : Meaning V W) (s : State V W) (f : List ℕ)
     (old : Lent V W) (new : Performer H T J) {state : ProcessorState T J} (fit : All (FitsText old.room) (added m.limit s.parsed f))
-    (made : lent_of handler_of timeout_of room_of new ≡ performed (with_event m) old (added m.limit s.parsed f))
+    (made : lent_of handler_of timeout_of room_of new
+    ≡ performed (with_event m.step m.timeout) old (added m.limit s.parsed f))
     (back_state : old.state_name ≡ new.state.ghost_name → state ≡ new.state.now) where
   all_made : lent_of handler_of timeout_of room_of new ≡ with_events m old (added m.limit s.parsed f)
   all_made = made ∙ performed-events m old (added m.limit s.parsed f) fit
@@ -81,16 +82,21 @@ module _ {H J T V W : Type 0} (handler_of : H → V) (timeout_of : T → W) (roo
 -- ---- an early stop reads the front
 
 terminated_by : {H W : Type 0} (m : Meaning H W) (lent : Lent H W) (events : List Event)
-    → (performed (with_event m) lent events).terminated ≡ (lent.terminated || nat_lt 0 (begin_count events))
+    → (performed (with_event m.step m.timeout) lent events).terminated
+    ≡ (lent.terminated || nat_lt 0 (begin_count events))
 terminated_by m lent [] = sym (or-false lent.terminated)
-terminated_by m lent (event ∷ events) = terminated_by m (with_event m lent event) events ∙ or_some lent.terminated (begins_of event) (begin_count events)
+terminated_by m lent (event ∷ events) =
+    terminated_by m (with_event m.step m.timeout lent event) events
+    ∙ or_some lent.terminated (begins_of event) (begin_count events)
 
 module _ {V W : Type 0} (m : Meaning V W) {old new : Lent V W} (goes_on : old.terminated ≡ false)
-    {p r : List ℕ} {n : ℕ} (stop : StopsExactly (with_event m) (λ lent. lent.terminated) old new m.limit p r n) where
+    {p r : List ℕ} {n : ℕ}
+    (stop : StopsExactly (with_event m.step m.timeout) (λ lent. lent.terminated) old new m.limit p r n) where
   front : IsFront m.limit p r (length (begin_front m.limit p r))
   front = is_front m.limit p r
 
-  terminated_at : (i : ℕ) → (performed (with_event m) old (told m.limit p r i)).terminated ≡ nat_lt 0 (begin_count (added m.limit p (take i r)))
+  terminated_at : (i : ℕ) → (performed (with_event m.step m.timeout) old (told m.limit p r i)).terminated
+      ≡ nat_lt 0 (begin_count (added m.limit p (take i r)))
   terminated_at i = terminated_by m old (told m.limit p r i) ∙ rw (goes_on, told_count m.limit p r i)
 
   not_before : n < length (begin_front m.limit p r) → ⊥
@@ -117,7 +123,7 @@ module _ {V W : Type 0} (m : Meaning V W) {old new : Lent V W} (goes_on : old.te
     ]
   ]
 
-  pub stop_performs : new ≡ performed (with_event m) old (added m.limit p (begin_front m.limit p r))
+  pub stop_performs : new ≡ performed (with_event m.step m.timeout) old (added m.limit p (begin_front m.limit p r))
   stop_performs = let f = front in rw (f.is, ← stops_at_front, ← told-between m.limit p r n (rw stops_at_front (whole_at m.limit p r _ f))) stop.comes.performed
 
   pub stop_terminated : new.terminated ≡ nat_lt 0 (begin_count (added m.limit p (begin_front m.limit p r)))

@@ -1,21 +1,26 @@
 -- What a run of text makes of a performer: the calls of its characters, and its last character.
 use Rattle.vte.proofs.Common.{◌≡◌, ℕ, ◌≤◌, false, Option, Some, None, List, [], ◌∷◌, ◌++◌, length, get_or, map, refl, ap, sym, ◌∙◌, add-zero, arith, or-false}
 use Rattle.vte.proofs.Common.{drop-append_seam, take-append_seam, nat_tests, append-nil, get_or-append-add, length-append, IsCharBoundary, IsUtf8, chars, Print, Input, after, last_printed_behind}
-use Rattle.vte.proofs.Common.{Meaning, Lent, with_event, IsUtf8-drop, IsUtf8-take, chars-append, chars-nil, chars_past_char, option_or}
+use Rattle.vte.proofs.Common.{Call, TimeoutMeaning, Lent, with_event, IsUtf8-drop, IsUtf8-take, chars-append, chars-nil, chars_past_char, option_or}
 use Rattle.std.proofs.Math.Utf8.{encode}
 use Rattle.std.specs.Str.Iter.{chars_rest, chars_steps_back}
 use Rattle.vte_core.specs.Perform.{after as performed}
 
 -- A run calls `input` for each character, and neither sets the timeout nor terminates.
-pub performed_run : {H W : Type 0} (m : Meaning H W) (lent : Lent H W) (cs : List ℕ)
-    → performed (with_event m) lent (map Print cs)
-    ≡ record lent { handler = after m.step lent.handler (map Input cs); last = last_printed_behind lent.last (map Print cs) }
-performed_run m lent [] = refl
-performed_run m lent (c ∷ cs) = performed_run m (with_event m lent (Print c)) cs ∙ rw or-false
+pub performed_run : {H W : Type 0} (step : H → Call → H) (timeout : TimeoutMeaning W) (lent : Lent H W) (cs : List ℕ)
+    → performed (with_event step timeout) lent (map Print cs)
+    ≡ record lent {
+      handler = after step lent.handler (map Input cs);
+      last = last_printed_behind lent.last (map Print cs);
+    }
+performed_run step timeout lent [] = refl
+performed_run step timeout lent (c ∷ cs) =
+    performed_run step timeout (with_event step timeout lent (Print c)) cs ∙ rw or-false
 
 -- No printed character terminates.
-pub prints_go_on : {H W : Type 0} (m : Meaning H W) (lent : Lent H W) (c : ℕ) → lent.terminated ≡ false → (with_event m lent (Print c)).terminated ≡ false
-prints_go_on m lent c goes_on = or-false lent.terminated ∙ goes_on
+pub prints_go_on : {H W : Type 0} (step : H → Call → H) (timeout : TimeoutMeaning W) (lent : Lent H W) (c : ℕ)
+    → lent.terminated ≡ false → (with_event step timeout lent (Print c)).terminated ≡ false
+prints_go_on step timeout lent c goes_on = or-false lent.terminated ∙ goes_on
 
 -- A character at the end of a run is its last.
 last_added : (last : Option ℕ) (cs : List ℕ) (c : ℕ) → last_printed_behind last (map Print (cs ++ c ∷ [])) ≡ Some c

@@ -1,6 +1,7 @@
 //! The calls of control sequences.
-ghost use Rattle.std.specs.Prelude.{◌≡◌, []};
-ghost use Rattle.vte.specs.ControlCalls.{control_calls, repeated, rows_without_intermediates, window_rows};
+ghost use Rattle.std.specs.Prelude.{◌≡◌, ◌≢◌, [], ◌∷◌};
+ghost use Rattle.vte.specs.ControlCalls.{control_calls, repeated, window_rows};
+ghost use Rattle.vte.specs.ControlCalls.{rows_without_intermediates};
 ghost use Rattle.vte.specs.Numbers.{first_numbers};
 ghost use Rattle.vte.specs.Maybe.{or_none, those};
 ghost use Rattle.vte.specs.Values.{cursor_rows, keys_rows, line_rows, screen_rows, tab_rows};
@@ -20,7 +21,7 @@ use vte_types::{
     TabulationClearMode,
 };
 
-/// Makes the calls of a control sequence.
+/// Makes the calls of a control sequence, other than `ESC [ ? .. h`: that may begin an update.
 pub(crate) fn perform_control<H: InputAs<G>, G>(
     handler: &mut H,
     last: Option<char>,
@@ -28,7 +29,9 @@ pub(crate) fn perform_control<H: InputAs<G>, G>(
     intermediates: &[u8],
     action: char,
 )
-    ensures { H.value_of handler.new ≡ after H.step (H.value_of handler.old) (control_calls last intermediates.now params.now action) }
+    requires other { intermediates.now ≡ 0x3f ∷ [] → action ≢ 0x68 }
+    ensures { H.value_of handler.new ≡ after H.step (H.value_of handler.old)
+        (control_calls last intermediates.now params.now action) }
 {
     let mut numbers = params.iter();
     match (intermediates, action) {
@@ -43,7 +46,6 @@ pub(crate) fn perform_control<H: InputAs<G>, G>(
                 handler.set_tabs(8);
             }
         }
-        ([b'?'], 'h') => change_modes(handler, params, Change::SetPrivate),
         ([b'?'], 'l') => change_modes(handler, params, Change::ResetPrivate),
         ([b'$'], 'p') => handler.report_mode(Mode::new(numbers.next_or(0))),
         ([b'?', b'$'], 'p') => handler.report_private_mode(PrivateMode::new(numbers.next_or(0))),
@@ -83,7 +85,8 @@ fn perform_plain<H: InputAs<G>, G>(
     params: &Params,
     action: char,
 )
-    ensures { H.value_of handler.new ≡ after H.step (H.value_of handler.old) (or_none (beside (rows_without_intermediates last [] params.now) action)) }
+    ensures { H.value_of handler.new ≡ after H.step (H.value_of handler.old)
+        (or_none (beside (rows_without_intermediates last [] params.now) action)) }
 {
     let mut numbers = params.iter();
     match action {
@@ -131,7 +134,8 @@ fn perform_plain<H: InputAs<G>, G>(
 /// Passes a character on this many times.
 #[tactic(auto, using(crate::proofs::Calling::one_less))]
 fn repeat<H: InputAs<G>, G>(handler: &mut H, last: Option<char>, count: u16)
-    ensures { H.value_of handler.new ≡ after H.step (H.value_of handler.old) (repeated last count) }
+    ensures { H.value_of handler.new ≡ after H.step (H.value_of handler.old)
+        (repeated last count) }
 {
     if let Some(c) = last {
         for _ in 0..count {
@@ -141,7 +145,8 @@ fn repeat<H: InputAs<G>, G>(handler: &mut H, last: Option<char>, count: u16)
 }
 
 fn operate_window<H: Handler>(handler: &mut H, number: u16)
-    ensures { H.value_of handler.new ≡ after H.step (H.value_of handler.old) (or_none (beside window_rows number)) }
+    ensures { H.value_of handler.new ≡ after H.step (H.value_of handler.old)
+        (or_none (beside window_rows number)) }
 {
     match number {
         14 => handler.text_area_size_pixels(),
@@ -154,7 +159,8 @@ fn operate_window<H: Handler>(handler: &mut H, number: u16)
 
 /// Clears the tab stops that TBC selects.
 fn clear_tabs<H: Handler>(handler: &mut H, number: u16)
-    ensures { H.value_of handler.new ≡ after H.step (H.value_of handler.old) (those (λ x. call.ClearTabs x) (beside tab_rows number)) }
+    ensures { H.value_of handler.new ≡ after H.step (H.value_of handler.old)
+        (those (λ x. call.ClearTabs x) (beside tab_rows number)) }
 {
     match number {
         0 => handler.clear_tabs(TabulationClearMode::Current),
@@ -165,7 +171,8 @@ fn clear_tabs<H: Handler>(handler: &mut H, number: u16)
 
 /// Clears the part of the screen that ED selects.
 fn clear_screen<H: Handler>(handler: &mut H, number: u16)
-    ensures { H.value_of handler.new ≡ after H.step (H.value_of handler.old) (those (λ x. call.ClearScreen x) (beside screen_rows number)) }
+    ensures { H.value_of handler.new ≡ after H.step (H.value_of handler.old)
+        (those (λ x. call.ClearScreen x) (beside screen_rows number)) }
 {
     match number {
         0 => handler.clear_screen(ClearMode::Below),
@@ -178,7 +185,8 @@ fn clear_screen<H: Handler>(handler: &mut H, number: u16)
 
 /// Clears the part of the line that EL selects.
 fn clear_line<H: Handler>(handler: &mut H, number: u16)
-    ensures { H.value_of handler.new ≡ after H.step (H.value_of handler.old) (those (λ x. call.ClearLine x) (beside line_rows number)) }
+    ensures { H.value_of handler.new ≡ after H.step (H.value_of handler.old)
+        (those (λ x. call.ClearLine x) (beside line_rows number)) }
 {
     match number {
         0 => handler.clear_line(LineClearMode::Right),
@@ -190,7 +198,8 @@ fn clear_line<H: Handler>(handler: &mut H, number: u16)
 
 /// Sets how modified keys are sent.
 fn set_other_keys<H: Handler>(handler: &mut H, number: u16)
-    ensures { H.value_of handler.new ≡ after H.step (H.value_of handler.old) (those (λ x. call.SetModifyOtherKeys x) (beside keys_rows number)) }
+    ensures { H.value_of handler.new ≡ after H.step (H.value_of handler.old)
+        (those (λ x. call.SetModifyOtherKeys x) (beside keys_rows number)) }
 {
     match number {
         0 => handler.set_modify_other_keys(ModifyOtherKeys::Reset),
@@ -202,7 +211,8 @@ fn set_other_keys<H: Handler>(handler: &mut H, number: u16)
 
 /// Sets the cursor style of DECSCUSR. `None` is the terminal's own style.
 fn set_cursor_style<H: Handler>(handler: &mut H, number: u16)
-    ensures { H.value_of handler.new ≡ after H.step (H.value_of handler.old) (those (λ x. call.SetCursorStyle x) (beside cursor_rows number)) }
+    ensures { H.value_of handler.new ≡ after H.step (H.value_of handler.old)
+        (those (λ x. call.SetCursorStyle x) (beside cursor_rows number)) }
 {
     let shape = match number {
         0 => return handler.set_cursor_style(None),
@@ -226,7 +236,8 @@ pub(crate) enum Change {
 
 /// Changes the modes that the first numbers of the groups name.
 fn change_modes<H: Handler>(handler: &mut H, params: &Params, change: Change)
-    ensures { H.value_of handler.new ≡ after H.step (H.value_of handler.old) (changes change (first_numbers params.now)) }
+    ensures { H.value_of handler.new ≡ after H.step (H.value_of handler.old)
+        (changes change (first_numbers params.now)) }
 {
     for group in params {
         change_mode(handler, change, first_number(group));
@@ -235,7 +246,8 @@ fn change_modes<H: Handler>(handler: &mut H, params: &Params, change: Change)
 
 /// Changes one mode.
 pub(crate) fn change_mode<H: Handler>(handler: &mut H, change: Change, number: u16)
-    ensures { H.value_of handler.new ≡ H.step (H.value_of handler.old) (change_call change number) }
+    ensures { H.value_of handler.new
+        ≡ H.step (H.value_of handler.old) (change_call change number) }
 {
     match change {
         Change::Set => handler.set_mode(Mode::new(number)),

@@ -2,7 +2,7 @@
 //! that the performer can borrow each.
 ghost use Rattle.std.specs.Prelude.{◌≡◌, ◌≤◌, ◌+◌, ◌++◌, ℕ, List, Option, Some, true, false, length};
 ghost use Rattle.vte.specs.Lent.{ParsesLent, StopsLent, lent_of};
-ghost use Rattle.vte.specs.Meaning.{meaning};
+ghost use Rattle.vte.specs.Meaning.{meaning, timeout_meaning};
 ghost use Rattle.vte.specs.Performer.{with_event};
 ghost use Rattle.vte.specs.Processor.{parts};
 ghost use Rattle.vte.specs.ProcessorTurns.{IsAtBegin, IsParsedOn, IsReady};
@@ -57,8 +57,10 @@ pub(crate) trait Grain<H: Handler, T: Timeout + Drop, B: EventParser>: Sized {
         performer: &mut Performer<'_, '_, H, T, J, Self>,
         bytes: &[u8],
     )
-        ensures { ParsesLent B.reading B.limit (with_event (meaning B.limit H.step T.set T.clear T.allows)) parser.old parser.new
-            (lent_of H.value_of T.value_of J.room performer.old) (lent_of H.value_of T.value_of J.room performer.new) bytes.now };
+        ensures { let lent_of = lent_of H.value_of T.value_of J.room in
+            ParsesLent B.reading B.limit
+            (with_event H.step (timeout_meaning T.set T.clear T.allows))
+            parser.old parser.new (lent_of performer.old) (lent_of performer.new) bytes.now };
 
     /// Parses bytes until an update begins, and returns how many it parsed.
     fn advance_until_begin<J: TextBuffer + Drop>(
@@ -66,8 +68,11 @@ pub(crate) trait Grain<H: Handler, T: Timeout + Drop, B: EventParser>: Sized {
         performer: &mut Performer<'_, '_, H, T, J, Self>,
         bytes: &[u8],
     ) -> usize
-        ensures { StopsLent B.reading B.limit (with_event (meaning B.limit H.step T.set T.clear T.allows)) parser.old parser.new
-            (lent_of H.value_of T.value_of J.room performer.old) (lent_of H.value_of T.value_of J.room performer.new) bytes.now result };
+        ensures { let lent_of = lent_of H.value_of T.value_of J.room in
+            StopsLent B.reading B.limit
+            (with_event H.step (timeout_meaning T.set T.clear T.allows))
+            parser.old parser.new (lent_of performer.old) (lent_of performer.new)
+            bytes.now result };
 }
 
 /// Character by character.

@@ -1,10 +1,10 @@
 //! The performer that calls a handler.
-ghost use Rattle.std.specs.Prelude.{◌≡◌, false, Some, map};
+ghost use Rattle.std.specs.Prelude.{◌≡◌, false, map};
 ghost use Rattle.std.specs.Str.{chars};
 ghost use Rattle.vte_core.specs.Event.{Print};
 ghost use Rattle.vte.specs.Calls.{last_printed_behind};
 ghost use Rattle.vte.specs.Lent.{lent_of, with_private_mode, with_private_modes};
-ghost use Rattle.vte.specs.Meaning.{meaning};
+ghost use Rattle.vte.specs.Meaning.{timeout_meaning};
 ghost use Rattle.vte.specs.TextRoom.{fits_room};
 
 use crate::ansi::command_calls::perform_system_command;
@@ -49,7 +49,7 @@ impl<'s, 'h, H: InputAs<G>, T: Timeout + Drop, J: TextBuffer + Drop, G> Perform
 
     ghost value_of = { lent_of H.value_of T.value_of J.room };
 
-    ghost step = { with_event (meaning (Some 1024) H.step T.set T.clear T.allows) };
+    ghost step = { with_event H.step (timeout_meaning T.set T.clear T.allows) };
 
     ghost is_terminated = { λ lent. lent.terminated };
 
@@ -115,7 +115,8 @@ impl<'s, 'h, H: Handler, T: Timeout + Drop, J: TextBuffer + Drop, G>
     /// Sets the private modes, group by group.
     fn set_private_modes(&mut self, params: &Params)
         ensures { lent_of H.value_of T.value_of J.room self.new
-            ≡ with_private_modes (meaning (Some 1024) H.step T.set T.clear T.allows) (lent_of H.value_of T.value_of J.room self.old) params.now }
+            ≡ with_private_modes H.step (timeout_meaning T.set T.clear T.allows)
+            (lent_of H.value_of T.value_of J.room self.old) params.now }
     {
         for group in params {
             self.set_private_mode(first_number(group));
@@ -125,7 +126,8 @@ impl<'s, 'h, H: Handler, T: Timeout + Drop, J: TextBuffer + Drop, G>
     /// Sets a private mode. For that of updates it sets the timeout before the call.
     fn set_private_mode(&mut self, number: u16)
         ensures { lent_of H.value_of T.value_of J.room self.new
-            ≡ with_private_mode (meaning (Some 1024) H.step T.set T.clear T.allows) (lent_of H.value_of T.value_of J.room self.old) number }
+            ≡ with_private_mode H.step (timeout_meaning T.set T.clear T.allows)
+            (lent_of H.value_of T.value_of J.room self.old) number }
     {
         if number == NamedPrivateMode::SyncUpdate as u16 {
             self.state

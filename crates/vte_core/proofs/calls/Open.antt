@@ -1,43 +1,93 @@
 -- Only between characters of a text does a parser go on as a new one.
-use Rattle.vte_core.proofs.Common.{◌≡◌, ℕ, Option, [], ◌∷◌, refl, sym, subst, ◌∙◌, arith, Machine, State, Text, Stands, StandsBy, IsBehind, Leads, Delete, class_of, character_event, scalar_of}
-use Rattle.vte_core.proofs.Common.{Place, InText, InData, InSystemCommand, IsAfter, bytes_of, Unfinished}
-use Rattle.vte_core.proofs.bytes.FirstBytes.{ascii_alone}
+use Rattle.vte_core.proofs.Common.{◌≡◌, ◌≢◌, ℕ, Option, List, [], ◌∷◌, ◌++◌, refl, ap, sym, subst, ◌∙◌, arith, Digit, Machine, State, Text, Stands, StandsBy, IsBehind}
+use Rattle.vte_core.proofs.Common.{Event, Print, replacement, Place, InText, AtEscape, InEscape, InControlSequence, InDeviceControl, InData, InSystemCommand, InIgnoredString, IsAfter, Leads}
+use Rattle.vte_core.proofs.Common.{◌≤◌, ◌<◌, true, false, eqb, Dispatch, Unfinished, class_of, escape, is_truncated, key_of, added, bytes_of, events_behind}
+use Rattle.vte_core.proofs.bytes.FirstBytes.{ascii_breaks}
 use Rattle.vte_core.proofs.fields.Standing.{IsPlace, stands-place}
-use Rattle.vte_core.proofs.places.PlaceLeads.{byte-dropped, text-whole}
-use Rattle.vte_core.proofs.streams.After.{added-reads, after-left, after-nothing}
-use Rattle.vte_core.proofs.streams.StreamLemmas.{reads-byte}
+use Rattle.vte_core.proofs.places.PlaceLeads.{escape-end, intermediate-end, control-head, device-head, data-put, command-item, ignored-more}
+use Rattle.vte_core.proofs.shapes.TextLemmas.{text_broken}
+use Rattle.vte_core.proofs.streams.After.{added-after, added-reads, after-events, after-nothing}
+use Rattle.vte_core.proofs.streams.Performing.{events-empty}
+use Rattle.vte_core.proofs.streams.StreamLemmas.{reads-byte, waits-byte}
+use Rattle.vte_core.specs.Stream.{IsFinished, IsUnfinished}
 
--- DEL is printed in a text, and dropped in a sequence
-dropped : (limit : Option ℕ) (place : Place) → IsPlace place → IsAfter limit [] place → Leads limit place 0x7f [] place → ⊥
-dropped limit place is a leads =
-    let printed = added-reads limit [] (0x7f ∷ []) (InText []) (InText []) (character_event (scalar_of (0x7f ∷ [])) ∷ []) (after-nothing limit)
-    (reads-byte limit (InText []) (InText []) 0x7f _ refl (text-whole limit [] 0x7f ((ascii_alone 0x7f (omega arith)).is_whole))) refl in
-    let none = added-reads limit [] (0x7f ∷ []) place place [] a (reads-byte limit place place 0x7f [] refl leads) is in
-    let f : ⊥ = cc in f
+-- of a digit ..
+record IsDigit (b : ℕ) : Type 0 where
+  class : class_of b ≡ Digit
+  key : key_of b ≡ Dispatch
+  low : 0x20 ≤ b
+  high : b < 0x80
+  other : eqb b escape ≡ false
 
-in_text : (limit : Option ℕ) (place : Place) → IsPlace place → IsAfter limit [] place → place ≡ InText []
-unfolding class_of
-in_text limit (InText []) is a = refl
-in_text limit (InText (b ∷ u)) is a = let e = sym (after-left limit [] (InText []) (after-nothing limit) refl) ∙ after-left limit [] (InText (b ∷ u)) a is in let f : ⊥ = cc in absurd f
-in_text limit InData is a = let e = sym (after-left limit [] (InText []) (after-nothing limit) refl) ∙ after-left limit [] InData a is in let f : ⊥ = cc in absurd f
-in_text limit (InSystemCommand items) is a =
-    let e = sym (after-left limit [] (InText []) (after-nothing limit) refl) ∙ after-left limit [] (InSystemCommand items) a is in let f : ⊥ = cc in absurd f
-in_text limit place is a = absurd (dropped limit place is a (byte-dropped limit place 0x7f Delete refl refl refl))
+zero_digit : IsDigit 0x30
+unfolding class_of key_of
+zero_digit = record { class = refl; key = refl; low = omega arith; high = omega arith; other = refl }
 
--- its state then
+-- .. what it gives after the stream
+gives : (limit : Option ℕ) (stream : List ℕ) {place next : Place} {b : ℕ} {told : List Event}
+    → IsDigit b → IsAfter limit stream place → Leads limit place b told next → IsPlace next
+    → added limit stream (b ∷ []) ≡ told
+gives limit stream {place} {next} {b} {told} d a leads =
+    added-reads limit stream (b ∷ []) place next told a (reads-byte limit place next b told d.other leads)
+
+-- it breaks a character
+in_character : (limit : Option ℕ) (stream u : List ℕ) (b : ℕ)
+    → IsDigit b → is_truncated u ≡ true → IsAfter limit stream (InText u)
+    → added limit stream (b ∷ []) ≡ Print replacement ∷ events_behind limit (InText []) (b ∷ [])
+in_character limit stream u b d is a =
+    let tests = ascii_breaks u b is d.high in
+    let broken = text_broken u b is tests.is_whole tests.is_open in
+    added-after limit stream (b ∷ []) (InText u) a
+    ∙ ap (λ o. o.told) (waits-byte limit (InText u) (InText []) b (Print replacement ∷ []) [] d.other broken)
+
+first_event : {c d : ℕ} {es fs : List Event} → Print c ∷ es ≡ Print d ∷ fs → c ≡ d
+first_event e = cc
+
+-- it isn't printed alone, but between characters
+not_alone : (limit : Option ℕ) (stream : List ℕ) (place : Place) (b : ℕ)
+    → IsDigit b → IsPlace place → IsAfter limit stream place → place ≢ InText []
+    → added limit stream (b ∷ []) ≢ Print b ∷ []
+not_alone limit stream (InText []) b d is a other = absurd (other refl)
+not_alone limit stream (InText (c ∷ u)) b d is a other = λ alone.
+    let same : b ≡ replacement = first_event (sym alone ∙ in_character limit stream (c ∷ u) b d is a) in
+    omega (arith, same, d.high)
+not_alone limit stream AtEscape b d is a other = λ alone.
+    let e = sym alone ∙ gives limit stream d a (escape-end limit b Digit d.class refl d.key) refl in cc
+not_alone limit stream (InEscape ints) b d is a other = λ alone.
+    let e = sym alone ∙ gives limit stream d a (intermediate-end limit ints b Digit d.class refl) refl in cc
+not_alone limit stream (InControlSequence head) b d is a other = λ alone.
+    let e = sym alone ∙ gives limit stream d a (control-head limit head b (rw d.class refl)) tt in cc
+not_alone limit stream (InDeviceControl head) b d is a other = λ alone.
+    let e = sym alone ∙ gives limit stream d a (device-head limit head b (rw d.class refl)) tt in cc
+not_alone limit stream InData b d is a other = λ alone.
+    let e = sym alone ∙ gives limit stream d a (data-put limit b (rw d.class refl)) tt in cc
+not_alone limit stream (InSystemCommand items) b d is a other = λ alone.
+    let e = sym alone ∙ gives limit stream d a (command-item limit items b d.low) tt in cc
+not_alone limit stream InIgnoredString b d is a other = λ alone.
+    let e = sym alone ∙ gives limit stream d a (ignored-more limit b (rw d.class refl)) tt in cc
+
+-- the state between characters
 pub record IsClosed (state : State) : Type 0 where
   pub unfinished : Unfinished
   pub begun : state ≡ Text unfinished
   pub nothing : bytes_of unfinished ≡ []
 
-by_state : {B : Type 0} (limit : Option ℕ) (state : State) (parser : Machine B) → StandsBy limit state parser (InText []) → IsClosed state
+by_state : {B : Type 0} (limit : Option ℕ) (state : State) (parser : Machine B)
+    → StandsBy limit state parser (InText []) → IsClosed state
 by_state limit (Text u) parser s = record { unfinished = u; begun = refl; nothing = s.0 }
 by_state limit _ parser s = absurd s
 
-pub closed : {B : Type 0} {limit : Option ℕ} (parser : Machine B) → IsBehind limit parser [] → IsClosed parser.state
-closed {limit = limit} parser h =
-    let here = in_text limit h.place (stands-place parser h.place h.stands) h.is_after in
-    by_state limit parser.state parser (subst (Stands limit parser) here h.stands).by
+pub unfinished : {B : Type 0} {limit : Option ℕ} {stream : List ℕ} (parser : Machine B)
+    → IsBehind limit parser stream → (IsClosed parser.state → ⊥) → IsUnfinished limit stream
+unfinished {limit = limit} {stream = stream} parser h other =
+    not_alone limit stream h.place 0x30 zero_digit (stands-place parser h.place h.stands) h.is_after
+    (λ here. other (by_state limit parser.state parser (subst (Stands limit parser) here h.stands).by))
+
+pub finished : {limit : Option ℕ} {stream : List ℕ} → IsAfter limit stream (InText []) → IsFinished limit stream
+finished {limit} {stream} a more =
+    added-after limit stream more (InText []) a
+    ∙ sym (after-events limit [] more (InText []) (after-nothing limit)
+    ∙ ap (λ es. es ++ events_behind limit (InText []) more) (events-empty limit))
 
 pub same-begun : {u v : Unfinished} → Text u ≡ Text v → u ≡ v
 same-begun e = cc

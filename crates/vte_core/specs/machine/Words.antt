@@ -9,6 +9,7 @@ pub use Rattle.vte_core.specs.Others.{TellsOthers}
 pub use Rattle.vte_core.specs.Parameters.{greatest_number, is_separator}
 pub use Rattle.vte_core.specs.Perform.{after}
 pub use Rattle.vte_core.specs.Outcome.{IsLoss}
+pub use Rattle.vte_core.specs.Stream.{IsFinished, IsUnfinished}
 unfoldable pub use Rattle.vte_core.specs.Stream.{outcome}
 unfoldable pub use Rattle.vte_core.specs.SystemCommand.{drops_data}
 pub use Rattle.vte_core.specs.SystemCommand.{IsCommandData, has_room, most_pieces}

@@ -2,10 +2,11 @@
 ghost use Rattle.std.specs.Prelude.{◌≡◌, ◌+◌, ◌<◌, ◌≤◌, ℕ, true, false, List, [], None, length};
 ghost use Rattle.vte_core.specs.LongAdvance.{ReadsBytesLong, ReadsToRunLong, ReadsUntilTerminatedLong};
 ghost use Rattle.vte_core.specs.EarlyStop.{NoCharacterStops};
-ghost use Rattle.vte_core.specs.LongParser.{HasReadLong, HoldsCommandLong, LacksRoom, memory_of, open_size};
+ghost use Rattle.vte_core.specs.LongParser.{HasReadLong, HoldsCommandLong, LacksRoom, memory_of};
+ghost use Rattle.vte_core.specs.LongParser.{open_size};
 ghost use Rattle.vte_core.specs.Looks.{looks_long};
 ghost use Rattle.vte_core.specs.Outcome.{IsLoss};
-ghost use Rattle.vte_core.specs.Stream.{outcome};
+ghost use Rattle.vte_core.specs.Stream.{IsFinished, IsUnfinished, outcome};
 ghost use Rattle.vte_core.specs.SystemCommand.{drops_data};
 
 use crate::looks::{InRuns, Input, Looks, Run, Singly};
@@ -178,10 +179,12 @@ impl<A: Allocator> LongParser<A> {
 
     /// Returns whether a character or a sequence is unfinished.
     pub fn is_open(&self) -> bool
-        // If not, it goes on as a new parser ..
-        ensures closed { result ≡ false → (stream : List ℕ) → HasReadLong self.now stream → HasReadLong self.now [] }
-        // .. and otherwise it doesn't.
-        ensures opens { result ≡ true → HasReadLong self.now [] → ⊥ }
+        // If not, it goes on as a new parser, and more bytes give what they give on their own.
+        ensures closed { result ≡ false → (stream : List ℕ) → HasReadLong self.now stream
+            → HasReadLong self.now [] × IsFinished None stream }
+        // Otherwise they don't.
+        ensures opens { result ≡ true → (stream : List ℕ) → HasReadLong self.now stream
+            → IsUnfinished None stream }
     {
         self.machine.is_open()
     }

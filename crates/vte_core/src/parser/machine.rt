@@ -1,6 +1,7 @@
 //! The state of a parser, and what it has collected.
 ghost use Rattle.std.specs.Prelude.{◌≡◌, true, false, ℕ, List, []};
-ghost use Rattle.vte_core.specs.machine.Words.{IsBehind, IsLoss, Keeps, drops_data, outcome};
+ghost use Rattle.vte_core.specs.machine.Words.{IsBehind, IsFinished, IsLoss, IsUnfinished, Keeps};
+ghost use Rattle.vte_core.specs.machine.Words.{drops_data, outcome};
 
 use crate::buffer::Buffer;
 use crate::head::Collected;
@@ -42,8 +43,10 @@ impl<B: Buffer> Machine<B> {
 
     /// Returns whether a character or a sequence is unfinished.
     pub(crate) fn is_open(&self) -> bool
-        ensures closed { result ≡ false → (stream : List ℕ) → IsBehind B.limit self.now stream → IsBehind B.limit self.now [] }
-        ensures opens { result ≡ true → IsBehind B.limit self.now [] → ⊥ }
+        ensures closed { result ≡ false → (stream : List ℕ) → IsBehind B.limit self.now stream
+            → IsBehind B.limit self.now [] × IsFinished B.limit stream }
+        ensures opens { result ≡ true → (stream : List ℕ) → IsBehind B.limit self.now stream
+            → IsUnfinished B.limit stream }
     {
         match self.state {
             State::Text(begun) => !begun.is_nothing(),

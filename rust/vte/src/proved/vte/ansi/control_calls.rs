@@ -13,7 +13,7 @@ use crate::proved::vte_types::{
     TabulationClearMode,
 };
 
-/// Makes the calls of a control sequence.
+/// Makes the calls of a control sequence, other than `ESC [ ? .. h`: that may begin an update.
 #[inline]
 #[allow(clippy::collapsible_match)]
 pub(crate) fn perform_control<H: Handler>(
@@ -36,7 +36,6 @@ pub(crate) fn perform_control<H: Handler>(
                 handler.set_tabs(8);
             }
         }
-        ([b'?'], 'h') => change_modes(handler, params, Change::SetPrivate),
         ([b'?'], 'l') => change_modes(handler, params, Change::ResetPrivate),
         ([b'$'], 'p') => handler.report_mode(Mode::new(numbers.next_or(0))),
         ([b'?', b'$'], 'p') => handler.report_private_mode(PrivateMode::new(numbers.next_or(0))),

@@ -4,14 +4,17 @@ use Rattle.vte_core.proofs.fields.StoreLemmas.{drops_held}
 use Rattle.vte_core.proofs.streams.After.{after-left}
 use Rattle.vte_core.proofs.parser.machine.Machine.command_lost_data.Goals as goal
 
-by_state : {B : Type 0} (limit : Option ℕ) (state : State) (parser : Machine B) (items : List ℕ) → StandsBy limit state parser (InSystemCommand items) → Keeps limit parser.command items
+by_state : {B : Type 0} (limit : Option ℕ) (state : State) (parser : Machine B) (items : List ℕ)
+    → StandsBy limit state parser (InSystemCommand items) → Keeps limit parser.command items
 by_state limit SystemCommand parser items s = s
 by_state limit _ parser items s = absurd s
 
-by_place : {B : Type 0} (limit : Option ℕ) (parser : Machine B) (place : Place) → Stands limit parser place → IsLoss (left_at limit place) parser.command.dropped
+by_place : {B : Type 0} (limit : Option ℕ) (parser : Machine B) (place : Place)
+    → Stands limit parser place → IsLoss (left_at limit place) parser.command.dropped
 by_place limit parser (InText []) s = tt
 by_place limit parser (InText (a ∷ u)) s = tt
-by_place limit parser (InSystemCommand items) s = sym (drops_held limit parser.command items (by_state limit parser.state parser items s.by))
+by_place limit parser (InSystemCommand items) s =
+    sym (drops_held limit parser.command items (by_state limit parser.state parser items s.by))
 by_place limit parser _ s = tt
 
 pub returns-clause-holds : goal.returns-clause-holds
@@ -20,6 +23,7 @@ returns-clause-holds g c = λ items keeps. c.has_dropped.ensures ∙ sym (drops_
 pub returns-clause-open : goal.returns-clause-open
 returns-clause-open g c = λ stream h.
     let parser = c.args.self.now in
-    let here = by_place g.B.Buffer.limit parser h.place h.stands in
-    subst (λ left. IsLoss left c.has_dropped.result) (sym (after-left g.B.Buffer.limit stream h.place h.is_after (stands-place parser h.place h.stands)))
-    (subst (IsLoss (left_at g.B.Buffer.limit h.place)) (sym c.has_dropped.ensures) here)
+    let limit = g.B.Buffer.limit in
+    let left = after-left limit stream h.place h.is_after (stands-place parser h.place h.stands) in
+    subst (λ left. IsLoss left c.has_dropped.result) (sym left)
+    (subst (IsLoss (left_at limit h.place)) (sym c.has_dropped.ensures) (by_place limit parser h.place h.stands))

@@ -49,7 +49,8 @@ returns-clause-advances g c =
           (command-item limit items byte (omega (arith, is))))) (settled-by _ _ begun tt)))
       | else-byte-eq59+then-byte-eq-BELL w ↦
           rw (w.self-is, w.performer-is) (advances-telling (tells-one _ w.dispatch.ensures.value tt) (advances-in begun within c.at-byte.ensures.value r.may_go_on ordinary
-          (in_system_command after_data (λ items keeps. taken (OscDispatch (pieces_of limit items) true ∷ []) (InText [])
+          (in_system_command after_data (λ items keeps.
+          taken (OscDispatch (pieces_of limit items) true ∷ []) (InText [])
           (rw (pieces_held _ _ items keeps) w.dispatch.ensures.value) (record { by = (refl, refl) })
           (command-bell limit items byte (left_is_control byte ordinary no_data w.if-byte-eq59.false) (rw w.if-byte-eq-BELL.true refl)))) tt))
       | else-byte-eq59+else-byte-eq-BELL w ↦

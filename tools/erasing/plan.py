@@ -69,6 +69,9 @@ WITHOUT_COUNTS = {
         ("fn up_to(self, to: usize) -> Self", "fn up_to(input: &[u8], to: usize) -> &[u8]"),
         ("fn text(self, from: usize, to: usize) -> &'a str", "fn text(input: &[u8], from: usize, to: usize) -> &str"),
         ("fn data(self, from: usize, to: usize) -> &'a [u8]", "fn data(input: &[u8], from: usize, to: usize) -> &[u8]"),
+        ("fn take_run(self, place: RunPlace) -> Run<'a>", "fn take_run(input: &[u8], place: RunPlace) -> Run<'_>"),
+        ("self.text(", "text(input, "),
+        ("self.data(", "data(input, "),
         ("unsafe {", "// SAFETY: the bytes are whole characters: crates/vte_core/src/looks.rt requires it, and has a proof for each call.\nunsafe {"),
     ],
 }
@@ -87,14 +90,15 @@ VTE = Plan(
             "crate::proved::vte_core::automaton": "skip_run_blocks",
             "crate::proved::vte_core::utf8": "tell_character tell_single",
             "crate::proved::vte_core::run": "begins_ascii find_ascii_run_end find_longer_run_end find_rest_end",
-            "crate::proved::vte_core::scan": "data find_data_end find_escape find_put_end get get_block text up_to",
+            "crate::proved::vte_core::scan": "Run RunKind RunPlace data find_data_end find_escape find_put_end get get_block take_run tell_data "
+                                             "tell_text text up_to",
         },
     },
     conditions={name: 'feature = "ansi"' for name in ("vte_types", "vte_handler", "vte")},
     under={
         "vte_core": {WITH_MEMORY: {"LongParser", "Vec", "long"}, WITH_LIMIT: {"Parser"}},
         "vte_core/lib": {WITH_MEMORY: {"LongParser", "Refused", "long"}, SAVED: {"Saved"}},
-        "vte_core/parser/to_run": {WITH_LIMIT: {"Parser", "Perform"}},
+        "vte_core/parser/to_run": {WITH_LIMIT: {"Parser", "Perform", "Run", "take_run"}},
         # the module has the condition
         "vte_core/parser/long": None,
         "vte_core/buffer": {WITH_LIMIT: {"ArrayVec"}},
@@ -179,7 +183,7 @@ VTE = Plan(
         },
         "vte_core/perform": {'#[doc = include_str!("../../docs/perform.md")]': ["pub trait Perform {"],
                              '#[doc = include_str!("../../docs/perform_text.md")]': ["pub trait PerformText: Perform {"]},
-        "vte_core/looks": {"#[allow(unsafe_code)]": ["pub(crate) fn text"]},
+        "vte_core/looks": {"#[allow(unsafe_code)]": ["fn text"]},
         "vte_core/utf8": {"#[allow(unsafe_code)]": [f"pub(crate) fn character_of_{count}" for count in ("two", "three", "four")]},
         # the loops over bytes: rustc compiles modules apart, and so would keep them from the performer that they call
         # the search stays out of the loop over bytes, which it would make longer
@@ -221,8 +225,8 @@ VTE = Plan(
     comments=wording.VTE,
     members=wording.MEMBERS,
     examples={
-        **dict.fromkeys(("vte_core/parser", "vte_core/parser/to_run"), (
-            "use vte::{Parser, Perform};", "struct Performer;", "impl Perform for Performer {}", "let mut performer = Performer;")),
+        **{name: (f"use vte::{{{names}}};", "struct Performer;", "impl Perform for Performer {}", "let mut performer = Performer;")
+           for name, names in (("vte_core/parser", "Parser, Perform"), ("vte_core/parser/to_run", "Parser, Perform, Taken"))},
         "vte_core/perform": (
             "use vte::{Parser, Perform, PerformText};", "#[derive(Default)]", "struct Image { data: Vec<u8> }", "impl Perform for Image {}",
             "..",
@@ -264,7 +268,8 @@ VTE = Plan(
         ("prefix: &str", "prefix: &str as String = prefix.into()"),
         ("link: Option<Hyperlink<'_>>", "link: Option<Hyperlink<'_>> as Option<Hyperlink> = link.map(Into::into)"),
     )),
-    renamed={"vte_core/looks": "vte_core/scan", "vte_core/looks/grain": "vte_core/grain"},
+    renamed={"vte_core/looks": "vte_core/scan", "vte_core/looks/grain": "vte_core/grain",
+             "vte_core/looks/taken": "vte_core/scan/taken"},
 )
 
 VTLOG = Plan(

@@ -41,6 +41,7 @@ def _as_functions(names):
 # run time it is nothing. The input is a slice, a performer that counts is a performer, and a search is a function.
 COUNTS = [
     ("mod looks;", "mod grain;\nmod scan;"),
+    ("pub use looks::", "pub use scan::"),
     ("impl<B> Looks<B> { $$$b }", _as_functions),
     ("looks: Looks::$f(),", ""),
     ("looks: &mut Looks<B>,", ""),
@@ -58,6 +59,7 @@ COUNTS = [
     ("input.text(", "text(input, "),
     ("input.data(", "data(input, "),
     ("input.up_to(", "up_to(input, "),
+    ("input.take_run(", "take_run(input, "),
     ("fn $f<B>", "fn $f"),
     ("fn $f<B, ", "fn $f<"),
     ("::<B, ", "::<"),
@@ -67,7 +69,7 @@ COUNTS = [
 
 # The functions that take text in runs or by the character, and those that may stop: the others only pass these parameters on.
 GRAINED = {"drive", "find_ascii_run_end", "find_longer_run_end", "find_run_end", "print_ascii", "read",
-           "read_device_data", "read_longer", "read_run", "read_text", "read_until_terminated"}
+           "read_device_data", "read_longer", "read_run", "read_text", "read_until_terminated", "tell_data", "tell_text"}
 ASKING = {"drive", "end_data", "read_device_data", "read_end", "read_ignored_string", "read_run",
           "read_system_command", "read_text"}
 SILENT = {"read_number", "read_parameters"}

@@ -365,7 +365,7 @@ COUNTS = [
     (r"Input : : new \( (\w+) \)", r"\1"),
     (r"input \. bytes|self \. bytes(?= \[ (?:from )?\. \. to \])", "input"),
     (r"Input \{ bytes : (.*?) , buffer : PhantomData , \}", r"\1"),
-    (r"input \. (data|text|up_to) \(", r"\1 ( input ,"),
+    (r"(?:input|self) \. (data|take_run|text|up_to) \(", r"\1 ( input ,"),
     (r": : < B , ", ": : < "),
     # the parts of what is held of a sequence
     (r"(hook|csi_dispatch) \( & (self \. collected) , ignore , byte \)",

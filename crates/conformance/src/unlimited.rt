@@ -9,7 +9,7 @@ use event_lines::{EventLines, Stop};
 use std::alloc::Allocator;
 use std::process::Abort;
 use std::test::Fail;
-use vte_core::{LongParser, Refused, Run};
+use vte_core::{LongParser, Refused, Run, Taken};
 
 /// A stream, and the lines of all its events.
 struct UnlimitedRow {
@@ -260,8 +260,8 @@ fn text_is_taken_from_the_input(rt: HostRuntime) {
     let mut lines = EventLines::new(rt.alloc(), Stop::Never);
     let run = Run {
         start: 8,
-        text: "na\u{ef}ve ",
-        data: b"",
+        end: 15,
+        taken: Taken::Text("na\u{ef}ve "),
     };
     assert_eq!(rt;
         parser.advance_to_run(&mut lines, b"\x1b]2;abc\x07na\xc3\xafve \r"),
@@ -288,8 +288,8 @@ fn no_text_is_taken(rt: HostRuntime) {
         let mut lines = EventLines::new(rt.alloc(), Stop::Never);
         let none = Run {
             start: bytes.len(),
-            text: "",
-            data: b"",
+            end: bytes.len(),
+            taken: Taken::Nothing,
         };
         assert_eq!(rt; parser.advance_to_run(&mut lines, bytes), Ok(none));
     }

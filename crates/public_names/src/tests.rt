@@ -12,7 +12,9 @@ use vte::ansi::{
     ScpCharPath, ScpUpdateMode, StandardCharset, StdSyncHandler, Step, TabulationClearMode,
     TakeCall, Timeout,
 };
-use vte::{LongParser, Params, ParamsIter, Parser, Perform, Refused, ansi, laws};
+use vte::{
+    LongParser, Params, ParamsIter, Parser, Perform, Refused, Run, Saved, Taken, ansi, laws,
+};
 
 fn hash_of<T: Hash>(value: &T) -> u64 {
     let mut hasher = DefaultHasher::new();
@@ -210,6 +212,25 @@ fn parsers_are_made_in_every_way(rt: HostRuntime) {
         Ok(()) => assert_eq!(rt; counts.numbers, 4),
         Err(Refused { read }) => assert_eq!(rt; read, usize::MAX),
     }
+}
+
+#[test]
+fn runs_are_taken_and_parsers_saved(rt: HostRuntime) {
+    let mut counts = Counts {
+        numbers: 0,
+        groups: 0,
+    };
+    let mut parser = Parser::new();
+    let run: Run<'_> = parser.advance_to_run(&mut counts, b"\x1b[1mab\n");
+    assert_eq!(rt; (run.start, run.taken, run.end), (4, Taken::Text("ab"), 6));
+    parser.advance(&mut counts, b"\x1bPq");
+    let mut saved = Saved::new();
+    parser.save(&mut saved);
+    let run = Parser::restored(&saved).advance_to_run(&mut counts, b"data\x9c");
+    assert_eq!(rt;
+        (run.start, run.taken, run.end),
+        (0, Taken::Data(b"data"), 4)
+    );
 }
 
 /// Counts calls, through `ByCall`.

@@ -6,6 +6,8 @@
 //! thing that a program asks of the terminal.
 #![tactic(auto)]
 
-pub use vte_core::{LongParser, Params, ParamsIter, Parser, Perform, PerformText, Refused, laws};
+pub use vte_core::{
+    LongParser, Params, ParamsIter, Parser, Perform, PerformText, Refused, Run, Saved, Taken, laws,
+};
 
 pub mod ansi;

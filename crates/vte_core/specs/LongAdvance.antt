@@ -1,5 +1,5 @@
 -- What the calls of a `LongParser` ensure.
-use Rattle.std.specs.Prelude.{◌≡◌, ℕ, ◌+◌, ◌*◌, ◌<◌, ◌≤◌, Bool, false, None, List, ◌++◌, length, slice_index, Result, Ok, Err, IfErr, IfOk, IsOk}
+use Rattle.std.specs.Prelude.{◌≡◌, ℕ, ◌+◌, ◌*◌, ◌<◌, ◌≤◌, Bool, false, None, List, [], ◌++◌, length, slice_index, Result, Ok, Err, IfErr, IfOk, IsOk}
 use Rattle.vte_core.specs.AdvanceToRun.{ReturnsRun, run_bytes}
 use Rattle.vte_core.specs.declared.parser.long.LongParser.{LongParser}
 use Rattle.vte_core.specs.declared.parser.refused.Refused.{Refused}
@@ -8,9 +8,9 @@ use Rattle.vte_core.specs.EarlyStop.{HasPassed, StopsExactly, stream_at}
 use Rattle.vte_core.specs.Event.{Event}
 use Rattle.vte_core.specs.LongParser.{HasReadLong, LacksMemory, MeetsData, StoresPieces, bytes_read, memory_of, open_size, read_count}
 use Rattle.vte_core.specs.Looks.{looks_long}
-use Rattle.vte_core.specs.Others.{TellsOthers}
+use Rattle.vte_core.specs.Others.{IsWide, TellsOnly, TellsOthers}
 use Rattle.vte_core.specs.Perform.{after}
-use Rattle.vte_core.specs.Stream.{added}
+use Rattle.vte_core.specs.Stream.{added, open_end}
 
 -- A call read so many bytes, and the parser has then read these of each stream. If memory is refused, it stops there.
 pub record GoesOnLong {A Answer : Type 0} (rate : ℕ) (bytes : List ℕ) (result : Result Answer Refused) (n : ℕ) (behind : List ℕ → List ℕ)
@@ -74,7 +74,8 @@ pub record ReadsToRunLong {V A : Type 0} (step : V → Event → V) (is_terminat
     (result : Result Run Refused) (parser next : LongParser A) : Type 0 where
   pub returns : IfOk result (ReturnsRun step is_terminated old new None (HasReadLong parser) bytes)
   pub refuses : PassesLong step is_terminated old new (HasReadLong parser) bytes result
-  -- No character of ASCII was printed and no byte was put: these are left to the run.
-  pub others : (stream : List ℕ) → HasReadLong parser stream → TellsOthers step old new
+  -- Characters and data are left to the run, as by a `Parser`.
+  pub others : (stream : List ℕ) → HasReadLong parser stream → open_end stream ≡ [] → TellsOthers step old new
+  pub opened : (stream : List ℕ) → HasReadLong parser stream → TellsOnly IsWide step old new
   -- The parser goes on behind what was read.
   pub goes_on : GoesOnLong 7 bytes result (run_count result) (λ stream. read_to_run result stream bytes) parser next

@@ -5,7 +5,7 @@
 //! for a performer. Whoever is generic in the buffer `B` has no count but the one it was lent, for a `Looks<B>` is made for the buffers
 //! of the two parsers alone.
 ghost use Rattle.std.specs.Prelude.{◌≡◌, ◌≢◌, ◌+◌, ◌-◌, ◌<◌, ◌≤◌, ℕ, ◌++◌, length, drop, map, take, slice_index, vec_capacity, MatchOption, IsUtf8};
-ghost use Rattle.vte_core.specs.machine.Words.{ArePut, FindsEnd, IsCommandData, IsPut, IsRange, IsRun, PrintsRun, Put, after, looked};
+ghost use Rattle.vte_core.specs.machine.Words.{AreOfKind, ArePut, FindsEnd, IsCommandData, IsPut, IsRange, IsRun, IsTaken, PrintsRun, Put, after, looked};
 
 mod counted_perform;
 mod grain;
@@ -98,6 +98,26 @@ impl<'a, B> Input<'a, B> {
         ensures { result.now ≡ take (to - from) (drop from self.entry.bytes.now) }
     {
         &self.bytes[from..to]
+    }
+
+    /// Returns the run that stands at a place, whose bytes were looked at.
+    pub(crate) fn take_run(self, place: RunPlace) -> Run<'a>
+        requires range { IsRange self.bytes.now place.start place.end }
+        requires kind { AreOfKind place.kind (take (place.end - place.start) (drop place.start self.bytes.now)) }
+        ensures start { result.start ≡ place.start }
+        ensures end { result.end ≡ place.end }
+        ensures taken { IsTaken place.kind (take (place.end - place.start) (drop place.start self.entry.bytes.now)) result.taken }
+    {
+        let taken = match place.kind {
+            RunKind::OfText => Taken::Text(self.text(place.start, place.end)),
+            RunKind::OfData => Taken::Data(self.data(place.start, place.end)),
+            RunKind::Empty => Taken::Nothing,
+        };
+        Run {
+            start: place.start,
+            end: place.end,
+            taken,
+        }
     }
 }
 

@@ -78,7 +78,7 @@ pub use proved::vte_core::Parser;
 pub use proved::vte_core::Saved;
 #[cfg(any(feature = "std", feature = "ansi"))]
 pub use proved::vte_core::{LongParser, Refused};
-pub use proved::vte_core::{Params, ParamsIter, Perform, PerformText, Run};
+pub use proved::vte_core::{Params, ParamsIter, Perform, PerformText, Run, Taken};
 
 /// A processor that calls a handler for what the events of a stream ask of a terminal.
 #[cfg(feature = "ansi")]

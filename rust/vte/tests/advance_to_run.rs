@@ -1,6 +1,6 @@
 //! Runs of text and data that a caller takes from its own input, by `Parser::advance_to_run`.
 use std::str;
-use vte::{Params, Parser, Perform, Run};
+use vte::{Params, Parser, Perform, Run, Taken};
 
 /// Each kind of event, with characters of each length, controls of two bytes and malformed bytes among them.
 const MIXED: &[u8] = b"some text \xc3\xa9\xc3\xa8 \xe4\xbd\xa0\xe5\xa5\xbd, \xf0\x9f\x99\x82 a line\r\nand \x1b[1;31mred\x1b[m \
@@ -38,8 +38,11 @@ impl Events {
 
     /// Takes a run as its characters or its bytes.
     fn take(&mut self, run: &Run) {
-        self.text.push_str(run.text);
-        self.data.extend_from_slice(run.data);
+        match run.taken {
+            Taken::Text(text) => self.text.push_str(text),
+            Taken::Data(data) => self.data.extend_from_slice(data),
+            Taken::Nothing => {}
+        }
     }
 
     fn end(mut self) -> Vec<String> {
@@ -101,11 +104,11 @@ fn read_by_runs(parser: &mut Parser, events: &mut Events, piece: &[u8]) {
     while !unread.is_empty() {
         events.has_stopped = false;
         let run = parser.advance_to_run(events, unread);
-        let is_empty = run.text.is_empty() && run.data.is_empty();
+        let is_empty = run.taken == Taken::Nothing;
         assert!(!events.has_stopped || is_empty, "a run after a stop");
-        assert!(events.has_stopped || !is_empty || run.end() == unread.len());
+        assert!(events.has_stopped || !is_empty || run.end == unread.len());
         events.take(&run);
-        unread = &unread[run.end()..];
+        unread = &unread[run.end..];
     }
 }
 
@@ -154,14 +157,26 @@ fn run_at(bytes: &[u8], start: usize) -> Run<'_> {
     });
     // what was open may be a character, and the byte may break it
     let is_text = !is_open || events.performed.starts_with(char::REPLACEMENT_CHARACTER);
+    let text = if is_text {
+        text_at_the_beginning(&bytes[start..])
+    } else {
+        ""
+    };
+    let data = &bytes[start..end.map_or(bytes.len(), |end| start + end)];
+    run_of(start, text, data)
+}
+
+/// The run of a text or of data, of which one is empty.
+fn run_of<'a>(start: usize, text: &'a str, data: &'a [u8]) -> Run<'a> {
+    let taken = match (text, data) {
+        ("", []) => Taken::Nothing,
+        ("", _) => Taken::Data(data),
+        _ => Taken::Text(text),
+    };
     Run {
         start,
-        text: if is_text {
-            text_at_the_beginning(&bytes[start..])
-        } else {
-            ""
-        },
-        data: &bytes[start..end.map_or(bytes.len(), |end| start + end)],
+        end: start + text.len() + data.len(),
+        taken,
     }
 }
 
@@ -179,12 +194,8 @@ fn a_run_is_the_first_and_as_long_as_it_can_be() {
                 let run = Parser::new().advance_to_run(&mut events, bytes);
                 let first = (0..bytes.len())
                     .map(|start| run_at(bytes, start))
-                    .find(|run| !run.text.is_empty() || !run.data.is_empty());
-                let none = Run {
-                    start: bytes.len(),
-                    text: "",
-                    data: &[],
-                };
+                    .find(|run| run.taken != Taken::Nothing);
+                let none = run_of(bytes.len(), "", &[]);
                 assert_eq!(run, first.unwrap_or(none), "{from} to {to}");
                 assert!(events
                     .performed
@@ -204,9 +215,9 @@ fn data_ends_only_before_what_is_not_put() {
         let bytes = [b'x', byte, b'y'];
         let is_put = matches!(byte, 0..=0x17 | 0x19 | 0x1c..=0x7e);
         let run = parser.advance_to_run(&mut events, &bytes);
-        assert_eq!((run.start, run.text), (0, ""), "{byte:02x}");
-        assert_eq!(run.data, &bytes[..if is_put { 3 } else { 1 }], "{byte:02x}");
-        assert_eq!(run.data.as_ptr(), bytes.as_ptr());
+        let data = &bytes[..if is_put { 3 } else { 1 }];
+        assert_eq!(run, run_of(0, "", data), "{byte:02x}");
+        assert!(matches!(run.taken, Taken::Data(data) if data.as_ptr() == bytes.as_ptr()));
     }
 }
 
@@ -227,8 +238,8 @@ fn runs_have_their_places() {
         (b"\x1b_ignored\x1b\\\x7f", 11, "\x7f", b"", 12),
     ] {
         let run = Parser::new().advance_to_run(&mut Events::default(), bytes);
-        assert_eq!(run, Run { start, text, data }, "{bytes:02x?}");
-        assert_eq!(run.end(), end, "{bytes:02x?}");
+        assert_eq!(run, run_of(start, text, data), "{bytes:02x?}");
+        assert_eq!(run.end, end, "{bytes:02x?}");
     }
 }
 
@@ -248,7 +259,7 @@ fn what_is_open_is_performed() {
         parser.advance(&mut events, read);
         assert!(parser.is_open(), "after {read:02x?}");
         let found = parser.advance_to_run(&mut events, bytes);
-        assert_eq!((found.start, found.text), run, "after {read:02x?}");
+        assert_eq!(found, run_of(run.0, run.1, b""), "after {read:02x?}");
         assert!(!parser.is_open(), "after {bytes:02x?}");
     }
 }
@@ -261,35 +272,22 @@ fn a_stop_ends_the_call_before_a_run() {
     };
     let mut parser = Parser::new();
     let run = parser.advance_to_run(&mut events, b"\x07text");
-    assert_eq!(
-        run,
-        Run {
-            start: 1,
-            text: "",
-            data: &[]
-        }
-    );
+    assert_eq!(run, run_of(1, "", b""));
     let run = parser.advance_to_run(&mut events, b"text");
-    assert_eq!(
-        run,
-        Run {
-            start: 0,
-            text: "",
-            data: &[]
-        }
-    );
+    assert_eq!(run, run_of(0, "", b""));
     events.has_stopped = false;
-    assert_eq!(parser.advance_to_run(&mut events, b"text").text, "text");
+    let run = parser.advance_to_run(&mut events, b"text");
+    assert_eq!(run, run_of(0, "text", b""));
 }
 
 #[test]
 fn the_text_is_the_callers() {
     let mut bytes = PLAIN.to_vec();
     let run = Parser::new().advance_to_run(&mut Events::default(), &bytes);
-    assert_eq!(
-        (run.text.as_ptr(), run.text.len()),
-        (bytes.as_ptr(), bytes.len())
-    );
+    let Taken::Text(text) = run.taken else {
+        panic!("no text");
+    };
+    assert_eq!((text.as_ptr(), text.len()), (bytes.as_ptr(), bytes.len()));
     bytes.clear();
 }
 
@@ -301,9 +299,9 @@ fn a_long_parser_has_it_too() {
     let run = parser
         .advance_to_run(&mut events, b"\rna\xc3\xafve \x1b[1m")
         .unwrap();
-    assert_eq!((run.start, run.text, run.end()), (1, "na\u{ef}ve ", 8));
+    assert_eq!(run, run_of(1, "na\u{ef}ve ", b""));
     parser.advance(&mut events, b"\x1bPq").unwrap();
     assert!(parser.is_open());
     let run = parser.advance_to_run(&mut events, b"data\x1b\\").unwrap();
-    assert_eq!((run.start, run.data), (0, &b"data"[..]));
+    assert_eq!(run, run_of(0, "", b"data"));
 }

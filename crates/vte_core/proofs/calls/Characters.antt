@@ -9,10 +9,14 @@ use Rattle.vte_core.proofs.fields.Standing.{is_open-truncated, stands-by, stands
 use Rattle.vte_core.specs.machine.Completes.{Completes}
 use Rattle.vte_core.proofs.calls.Runs.{inside-all, inside-moved, performs-begun}
 use Rattle.vte_core.proofs.places.PlaceLeads.{text-lone, text-unfinished, text-whole}
-use Rattle.vte_core.proofs.streams.Others.{longer, tells-none, tells-replacement, tells-wide, wide}
+use Rattle.vte_core.proofs.streams.Others.{longer, tells-none, tells-replacement}
 use Rattle.vte_core.proofs.streams.Performing.{carried_is_no_escape, open_truncated}
 use Rattle.vte_core.proofs.stops.Told.{breaks-broken, breaks-unfinished, breaks-whole}
 use Rattle.vte_core.proofs.calls.Places.{come-between, come-broken, come-carried}
+use Rattle.vte_core.proofs.streams.After.{after-open_end}
+use Rattle.vte_core.proofs.fields.Standing.{stands-place}
+use Rattle.vte_core.proofs.Common.{IsBehind, open_at, open_end, append-nil, append_assoc, drop, drop_more, take, take-add}
+use Rattle.std.proofs.lemmas.List.{drop-drop}
 use Rattle.vte_core.proofs.streams.StreamLemmas.{reads-byte}
 
 stands_in_text : {B : Type 0} {limit : Option ℕ} (parser : Machine B) (v : Unfinished) (u : List ℕ) → parser.state ≡ Text v → bytes_of v ≡ u
@@ -160,16 +164,38 @@ module _ {V B : Type 0} {asks : Bool} {step : V → Event → V} {is_terminated 
 
 -- ---- a call inside a character
 
+-- the bytes of a character, with those at a place
+bytes_more : (bytes : List ℕ) (i j n m : ℕ) (begun : List ℕ) {u : List ℕ} → j ≡ i + n → u ≡ begun ++ take n (drop i bytes)
+    → u ++ take m (drop j bytes) ≡ begun ++ take (n + m) (drop i bytes)
+bytes_more bytes i j n m begun far are =
+    ap (λ (x : List ℕ). x ++ take m (drop j bytes)) are ∙ append_assoc begun (take n (drop i bytes)) (take m (drop j bytes))
+    ∙ ap (λ (x : List ℕ). begun ++ (take n (drop i bytes) ++ take m x)) (ap (λ k. drop k bytes) far ∙ sym (drop-drop n i bytes))
+    ∙ ap (λ (x : List ℕ). begun ++ x) (sym (take-add n m (drop i bytes)))
+
+byte_more : (bytes : List ℕ) (i n : ℕ) (begun : List ℕ) {j b : ℕ} {u : List ℕ} → j < length bytes → j ≡ i + n → b ≡ slice_index bytes j → u ≡ begun ++ take n (drop i bytes)
+    → u ++ b ∷ [] ≡ begun ++ take (n + 1) (drop i bytes)
+byte_more bytes i n begun {j = j} {u = u} within far is are =
+    ap (λ (x : List ℕ). u ++ x) (ap (λ (x : ℕ). x ∷ []) is ∙ sym (ap (take 1) (drop_more bytes j 0 within))) ∙ bytes_more bytes i j n 1 begun far are
+
 -- From place i, inside a character of the bytes `begun`, a call has come to place j, inside one of the bytes `u`, and told nothing.
 pub record GoesOn {V B : Type 0} (asks : Bool) (step : V → Event → V) (is_terminated : V → Bool) (value : V) (limit : Option ℕ) (bytes : List ℕ) (i j : ℕ)
     (begun u : Unfinished) (next : Machine B) : Type 0 where
   pub inside : (old : V) (stream : List ℕ) (parser : Machine B) → parser.state ≡ Text begun → StandsInside asks step is_terminated old value limit stream bytes i parser
       → StandsInside asks step is_terminated old value limit stream bytes j (in_text next u)
   pub more : is_open (bytes_of begun) ≡ true → is_truncated (bytes_of u) ≡ true
+  pub n : ℕ
+  pub far : j ≡ i + n
+  pub are : is_open (bytes_of begun) ≡ true → bytes_of u ≡ bytes_of begun ++ take n (drop i bytes)
 
 module _ {V B : Type 0} {asks : Bool} {step : V → Event → V} {is_terminated : V → Bool} {value : V} {limit : Option ℕ} {bytes : List ℕ} {i : ℕ} {begun : Unfinished} where
   pub goes-nowhere : (next : Machine B) → bytes_of begun ≢ [] → GoesOn asks step is_terminated value limit bytes i i begun begun next
-  goes-nowhere next some = record { inside = λ old stream parser e s. inside-same e refl s; more = λ opened. open_truncated (bytes_of begun) opened some }
+  goes-nowhere next some = record {
+    inside = λ old stream parser e s. inside-same e refl s;
+    more = λ opened. open_truncated (bytes_of begun) opened some;
+    n = 0;
+    far = omega arith;
+    are = λ _. sym (append-nil (bytes_of begun));
+  }
 
   pub goes-more : {j b : ℕ} {u v : Unfinished} {parser next : Machine B} → GoesOn asks step is_terminated value limit bytes i j begun u parser
       → (is_truncated (bytes_of u) ≡ true → Carries (bytes_of u) b (StillUnfinished v)) → j < length bytes → b ≡ slice_index bytes j
@@ -177,6 +203,9 @@ module _ {V B : Type 0} {asks : Bool} {step : V → Event → V} {is_terminated 
   goes-more goes carries within is = record {
     inside = λ old stream parser e s. let more = goes.more (inside-open e s) in carried-more refl more (carries more) refl (goes.inside old stream parser e s) within is;
     more = λ opened. (carries (goes.more opened)).1;
+    n = goes.n + 1;
+    far = omega (arith, goes.far);
+    are = λ opened. (carries (goes.more opened)).0 ∙ byte_more bytes i goes.n (bytes_of begun) within goes.far is (goes.are opened);
   }
 
   -- all bytes are read
@@ -185,7 +214,7 @@ module _ {V B : Type 0} {asks : Bool} {step : V → Event → V} {is_terminated 
   completes-all goes end all = record {
     stands_at = λ old stream parser e s. inside-all (inside-moved end (goes.inside old stream parser e s)) all;
     text = λ within. absurd (omega arith);
-    others = λ _. tells-none;
+    others = λ _. inl tells-none;
   }
 
   -- a byte ends the character
@@ -198,7 +227,14 @@ module _ {V B : Type 0} {asks : Bool} {step : V → Event → V} {is_terminated 
     others = λ opened.
         let more = goes.more opened in
         let whole = carries more in
-        tells-wide _ (rw whole.1 (wide _ whole.0 (longer _ _ (truncated-some (bytes_of u) more)))) performed;
+        let same = byte_more bytes i goes.n (bytes_of begun) within goes.far is (goes.are opened) in
+        inr (record {
+          n = goes.n + 1;
+          far = omega (arith, goes.far, within);
+          well = subst (λ (x : List ℕ). is_well_formed x ≡ true) same whole.0;
+          long = subst (λ (x : List ℕ). 1 < length x) same (longer _ _ (truncated-some (bytes_of u) more));
+          performed = performed ∙ ap (λ n. step value (character_event n)) (whole.1 ∙ ap scalar_of same);
+        });
   }
 
   -- a byte breaks it
@@ -208,16 +244,28 @@ module _ {V B : Type 0} {asks : Bool} {step : V → Event → V} {is_terminated 
   completes-broken goes carries state performed within is = record {
     stands_at = λ old stream parser e s. let more = goes.more (inside-open e s) in carried-broken refl more (carries more) state performed (goes.inside old stream parser e s) within is;
     text = λ _. state;
-    others = λ _. tells-replacement performed;
+    others = λ _. inl (tells-replacement performed);
   }
 
   -- another call goes on
   pub completes-then : {new : V} {j k : ℕ} {u : Unfinished} {parser next : Machine B} → GoesOn asks step is_terminated value limit bytes i j begun u parser
       → Completes asks step is_terminated value new limit bytes j k u next → Completes asks step is_terminated value new limit bytes i k begun next
-  completes-then {u = u} {parser = parser} goes c = record {
+  completes-then {j = j} {u = u} {parser = parser} goes c = record {
     stands_at = λ old stream begun e s. c.stands_at old stream (in_text parser u) refl (goes.inside old stream begun e s);
     text = c.text;
-    others = λ opened. c.others (is_open-truncated (bytes_of u) (goes.more opened));
+    others = λ opened. elim (c.others (is_open-truncated (bytes_of u) (goes.more opened))) [
+      | inl others ↦ inl others
+      | inr whole ↦
+          let same : bytes_of u ++ take whole.n (drop j bytes) ≡ bytes_of begun ++ take (goes.n + whole.n) (drop i bytes) =
+          bytes_more bytes i j goes.n whole.n (bytes_of begun) goes.far (goes.are opened) in
+          inr (record {
+            n = goes.n + whole.n;
+            far = omega (arith, goes.far, whole.far);
+            well = subst (λ (x : List ℕ). is_well_formed x ≡ true) same whole.well;
+            long = subst (λ (x : List ℕ). 1 < length x) same whole.long;
+            performed = whole.performed ∙ ap (λ (x : List ℕ). step value (character_event (scalar_of x))) same;
+          })
+    ];
   }
 
 module _ {V B : Type 0} {asks : Bool} {step : V → Event → V} {is_terminated : V → Bool} {value : V} {limit : Option ℕ} {bytes : List ℕ} {i x y : ℕ} where
@@ -231,4 +279,14 @@ module _ {V B : Type 0} {asks : Bool} {step : V → Event → V} {is_terminated 
       → z ≡ slice_index bytes (i + 1) → GoesOn asks step is_terminated value limit bytes i (i + 2) (One x) (Three x y z) next
   goes-third {z = z} next low second third within is is_third =
       let goes = goes-more {next = next} (goes-second next (omega arith) second (omega arith) is) (λ more. third_open x y z more third low) (omega arith) is_third in
-      record { inside = λ old stream parser e s. inside-moved (omega arith) (goes.inside old stream parser e s); more = goes.more }
+      record { inside = λ old stream parser e s. inside-moved (omega arith) (goes.inside old stream parser e s); more = goes.more; n = goes.n; far = omega (arith, goes.far); are = goes.are }
+
+-- what is open in a text
+pub opens-text : {B : Type 0} {limit : Option ℕ} {stream : List ℕ} {u : Unfinished} (parser : Machine B) → parser.state ≡ Text u → bytes_of u ≢ [] → IsBehind limit parser stream
+    → open_end stream ≡ [] → ⊥
+opens-text {limit = limit} {stream = stream} {u = u} parser e some h none =
+    let t = by_text limit parser u h.place (stands-in e h.stands) in
+    some (sym (ap open_at t.same) ∙ sym (after-open_end limit stream h.place h.is_after (stands-place parser h.place h.stands)) ∙ none)
+
+pub opens-open : {B : Type 0} {limit : Option ℕ} {stream : List ℕ} {u : Unfinished} (parser : Machine B) → parser.state ≡ Text u → IsBehind limit parser stream → is_open (bytes_of u) ≡ true
+opens-open {limit = limit} {u = u} parser e h = (by_text limit parser u h.place (stands-in e h.stands)).begun

@@ -1,5 +1,5 @@
 -- How a character is completed.
-use Rattle.std.specs.Prelude.{ℕ, ◌≡◌, ◌<◌, Bool, true, List, length, Option}
+use Rattle.std.specs.Prelude.{ℕ, ◌≡◌, ◌⊎◌, ◌+◌, ◌<◌, ◌≤◌, Bool, true, List, ◌++◌, length, take, drop, Option}
 use Rattle.vte_core.specs.declared.parser.machine.Machine.{Machine}
 use Rattle.vte_core.specs.declared.parser.State.TheVariants.{Text}
 use Rattle.vte_core.specs.declared.utf8.Unfinished.{Unfinished}
@@ -8,12 +8,22 @@ use Rattle.vte_core.specs.Event.{Event}
 use Rattle.vte_core.specs.machine.Progress.{StandsAt, StandsInside}
 use Rattle.vte_core.specs.machine.Unfinished.{bytes_of, is_open}
 use Rattle.vte_core.specs.Others.{TellsOthers}
+use Rattle.vte_core.specs.Text.{character_event}
+use Rattle.vte_core.specs.Utf8.{is_well_formed, scalar_of}
 
--- The call goes on to place j, in a text if bytes are left, and prints no ASCII. At place i a parser would stand inside the character that these
--- bytes begin.
+-- The performer took the character that these bytes and those at place i are.
+pub record TellsWhole {V : Type 0} (step : V → Event → V) (old new : V) (begun bytes : List ℕ) (i : ℕ) : Type 0 where
+  pub n : ℕ
+  pub far : i + n ≤ length bytes
+  pub well : is_well_formed (begun ++ take n (drop i bytes)) ≡ true
+  pub long : 1 < length (begun ++ take n (drop i bytes))
+  pub performed : new ≡ step old (character_event (scalar_of (begun ++ take n (drop i bytes))))
+
+-- The call goes on to place j, in a text if bytes are left, and tells a character or none. At place i a parser would stand inside the character
+-- that these bytes begin.
 pub record Completes {V B : Type 0} (asks : Bool) (step : V → Event → V) (is_terminated : V → Bool) (old new : V) (limit : Option ℕ) (bytes : List ℕ) (i j : ℕ)
     (begun : Unfinished) (next : Machine B) : Type 0 where
   pub stands_at : (value : V) (stream : List ℕ) (parser : Machine B) → parser.state ≡ Text begun →
       StandsInside asks step is_terminated value old limit stream bytes i parser → StandsAt asks step is_terminated value new limit stream bytes j next
   pub text : j < length bytes → next.state ≡ Text Nothing
-  pub others : is_open (bytes_of begun) ≡ true → TellsOthers step old new
+  pub others : is_open (bytes_of begun) ≡ true → TellsOthers step old new ⊎ TellsWhole step old new (bytes_of begun) bytes i

@@ -26,7 +26,7 @@ pub record Spends (rate seen ahead : ℕ) {B : Type 0} (bytes : List ℕ) (i j :
   pub least : looked before + j ≤ looked after + i + seen
   pub memory : parser.command.capacity ≤ next.command.capacity
 
--- .. of one that handles a byte which was looked at: no character is open then, no ASCII was printed and no data put, and it counts so many at most
+-- .. of one that handles a byte which was looked at: no character is open then, none was printed but U+FFFD and no data put, and it counts so many at most
 pub record Handles (most : ℕ) {V B : Type 0} (step : V → Event → V) (old new : V) (parser next : Machine B) (before after : Looks B) : Type 0 where
   pub settled : IsSettled next.state
   pub others : TellsOthers step old new

@@ -5,11 +5,11 @@ pub use Rattle.vte_core.specs.Event.{CsiDispatch, EscDispatch, Event, Execute, H
 pub use Rattle.vte_core.specs.Key.{begins_ignored_string}
 pub use Rattle.vte_core.specs.LongParser.{read_count}
 pub use Rattle.vte_core.specs.Looks.{looked}
-pub use Rattle.vte_core.specs.Others.{TellsOthers}
+pub use Rattle.vte_core.specs.Others.{IsWide, TellsOnly, TellsOthers}
 pub use Rattle.vte_core.specs.Parameters.{greatest_number, is_separator}
 pub use Rattle.vte_core.specs.Perform.{after}
 pub use Rattle.vte_core.specs.Outcome.{IsLoss}
-unfoldable pub use Rattle.vte_core.specs.Stream.{outcome}
+unfoldable pub use Rattle.vte_core.specs.Stream.{open_end, outcome}
 unfoldable pub use Rattle.vte_core.specs.SystemCommand.{drops_data}
 pub use Rattle.vte_core.specs.SystemCommand.{IsCommandData, has_room, most_pieces}
 pub use Rattle.vte_core.specs.Text.{character_event, is_layout, malformed_event, run_event}

@@ -1,8 +1,6 @@
 //! Runs of text and data, which a caller takes from its own input.
-ghost use Rattle.std.specs.Prelude.{◌≡◌, ◌-◌, take, drop};
-ghost use Rattle.vte_core.specs.machine.Words.{AreOfKind, Empty, IsRange, IsTaken};
-
-use crate::looks::Input;
+ghost use Rattle.std.specs.Prelude.{◌≡◌};
+ghost use Rattle.vte_core.specs.machine.Words.{Empty};
 
 /// What a call of [`advance_to_run`](crate::Parser::advance_to_run) read: bytes whose events it performed, and the run after them,
 /// if there is one.
@@ -54,28 +52,6 @@ impl RunPlace {
             start: end,
             end,
             kind: RunKind::Empty,
-        }
-    }
-}
-
-impl<'a, B> Input<'a, B> {
-    /// Returns the run that stands at a place, whose bytes were looked at.
-    pub(crate) fn take_run(self, place: RunPlace) -> Run<'a>
-        requires range { IsRange self.bytes.now place.start place.end }
-        requires kind { AreOfKind place.kind (take (place.end - place.start) (drop place.start self.bytes.now)) }
-        ensures start { result.start ≡ place.start }
-        ensures end { result.end ≡ place.end }
-        ensures taken { IsTaken place.kind (take (place.end - place.start) (drop place.start self.entry.bytes.now)) result.taken }
-    {
-        let taken = match place.kind {
-            RunKind::OfText => Taken::Text(self.text(place.start, place.end)),
-            RunKind::OfData => Taken::Data(self.data(place.start, place.end)),
-            RunKind::Empty => Taken::Nothing,
-        };
-        Run {
-            start: place.start,
-            end: place.end,
-            taken,
         }
     }
 }

@@ -1,6 +1,6 @@
 //! The bytes of a character after the first.
-ghost use Rattle.std.specs.Prelude.{◌≡◌, ◌<◌, ◌≤◌, length};
-ghost use Rattle.vte_core.specs.machine.Words.{Advances, BeginsFour, BeginsThree, Completes, MayReadByte, Moves, Nothing, One, Spends, Text};
+ghost use Rattle.std.specs.Prelude.{◌≡◌, ◌<◌, ◌≤◌, false, length};
+ghost use Rattle.vte_core.specs.machine.Words.{Advances, BeginsFour, BeginsThree, Completes, EndsRun, MayReadByte, Moves, Nothing, One, Spends, Text};
 
 use crate::buffer::Buffer;
 use crate::looks::{CountedPerform, Grain, Input, Looks};
@@ -25,8 +25,8 @@ impl<B: Buffer> Machine<B> {
         requires may_read { MayReadByte ASKS P.is_terminated (P.value_of performer.old) (Text Nothing) self.old input.bytes.now from first }
         requires lead { 0xc2 ≤ first }
         requires fits { first < 0xf5 }
-        ensures advances { Advances (Unit {0}) ASKS P.step P.is_terminated (P.value_of performer.old) (P.value_of performer.new) B.limit
-            input.entry.bytes.now from result self.old self.new }
+        ensures advances { Advances (EndsRun false input.entry.bytes.now from) ASKS P.step P.is_terminated (P.value_of performer.old)
+            (P.value_of performer.new) B.limit input.entry.bytes.now from result self.old self.new }
         ensures text { result < length input.entry.bytes.now → self.new.state ≡ Text Nothing }
         ensures moves { Moves 3 1 input.entry.bytes.now from result self.old self.new looks.old looks.new }
     {

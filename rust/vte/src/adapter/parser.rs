@@ -100,15 +100,15 @@ impl<const OSC_RAW_BUF_SIZE: usize> Parser<OSC_RAW_BUF_SIZE> {
     /// A caller can take text from its own input in this way, with its place and without a copy:
     ///
     /// ```
-    /// # use vte::{Parser, Perform};
+    /// # use vte::{Parser, Perform, Taken};
     /// # struct Performer;
     /// # impl Perform for Performer {}
     /// # let mut performer = Performer;
     /// let mut parser = Parser::new();
     /// let bytes = b"\x1b[1mna\xc3\xafve\r\n";
     /// let run = parser.advance_to_run(&mut performer, bytes); // performs the sequence
-    /// assert_eq!((run.start, run.text, run.end()), (4, "naïve", 10));
-    /// parser.advance(&mut performer, &bytes[run.end()..]); // performs CR and LF
+    /// assert_eq!((run.start, run.taken, run.end), (4, Taken::Text("naïve"), 10));
+    /// parser.advance(&mut performer, &bytes[run.end..]); // performs CR and LF
     /// ```
     ///
     /// A run begins where nothing is open and a character stands in the bytes that is printed as it is, or at a data byte that is

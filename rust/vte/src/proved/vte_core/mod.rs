@@ -21,7 +21,7 @@ mod utf8;
 pub use params::{Params, ParamsIter};
 #[cfg(not(feature = "std"))]
 pub use parser::Parser;
-pub use parser::Run;
+pub use scan::{Run, Taken};
 // for C alone
 #[cfg(all(feature = "saved", not(feature = "std")))]
 pub use parser::Saved;

@@ -32,7 +32,6 @@ use machine::Machine;
 pub use refused::Refused;
 #[cfg(all(feature = "saved", not(feature = "std")))]
 pub use saved::Saved;
-pub use to_run::Run;
 
 /// How many data bytes of an operating system command are kept, unless a parser is given another number.
 #[cfg(not(feature = "std"))]

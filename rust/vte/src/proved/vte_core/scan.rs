@@ -1,9 +1,14 @@
 // Written by tools/erase from crates/vte_core/src/looks.rt. Don't edit this file: edit that one, and run the tool.
 //! Searches of the input.
 
+mod taken;
+
 use crate::prelude::{first_chunk, memchr};
-use crate::proved::vte_core::class::{is_data, ESCAPE};
+use crate::proved::vte_core::class::{is_command_data, is_data, ESCAPE};
+use crate::proved::vte_core::grain::PerformAs;
 use core::str;
+pub use taken::{Run, Taken};
+pub(crate) use taken::{RunKind, RunPlace};
 
 /// Returns the bytes up to a place.
 #[inline(always)]
@@ -14,7 +19,7 @@ pub(crate) fn up_to(input: &[u8], to: usize) -> &[u8] {
 /// Returns the text from one place to another, which is one or more whole characters.
 #[inline(always)]
 #[allow(unsafe_code)]
-pub(crate) fn text(input: &[u8], from: usize, to: usize) -> &str {
+fn text(input: &[u8], from: usize, to: usize) -> &str {
     let bytes = &input[from..to];
     // SAFETY: the bytes are whole characters: crates/vte_core/src/looks.rt requires it, and has a proof for each call.
     unsafe { str::from_utf8_unchecked(bytes) }
@@ -22,15 +27,29 @@ pub(crate) fn text(input: &[u8], from: usize, to: usize) -> &str {
 
 /// Returns the data from one place to another.
 #[inline(always)]
-pub(crate) fn data(input: &[u8], from: usize, to: usize) -> &[u8] {
+fn data(input: &[u8], from: usize, to: usize) -> &[u8] {
     &input[from..to]
+}
+
+/// Returns the run that stands at a place, whose bytes were looked at.
+pub(crate) fn take_run(input: &[u8], place: RunPlace) -> Run<'_> {
+    let taken = match place.kind {
+        RunKind::OfText => Taken::Text(text(input, place.start, place.end)),
+        RunKind::OfData => Taken::Data(data(input, place.start, place.end)),
+        RunKind::Empty => Taken::Nothing,
+    };
+    Run {
+        start: place.start,
+        end: place.end,
+        taken,
+    }
 }
 
 /// Returns where the data bytes of an operating system command that start at a place end: before `;` or a control,
 /// or with the input.
 pub(crate) fn find_data_end(input: &[u8], from: usize) -> usize {
     let mut end = from;
-    while end < input.len() && input[end] >= 0x20 && input[end] != b';' {
+    while end < input.len() && is_command_data(input[end]) {
         end += 1;
     }
     end
@@ -65,4 +84,26 @@ pub(crate) fn get(input: &[u8], index: usize) -> Option<u8> {
 #[inline(always)]
 pub(crate) fn get_block<const N: usize>(input: &[u8], from: usize) -> Option<[u8; N]> {
     first_chunk::<N>(&input[from..]).copied()
+}
+
+/// Tells the run of text that stands from one place to another, which counts its bytes.
+#[inline(always)]
+pub(crate) fn tell_text<P: PerformAs<G>, G>(
+    performer: &mut P,
+    input: &[u8],
+    from: usize,
+    to: usize,
+) {
+    performer.print_text(text(input, from, to));
+}
+
+/// Tells the data that stand from one place to another, which counts them.
+#[inline(always)]
+pub(crate) fn tell_data<P: PerformAs<G>, G>(
+    performer: &mut P,
+    input: &[u8],
+    from: usize,
+    to: usize,
+) {
+    performer.put_slice(data(input, from, to));
 }

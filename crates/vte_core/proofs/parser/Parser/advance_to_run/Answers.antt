@@ -10,6 +10,7 @@ returns-in-Ok g c =
       returns = returns-run _ d t.start t.end t.taken;
       reads = reads-run c.take_run.result d t.start t.end t.taken;
       others = c.in-Ok.ensures.others;
+      opened = c.in-Ok.ensures.opened;
       count = search rules;
       least = search rules;
     })

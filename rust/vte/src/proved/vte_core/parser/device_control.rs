@@ -7,7 +7,7 @@ use crate::proved::vte_core::grain::{Grain, PerformAs};
 use crate::proved::vte_core::head::HeadPart;
 use crate::proved::vte_core::parser::{Machine, State, Unfinished};
 use crate::proved::vte_core::perform::Perform;
-use crate::proved::vte_core::scan::{data, find_put_end};
+use crate::proved::vte_core::scan::{find_put_end, tell_data};
 
 /// The one 8-bit control that is read: ST, the end of the data.
 const STRING_TERMINATOR: u8 = 0x9c;
@@ -66,7 +66,7 @@ impl<B: Buffer> Machine<B> {
             }
             if G::IN_RUNS && !ASKS {
                 let end = find_put_end(input, position + 1);
-                performer.put_slice(data(input, position, end));
+                tell_data(performer, input, position, end);
                 return end;
             }
             performer.put(byte);

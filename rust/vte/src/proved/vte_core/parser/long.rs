@@ -3,8 +3,9 @@
 
 use crate::prelude::Vec;
 use crate::proved::vte_core::grain::{InRuns, Singly};
-use crate::proved::vte_core::parser::{Machine, Refused, Run, State};
+use crate::proved::vte_core::parser::{Machine, Refused, State};
 use crate::proved::vte_core::perform::{Perform, PerformText};
+use crate::proved::vte_core::scan::{take_run, Run};
 
 /// Reads a stream as a [`Parser`](crate::Parser) does, and keeps the text of an operating system command whatever its length.
 ///
@@ -132,7 +133,9 @@ impl LongParser {
         performer: &mut P,
         bytes: &'a [u8],
     ) -> Result<Run<'a>, Refused> {
-        self.machine.drive_to_run(performer, bytes)
+        let input = bytes;
+        let place = self.machine.drive_to_run(performer, input)?;
+        Ok(take_run(input, place))
     }
 
     /// Returns whether a character or a sequence is unfinished.

@@ -10,34 +10,10 @@ use crate::proved::vte_core::parser::{Machine, Refused, State};
 #[cfg(not(feature = "std"))]
 use crate::proved::vte_core::perform::Perform;
 use crate::proved::vte_core::run::find_rest_end;
-use crate::proved::vte_core::scan::{data, find_put_end, text};
+use crate::proved::vte_core::scan::{find_put_end, RunKind, RunPlace};
+#[cfg(not(feature = "std"))]
+use crate::proved::vte_core::scan::{take_run, Run};
 use crate::proved::vte_core::utf8::{is_lead, is_printed_ascii, tell_single};
-
-/// Where a call of [`advance_to_run`](crate::Parser::advance_to_run) has come, and the run that it took there, if any.
-#[derive(Clone, Copy, Debug, PartialEq, Eq)]
-pub struct Run<'a> {
-    /// How many bytes were read before the run: its place in the bytes of the call.
-    pub start: usize,
-    /// The text of the run. It is empty if the run is data, or if there is none.
-    pub text: &'a str,
-    /// The data of the run. They are empty if the run is text, or if there is none.
-    pub data: &'a [u8],
-}
-
-impl<'a> Run<'a> {
-    /// Returns how many bytes the call read: those before the run, and its own.
-    pub fn end(&self) -> usize {
-        self.start + self.text.len() + self.data.len()
-    }
-
-    fn none(start: usize) -> Self {
-        Run {
-            start,
-            text: "",
-            data: &[],
-        }
-    }
-}
 
 #[cfg(not(feature = "std"))]
 impl<const OSC_RAW_BUF_SIZE: usize> Parser<OSC_RAW_BUF_SIZE> {
@@ -47,15 +23,15 @@ impl<const OSC_RAW_BUF_SIZE: usize> Parser<OSC_RAW_BUF_SIZE> {
     /// A caller can take text from its own input in this way, with its place and without a copy:
     ///
     /// ```
-    /// # use vte::{Parser, Perform};
+    /// # use vte::{Parser, Perform, Taken};
     /// # struct Performer;
     /// # impl Perform for Performer {}
     /// # let mut performer = Performer;
     /// let mut parser = Parser::new();
     /// let bytes = b"\x1b[1mna\xc3\xafve\r\n";
     /// let run = parser.advance_to_run(&mut performer, bytes); // performs the sequence
-    /// assert_eq!((run.start, run.text, run.end()), (4, "naïve", 10));
-    /// parser.advance(&mut performer, &bytes[run.end()..]); // performs CR and LF
+    /// assert_eq!((run.start, run.taken, run.end), (4, Taken::Text("naïve"), 10));
+    /// parser.advance(&mut performer, &bytes[run.end..]); // performs CR and LF
     /// ```
     ///
     /// A run begins where nothing is open and a character stands in the bytes that is printed as it is, or at a data byte that is
@@ -68,31 +44,32 @@ impl<const OSC_RAW_BUF_SIZE: usize> Parser<OSC_RAW_BUF_SIZE> {
         performer: &mut P,
         bytes: &'a [u8],
     ) -> Run<'a> {
-        match self.machine.drive_to_run(performer, bytes) {
-            Ok(run) => run,
+        let input = bytes;
+        match self.machine.drive_to_run(performer, input) {
+            Ok(place) => take_run(input, place),
             // Never: with a limit no memory is refused.
-            Err(refused) => Run::none(refused.read),
+            Err(refused) => take_run(input, RunPlace::empty(refused.read)),
         }
     }
 }
 
 impl<B: Buffer> Machine<B> {
     /// Reads bytes up to a run, and finds the run. It stays in the state of the run, which changes nothing.
-    pub(crate) fn drive_to_run<'a, P: PerformAs<Singly>>(
+    pub(crate) fn drive_to_run<P: PerformAs<Singly>>(
         &mut self,
         performer: &mut P,
-        input: &'a [u8],
-    ) -> Result<Run<'a>, Refused> {
+        input: &[u8],
+    ) -> Result<RunPlace, Refused> {
         let mut position = self.finish_character(performer, input);
         while position < input.len() && !performer.terminated() {
             position = match self.state {
                 State::Text(_) => {
                     let end = find_rest_end(input, position, false);
                     if end > position {
-                        let text = text(input, position, end);
-                        return Ok(Run {
-                            text,
-                            ..Run::none(position)
+                        return Ok(RunPlace {
+                            start: position,
+                            end,
+                            kind: RunKind::OfText,
                         });
                     }
                     self.read_unprinted(performer, input, position)
@@ -100,10 +77,10 @@ impl<B: Buffer> Machine<B> {
                 State::DeviceData => {
                     let end = find_put_end(input, position);
                     if end > position {
-                        let data = data(input, position, end);
-                        return Ok(Run {
-                            data,
-                            ..Run::none(position)
+                        return Ok(RunPlace {
+                            start: position,
+                            end,
+                            kind: RunKind::OfData,
                         });
                     }
                     let byte = input[position];
@@ -112,7 +89,7 @@ impl<B: Buffer> Machine<B> {
                 _ => self.read_run::<P, Singly, true>(performer, input, position)?,
             };
         }
-        Ok(Run::none(position))
+        Ok(RunPlace::empty(position))
     }
 
     /// Reads a character that isn't printed or a malformed sequence, or controls and what is malformed up to where a run may begin, or an

@@ -1,9 +1,12 @@
 # The files that tools/install installs and tools/uninstall removes. Both source this file.
 #
-# PREFIX is where the files are used (default: /usr/local). DESTDIR is a folder to put before it, for packages.
+# PREFIX is where the files are used (default: /usr/local), and LIBDIR where libraries are (default: its lib). DESTDIR is a folder to put
+# before both, for packages.
 
 PREFIX=$(realpath -ms -- "${PREFIX:-/usr/local}")
+LIBDIR=$(realpath -ms -- "${LIBDIR:-$PREFIX/lib}")
 DESTDIR=${DESTDIR:-}
+version=$(sed -n 's/^#define VTE_VERSION //p' "$top/crates/vte_c/include/vte.h")
 
 # Prints the folder for Python modules: one below PREFIX that Python searches, or else the usual one.
 python_folder() {
@@ -21,14 +24,17 @@ headers=(vte.h vte_long.h vte_handler.h vte.hpp)
 
 installed_files=(
     "$PREFIX/bin/vtlog"
-    "$PREFIX/lib/libvte_c.a"
-    "$PREFIX/lib/libvte_c.so.5"
-    "$PREFIX/lib/libvte_c.so"
-    "$PREFIX/lib/pkgconfig/libvte_c.pc"
-    "$PREFIX/lib/cmake/vte_c/vte_c-config.cmake"
-    "$PREFIX/lib/cmake/vte_c/vte_c-config-version.cmake"
+    "$LIBDIR/libvte_c.a"
+    "$LIBDIR/libvte_c.so.$version"
+    "$LIBDIR/libvte_c.so"
+    "$LIBDIR/pkgconfig/libvte_c.pc"
+    "$LIBDIR/cmake/vte_c/vte_c-config.cmake"
+    "$LIBDIR/cmake/vte_c/vte_c-config-version.cmake"
     "${headers[@]/#/$PREFIX/include/}"
     "$PREFIX/share/man/man1/vtlog.1"
+    "$PREFIX/share/man/man3/vte.3"
+    "$PREFIX/share/doc/libvte_c/LICENSE"
+    "$PREFIX/share/doc/libvte_c/NOTICE"
 )
 # vte.py was the module up to version 1 of the package
 [[ -z $python ]] || installed_files+=("${module_files[@]/#/$python/vte/}" "$python/vte.py")

@@ -1,6 +1,5 @@
-/* Calls at the edges of what vte.h allows: no bytes, one element less than the least room, kinds that don't exist, and commands around
- * their limit. Counts have other
- * values before each call. It writes what doesn't hold, and the status is then 1. */
+/* Calls at the edges of what vte.h allows: no bytes, NULL for none, one element less than the least room, kinds that don't exist, and
+ * commands around their limit. Counts have other values before each call. It writes what doesn't hold, and the status is then 1. */
 #ifdef WITH_LONG
 #include "vte_handler.h"
 #include "vte_long.h"
@@ -8,6 +7,7 @@
 #include "vte.h"
 #endif
 #include <stdio.h>
+#include <stdlib.h>
 #include <string.h>
 #include <sys/mman.h>
 
@@ -24,11 +24,12 @@ static uint8_t text[64];
 static const vte_parser new_parser;
 
 /* Feeds a new parser with so much, and returns how many bytes were read. */
-static size_t feed(size_t length, int kind, size_t event_room, size_t data_room, size_t wanted_events, size_t wanted_data, const char *what) {
+static size_t feed(size_t length, uint32_t kinds, uint32_t stops, size_t event_room, size_t data_room, size_t wanted_events, size_t wanted_data,
+                   const char *what) {
     vte_parser parser = new_parser;
     vte_counts counts = {77, 77};
-    size_t read = kind < 0 ? vte_feed(&parser, bytes, length, events, event_room, data, data_room, &counts)
-                           : vte_feed_until(&parser, bytes, length, (uint8_t)kind, events, event_room, data, data_room, &counts);
+    size_t read = vte_feed(&parser, length ? bytes : NULL, length, kinds, stops, event_room ? events : NULL, event_room, data_room ? data : NULL,
+                           data_room, &counts);
     holds(counts.events == wanted_events && counts.data == wanted_data, what);
     holds(read != VTE_NO_ROOM || memcmp(&parser, &new_parser, sizeof parser) == 0, "a parser without room");
     return read;
@@ -36,7 +37,7 @@ static size_t feed(size_t length, int kind, size_t event_room, size_t data_room,
 
 static size_t strip(size_t length, size_t room, size_t wanted, const char *what) {
     vte_parser parser = new_parser;
-    size_t written = 77, read = vte_strip(&parser, bytes, length, text, room, &written);
+    size_t written = 77, read = vte_strip(&parser, length ? bytes : NULL, length, room ? text : NULL, room, &written);
     holds(written == wanted, what);
     holds(read != VTE_NO_ROOM || memcmp(&parser, &new_parser, sizeof parser) == 0, "a parser without room for text");
     return read;
@@ -78,13 +79,14 @@ static void test_command(vte_parser *parser, const command *given, size_t step) 
     length += (size_t)sprintf((char *)sent + length, "%s", given->after);
     for (size_t at = 0; at < length;) {
         vte_counts counts;
-        at += vte_feed(parser, sent + at, at + step < length ? step : length - at, events, 64, data, sizeof data, &counts);
+        at += vte_feed(parser, sent + at, at + step < length ? step : length - at, VTE_ALL_KINDS, 0, events, 64, data,
+                       sizeof data, &counts);
         if (counts.events == 0) continue;
         vte_items pieces = vte_items_of(events, data);
         size_t count = 0, size = 0;
         for (; vte_next_piece(&pieces); count++) size += pieces.length;
         holds(events[0].flag == given->flags, "flags of a command");
-        holds(count == given->count && size == given->size && counts.data == 2 * count + size, "data of a command");
+        holds(count == given->count && size == given->size && counts.data == 4 * count + size, "data of a command");
         found += counts.events;
     }
     holds(found == 1, "a command is one event");
@@ -106,7 +108,7 @@ static void test_data(void) {
         size_t size = 0, in_area = 0;
         for (size_t at = 0; at < all; at += step) {
             vte_counts counts;
-            holds(vte_feed(&parser, sent + at, step, events, 64, data, sizeof data, &counts) == step, "data are read");
+            holds(vte_feed(&parser, sent + at, step, VTE_ALL_KINDS, 0, events, 64, data, sizeof data, &counts) == step, "data are read");
             for (size_t i = 0; i < counts.events; i++) {
                 if (events[i].kind == VTE_UNHOOK) found[size++] = '|';
                 if (events[i].kind != VTE_DATA) continue;
@@ -119,58 +121,94 @@ static void test_data(void) {
     }
     vte_parser parser = new_parser;
     vte_counts counts;
-    holds(vte_feed_until(&parser, sent, all, VTE_DATA, events, 64, data, sizeof data, &counts) == 8 && counts.events == 3, "data stop");
+    holds(vte_feed(&parser, sent, all, VTE_ALL_KINDS, VTE_KIND(VTE_DATA), events, 64, data, sizeof data, &counts) == 8 && counts.events == 3, "data stop");
     holds(events[2].kind == VTE_DATA && events[2].start == 4 && events[2].code == 4 && !events[2].flag, "the place of data");
+}
+
+/* Whether something is open is known at each byte. */
+static void test_open(void) {
+    static const uint8_t sent[] = "a\303\274\033[1m\033]2;t\a\033Pq+\030\377b";
+    static const char open[] = "01011101111101111000";
+    vte_parser parser = new_parser;
+    for (size_t at = 0; at < sizeof sent - 1; at++) {
+        vte_counts counts;
+        vte_feed(&parser, sent + at, 1, 0, 0, events, 64, data, sizeof data, &counts);
+        holds(counts.events == 0 && vte_is_open(&parser) == open[at] - '0', "what is open");
+    }
+}
+
+static const uint8_t all_kinds[] = "a\r\033P1q+\033\\\033]t\007\033[1mb\033(B\033Pq-\030\033Pqxyz";
+
+/* Each kind stops after its first event, of which there is no other before; one that isn't reported doesn't stop. */
+static void test_stops(void) {
+    const size_t all = sizeof all_kinds - 1;
+    vte_counts counts;
+    for (int kind = VTE_TEXT; kind <= VTE_ESC; kind++) {
+        vte_parser parser = new_parser;
+        size_t at, read = vte_feed(&parser, all_kinds, all, VTE_ALL_KINDS, VTE_KIND(kind), events, 64, data, sizeof data, &counts);
+        for (at = 0; at < counts.events && events[at].kind != kind; at++) continue;
+        holds(read < all && at < counts.events && at + 2 >= counts.events, "a kind stops");
+        parser = new_parser;
+        read = vte_feed(&parser, all_kinds, all, VTE_KIND(kind), 0, events, 64, data, sizeof data, &counts);
+        for (at = 0; at < counts.events && events[at].kind == kind; at++) continue;
+        holds(read == all && at > 0 && at == counts.events, "a kind alone");
+        parser = new_parser;
+        read = vte_feed(&parser, all_kinds, all, VTE_ALL_KINDS & ~VTE_KIND(kind), VTE_KIND(kind), events, 64, data, sizeof data, &counts);
+        holds(read == all, "a kind that isn't reported");
+    }
 }
 
 #ifdef WITH_LONG
 /* Feeds a new parser without a limit, as above. */
-static size_t feed_long(size_t length, uint32_t kinds, uint32_t stops, size_t room, size_t wanted, uint8_t stop, const char *what) {
+static size_t feed_long(size_t length, uint32_t kinds, uint32_t stops, size_t room, size_t wanted, const char *what) {
     vte_long_parser *parser = vte_long_parser_new();
-    vte_long_counts counts = {77, NULL, 77, 77};
-    size_t read = vte_long_feed(parser, bytes, length, kinds, stops, events, room, &counts);
-    holds(counts.events == wanted && counts.stop == stop && (wanted || counts.data_size == 0), what);
+    const uint8_t *area;
+    vte_counts counts = {77, 77};
+    size_t read = vte_long_feed(parser, length ? bytes : NULL, length, kinds, stops, room ? events : NULL, room, &area, &counts);
+    holds(counts.events == wanted && (wanted || counts.data == 0), what);
     vte_long_parser_free(parser);
     return read;
 }
 
 /* A command has all its bytes, and no flag but that of its end, if it has 16 pieces at most. */
 static void test_long_commands(void) {
-    static const size_t letters[] = {0, 1023, 1024, 1025, 70000};
+    static const size_t letters[] = {0, 1023, 1024, 1025, 60000};
     static uint8_t sent[80000] = "\033]2;";
     vte_long_parser *parser = vte_long_parser_new();
+    const uint8_t *area;
+    vte_counts counts;
     for (size_t i = 0; i < 2 * sizeof letters / sizeof *letters; i++) {
         size_t length = 4, rest = letters[i / 2];
-        vte_long_counts counts;
         memset(sent + length, 'a', rest);
         sent[length += rest] = i % 2 ? '\a' : 030;
-        holds(vte_long_feed(parser, sent, length + 1, VTE_KIND(VTE_OSC), 0, events, 64, &counts) == length + 1 && counts.events == 1, "a long command");
-        vte_items pieces = vte_items_of(events, counts.data);
+        holds(vte_long_feed(parser, sent, length + 1, VTE_KIND(VTE_OSC), 0, events, 64, &area, &counts) == length + 1 && counts.events == 1, "a long command");
+        vte_items pieces = vte_items_of(events, area);
         holds(events[0].flag == (i % 2 ? VTE_BELL : 0) && events[0].count == 2, "flags of a long command");
-        holds(vte_next_long_piece(&pieces) && pieces.length == 1 && vte_next_long_piece(&pieces) && pieces.length == rest
-              && memcmp(pieces.at, sent + 4, rest) == 0 && !vte_next_long_piece(&pieces) && !vte_next_long_piece(&pieces), "pieces of a long command");
+        holds(vte_next_piece(&pieces) && pieces.length == 1 && vte_next_piece(&pieces) && pieces.length == rest
+              && memcmp(pieces.at, sent + 4, rest) == 0 && !vte_next_piece(&pieces) && !vte_next_piece(&pieces), "pieces of a long command");
     }
-    /* data behind the 16th piece are dropped */
+    /* data after the 16th piece are lost */
     for (int drops = 0; drops < 2; drops++) {
         size_t length = (size_t)sprintf((char *)sent, "\033]a;a;a;a;a;a;a;a;a;a;a;a;a;a;a;b;%s\a", drops ? "c" : "");
-        vte_long_counts counts;
-        holds(vte_long_feed(parser, sent, length, VTE_KIND(VTE_OSC), 0, events, 64, &counts) == length && counts.events == 1
+        holds(vte_long_feed(parser, sent, length, VTE_KIND(VTE_OSC), 0, events, 64, &area, &counts) == length && counts.events == 1
               && events[0].count == 16 && events[0].flag == (drops ? VTE_BELL | VTE_TRUNCATED : VTE_BELL), "a command of 17 pieces");
     }
+    holds(!vte_long_is_open(parser) && vte_long_feed(parser, sent, 3, 0, 0, events, 64, &area, &counts) == 3 && vte_long_is_open(parser), "a command is open");
     vte_long_parser_free(parser);
 }
 
-/* The places of texts are in the bytes of the call, however many it reads. */
+/* The places of texts are in the bytes of the call, which are 64 KiB at most. */
 static void test_places(void) {
     static uint8_t sent[200000];
     vte_long_parser *parser = vte_long_parser_new();
-    vte_long_counts counts;
     size_t read = 0, end;
     memset(sent, 'a', sizeof sent);
     for (size_t at = 150009; at < sizeof sent; at += 10000) sent[at] = '\r';
     for (size_t from = 0; from < sizeof sent; from += read) {
-        read = vte_long_feed(parser, sent + from, sizeof sent - from, VTE_ALL_KINDS, 0, events, VTE_LEAST_EVENTS + from % 3, &counts);
-        holds(read > 0 && counts.stop == 0 && counts.data_size == 0, "a long text");
+        const uint8_t *area;
+        vte_counts counts;
+        read = vte_long_feed(parser, sent + from, sizeof sent - from, VTE_ALL_KINDS, 0, events, VTE_LEAST_EVENTS + from % 3, &area, &counts);
+        holds(read > 0 && read <= 65536 && counts.data == 0, "a long text");
         end = 0;
         for (size_t i = 0; i < counts.events; i++) {
             int is_text = events[i].kind == VTE_TEXT;
@@ -184,54 +222,6 @@ static void test_places(void) {
     vte_long_parser_free(parser);
 }
 
-static const uint8_t all_kinds[] = "a\r\033P1q+\033\\\033]t\007\033[1mb\033(B\033Pq-\030\033Pqxyz";
-
-/* Each kind stops after its first event, of which there is no other before; data of device control strings come in runs, in the place of
- * single bytes. */
-static void test_stops(void) {
-    const size_t all = sizeof all_kinds - 1;
-    vte_long_counts counts;
-    for (int kind = VTE_TEXT; kind <= VTE_DATA; kind++) {
-        vte_long_parser *parser = vte_long_parser_new();
-        uint32_t kinds = kind == VTE_DATA ? VTE_ALL_KINDS | VTE_KIND(VTE_DATA) : VTE_ALL_KINDS;
-        size_t at, read = vte_long_feed(parser, all_kinds, all, kinds, VTE_KIND(kind), events, 64, &counts);
-        for (at = 0; at < counts.events && events[at].kind != kind; at++) continue;
-        holds(counts.stop == 0 && read < all && at < counts.events && at + 2 >= counts.events, "a kind stops, long");
-        vte_long_parser_free(parser);
-    }
-    static const char *const runs[] = {"+", "-", "xyz"};
-    for (int more = 0; more < 2; more++) {
-        vte_long_parser *parser = vte_long_parser_new();
-        uint32_t kinds = more ? VTE_KIND(VTE_DATA) | VTE_KIND(VTE_PUT) : VTE_KIND(VTE_DATA);
-        holds(vte_long_feed(parser, all_kinds, all, kinds, 0, events, 64, &counts) == all, "data are read");
-        holds(counts.events == 3, "a run for each device control string");
-        for (size_t i = 0; i < 3; i++)
-            holds(events[i].kind == VTE_DATA && events[i].code == strlen(runs[i])
-                  && memcmp(vte_text_of(&events[i], all_kinds, counts.data), runs[i], events[i].code) == 0, "a run has its data");
-        vte_long_parser_free(parser);
-    }
-}
-
-/* Each byte of data has a record, however few there is room for, unless it stops the call. */
-static void test_puts(void) {
-    static const uint8_t sent[] = "\033Pq0123456789\033\\t";
-    const size_t all = sizeof sent - 1;
-    for (int stops = 0; stops < 2; stops++) {
-        vte_long_parser *parser = vte_long_parser_new();
-        size_t count = 0;
-        for (size_t at = 0; at < all;) {
-            vte_long_counts counts;
-            at += vte_long_feed(parser, sent + at, all - at, VTE_ALL_KINDS, stops ? VTE_KIND(VTE_PUT) : 0, events, VTE_LEAST_EVENTS, &counts);
-            size_t puts = 0;
-            for (size_t i = 0; i < counts.events; i++)
-                if (events[i].kind == VTE_PUT) holds(events[i].code == '0' + count++, "a byte of data"), puts++;
-            holds(puts <= (stops ? 1 : VTE_LEAST_EVENTS), "the bytes of data of a call");
-        }
-        holds(count == 10, "each byte of data has a record");
-        vte_long_parser_free(parser);
-    }
-}
-
 static void count_input(void *user, const uint8_t *input, size_t length) {
     holds(length > 0 && *input == 'a', "an input has characters");
     *(size_t *)user += 1;
@@ -242,7 +232,7 @@ static void test_runs(void) {
     const vte_handler handler = {.input = count_input};
     static const char stream[] = "aaaaaaaaaaaaaaaaaaaaaaaaaaaaaaaaaaaaaaaa\033[?2026haaaaaaaaaaaaaaaaaaaaaaaaaaaaaaaaaaaaaaaa";
     size_t count = 0, read;
-    vte_processor *processor = vte_processor_new(&handler, &count);
+    vte_processor *processor = vte_processor_new(&handler, sizeof handler, &count);
     vte_processor_advance(processor, (const uint8_t *)stream, sizeof stream - 1, &read);
     holds(count > 0 && count < 40, "a text comes in runs");
     count = 0;
@@ -251,14 +241,36 @@ static void test_runs(void) {
     vte_processor_free(processor);
 }
 
+/* A program that was compiled when tables had fewer calls passes its own size: no other call is made, and nothing after it is read. */
+static void test_old_table(void) {
+    size_t count = 0, read, size = offsetof(vte_handler, bell);
+    const vte_handler now = {.input = count_input};
+    void *old = malloc(size);
+    memcpy(old, &now, size);
+    vte_processor *processor = vte_processor_new(old, size, &count);
+    free(old);
+    holds(vte_processor_advance(processor, (const uint8_t *)"a\a\r", 3, &read) == VTE_OK && count == 1, "an old table");
+    vte_processor_free(processor);
+    processor = vte_processor_new(NULL, 0, NULL);
+    holds(vte_processor_advance(processor, (const uint8_t *)"a\a\r", 3, &read) == VTE_OK && read == 3, "a table without calls");
+    vte_processor_free(processor);
+    struct {
+        vte_handler calls;
+        void *later[3];
+    } new_table = {{.input = count_input}, {&count, &count, &count}};
+    processor = vte_processor_new(&new_table.calls, sizeof new_table, &count);
+    holds(vte_processor_advance(processor, (const uint8_t *)"a", 1, &read) == VTE_OK && count == 2, "a table with calls of later versions");
+    vte_processor_free(processor);
+}
+
 /* A table may have no function, and a call no bytes. */
 static void test_processor(void) {
     const vte_handler none = {0};
-    vte_processor *processor = vte_processor_new(&none, NULL);
+    vte_processor *processor = vte_processor_new(&none, sizeof none, NULL);
     vte_sync sync;
     size_t read = 77;
     holds(vte_processor_free(NULL) == VTE_OK, "NULL is no processor");
-    holds(vte_processor_advance(processor, all_kinds, 0, &read) == VTE_OK && read == 0, "no bytes are processed");
+    holds(vte_processor_advance(processor, NULL, 0, &read) == VTE_OK && read == 0, "no bytes are processed");
     holds(vte_processor_advance(processor, all_kinds, sizeof all_kinds - 1, &read) == VTE_OK && read == sizeof all_kinds - 1, "no function");
     holds(vte_processor_advance(processor, (const uint8_t *)"\030\033[?2026hab", 11, &read) == VTE_OK && read == 11, "an update");
     holds(vte_processor_sync(processor, &sync) == VTE_OK && sync.bytes_count == 2 && sync.is_pending == 1, "an update is held");
@@ -267,49 +279,50 @@ static void test_processor(void) {
     holds(vte_processor_free(processor) == VTE_OK, "a processor is freed");
 }
 
+#endif
+
 /* A call reads at most 4 GiB less one byte, so that a place has four bytes. The pages are all the same one. */
 static void test_most(void) {
     const size_t most = UINT32_MAX, length = most + 10;
     uint8_t *zeros = mmap(NULL, length, PROT_READ, MAP_PRIVATE | MAP_ANONYMOUS | MAP_NORESERVE, -1, 0);
-    vte_long_parser *parser = vte_long_parser_new();
-    vte_long_counts counts;
-    holds(zeros != MAP_FAILED && vte_long_feed(parser, zeros, length, VTE_KIND(VTE_OSC), 0, events, 64, &counts) == most, "4 GiB are read");
-    vte_long_parser_free(parser);
+    vte_parser parser = new_parser;
+    vte_counts counts;
+    holds(zeros != MAP_FAILED && vte_feed(&parser, zeros, length, VTE_KIND(VTE_OSC), 0, events, 64, data, sizeof data, &counts) == most, "4 GiB are read");
     munmap(zeros, length);
 }
 
 /* A text after any other event is one event, in the bytes of the call. */
 static void test_texts(void) {
     static const uint8_t texts[] = "ab\rcd\033]t\007ef\033[1mgh\033(Bij\033P1q+\033\\kl\033Pq\030mn\302\205op";
-    vte_long_parser *parser = vte_long_parser_new();
-    vte_long_counts counts;
+    vte_parser parser = new_parser;
+    vte_counts counts;
     size_t count = 0;
-    holds(vte_long_feed(parser, texts, sizeof texts - 1, VTE_ALL_KINDS, 0, events, 64, &counts) == sizeof texts - 1, "all texts are read");
+    holds(vte_feed(&parser, texts, sizeof texts - 1, VTE_ALL_KINDS, 0, events, 64, data, sizeof data, &counts) == sizeof texts - 1, "all texts are read");
     for (size_t i = 0; i < counts.events; i++) {
         if (events[i].kind != VTE_TEXT) continue;
         holds(events[i].code == 2 && !events[i].flag && texts[events[i].start] == "acegikmo"[count], "a text is whole");
         count++;
     }
     holds(count == 8, "each text is one event");
-    vte_long_parser_free(parser);
 }
 
+#ifdef WITH_LONG
 static void test_long(size_t all) {
-    holds(VTE_KIND(all ? VTE_OSC : VTE_CSI) == 1 << VTE_OSC, "a kind may be an expression");
     vte_long_parser_free(NULL);
-    holds(feed_long(0, VTE_ALL_KINDS, 0, VTE_LEAST_EVENTS, 0, 0, "long counts of no bytes") == 0, "no bytes are read, long");
+    holds(feed_long(0, VTE_ALL_KINDS, 0, VTE_LEAST_EVENTS, 0, "long counts of no bytes") == 0, "no bytes are read, long");
     for (size_t room = 0; room < VTE_LEAST_EVENTS; room++) {
-        holds(feed_long(all, VTE_ALL_KINDS, 0, room, 0, 0, "long counts without room") == VTE_NO_ROOM, "no room, long");
-        holds(feed_long(0, VTE_ALL_KINDS, 0, room, 0, 0, "long counts without room or bytes") == VTE_NO_ROOM, "no room or bytes, long");
+        holds(feed_long(all, VTE_ALL_KINDS, 0, room, 0, "long counts without room") == VTE_NO_ROOM, "no room, long");
+        holds(feed_long(0, VTE_ALL_KINDS, 0, room, 0, "long counts without room or bytes") == VTE_NO_ROOM, "no room or bytes, long");
     }
-    holds(feed_long(all, VTE_ALL_KINDS, ~VTE_ALL_KINDS, 64, 3, 0, "long counts of all") == all, "all is read, long");
-    holds(feed_long(all, VTE_ALL_KINDS, VTE_KIND(VTE_CSI), 64, 2, 0, "long counts of a sequence") == 5, "a sequence stops, long");
-    holds(feed_long(all, ~VTE_ALL_KINDS, 0, 64, 0, 0, "long counts of no kind") == all, "no kind, long");
+    holds(feed_long(all, VTE_ALL_KINDS, ~VTE_ALL_KINDS, 64, 3, "long counts of all") == all, "all is read, long");
+    holds(feed_long(all, VTE_ALL_KINDS, VTE_KIND(VTE_CSI), 64, 2, "long counts of a sequence") == 5, "a sequence stops, long");
+    holds(feed_long(all, ~VTE_ALL_KINDS, 0, 64, 0, "long counts of no kind") == all, "no kind, long");
     vte_long_parser *parser = vte_long_parser_new();
     for (int round = 0; round < 2; round++) {
-        vte_long_counts counts;
-        holds(vte_long_feed(parser, bytes, all, VTE_ALL_KINDS, 0, events, 64, &counts) == all, "all is read again");
-        holds(counts.data_size == 3 && events[1].start == 0, "data of earlier calls are gone");
+        const uint8_t *area;
+        vte_counts counts;
+        holds(vte_long_feed(parser, bytes, all, VTE_ALL_KINDS, 0, events, 64, &area, &counts) == all, "all is read again");
+        holds(counts.data == 3 && events[1].start == 0, "data of earlier calls are gone");
     }
     vte_long_parser_free(parser);
 }
@@ -317,20 +330,19 @@ static void test_long(size_t all) {
 
 int main(void) {
     const size_t all = sizeof bytes - 1;
-    for (int kind = -1; kind < 256; kind++) {
-        holds(feed(0, kind, VTE_LEAST_EVENTS, VTE_LEAST_DATA, 0, 0, "counts of no bytes") == 0, "no bytes are read");
-        for (size_t length = 0; length <= all; length += all) {
-            holds(feed(length, kind, VTE_LEAST_EVENTS - 1, VTE_LEAST_DATA, 0, 0, "counts of too few events") == VTE_NO_ROOM, "too few events");
-            holds(feed(length, kind, VTE_LEAST_EVENTS, VTE_LEAST_DATA - 1, 0, 0, "counts of too few data") == VTE_NO_ROOM, "too few data");
-            holds(feed(length, kind, 0, 0, 0, 0, "counts of no room") == VTE_NO_ROOM, "no room");
-        }
+    holds(VTE_KIND(all ? VTE_OSC : VTE_CSI) == 1 << VTE_OSC, "a kind may be an expression");
+    holds(feed(0, VTE_ALL_KINDS, 0, VTE_LEAST_EVENTS, VTE_LEAST_DATA, 0, 0, "counts of no bytes") == 0, "no bytes are read");
+    for (size_t length = 0; length <= all; length += all) {
+        holds(feed(length, VTE_ALL_KINDS, 0, VTE_LEAST_EVENTS - 1, VTE_LEAST_DATA, 0, 0, "counts of too few events") == VTE_NO_ROOM, "too few events");
+        holds(feed(length, VTE_ALL_KINDS, 0, VTE_LEAST_EVENTS, VTE_LEAST_DATA - 1, 0, 0, "counts of too few data") == VTE_NO_ROOM, "too few data");
+        holds(feed(length, VTE_ALL_KINDS, 0, 0, 0, 0, 0, "counts of no room") == VTE_NO_ROOM, "no room");
     }
     /* a group of one number takes three bytes */
-    holds(feed(all, -1, 64, VTE_LEAST_DATA, 3, 3, "counts of all") == all, "all is read");
-    for (int kind = 9; kind < 256; kind++)
-        holds(feed(all, kind, 64, VTE_LEAST_DATA, 3, 3, "counts of a kind that doesn't exist") == all, "a kind that doesn't exist stops");
-    holds(feed(all, VTE_TEXT, 64, VTE_LEAST_DATA, 1, 0, "counts of a text") == 1, "a text stops");
-    holds(feed(all, VTE_CSI, 64, VTE_LEAST_DATA, 2, 3, "counts of a sequence") == 5, "a sequence stops");
+    holds(feed(all, VTE_ALL_KINDS, 0, 64, VTE_LEAST_DATA, 3, 3, "counts of all") == all, "all is read");
+    for (int kind = 8; kind < 32; kind++)
+        holds(feed(all, ~0u, VTE_KIND(kind), 64, VTE_LEAST_DATA, 3, 3, "counts of a kind that doesn't exist") == all, "a kind that doesn't exist stops");
+    holds(feed(all, VTE_ALL_KINDS, VTE_KIND(VTE_TEXT), 64, VTE_LEAST_DATA, 1, 0, "counts of a text") == 1, "a text stops");
+    holds(feed(all, VTE_ALL_KINDS, VTE_KIND(VTE_CSI), 64, VTE_LEAST_DATA, 2, 3, "counts of a sequence") == 5, "a sequence stops");
     holds(strip(0, VTE_LEAST_TEXT, 0, "text of no bytes") == 0, "no bytes are stripped");
     for (size_t room = 0; room < VTE_LEAST_TEXT; room++) {
         holds(strip(all, room, 0, "text without room") == VTE_NO_ROOM, "room for too little text");
@@ -339,16 +351,17 @@ int main(void) {
     holds(strip(all, VTE_LEAST_TEXT, 2, "text of all") == all, "the least text is enough");
     test_commands();
     test_data();
+    test_open();
+    test_stops();
+    test_texts();
+    test_most();
 #ifdef WITH_LONG
     test_long(all);
     test_long_commands();
     test_places();
     test_processor();
+    test_old_table();
     test_runs();
-    test_stops();
-    test_puts();
-    test_texts();
-    test_most();
 #endif
     return status;
 }

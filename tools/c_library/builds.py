@@ -13,7 +13,6 @@ TOOLS = Path(__file__).resolve().parent.parent
 CRATE = TOOLS.parent / "crates/vte_c"
 # what cargo's build has beside the proved functions
 BESIDE = TOOLS.parent / "rust/vte_c"
-PYTHON = TOOLS.parent / "python"
 WARNINGS = ["-O2", "-Wall", "-Wextra", "-Werror", f"-I{CRATE / 'include'}", f"-I{BESIDE / 'include'}"]
 SANITIZERS = ["-g", "-fsanitize=address,undefined", "-fno-sanitize-recover=all"]
 # the only functions that the library of each build may need
@@ -72,11 +71,6 @@ class Library:
     def of_events(self):
         return ["-DWITH_LONG"] if self.is_whole else []
 
-    @property
-    def environment(self):
-        """The variables with which Python finds the package and the library."""
-        return {"VTE_LIBRARY": str(self.shared), "PYTHONPATH": str(PYTHON / "src"), "PYTHONDONTWRITEBYTECODE": "1"}
-
 
 def declared(library):
     """The functions that the library's headers declare and don't define."""
@@ -101,7 +95,7 @@ def test_symbols(library, report):
     shared = {name for _, name in symbols(library.shared, "-D", "--defined-only")}
     report.holds("symbols of the shared library", shared == wanted, f"{shared ^ wanted}")
     named = subprocess.run(["readelf", "-d", library.shared], capture_output=True, text=True).stdout
-    report.holds("name of the shared library", "soname: [libvte_c.so.5]" in named, named)
+    report.holds("name of the shared library", "soname: [libvte_c.so.6]" in named, named)
     needed = {name for letter, name in symbols(library.archive) if letter == "U"}
     report.holds("needed functions", needed <= NEEDED[library.build], f"{needed - NEEDED[library.build]}")
     panics = [name for _, name in symbols(library.archive) if OF_PANICS.search(name)]
@@ -133,7 +127,7 @@ def test_any_parser(library, report):
     any_parser = library.program(CRATE / "examples/any_parser.c", *words)
     report.same("any bytes as a parser", b"", output_of([any_parser]), b"")
     report.same("edges of vte.h", b"", output_of([library.program(TOOLS / "c_library/border.c", *library.of_events, *words)]), b"")
-    library.program(CRATE / "examples/time_calls.c")
+    library.program(CRATE / "examples/time_calls.c", "-std=c99", "-pedantic-errors")
 
 
 def test_refused_memory(library, report):
@@ -141,3 +135,21 @@ def test_refused_memory(library, report):
     if library.is_whole:
         words = [f"-Wl,--wrap={name}" for name in ("malloc", "realloc", "free")]
         report.same("refused memory", b"", output_of([library.program(TOOLS / "c_library/refused.c", *words)]), b"1 1\n" * 4)
+
+
+def test_threads(library, report):
+    """Uses parsers and a processor in two threads, with the library and the program under the thread sanitizer if rustc and cc have it."""
+    if not library.is_whole:
+        return
+    source = TOOLS / "c_library/threads.c"
+    report.same("threads", b"", output_of([library.program(source, "-pthread")]), b"busy\n")
+    sanitized = library.folder / "for_threads"
+    environment = {**os.environ, "RUSTC_BOOTSTRAP": "1", "RUSTFLAGS": "-Zsanitizer=thread -Cunsafe-allow-abi-mismatch=sanitizer",
+                   "CARGO_TARGET_DIR": str(sanitized / "target")}
+    built = subprocess.run([TOOLS / "build_c_library", "--cargo", sanitized], env=environment, capture_output=True, text=True)
+    program = sanitized / "threads"
+    words = ["cc", "-O1", "-g", "-fsanitize=thread", "-pthread", *WARNINGS[-2:], source, sanitized / "libvte_c.a", "-o", program]
+    if built.returncode != 0 or not compile_with(words)[0]:
+        report.missing("the thread sanitizer of rustc and cc", "threads were tested without it")
+        return
+    report.same("threads, sanitized", b"", output_of([program]), b"busy\n")

@@ -166,7 +166,7 @@ static void renew(void) {
     if (table == NULL) exit(1);
     *table = calls;
     end();
-    processor = vte_processor_new(table, &processor);
+    processor = vte_processor_new(table, sizeof *table, &processor);
     free(table);
     if (processor == NULL) exit(1);
 }

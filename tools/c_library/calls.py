@@ -1,23 +1,22 @@
-"""Rows of handler calls, by the processor of C and that of Python."""
-import ctypes
-import os
+"""Rows of handler calls, by the processor of C and that of C++."""
 import re
 import shutil
-import sys
 from functools import lru_cache
 from itertools import groupby, zip_longest
-from types import SimpleNamespace
 from typing import List, NamedTuple, Optional
 
-from c_library.builds import SANITIZERS, TOOLS
+from c_library.builds import BESIDE, SANITIZERS, TOOLS
+from c_library.numbers import of_rust
 from c_library.report import output_of
 
 ROWS = TOOLS.parent / "crates/call_rows/stdin"
 MODES = {4: "Insert", 20: "LineFeedNewLine"}
 PRIVATE_MODES = {
-    1: "CursorKeys", 3: "ColumnMode", 6: "Origin", 7: "LineWrap", 12: "BlinkingCursor", 25: "ShowCursor", 1000: "ReportMouseClicks",
-    1002: "ReportCellMouseMotion", 1003: "ReportAllMouseMotion", 1004: "ReportFocusInOut", 1005: "Utf8Mouse", 1006: "SgrMouse",
-    1007: "AlternateScroll", 1042: "UrgencyHints", 1049: "SwapScreenAndSetRestoreCursor", 2004: "BracketedPaste", 2026: "SyncUpdate",
+    1: "CursorKeys", 3: "ColumnMode", 6: "Origin", 7: "LineWrap", 12: "BlinkingCursor",
+    25: "ShowCursor", 1000: "ReportMouseClicks", 1002: "ReportCellMouseMotion",
+    1003: "ReportAllMouseMotion", 1004: "ReportFocusInOut", 1005: "Utf8Mouse", 1006: "SgrMouse",
+    1007: "AlternateScroll", 1042: "UrgencyHints", 1049: "SwapScreenAndSetRestoreCursor",
+    2004: "BracketedPaste", 2026: "SyncUpdate",
 }
 # a timeout that is set, which calls.c writes, and one that is cleared
 SET, CLEAR = "set_timeout 150", "clear_timeout"
@@ -25,136 +24,117 @@ SET, CLEAR = "set_timeout 150", "clear_timeout"
 MOST_CUT = 2048
 # acts with more digits are tried once
 MOST_BYTES = 100_000
-# reads acts as calls.c does, and writes the lines of the rows
-IN_PYTHON = """
-import sys, vte
-from c_library.calls import line_of
-processor = None
-for act in sys.stdin.read().splitlines():
-    made = []
-    if act == "new":
-        print(act)
-        processor = vte.Processor()
-    else:
-        made = processor.stop_sync() if act == "stop_sync" else processor.feed(bytes.fromhex(act[8:]))
-    for call in made:
-        print(line_of(call))
-    print("held", processor.sync_bytes_count, int(processor.sync_timeout is not None))
-"""
-# turns what calls.c writes into these lines
-OF_C = """
-import sys
-from functools import lru_cache
-from c_library.calls import line_of_c
-sys.stdout.writelines(map(lru_cache(None)(lambda line: line_of_c(line.split()) + "\\n"), sys.stdin))
-"""
 
 
-def quoted(text):
-    shown = (f"\\{c}" if c in '"\\' else c if " " <= c <= "~" else f"\\u{{{ord(c):x}}}" for c in text)
-    return '"' + "".join(shown) + '"'
+# ---- the lines of the rows for what calls.c wrote: numbers, `tHEX` for a text, `-` for none, and
+# `c` and five numbers for a colour
 
 
-def optional(value, show=str):
-    return "None" if value is None else f"Some({show(value)})"
+@lru_cache(None)
+def names():
+    """The names of Rust's enums by their numbers."""
+    return {kind: {number: name for name, number in numbers.items()} for kind, numbers in of_rust().items()}
 
 
-def mode(number, names):
-    return f"Named({names[number]})" if number in names else f"Unknown({number})"
+def named(kind):
+    return lambda word: names()[kind][int(word)]
 
 
-def rgb(color):
-    return f"Rgb {{ r: {color[0]}, g: {color[1]}, b: {color[2]} }}"
+def optional(shown):
+    return "None" if shown is None else f"Some({shown})"
 
 
-def color_text(color):
-    if isinstance(color, tuple):
-        return f"Spec({rgb(color)})"
-    return f"Named({color.name})" if hasattr(color, "name") else f"Indexed({color})"
+def quoted(word):
+    """A text in quotes, or None."""
+    if word == "-":
+        return None
+    text = bytes.fromhex(word[1:]).decode()
+    return '"' + "".join(f"\\{c}" if c in '"\\' else c if " " <= c <= "~" else f"\\u{{{ord(c):x}}}" for c in text) + '"'
 
 
-def attribute(call):
-    name, color = call.attribute.name, call.color
+def rgb(word):
+    _, red, green, blue, _ = word[1:].split(",")
+    return f"Rgb {{ r: {red}, g: {green}, b: {blue} }}"
+
+
+def color(word):
+    kind, *_, index = word[1:].split(",")
+    return [None, f"Named({names()['NamedColor'].get(int(index))})", f"Spec({rgb(word)})", f"Indexed({index})"][int(kind)]
+
+
+def attribute(number, of):
+    name, shown = names()["Attr"][int(number)], color(of)
     if name == "UnderlineColor":
-        return f"{name}({optional(color, color_text)})"
-    return name if color is None else f"{name}({color_text(color)})"
+        return f"{name}({optional(shown)})"
+    return name if shown is None else f"{name}({shown})"
 
 
-def style(call):
-    shown = f"CursorStyle {{ shape: {call.shape!r}, blinking: {str(call.blinking).lower()} }}"
-    return optional(None if call.shape is None else shown)
+def style(shape, blinking):
+    of_cursor = f"CursorStyle {{ shape: {names()['CursorShape'].get(int(shape))}, blinking: {'true' if int(blinking) else 'false'} }}"
+    return optional(None if shape == "-1" else of_cursor)
 
 
-def link(call):
-    shown = f"Hyperlink {{ id: {optional(call.id, quoted)}, uri: {quoted(call.uri or '')} }}"
-    return optional(None if call.uri is None else shown)
+def link(name, uri):
+    shown = f"Hyperlink {{ id: {optional(quoted(name))}, uri: {quoted(uri)} }}"
+    return optional(None if uri == "-" else shown)
 
 
-# how the arguments of a call are written in the rows, if not one after another
+def letter(word):
+    c = chr(int(word))
+    return optional(None if word == "0" else "'\\''" if c == "'" else f"'{c}'")
+
+
+def each(*shows):
+    """Shows each argument in its own way."""
+    return lambda *words: " ".join(show(word) for show, word in zip(shows, words))
+
+
+def mode(known):
+    return lambda word: f"Named({known[int(word)]})" if int(word) in known else f"Unknown({word})"
+
+
+def hexadecimal(word):
+    return f"{int(word):02x}"
+
+
+# how the arguments of a call are written in the rows, if not as they are
 SHOWN = {
-    "Goto": lambda call: f"{call.line} {call.col}",
-    "SetScp": lambda call: f"{call.path!r} {call.update!r}",
-    "SetKeyboardMode": lambda call: f"{call.modes} {call.behavior!r}",
-    "TerminalAttribute": attribute,
-    "SetCursorStyle": style,
-    "SetHyperlink": link,
-    "SetScrollingRegion": lambda call: f"{call.top} {optional(call.bottom)}",
-    "IdentifyTerminal": lambda call: optional(call.intermediate, lambda c: "'\\''" if c == "'" else f"'{c}'"),
-    "SetTitle": lambda call: optional(call.title, quoted),
-    "SetColor": lambda call: f"{call.index} {rgb(call.color)}",
-    "DynamicColorSequence": lambda call: f"{quoted(call.prefix)} {call.index} {quoted(call.terminator)}",
-    "SetMouseCursorIcon": lambda call: "".join(word.title() for word in call.keyword.split("-")),
-    "SetActiveCharset": lambda call: f"G{call.index}",
-    "ConfigureCharset": lambda call: f"G{call.index} {call.charset!r}",
-    "ClipboardStore": lambda call: f"{ord(call.clipboard):02x} {call.data.hex() or '-'}",
-    "ClipboardLoad": lambda call: f"{ord(call.clipboard):02x} {quoted(call.terminator)}",
-    **{f"{what}Mode": lambda call: mode(call.mode, MODES) for what in ("Set", "Unset", "Report")},
-    **{f"{what}PrivateMode": lambda call: mode(call.mode, PRIVATE_MODES) for what in ("Set", "Unset", "Report")},
+    "terminal_attribute": attribute,
+    "set_cursor_style": style,
+    "set_hyperlink": link,
+    "identify_terminal": letter,
+    "set_title": lambda title: optional(quoted(title)),
+    "set_scrolling_region": lambda top, bottom: f"{top} {optional(None if bottom == '0' else bottom)}",
+    "set_color": each(str, rgb),
+    "dynamic_color_sequence": each(quoted, str, quoted),
+    "set_mouse_cursor_icon": lambda icon: "".join(word.title() for word in bytes.fromhex(icon[1:]).decode().split("-")),
+    "set_active_charset": "G{}".format,
+    "configure_charset": each("G{}".format, named("StandardCharset")),
+    "clipboard_store": each(hexadecimal, lambda data: data[1:] or "-"),
+    "clipboard_load": each(hexadecimal, quoted),
+    "clear_line": named("LineClearMode"),
+    "clear_screen": named("ClearMode"),
+    "clear_tabs": named("TabulationClearMode"),
+    "set_cursor_shape": named("CursorShape"),
+    "set_scp": each(named("ScpCharPath"), named("ScpUpdateMode")),
+    "set_keyboard_mode": each(str, named("KeyboardModesApplyBehavior")),
+    "set_modify_other_keys": named("ModifyOtherKeys"),
+    **{f"{what}_mode": mode(MODES) for what in ("set", "unset", "report")},
+    **{f"{what}_private_mode": mode(PRIVATE_MODES) for what in ("set", "unset", "report")},
 }
 
 
-def line_of(call):
-    """The line of the rows for a call of Python."""
-    name = type(call).__name__
-    if name == "Input":
-        # some rows repeat a character two million times
-        lines = {c: f"input {ord(c):04x}" for c in set(call.text)}
-        return "\n".join(lines[c] for c in call.text)
-    shown = SHOWN[name](call) if name in SHOWN else " ".join(map(repr, call))
-    return f"{re.sub('(?<!^)(?=[A-Z])', '_', name).lower()} {shown}".rstrip()
+@lru_cache(None)
+def line_of(line):
+    """The lines of the rows for a line that calls.c wrote."""
+    name, *words = line.split()
+    if name == "input":
+        return "\n".join(f"input {ord(c):04x}" for c in bytes.fromhex(words[0][1:]).decode())
+    shown = SHOWN[name](*words) if name in SHOWN else " ".join(words)
+    return f"{'goto' if name == 'go_to' else name} {shown}".rstrip()
 
 
-@lru_cache
-def kinds_by_name():
-    from vte import calls
-
-    return {re.sub("(?<!^)(?=[A-Z])", "_", kind.__name__).lower(): kind for kind in calls.KINDS}
-
-
-def line_of_c(words):
-    """The line of the rows for one that calls.c wrote."""
-    from vte import _processor, calls
-
-    kind = kinds_by_name().get(words[0].replace("go_to", "goto"))
-    if kind is None:
-        return " ".join(words)
-    if kind is calls.Input:
-        return line_of(kind(bytes.fromhex(words[1][1:]).decode()))
-    kept, values = [], []
-    for word in words[1:]:
-        values += passed(word, kept)
-    _, read = _processor.OTHERS.get(kind.__name__, (None, lambda *numbers: numbers))
-    return line_of(kind(*read(*values)))
-
-
-def passed(word, kept):
-    """What C passed, as Python's functions take it: of a text its place and its size."""
-    if word[0] == "t":
-        kept.append(ctypes.create_string_buffer(bytes.fromhex(word[1:])))
-        return ctypes.addressof(kept[-1]), len(word) // 2
-    if word[0] == "c":
-        return [SimpleNamespace(**dict(zip(("kind", "red", "green", "blue", "index"), map(int, word[1:].split(",")))))]
-    return (None, 0) if word == "-" else [int(word)]
+# ---- rows
 
 
 def rows():
@@ -240,26 +220,26 @@ def acts_of(lines):
 
 
 def test_calls(library, report):
-    """Compares the calls of C and of Python with the rows, and those of C++, and under sanitizers, with C's."""
+    """Compares the calls of C with the rows, and those of C++, and under sanitizers, with C's."""
     if not library.is_whole:
         return
     all_scripts = list(scripts())
     report.holds("rows of calls", len(all_scripts) > 1900, f"{len(all_scripts)} scripts")
     short = list(filter(is_short, all_scripts))
-    environment = {**library.environment, "PYTHONPATH": f"{library.environment['PYTHONPATH']}{os.pathsep}{TOOLS}"}
     written = output_of([program(library, "c")], acts_text(all_scripts))
-    compare("C", all_scripts, output_of([sys.executable, "-c", OF_C], written, **environment), report, asks_clock=True)
+    lines = "".join(line_of(line) + "\n" for line in written.decode().splitlines())
+    compare("C", all_scripts, lines.encode(), report)
     wanted = [output for script, output in zip(all_scripts, outputs_of(written)) if is_short(script)]
     for made in [program(library, "c", *SANITIZERS), program(library, "cpp"), program(library, "cpp", *SANITIZERS)]:
         if made:
             outputs = outputs_of(output_of([made], acts_text(short)))
             for script, output, want in zip_longest(short, outputs, wanted):
                 report.same(f"calls of {made.name}: {script and script.name}", b"", output, want)
-    compare("Python", short, output_of([sys.executable, "-c", IN_PYTHON], acts_text(short), **environment), report)
     # no sequence gives `newline`
-    kinds = output_of([sys.executable, "-c", "import c_library.calls; print(*c_library.calls.kinds_by_name())"], **environment).decode().split()
+    header = (BESIDE / "include/vte_handler.h").read_text()
+    kinds = {name.replace("go_to", "goto") for name in re.findall(r"void \(\*(\w+)\)", header)}
     made = {call.split()[0] for script in short for call in script.calls} - {"set_timeout", "clear_timeout"}
-    report.holds("rows of each call", set(kinds) - made == {"newline"} and made < set(kinds), f"{set(kinds) ^ made}")
+    report.holds("rows of each call", kinds - made == {"newline"} and made < kinds, f"{kinds ^ made}")
 
 
 def is_short(script):
@@ -284,8 +264,8 @@ def outputs_of(written):
     return written.split(b"new\nheld 0 0\n")[1:]
 
 
-def compare(who, all_scripts, written, report, asks_clock=False):
-    """Compares what was written for each script. Python doesn't say when an update begins."""
+def compare(who, all_scripts, written, report):
+    """Compares what was written for each script."""
     outputs = outputs_of(written)
     report.holds(f"calls of {who}", len(outputs) == len(all_scripts), written[-2000:].decode(errors="replace"))
     for script, output in zip(all_scripts, outputs):
@@ -299,11 +279,11 @@ def compare(who, all_scripts, written, report, asks_clock=False):
             elif not script.shown_alone or is_shown(line):
                 made += lines
             sets += lines.count(SET)
-        is_order = asks_clock and SET in script.calls
+        is_order = SET in script.calls
         made = [line for line in made if is_order or line != SET]
         calls = [call for call in script.calls if call != CLEAR and (is_order or call != SET)]
         name = f"calls of {who}: {script.name}"
         report.same(name, "".join(script.acts).encode(), "\n".join(made).encode(), "\n".join(calls).encode())
         for has, wanted in zip(found, script.held):
-            known = [it if want is None or not asks_clock and place == 2 else want for place, (it, want) in enumerate(zip(has, wanted))]
+            known = [it if want is None else want for it, want in zip(has, wanted)]
             report.holds(f"{name}: held", has == known, f"{has}, not {wanted}")

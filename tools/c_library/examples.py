@@ -1,17 +1,12 @@
-"""The examples in C, C++, Go and Python, and the Python package as pip installs it."""
+"""The examples in C, C++ and Go, and the installed library."""
 import os
-import re
 import select
 import shutil
 import subprocess
 import sys
-import sysconfig
-import tarfile
-import zipfile
 from pathlib import Path
 
-from building import rust_builds
-from c_library.builds import CRATE, PYTHON, TOOLS
+from c_library.builds import CRATE, SANITIZERS, TOOLS
 from c_library.report import output_of
 
 EXAMPLES = CRATE / "examples"
@@ -22,45 +17,15 @@ STREAM = b"a\xc3\xbc\x1b[1;31m\x1b]2;a;b\x07\xff\n"
 PRINTS = r"printf 'a\303\274\033[1;31m\033]2;a;b\007\377\n'"
 EVENTS = "text aü\ncsi 6d\nosc 00\ntext \ufffd\nexecute 0d\nexecute 0a\n".encode()
 TEXT = "aü\ufffd\n".encode()
-# what comes slowly, and what must be written of each at once: by a title watcher on standard error, by the filter in Python on output
+# what comes slowly, and what must be written of each at once: by a title watcher on standard error, by a stripper on output
 SLOWLY = [(title, title, said) for title, said in (
     (b"a\x1b]2;hi\x07", b"title: hi\n"), (b"b\x1b]1;icon\x07\x1b]21;x\x07\x1b]0;you\x1b\\", b"title: you\n"))]
 LINES = [(b"\x1b[1mone\x1b[m\n", b"one\n", b""), (b"two\n", b"two\n", b"")]
-# shows the screen of crates/example_screen
-SCREEN = """#![allow(dead_code)]
-mod cell;
-mod performer;
-mod screen;
-
-fn main() {
-    let (mut bytes, mut screen) = (Vec::new(), screen::Screen::new());
-    std::io::Read::read_to_end(&mut std::io::stdin(), &mut bytes).unwrap();
-    vte::Parser::new().advance(&mut screen, &bytes);
-    for row in 0..screen::ROWS {
-        let line: String = screen.row(row).iter().map(|cell| cell.character).collect();
-        println!("{}", line.trim_end());
-    }
-}
-"""
-# names what is installed, whose files have the hashes of its record
-USES = """
-import base64, hashlib, importlib.metadata, os, sys, vte
-assert vte.strip('a\\x1b[1mb') == 'ab' and os.path.dirname(vte._library._library._name) == os.path.dirname(vte.__file__)
-made = importlib.metadata.distribution("naqshuve-vte")
-about = made.metadata
-assert (made.version, about["Requires-Python"], about["License"]) == (vte.__version__, ">=3.9", "Apache-2.0")
-assert about["Summary"] and about.get_all("License-File") == ["LICENSE", "NOTICE"]
-assert about["Description-Content-Type"] == "text/markdown" and sys.argv[1] in about.get_payload()
-for file in made.files:
-    digest = base64.urlsafe_b64encode(hashlib.sha256(file.read_binary()).digest()).rstrip(b"=").decode()
-    assert file.hash is None or file.hash.value == digest, file
-print(vte.__file__, {file.name for file in made.files})
-"""
-MODULES = {"py.typed", *(file.name for file in (PYTHON / "src/vte").glob("*.py"))}
 # the files of an installed library
 HEADERS = "vte.h", "vte_long.h", "vte_handler.h", "vte.hpp"
 OF_LIBRARY = {f"include/{name}" for name in HEADERS} | {f"lib/{name}" for name in (
-    "libvte_c.a", "libvte_c.so", "libvte_c.so.5", "pkgconfig/libvte_c.pc", "cmake/vte_c/vte_c-config.cmake", "cmake/vte_c/vte_c-config-version.cmake")}
+    "libvte_c.a", "libvte_c.so", "libvte_c.so.6", "pkgconfig/libvte_c.pc", "cmake/vte_c/vte_c-config.cmake", "cmake/vte_c/vte_c-config-version.cmake")} | {
+    "share/man/man3/vte.3", "share/doc/libvte_c/LICENSE", "share/doc/libvte_c/NOTICE"}
 
 
 def test_examples(library, report):
@@ -70,15 +35,22 @@ def test_examples(library, report):
     test_compiled(library, report, "Go", "go", lambda name: go_program(library, name))
     if library.is_whole:
         test_whole(library, report)
-    # if PYTHONUNBUFFERED is set, Python writes at once whatever the filter does
-    for name, pieces in ("strip_lines", LINES), ("events", [(b"a\x1b[1", b"print 0061\n", b""), (b"m", b"csi [1] - false 6d\n", b"")]):
-        test_slow_pipe(f"example in Python, {name}", [sys.executable, PYTHON / f"examples/{name}.py"], pieces, report,
-                       **{**library.environment, "PYTHONUNBUFFERED": ""})
-    # over rt's library the package has parsers with a limit, and the functions for text
-    chosen = [] if library.is_whole else ["Strip", "Copies"]
-    tests = subprocess.run([sys.executable, "-W", "error", PYTHON / "tests/test_vte.py", *chosen], capture_output=True, text=True,
-                           env={**os.environ, **library.environment})
-    report.holds("tests of the Python package", tests.returncode == 0, tests.stderr[-2000:])
+    test_forward(library, report)
+
+
+def test_forward(library, report):
+    """Passes streams on, from which clipboards are dropped, however they are cut."""
+    program = library.program(EXAMPLES / "c/forward.c", *SANITIZERS, optional=True) or library.program(EXAMPLES / "c/forward.c")
+    kept = [b"a\xc3\xbc\xff\x1b[1;31m", b"b\x1b]2;a;b\x07\x1bPq+\x1b\\", b"\x1b]521;x\x07\x1b_52;c\x1b\\", b"\x1b[mc\xc3\r\n", b"\x1b]2;t\x1b\\d\x1b]5"]
+    clipboards = [b"\x1b]52;c;YQ==\x07", b"\x1b]52;c;" + b"YQ==" * 3000 + b"\x1b\\", b"\x1b]52\x18", b"\x1b]52;c;x"]
+    stream, wanted = b"".join(a + b for a, b in zip(kept, [*clipboards, b""])), b"".join(kept)
+    report.same("example in C, forward", stream, output_of([program], stream), wanted)
+    # one that another sequence ends isn't followed by ST
+    for name in "vim", "titles", "sixel", "malformed-text":
+        recorded = (TOOLS / f"recorded/{name}.bin").read_bytes()
+        report.same(f"example in C, forward of {name}", recorded, output_of([program], recorded), recorded)
+    pieces = [(b"a\x1b]52;c;", b"a"), (b"YQ==\x07b\x1b", b"b"), (b"[mc", b"\x1b[mc")]
+    test_slow_pipe("example in C, forward", [program], pieces, report)
 
 
 def test_whole(library, report):
@@ -97,39 +69,6 @@ def test_whole(library, report):
         written = output_of([library.program(EXAMPLES / "cpp/outline.cpp", "-std=c++17", compiler="c++")], STREAM + b"\x1b[3;5H\x1b[?2026hend")
         report.same("example in C++, outline", STREAM, written, "aü[bold][title a;b]\ufffd[go to 2, 4]end".encode())
         test_slow_pipe("example in C++, outline", [library.folder / "outline_cpp"], [(b"a\x1b[1m", b"a[bold]"), (b"b", b"b")], report)
-    test_screen(library, report)
-
-
-def test_screen(library, report):
-    """Shows a stream whose screen was worked out, and recordings in pieces of several sizes."""
-    def screen(stream, piece):
-        return output_of([sys.executable, PYTHON / "examples/screen.py", *([str(piece)] if piece else [])], stream, **library.environment)
-
-    worked = b"ab\x1b[3;5Hc\x1b[31md\r\n\x1b[2Ce\x1b[1;2H\x1b[KX\x1b[24;80Hyz\x1b[22;1H\x1b[1Jw"
-    wanted = "\n" * 21 + "w\n" + " " * 79 + "y\nz\n"
-    report.same("example in Python, screen", worked, screen(worked, None), wanted.encode())
-    for name, size, seen in ("vim", 8000, b"\n  7 typedef struct cell {\n"), ("less", 10_000, b""):
-        stream = (TOOLS / f"recorded/{name}.bin").read_bytes()[:size]
-        shown = screen(stream, 4096)
-        report.holds(f"example in Python, screen of {name}", seen in shown and shown.count(b"\n") == 24, shown.decode())
-        for piece in 1, 7:
-            report.same(f"example in Python, screen of {name} in pieces of {piece}", stream, screen(stream, piece), shown)
-    test_screen_of_rattle(library, report, screen)
-
-
-def test_screen_of_rattle(library, report, screen):
-    """Shows recordings by the program in Python and by the text of crates/example_screen over rust/vte."""
-    if not all(any(rust_builds.DEBIAN.glob(f"{name}-[0-9]*")) for name in rust_builds.DEPENDENCIES):
-        report.missing("librust-memchr-dev and librust-arrayvec-dev of Debian", "the example screen.py was not compared with example_screen")
-        return
-    workshop = rust_builds.Workshop(library.folder / "screen")
-    workshop.vte(rust_builds.OURS, ["ansi"])
-    (workshop.out / "main.rs").write_text(SCREEN)
-    rust_builds.write_shared(workshop.out, {"example_screen": ["cell", "performer", "screen"]})
-    program = workshop.program("screen", workshop.out / "main.rs", flags=["--cfg", "runs"])
-    for recording in sorted((TOOLS / "recorded").glob("*.bin")):
-        stream = recording.read_bytes()
-        report.same(f"example in Python, screen of {recording.name}", stream, screen(stream, 4096), output_of([program], stream))
 
 
 def go_program(library, name):
@@ -195,88 +134,9 @@ def read_soon(stream, count):
     return read
 
 
-def test_package(folder, given, report):
-    """Packs an sdist, installs it with pip into a new environment, without a network, and uses it. Without --short also installs the
-    folder, to be edited."""
-    where = folder / "package"
-    where.mkdir()
-    environment = {name: value for name, value in os.environ.items() if name not in ("VTE_LIBRARY", "PYTHONPATH")}
-    environment.update(PIP_NO_INDEX="1", PYTHONDONTWRITEBYTECODE="1")
-
-    def run(words, place, **more):
-        return subprocess.run(words, cwd=place, env={**environment, **more}, capture_output=True, text=True)
-
-    if run([sys.executable, "-m", "venv", "environment"], where).returncode != 0:
-        report.missing("venv and pip of Python (Debian: python3-venv)", "the Python package was not installed")
-        return
-    python, made = where / "environment/bin/python3", "import build_backend, sys; print(build_backend.build_{}(sys.argv[1]))"
-    packed = run([python, "-c", made.format("sdist"), where], PYTHON)
-    done = run([python, "-m", "pip", "install", "-q", packed.stdout.strip()], where)
-    report.holds("pip install of the sdist", packed.returncode == 0 and done.returncode == 0, packed.stderr + done.stdout[-2000:] + done.stderr[-2000:])
-    with tarfile.open(where / packed.stdout.strip()) as archive:
-        names = {name.partition("/")[2] for name in archive.getnames()}
-    wanted = {"PKG-INFO", "LICENSE", "NOTICE", "README.md", "tests/test_vte.py", "examples/screen.py", "src/vte/py.typed"}
-    report.holds("the files of the sdist", wanted <= names, f"{wanted - names}")
-    used = run([python, "-c", USES, (PYTHON / "README.md").read_text()], where)
-    report.holds("the installed package", used.returncode == 0 and str(where / "environment") in used.stdout, used.stderr)
-    # the library that is named is packed as it is
-    (where / "other.so").write_bytes(b"another library")
-    test_folder(where, lambda kind, place: run([python, "-c", made.format(kind), where], place, VTE_LIBRARY=str(where / "other.so")), used.stdout, report)
-    for name, tools, said in [("none", (), "cargo isn't installed. Install Rust 1.63"), ("half", ("cargo",), "rustc isn't installed. Install Rust 1.63"),
-                              ("1.62.0", ("cargo", "rustc"), "rustc 1.62.0 is too old. Install Rust 1.63"),
-                              ("1.100.0", ("cargo", "rustc"), "returned non-zero exit status 1")]:
-        (where / name).mkdir()
-        for tool in tools:
-            (where / name / tool).write_text(f"#!/bin/sh\necho rustc {name}\n[ \"$*\" = --version ]\n")
-            (where / name / tool).chmod(0o755)
-        packed = run([python, "-c", made.format("wheel"), where], PYTHON, PATH=str(where / name))
-        report.holds(f"a wheel with Rust: {name}", packed.returncode != 0 and said in packed.stderr, packed.stderr)
-    if not given.short:
-        for words in ["-e", PYTHON], [PYTHON]:
-            done = run([python, "-m", "pip", "install", "-q", *words], where)
-            report.holds(f"pip install of {words}", done.returncode == 0, done.stdout[-2000:] + done.stderr[-2000:])
-
-
-def test_folder(where, build, installed, report):
-    """Packs a copy of the folder as a wheel, and as one that leads to it."""
-    copied = where / "checkout/python"
-    shutil.copytree(PYTHON, copied, ignore=shutil.ignore_patterns("*.so", "__pycache__"))
-    for name in "rust", "LICENSE", "NOTICE":
-        (copied.parent / name).symlink_to(TOOLS.parent / name)
-    packed = build("wheel", copied)
-    report.holds("a wheel of the folder", packed.returncode == 0, packed.stderr)
-    content, modes = contents(where, packed)
-    report.holds("the modes of the wheel", modes == {name: 0o755 if name.endswith(".so") else 0o644 for name in modes}, f"{modes}")
-    names, wanted = {Path(name).name for name in content}, {*MODULES, "libvte_c.so", "LICENSE", "NOTICE", "METADATA", "WHEEL", "RECORD"}
-    report.holds("the files of the wheel", names == wanted and all(f"'{name}'" in installed for name in wanted), f"{names ^ wanted}, {installed}")
-    # a library is for one kind of machine
-    tag = f"py3-none-{re.sub('[-.]', '_', sysconfig.get_platform())}"
-    information = {name: text for path, text in content.items() for name in [Path(path).name]}
-    report.holds("the tag of the wheel", packed.stdout.strip().endswith(f"-{tag}.whl") and f"Root-Is-Purelib: false\nTag: {tag}\n"
-                 in information.get("WHEEL", b"").decode(), packed.stdout)
-    report.holds("the library that is named", information.get("libvte_c.so") == b"another library")
-    packed = build("editable", copied)
-    leads, beside = contents(where, packed)[0].get("naqshuve_vte.pth"), copied / "src/vte/libvte_c.so"
-    # what was built and compiled there isn't packed
-    (copied / "src/vte/__pycache__").mkdir()
-    (copied / "src/vte/__pycache__/calls.pyc").touch()
-    with tarfile.open(where / build("sdist", copied).stdout.strip()) as archive:
-        others = [name for name in archive.getnames() if name.endswith((".pyc", ".so"))]
-    report.holds("the files of an sdist of the folder", not others, f"{others}")
-    report.holds("a wheel to be edited", leads == f"{copied}/src\n".encode() and beside.read_bytes() == b"another library", f"{leads}{packed.stderr}")
-
-
-def contents(where, packed):
-    """The files of a wheel and their modes, but that of its record, or nothing if it wasn't packed."""
-    if packed.returncode != 0:
-        return {}, {}
-    with zipfile.ZipFile(where / packed.stdout.strip()) as wheel:
-        modes = {entry.filename: entry.external_attr >> 16 & 0o777 for entry in wheel.infolist() if not entry.filename.endswith("/RECORD")}
-        return {name: wheel.read(name) for name in wheel.namelist()}, modes
-
-
 def test_installation(library, report):
-    """Installs the library alone below a relative prefix, and finds it by pkg-config and CMake; then everything, for a package. Removes it."""
+    """Installs the library alone below a relative prefix, and finds it by pkg-config and CMake; then everything, for a package, with
+    libraries in a folder of their machine. Removes it."""
     top, where = TOOLS.parent, library.folder / "installed"
     (where / "temporary").mkdir(parents=True)
     environment = {**os.environ, "PREFIX": "prefix", "VTE_ARCHIVE": str(library.archive), "VTLOG": "/bin/true", "TMPDIR": str(where / "temporary"),
@@ -292,22 +152,23 @@ def test_installation(library, report):
         report.same(f"installation, {program}", STREAM, output_of([where / program], STREAM, LD_LIBRARY_PATH=environment["LD_LIBRARY_PATH"]), TEXT)
 
     def installed(folder):
-        return {str(file.relative_to(where / folder)) for file in (where / folder).rglob("*") if not file.is_dir()}
+        files = {str(file.relative_to(where / folder)) for file in (where / folder).rglob("*") if not file.is_dir()}
+        return {file for file in files if "/python3" not in file}
 
     def removes(folder, variables):
         """Uninstalls what is below a folder, and leaves what is another's. Everybody can use what was there."""
         files = installed(folder)
-        modes = {file: (where / folder / file).stat().st_mode & 0o777 for file in files if "__pycache__" not in file}
+        modes = {file: (where / folder / file).stat().st_mode & 0o777 for file in files}
         programs = {file for file, mode in modes.items() if mode == 0o755}
         report.holds(f"installation, modes in {folder}", programs == {file for file in modes if "bin/" in file or ".so" in file}
                      and {*modes.values()} <= {0o644, 0o755}, f"{modes}")
-        others = {str(Path(file).parent / "another's") for file in files if "/vte" not in file or "include" in file}
+        others = {str(Path(file).parent / "another's") for file in files if "/vte_c/" not in file and "/libvte_c/" not in file}
         for file in others:
             (where / folder / file).touch()
         said = holds(f"uninstall {folder}", top / "tools/uninstall", **variables)
         report.holds(f"installation, what is left in {folder}", installed(folder) == others, f"{installed(folder) ^ others}")
-        removed = {line[len(f"{where / folder}/"):] for line in said.splitlines()}
-        report.holds(f"installation, what uninstall says of {folder}", removed == {file for file in files if "__pycache__" not in file}, said)
+        removed = {line[len(f"{where / folder}/"):] for line in said.splitlines() if "/python3" not in line}
+        report.holds(f"installation, what uninstall says of {folder}", removed == files, said)
         left = [str(place) for place in (where / folder).rglob("vte*") if place.is_dir()]
         report.holds(f"installation, folders that are left in {folder}", not left, f"{left}")
 
@@ -329,10 +190,10 @@ def test_installation(library, report):
     report.holds("installation, what it says", set(said.split()) == {f"{where}/prefix/{name}" for name in wanted}, said)
     if shutil.which("cc"):
         said = holds("name", "readelf", "-d", "prefix/lib/libvte_c.so")
-        report.holds("installation, name of the shared library", "soname: [libvte_c.so.5]" in said, said)
+        report.holds("installation, name of the shared library", "soname: [libvte_c.so.6]" in said, said)
     if shutil.which("pkg-config"):
-        holds("pkg-config", "pkg-config", "--exists", "libvte_c >= 5")
-        holds("pkg-config of the next version", "pkg-config", "--exists", "libvte_c >= 6", status=1)
+        holds("pkg-config", "pkg-config", "--exists", "libvte_c >= 6")
+        holds("pkg-config of the next version", "pkg-config", "--exists", "libvte_c >= 7", status=1)
         said = holds("build by pkg-config", "pkg-config", "--variable=build", "libvte_c")
         report.holds("installation, build", said == ("cargo\n" if library.is_whole else "given\n"), said)
         flags = holds("flags", "pkg-config", "--cflags", "--libs", "libvte_c").split()
@@ -345,7 +206,7 @@ def test_installation(library, report):
     else:
         report.missing("pkg-config", "the installed library was not looked for by it")
     if shutil.which("cmake"):
-        for version, status in (4, 1), (6, 1), (5, 0), ("", 0):
+        for version, status in (5, 1), (7, 1), (6, 0), ("", 0):
             holds(f"cmake, version {version}", "cmake", f"-DCMAKE_PREFIX_PATH={where / 'prefix'}", f"-DSOURCE={EXAMPLES / 'c/stripper.c'}",
                   f"-DVERSION={version}", "-S", TOOLS / "c_library", "-B", "built", status=status)
         holds("cmake --build", "cmake", "--build", "built")
@@ -366,24 +227,20 @@ def test_installation(library, report):
 
 
 def test_installation_without_tools(library, report, holds, installed, removes, where):
-    """Installs everything below the usual prefix where there is no C compiler, or no Python."""
-    for missing in "cc", "python3":
-        tools, folder = where / missing, f"without_{missing}"
-        tools.mkdir()
-        for place in os.environ["PATH"].split(os.pathsep):
-            for file in Path(place).glob("*"):
-                if file.name != missing and not (tools / file.name).is_symlink():
-                    (tools / file.name).symlink_to(file)
-        variables = {"PATH": str(tools), "DESTDIR": str(where / folder), "PREFIX": ""}
-        holds(folder, TOOLS / "install", "--cargo", says=f"there is no {missing}: the ", **variables)
-        names = {file.rpartition("/")[2] for file in installed(folder)}
-        wanted = {file.rpartition("/")[2] for file in OF_LIBRARY if library.is_whole or "include" not in file or "vte.h" == file[-5:]}
-        wanted |= {"vtlog", "vtlog.1", *MODULES}
-        wanted -= {"libvte_c.so", "libvte_c.so.5"} if missing == "cc" else MODULES
-        report.holds(f"installation, the files {folder}", names == wanted, f"{names ^ wanted}")
-        places = [file for file in installed(folder) if not re.match(r"usr/local/(?!lib/python)|usr/local/lib/python3[.\d]*/\w+-packages/vte/", file)]
-        report.holds(f"installation, where they are {folder}", not places, f"{places}")
-        removes(folder, variables)
+    """Installs everything below the usual prefix where there is no C compiler, or no cargo that can build."""
+    tools, folder = where / "cc", "without_cc"
+    tools.mkdir()
+    for place in os.environ["PATH"].split(os.pathsep):
+        for file in Path(place).glob("*"):
+            if file.name != "cc" and not (tools / file.name).is_symlink():
+                (tools / file.name).symlink_to(file)
+    variables = {"PATH": str(tools), "DESTDIR": str(where / folder), "PREFIX": ""}
+    holds(folder, TOOLS / "install", "--cargo", says="there is no cc: the ", **variables)
+    wanted = {f"usr/local/{file}" for file in OF_LIBRARY if library.is_whole or "include" not in file or "vte.h" == file[-5:]}
+    wanted |= {"usr/local/bin/vtlog", "usr/local/share/man/man1/vtlog.1"}
+    wanted -= {f"usr/local/lib/libvte_c.so{version}" for version in ("", ".6")}
+    report.holds(f"installation, the files {folder}", installed(folder) == wanted, f"{installed(folder) ^ wanted}")
+    removes(folder, variables)
     script = "#!/bin/sh\necho cargo {}\n[ \"$*\" = --version ]\n"
     for fault, version in ("cargo isn't installed; 1.63", None), ("cargo 1.62.9 is too old; 1.63", "1.62.9"):
         (tools / "cargo").unlink(missing_ok=True)
@@ -400,54 +257,25 @@ def test_installation_without_tools(library, report, holds, installed, removes, 
 
 
 def test_whole_installation(library, report, holds, installed, removes, where):
-    """Installs everything for a package, uses it where it is, and removes it."""
+    """Installs everything for a package, with libraries in a folder of their machine, uses it where it is, and removes it."""
     staged = where / "staged here"
-    package = {"PREFIX": "/usr", "DESTDIR": str(staged), "PYTHON_FOLDER": "/usr/lib/python3/dist-packages"}
+    package = {"PREFIX": "/usr", "LIBDIR": "/usr/lib/x86_64-linux-gnu", "DESTDIR": str(staged)}
     holds("install for a package", TOOLS / "install", "--cargo", **package)
-    wanted = {f"usr/{name}" for name in OF_LIBRARY} | {"usr/bin/vtlog", "usr/share/man/man1/vtlog.1"}
-    wanted |= {f"usr/lib/python3/dist-packages/vte/{name}" for name in MODULES}
+    wanted = {f"usr/{name}".replace("usr/lib/", "usr/lib/x86_64-linux-gnu/") for name in OF_LIBRARY} | {"usr/bin/vtlog", "usr/share/man/man1/vtlog.1"}
     if library.is_whole:
         report.holds("installation, all files", installed(staged) == wanted, f"{installed(staged) ^ wanted}")
-        uses = "import vte; assert vte.strip('a\\x1b[1mb') == 'ab'; print(vte._library._library._name)"
-        # what Python compiles has to go with the package
-        name = holds("the installed module", sys.executable, "-c", uses, PYTHONPATH=str(staged / "usr/lib/python3/dist-packages"),
-                     VTE_LIBRARY="", PYTHONDONTWRITEBYTECODE="")
-        report.holds("installation, the module's library", Path(name.strip()).resolve() == (staged / "usr/lib/libvte_c.so.5").resolve(), name)
-    # the package is used elsewhere
-    leads = os.readlink(staged / "usr/lib/libvte_c.so")
-    report.holds("installation, what libvte_c.so leads to", leads == "libvte_c.so.5", leads)
-    description = (staged / "usr/lib/pkgconfig/libvte_c.pc").read_text()
-    report.holds("installation, libvte_c.pc", "prefix=/usr\n" in description and "build=given\n" in description, description)
+    folder = staged / "usr/lib/x86_64-linux-gnu"
+    leads = os.readlink(folder / "libvte_c.so")
+    report.holds("installation, what libvte_c.so leads to", leads == "libvte_c.so.6", leads)
+    description = (folder / "pkgconfig/libvte_c.pc").read_text()
+    said = ("prefix=/usr\n", "libdir=/usr/lib/x86_64-linux-gnu\n", "build=given\n")
+    report.holds("installation, libvte_c.pc", all(line in description for line in said), description)
+    if shutil.which("cmake"):
+        holds("cmake of a package", "cmake", f"-DCMAKE_PREFIX_PATH={staged / 'usr'}", "-DCMAKE_LIBRARY_ARCHITECTURE=x86_64-linux-gnu", "-DVERSION=6",
+              f"-DSOURCE={EXAMPLES / 'c/stripper.c'}", "-S", TOOLS / "c_library", "-B", "packaged")
+        holds("cmake --build of a package", "cmake", "--build", "packaged")
+    if shutil.which("man"):
+        page = holds("man", "man", staged / "usr/share/man/man3/vte.3", MANWIDTH="160")
+        report.holds("installation, the manual page", all(name in page for name in ("vte_feed(vte_parser", "vte_long_feed", "vte_processor_new")), page[-3000:])
     report.holds("installation, the program that is named", (staged / "usr/bin/vtlog").read_bytes() == Path("/bin/true").read_bytes())
-    # the module of the first version
-    (staged / "usr/lib/python3/dist-packages/vte.py").touch(0o644)
     removes("staged here", package)
-    # a folder of modules may have another's
-    holds("install once more", TOOLS / "install", "--cargo", **package)
-    (other := staged / "usr/lib/python3/dist-packages/vte/another's").touch()
-    holds("uninstall once more", TOOLS / "uninstall", **package)
-    report.holds("installation, another's module", [*other.parent.glob("*")] == [other])
-
-
-def test_types(report, folder):
-    """Checks the package with mypy, and that it finds what is wrong in a program, line by line."""
-    if shutil.which("mypy") is None:
-        report.missing("mypy (Debian: mypy)", "the annotations of the Python package were not checked")
-        return
-    program, right = folder / "typed.py", [
-        "import array, typing, vte", "vte.Parser(limit=1024).feed(bytearray(b'a'), [vte.Osc])", "vte.Parser().feed(array.array('B'), {vte.Osc: 1})",
-        "text: str = vte.strip('a') + vte.Stripper().strip('a')", "data: bytes = vte.strip(memoryview(b'a'))",
-        "lines: typing.List[bytes] = list(vte.strip_lines([b'a']))", "event: vte.Event = next(vte.open('a', kinds=(vte.Osc,)))",
-        "timeout: typing.Optional[float] = vte.Processor().sync_timeout", "with vte.open(0) as events: first: vte.Event = next(events)"]
-    wrong = ["vte.Parser().feed('a')", "vte.strip('a') + b''", "vte.strip(b'a') + ''", "vte.Stripper().strip('a') + b''", "vte.Stripper().strip(b'a') + ''",
-             "next(vte.strip_lines(['a'])) + b''", "next(vte.strip_lines([b'a'])) + ''", "vte.open(0).size", "next(vte.open(0)).size",
-             "with vte.open(0) as events: events.size", "vte.open(0, '1')", "vte.open(1.5)", "vte.Parser('1024')",
-             "vte.Parser().limit + ''", "vte.Parser().feed(b'a')[0].size", "vte.Processor().feed('a')", "vte.Processor().stop_sync().size",
-             "vte.Processor().sync_bytes_count + ''", "vte.Processor().sync_timeout + ''", "vte.Csi((), b'', False, 1)", "vte.calls.Goto(1, 2).line + ''",
-             "vte.calls.SetTitle('a').title + b''", "vte.calls.ClearLine(1)", "vte.Refused(1, []).read + ''", "repr(vte.Parser()) + b''"]
-    program.write_text("\n".join([*right, *wrong, ""]))
-    done = subprocess.run(["mypy", program], cwd=folder, env={**os.environ, "MYPYPATH": str(PYTHON / "src")}, capture_output=True, text=True)
-    *told, _ = done.stdout.splitlines() or [""]
-    found = {line.split(":")[1] for line in told if line.startswith("typed.py:")}
-    wanted = {str(len(right) + number) for number in range(1, len(wrong) + 1)}
-    report.holds("annotations", found == wanted and all(line.startswith("typed.py:") for line in told), done.stdout + done.stderr)

@@ -1,25 +1,17 @@
-"""The numbers that cross the border, which Rust's types, vte_handler.h and Python's `vte.calls` each name."""
-import json
+"""The numbers that cross the border, which Rust's types and vte_handler.h each name."""
 import re
 import shutil
-import sys
 
 from c_library.builds import BESIDE, TOOLS
 from c_library.report import output_of
 
 TYPES = TOOLS.parent / "rust/vte/src/proved/vte_types"
-# Rust's type, Python's, and how the names of C begin, but for those that C names otherwise, which handler.cpp tries
-ENUMS = [
-    ("Attr", "Attribute", "VTE_"), ("NamedColor", "NamedColor", None), ("LineClearMode", "LinePart", "VTE_LINE_"),
-    ("ClearMode", "ScreenPart", "VTE_SCREEN_"), ("TabulationClearMode", "Tabs", "VTE_TAB_"), ("CursorShape", "Shape", "VTE_SHAPE_"),
-    ("StandardCharset", "Charset", None), ("ScpCharPath", "Path", None), ("ScpUpdateMode", "Update", None),
-    ("KeyboardModesApplyBehavior", "Behavior", None), ("ModifyOtherKeys", "OtherKeys", None),
-]
-OF_PYTHON = """
-import enum, json, sys
-from vte import calls
-print(json.dumps({name: {one.name: int(one) for one in kind} for name, kind in vars(calls).items() if isinstance(kind, enum.EnumMeta)}))
-"""
+# Rust's type, and how the names of C begin, but for those that C names otherwise, which handler.cpp tries
+ENUMS = {
+    "Attr": "VTE_", "NamedColor": None, "LineClearMode": "VTE_LINE_", "ClearMode": "VTE_SCREEN_",
+    "TabulationClearMode": "VTE_TAB_", "CursorShape": "VTE_SHAPE_", "StandardCharset": None,
+    "ScpCharPath": None, "ScpUpdateMode": None, "KeyboardModesApplyBehavior": None, "ModifyOtherKeys": None,
+}
 # an enum of the declarations of C or Rust, and its names
 LIST = r"\benum{} {{([^}}]*)}}"
 NAME = re.compile(r"^\s*(\w+)(?:\([^)]*\))?(?: = (-?\d+))?,?\s*$", re.M)
@@ -36,7 +28,7 @@ def numbered(text):
 
 def of_rust():
     text = "".join(file.read_text() for file in sorted(TYPES.glob("*.rs")))
-    return {name: numbered(re.search(LIST.format(f" {name}"), text)[1]) for name, _, _ in ENUMS}
+    return {name: numbered(re.search(LIST.format(f" {name}"), text)[1]) for name in ENUMS}
 
 
 def of_c():
@@ -47,11 +39,8 @@ def of_c():
 def test_numbers(library, report):
     if not library.is_whole:
         return
-    rust, c, python = of_rust(), of_c(), json.loads(output_of([sys.executable, "-c", OF_PYTHON], **library.environment))
-    python.pop("_Named")
-    report.holds("enums of Python", set(python) == {name for _, name, _ in ENUMS}, f"{set(python)}")
-    for name, of_python, prefix in ENUMS:
-        report.holds(f"numbers of {name} in Python", python[of_python] == rust[name], f"{python[of_python]}, not {rust[name]}")
+    rust, c = of_rust(), of_c()
+    for name, prefix in ENUMS.items():
         if prefix:
             wanted = {prefix + re.sub("(?<!^)(?=[A-Z])", "_", one).upper(): number for one, number in rust[name].items()}
             found = {one: c.get(one) for one in wanted}

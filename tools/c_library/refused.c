@@ -30,7 +30,7 @@ enum { COMMAND = 100000, MOST = 4 * COMMAND };
 
 static uint8_t stream[MOST];
 static size_t stream_length;
-/* the most bytes of a call: one with more than 65,536 asks for memory again after these */
+/* the most bytes of a call */
 static size_t most;
 /* the events of the parser; without texts, many are read at once */
 static uint32_t kinds;
@@ -66,24 +66,25 @@ static void show(const vte_event *event, const uint8_t *bytes, const uint8_t *da
     vte_items pieces = vte_items_of(event, data);
     if (event->kind == VTE_TEXT) put(vte_text_of(event, bytes, data), event->code);
     else if (event->kind == VTE_OSC)
-        while (vte_next_long_piece(&pieces)) put("[", 1), put(pieces.at, pieces.length);
+        while (vte_next_piece(&pieces)) put("[", 1), put(pieces.at, pieces.length);
     else put("!", 1);
 }
 
 /* Returns 0 if memory was refused for the parser itself. */
 static int read_long(void) {
     static vte_event events[4096];
-    vte_long_counts counts;
+    const uint8_t *data;
+    vte_counts counts;
     vte_long_parser *parser = vte_long_parser_new();
     if (parser == NULL) return 0;
     for (size_t at = 0; at < stream_length;) {
-        size_t read = vte_long_feed(parser, stream + at, stream_length - at < most ? stream_length - at : most, kinds, 0, events, 4096, &counts);
-        for (size_t i = 0; i < counts.events; i++) show(&events[i], stream + at, counts.data);
-        if (read == 0 && counts.stop != VTE_REFUSED) abort();
-        if (counts.stop && counts.stop != VTE_REFUSED) abort();
-        at += read;
+        size_t length = stream_length - at < most ? stream_length - at : most;
+        size_t read = vte_long_feed(parser, stream + at, length, kinds, 0, events, 4096, &data, &counts);
+        if (read == VTE_REFUSED ? !refused || counts.events != 0 : read == 0) abort();
+        for (size_t i = 0; i < counts.events; i++) show(&events[i], stream + at, data);
+        if (read != VTE_REFUSED) at += read;
     }
-    if (vte_long_feed(parser, stream, 1, VTE_ALL_KINDS, 0, events, 3, &counts) != VTE_NO_ROOM || counts.stop) abort();
+    if (vte_long_feed(parser, stream, 1, VTE_ALL_KINDS, 0, events, 3, &data, &counts) != VTE_NO_ROOM) abort();
     vte_long_parser_free(parser);
     return 1;
 }
@@ -98,7 +99,7 @@ static void unset(void *user, uint16_t mode) { (void)user, put(&mode, sizeof mod
 static int process(void) {
     vte_handler calls = {.input = input, .set_title = title, .clipboard_store = store, .terminal_attribute = attribute,
                          .unset_private_mode = unset};
-    vte_processor *processor = vte_processor_new(&calls, NULL);
+    vte_processor *processor = vte_processor_new(&calls, sizeof calls, NULL);
     if (processor == NULL) return 0;
     /* a stop takes no memory, and makes a call */
     if (vte_processor_stop_sync(processor) != VTE_OK) abort();

@@ -321,7 +321,8 @@ VTE_C = Plan(
     imports={"vte_c": {"arrayvec::ArrayVec": "crate::array_vec::ArrayVec"}},
     # what is by hand names these
     dropped={"vte_c/lib": ("use event", "use feed", "mod event")},
-    added={"vte_c/lib": "pub(crate) mod event;\npub(crate) use event::VteEvent;\npub(crate) use feed::{VteCounts, NO_ROOM};\npub(crate) use packed::Packed;"},
+    added={"vte_c/lib": "pub(crate) mod event;\npub(crate) use event::VteEvent;\npub(crate) use events::Events;\n"
+                        "pub(crate) use feed::{VteCounts, LEAST_EVENTS, NO_ROOM};"},
     rules={"vte_c/lib": [('extern "C" fn', "fn")]},
 )
 

@@ -74,7 +74,7 @@ static void feed(void *parser, checksum *folded, const uint8_t *bytes, size_t le
     static uint8_t data[DATA];
     vte_counts counts;
     while (length > 0) {
-        size_t read = vte_feed(parser, bytes, length, events, EVENTS, data, DATA, &counts);
+        size_t read = vte_feed(parser, bytes, length, VTE_ALL_KINDS, 0, events, EVENTS, data, DATA, &counts);
         for (size_t i = 0; i < counts.events; i++) fold_event(folded, &events[i], bytes, data);
         bytes += read;
         length -= read;

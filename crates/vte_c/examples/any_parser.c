@@ -29,7 +29,7 @@ int main(void) {
         vte_counts counts;
         fill(&parser, sizeof parser, round % 2);
         other = parser;
-        size_t read = vte_feed(&parser, (const uint8_t *)ends, sizeof ends - 1, events, event_room, data, data_room, &counts);
+        size_t read = vte_feed(&parser, (const uint8_t *)ends, sizeof ends - 1, VTE_ALL_KINDS, 0, events, event_room, data, data_room, &counts);
         if (!has_answered(read, sizeof ends - 1, event_room >= VTE_LEAST_EVENTS && data_room >= VTE_LEAST_DATA)) return 1;
         for (size_t i = 0; i < counts.events; i++) {
             vte_items items = vte_items_of(&events[i], data);

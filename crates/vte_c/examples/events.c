@@ -1,9 +1,9 @@
 /* Writes the events of its standard input, one line each, as vtlog does.
  *
- * events [PIECE [EVENTS [DATA]]]: reads pieces of PIECE bytes, with room for EVENTS events and DATA data bytes. With a PIECE of 0,
- * pieces and room have random sizes. `events strip [PIECE [TEXT]]` writes the text, `events until KIND` stops after each event of
- * a kind. Compiled with WITH_LONG, `events long [PIECE [EVENTS]]` keeps commands of any length, and `events only KINDS` writes those
- * of a set of kinds. */
+ * events [WORD..] [PIECE [ROOM [DATA]]]: reads pieces of PIECE bytes, with room for ROOM events and DATA data bytes. With a PIECE of 0,
+ * pieces and room have random sizes. Words: `kinds N` and `stops N` are the masks of vte_feed, `losses` writes of each command only
+ * whether it lost data, `strip` writes the text, with room for ROOM bytes, and `long` keeps commands of any length, if this is compiled
+ * with WITH_LONG. */
 #ifdef WITH_LONG
 #include "vte_long.h"
 #else
@@ -13,7 +13,10 @@
 #include <stdlib.h>
 #include <string.h>
 
-static const char *const names[] = {"text", "execute", "hook", "put", "unhook", "osc", "csi", "esc"};
+static const char *const names[] = {"text", "execute", "hook", "data", "unhook", "osc", "csi", "esc"};
+
+static uint32_t kinds = VTE_ALL_KINDS, stops;
+static int losses;
 
 static void show_hex(const uint8_t *bytes, size_t count) {
     putchar(' ');
@@ -44,7 +47,11 @@ static void show_text(const uint8_t *text, size_t length) {
     for (const uint8_t *end = text + length; text < end;) printf("print %04x\n", next_character(&text));
 }
 
-static void show(const vte_event *event, const uint8_t *bytes, const uint8_t *data, int (*next_piece)(vte_items *)) {
+static void show(const vte_event *event, const uint8_t *bytes, const uint8_t *data) {
+    if (losses) {
+        if (event->kind == VTE_OSC) puts(event->flag & VTE_TRUNCATED ? "lost" : "kept");
+        return;
+    }
     if (event->kind == VTE_TEXT) {
         show_text(vte_text_of(event, bytes, data), event->code);
         return;
@@ -56,8 +63,7 @@ static void show(const vte_event *event, const uint8_t *bytes, const uint8_t *da
     vte_items items = vte_items_of(event, data);
     fputs(names[event->kind], stdout);
     switch (event->kind) {
-    case VTE_EXECUTE:
-    case VTE_PUT: printf(" %02x", event->code); break;
+    case VTE_EXECUTE: printf(" %02x", event->code); break;
     case VTE_HOOK:
     case VTE_CSI: show_groups(event, data); /* fall through */
     case VTE_ESC:
@@ -66,7 +72,7 @@ static void show(const vte_event *event, const uint8_t *bytes, const uint8_t *da
         break;
     case VTE_OSC:
         printf(" %s %u", event->flag & VTE_BELL ? "true" : "false", event->count);
-        while (next_piece(&items)) show_hex(items.at, items.length);
+        while (vte_next_piece(&items)) show_hex(items.at, items.length);
     }
     putchar('\n');
 }
@@ -84,26 +90,25 @@ static void *room_for(size_t size) {
     return room;
 }
 
-static size_t feed(vte_parser *parser, const uint8_t *bytes, size_t length, int kind, size_t event_room, size_t data_room) {
+static size_t feed(vte_parser *parser, const uint8_t *bytes, size_t length, size_t event_room, size_t data_room) {
     vte_event *events = room_for(event_room * sizeof *events);
     uint8_t *data = room_for(data_room);
     vte_counts counts;
-    size_t read = kind < 0 ? vte_feed(parser, bytes, length, events, event_room, data, data_room, &counts)
-                           : vte_feed_until(parser, bytes, length, (uint8_t)kind, events, event_room, data, data_room, &counts);
-    for (size_t i = 0; i < counts.events; i++) show(&events[i], bytes, data, vte_next_piece);
+    size_t read = vte_feed(parser, bytes, length, kinds, stops, events, event_room, data, data_room, &counts);
+    for (size_t i = 0; i < counts.events; i++) show(&events[i], bytes, data);
     free(events);
     free(data);
     return read;
 }
 
 #ifdef WITH_LONG
-static vte_long_parser *long_parser;
-
-static size_t feed_long(const uint8_t *bytes, size_t length, uint32_t kinds, size_t event_room) {
+static size_t feed_long(vte_long_parser *parser, const uint8_t *bytes, size_t length, size_t event_room) {
     vte_event *events = room_for(event_room * sizeof *events);
-    vte_long_counts counts;
-    size_t read = vte_long_feed(long_parser, bytes, length, kinds, 0, events, event_room, &counts);
-    for (size_t i = 0; i < counts.events; i++) show(&events[i], bytes, counts.data, vte_next_long_piece);
+    const uint8_t *data;
+    vte_counts counts;
+    size_t read = vte_long_feed(parser, bytes, length, kinds, stops, events, event_room, &data, &counts);
+    if (read == VTE_REFUSED) exit(1);
+    for (size_t i = 0; i < counts.events; i++) show(&events[i], bytes, data);
     free(events);
     return read;
 }
@@ -123,14 +128,16 @@ static size_t number_at(int count, char **words, int index) {
 }
 
 int main(int argc, char **argv) {
-    int strips = argc > 1 && strcmp(argv[1], "strip") == 0;
-    int until = argc > 2 && strcmp(argv[1], "until") == 0;
-    int is_long = argc > 1 && strcmp(argv[1], "long") == 0;
-    int only = argc > 2 && strcmp(argv[1], "only") == 0;
-    int kind = until || only ? atoi(argv[2]) : -1;
-    int count = argc - 1 - strips - is_long - 2 * (until + only);
-    char **words = argv + argc - count;
-    size_t piece = number_at(count, words, 0), first = number_at(count, words, 1), second = number_at(count, words, 2);
+    int strips = 0, is_long = 0;
+    for (; argc > 1 && (argv[1][0] < '0' || argv[1][0] > '9'); argc--, argv++) {
+        int takes = argc > 2 && (strcmp(argv[1], "kinds") == 0 || strcmp(argv[1], "stops") == 0);
+        if (takes) *(argv[1][0] == 'k' ? &kinds : &stops) = (uint32_t)strtoul(argv[2], NULL, 10), argc--, argv++;
+        else if (strcmp(argv[1], "losses") == 0) losses = 1;
+        else if (strcmp(argv[1], "strip") == 0) strips = 1;
+        else if (strcmp(argv[1], "long") == 0) is_long = 1;
+        else return 2;
+    }
+    size_t piece = number_at(argc - 1, argv + 1, 0), first = number_at(argc - 1, argv + 1, 1), second = number_at(argc - 1, argv + 1, 2);
     if (vte_version() != VTE_VERSION || vte_parser_size() != sizeof(vte_parser) || vte_event_size() != sizeof(vte_event)
         || vte_least_events() != VTE_LEAST_EVENTS || vte_least_data() != VTE_LEAST_DATA || vte_least_text() != VTE_LEAST_TEXT) {
         fputs("events: the library is not the one that vte.h describes\n", stderr);
@@ -138,7 +145,8 @@ int main(int argc, char **argv) {
     }
     vte_parser parser = {{0}};
 #ifdef WITH_LONG
-    if ((is_long || only) && (long_parser = vte_long_parser_new()) == NULL) return 1;
+    vte_long_parser *long_parser = vte_long_parser_new();
+    if (long_parser == NULL) return 1;
 #endif
     for (;;) {
         size_t most = size_of(piece, 1, 300);
@@ -146,18 +154,16 @@ int main(int argc, char **argv) {
         size_t length = fread(bytes, 1, most, stdin);
         for (size_t at = 0; at < length;)
 #ifdef WITH_LONG
-            if (is_long || only)
-                at += feed_long(bytes + at, length - at, only ? (uint32_t)kind : VTE_ALL_KINDS, size_of(first, VTE_LEAST_EVENTS, 100));
+            if (is_long) at += feed_long(long_parser, bytes + at, length - at, size_of(first, VTE_LEAST_EVENTS, 100));
             else
 #endif
             at += strips ? strip(&parser, bytes + at, length - at, size_of(first, VTE_LEAST_TEXT, 200))
-                         : feed(&parser, bytes + at, length - at, kind, size_of(first, VTE_LEAST_EVENTS, 100),
-                                size_of(second, VTE_LEAST_DATA, 5000));
+                         : feed(&parser, bytes + at, length - at, size_of(first, VTE_LEAST_EVENTS, 100), size_of(second, VTE_LEAST_DATA, 5000));
         free(bytes);
         if (length == 0) break;
     }
 #ifdef WITH_LONG
     vte_long_parser_free(long_parser);
 #endif
-    return ferror(stdin) != 0;
+    return is_long < 0 || ferror(stdin) != 0;
 }

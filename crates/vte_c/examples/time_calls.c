@@ -2,6 +2,7 @@
  * costs, and a call with a piece of 4,096 bytes.
  *
  * time_calls FILE..: also the mean over the pieces of each file. */
+#define _POSIX_C_SOURCE 199309L
 #include "vte.h"
 #include <stdio.h>
 #include <string.h>
@@ -21,7 +22,7 @@ static double now(void) {
 static void feed(vte_parser *parser, const uint8_t *bytes, size_t length) {
     vte_counts counts;
     do {
-        size_t read = vte_feed(parser, bytes, length, events, ROOM, data, sizeof data, &counts);
+        size_t read = vte_feed(parser, bytes, length, VTE_ALL_KINDS, 0, events, ROOM, data, sizeof data, &counts);
         bytes += read;
         length -= read;
     } while (length > 0);

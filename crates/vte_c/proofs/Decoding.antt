@@ -141,7 +141,7 @@ loss_unseen records count place default command =
 
 kind_without_loss : (event : VteEvent) → (without_loss event).kind ≡ event.kind
 unfolding without_loss
-kind_without_loss event = elim (cases_Bool (event.kind == 5)) [ | inl command ↦ rw command refl | inr other ↦ rw other refl ]
+kind_without_loss event = elim (cases_Bool (event.kind == 5)) [ inl command ↦ rw command refl | inr other ↦ rw other refl ]
 
 pub kinds_without_loss : (records : List VteEvent) → kinds_of (map without_loss records) ≡ kinds_of records
 kinds_without_loss [] = refl

@@ -10,9 +10,9 @@ use Rattle.std.proofs.lemmas.List.{length-drop}
 use Rattle.std.proofs.lemmas.List.Elements.{filter-append}
 use Rattle.std.proofs.lemmas.Str.{chars-nil, length-encode, len_utf8_bounds}
 use Rattle.std.specs.List.{flat_map}
-use Rattle.std.specs.Str.{IsUtf8, chars}
+use Rattle.std.specs.Str.{chars}
 use Rattle.vte_c.proofs.Added.{added_nothing}
-use Rattle.vte_core.specs.AdvanceToRun.{ReturnsRun, run_bytes, run_end, run_events as returned_events}
+use Rattle.vte_core.specs.AdvanceToRun.{IsWhole, ReturnsRun, run_bytes, run_events as returned_events, taken_bytes}
 use Rattle.vte_core.specs.EarlyStop.{ComesTo, breaks_at, stream_at, told}
 use Rattle.vte_core.specs.Event.{Event, Print, Put, replacement}
 use Rattle.vte_core.specs.Laws.{Grows, OpensSilently}
@@ -21,9 +21,11 @@ use Rattle.vte_core.specs.Perform.{after}
 use Rattle.vte_core.specs.Stops.{GoesOnFromPlaces, TellsUnits}
 use Rattle.vte_core.specs.Stream.{added}
 use Rattle.vte_core.specs.declared.parser.Parser.{Parser}
-use Rattle.vte_core.specs.declared.parser.to_run.Run.{Run as Returned}
+use Rattle.vte_core.specs.declared.looks.taken.Run.{Run as Returned}
+use Rattle.vte_core.specs.declared.looks.taken.Taken.{Taken}
+use Rattle.vte_core.specs.declared.looks.taken.Taken.TheVariants.{Text, Data, Nothing}
 use Rattle.vte_core.proofs.stops.Kept.{kept_at}
-use Rattle.vte_c.specs.Events.{Room, Starts, is_full, resumed, with_event, with_run, with_wanted}
+use Rattle.vte_c.specs.Events.{AreCharacters, Room, Starts, is_full, resumed, with_event, with_run, with_taken, with_wanted}
 use Rattle.vte_c.specs.Feeding.{Goes, HasGone, HasItems, HaveOtherRecords, StopsAtNone, with_items}
 use Rattle.vte_c.specs.Record.{Run, TextRun, DataRun, Single, InInput, data_of, has, item_events, kind_of, reported, run_events, run_kind, run_record}
 use Rattle.vte_c.specs.Told.{IsRun, IsRunAt, is_stop}
@@ -190,9 +192,12 @@ gone-then a free within b = record { next = b.next; reads = b.reads; goes = goes
 
 -- ---- a call of the parser, and the run that it returned
 
-nothing : (xs : List ℕ) → nat_lt 0 (length xs) ≡ false → xs ≡ []
-nothing [] none = refl
-nothing (x ∷ xs) none = absurd (grind (arith, nat_tests))
+-- a run that has no bytes isn't there
+no_run : (bytes : List ℕ) (end : ℕ) (taken : Taken) → IsWhole bytes end taken → length (taken_bytes taken) ≡ 0 → (room : Room) (start : ℕ)
+    → with_taken room start taken ≡ room
+no_run bytes end (Text text) whole none room start = absurd (omega (arith, whole.0, none))
+no_run bytes end (Data those) whole none room start = absurd (omega (arith, whole.0, none))
+no_run bytes end Nothing whole none room start = refl
 
 module _ (old mid new : Room) (since bytes : List ℕ) (from : ℕ) (run : Returned) {HasReadBefore : List ℕ → Type 0} (laws : Laws) (free : is_full old ≡ false) (begins : from ≤ length bytes)
     (r : ReturnsRun with_event is_full old mid (Some 1024) HasReadBefore (drop from bytes) run) (before : HasReadBefore since) where
@@ -205,49 +210,42 @@ module _ (old mid new : Room) (since bytes : List ℕ) (from : ℕ) (run : Retur
   -- a run of this kind was recorded
   goes-some : (kind : Run) → 0 < length (run_bytes run) → new ≡ with_wanted (resumed mid) (run_record (run_kind kind) (from + run.start) (length (run_bytes run)))
       → IsRun kind (run_bytes run) → returned_events run ≡ run_events kind (run_bytes run)
-      → Goes old new since (after_call ++ run_bytes run) bytes from (run_end run)
+      → Goes old new since (after_call ++ run_bytes run) bytes from run.end
   goes-some kind some is plain same =
       let here : take (length (run_bytes run)) (drop (from + run.start) bytes) ≡ run_bytes run =
       ap (take (length (run_bytes run))) (sym (drop-drop run.start from bytes)) ∙ sym r.stands.is in
-      let within : from + run.start + length (run_bytes run) ≤ length bytes = omega (arith, begins, r.stands.within, length-drop from bytes) in
-      let open_room = resumed_free mid (r.may_go_on (omega arith)) in
+      let within : from + run.start + length (run_bytes run) ≤ length bytes = omega (arith, begins, r.stands.end, r.stands.within, length-drop from bytes) in
+      let open_room = resumed_free mid (r.may_go_on (omega (arith, r.stands.end))) in
       let more = goes-run {since = after_call} kind laws.grows open_room is (record { within = within; some = some; is = rw here plain }) (rw here (r.adds since before ∙ same)) in
-      goes-then call open_room within (rw here at more)
+      rw r.stands.end (goes-then call open_room within (rw here at more))
 
-  pub goes-to-run : IsUtf8 run.text.now → new ≡ with_run (resumed mid) from run → Goes old new since (after_call ++ run_bytes run) bytes from (run_end run)
-  goes-to-run utf8 is = elim (cases_Bool (nat_lt 0 (length run.text.now))) [
-    | inl some ↦
-        let no_data : run.data.now ≡ [] = elim r.stands.one [ inl none ↦ absurd (grind (arith, nat_tests)) | inr none ↦ none ] in
-        let whole : run_bytes run ≡ run.text.now = ap (λ (more : List ℕ). run.text.now ++ more) no_data ∙ append-nil run.text.now in
-        let filled : 0 < length run.text.now = grind (arith, nat_tests) in
-        goes-some TextRun (rw whole filled) (rw whole (rw some at is)) (rw whole (utf8, r.stands.plain)) (rw (whole, no_data) (append-nil _))
-    | inr no_text ↦
-        let empty : run.text.now ≡ [] = nothing run.text.now no_text in
-        let whole : run_bytes run ≡ run.data.now = ap (λ (text : List ℕ). text ++ run.data.now) empty in
-        elim (cases_Bool (nat_lt 0 (length run.data.now))) [
-          | inl some ↦
-              let filled : 0 < length run.data.now = grind (arith, nat_tests) in
-              goes-some DataRun (rw whole filled) (rw whole (rw (no_text, some) at is)) tt (rw (whole, empty, chars-nil) refl)
-          | inr no_data ↦
-              let none : run_bytes run ≡ [] = whole ∙ nothing run.data.now no_data in
-              let same : new ≡ resumed mid = rw (no_text, no_data) at is in
-              rw (none, append-nil after_call, add-zero, same) call
-        ]
-  ]
+  goes-taken : (taken : Taken) → run.taken ≡ taken → AreCharacters taken → IsWhole (drop from bytes) run.end taken
+      → new ≡ with_taken (resumed mid) (from + run.start) taken → Goes old new since (after_call ++ run_bytes run) bytes from run.end
+  goes-taken (Text text) is utf8 whole written =
+      let bytes_are : run_bytes run ≡ text.now = ap taken_bytes is in
+      goes-some TextRun (rw bytes_are whole.0) (rw bytes_are written) (rw bytes_are (utf8, whole.1)) (rw is refl)
+  goes-taken (Data those) is utf8 whole written =
+      let bytes_are : run_bytes run ≡ those.now = ap taken_bytes is in
+      goes-some DataRun (rw bytes_are whole.0) (rw bytes_are written) tt (rw is refl)
+  goes-taken Nothing is utf8 whole written =
+      let none : run_bytes run ≡ [] = ap taken_bytes is in
+      let end : run.end ≡ run.start = omega (arith, r.stands.end, ap length none) in
+      rw (none, append-nil after_call, end, written) call
+
+  pub goes-to-run : AreCharacters run.taken → new ≡ with_run (resumed mid) from run → Goes old new since (after_call ++ run_bytes run) bytes from run.end
+  goes-to-run utf8 is = goes-taken run.taken refl utf8 r.stands.whole is
 
   -- with room for what two bytes add a call reads one, unless a record was written that stops
-  pub further : Starts old → from < length bytes → new ≡ with_run (resumed mid) from run → HaveOtherRecords old.stops new.events → 0 < run_end run
+  pub further : Starts old → from < length bytes → new ≡ with_run (resumed mid) from run → HaveOtherRecords old.stops new.events → 0 < run.end
   unfolding told
-  further starts some is others = elim (cases_lt 0 (run_end run)) [
+  further starts some is others = elim (cases_lt 0 run.end) [
     | inl more ↦ more
     | inr none ↦
         let unread : List ℕ = drop from bytes in
-        let size = length-append run.text.now run.data.now in
-        let start : run.start ≡ 0 = omega (arith, none) in
-        let no_text : nat_lt 0 (length run.text.now) ≡ false = grind (arith, nat_tests) in
-        let no_data : nat_lt 0 (length run.data.now) ≡ false = grind (arith, nat_tests) in
-        let same : new ≡ resumed mid = rw (no_text, no_data) at is in
+        let start : run.start ≡ 0 = omega (arith, none, r.stands.end) in
+        let empty : length (run_bytes run) ≡ 0 = omega (arith, none, r.stands.end) in
+        let same : new ≡ resumed mid = is ∙ no_run unread run.end run.taken r.stands.whole empty (resumed mid) (from + run.start) in
         let performed = rw (start, added_nothing since) at (r.comes since before).performed in
         let goes_on = goes_on_at_first old (breaks_at since unread 0) starts (rw (same, performed) at others) in
-        absurd (false≢true (sym goes_on ∙ ap is_full (sym performed) ∙ r.stops (omega (arith, none)) (omega (arith, length-drop from bytes, some))))
+        absurd (false≢true (sym goes_on ∙ ap is_full (sym performed) ∙ r.stops (omega (arith, none, start)) (omega (arith, start, length-drop from bytes, some))))
   ]

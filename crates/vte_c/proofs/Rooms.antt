@@ -228,7 +228,7 @@ items-unit input room (event ∷ last ∷ []) brief free =
       data_fits = omega (arith, room_for.data_fits, few.size, size, short, ap (λ (r : Room). r.used) first.room, ap (λ (r : Room). r.size) first.room);
     } in
     let second = subst (λ (k : ℕ). HasItems next (resumed (with_event next last)) input (map Single (reported k (last ∷ [])))) kinds
-        (items-event input next last (short_bounded last brief.1) refl room_for_last) in
+    (items-event input next last (short_bounded last brief.1) refl room_for_last) in
     let both : items_of room (event ∷ last ∷ []) ≡ items_of room (event ∷ []) ++ items_of room (last ∷ []) =
     ap (map Single) (filter-append (λ e. has room.kinds (kind_of e)) (event ∷ []) (last ∷ [])) ∙ map-append Single _ _ in
     rw (with_event_resumed (with_event room event) last, both) (record {

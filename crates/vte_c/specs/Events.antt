@@ -1,7 +1,10 @@
 -- The caller's buffers for events, and how an event changes them.
 use Rattle.std.specs.Prelude.{◌≡◌, ◌≤◌, ℕ, ◌+◌, ◌-◌, Bool, true, false, ◌&&◌, ◌||◌, List, [], ◌∷◌, ◌++◌, length, map, take, Option, IfSome, is_some, if◌then◌else◌, nat_le, nat_lt}
+use Rattle.std.specs.Str.{IsUtf8}
 use Rattle.vte_core.specs.Event.{Event, OscDispatch}
-use Rattle.vte_core.specs.declared.parser.to_run.Run.{Run}
+use Rattle.vte_core.specs.declared.looks.taken.Run.{Run}
+use Rattle.vte_core.specs.declared.looks.taken.Taken.{Taken}
+use Rattle.vte_core.specs.declared.looks.taken.Taken.TheVariants.{Text, Data, Nothing}
 use Rattle.vte_c.specs.declared.event.VteEvent.{VteEvent}
 use Rattle.vte_c.specs.declared.events.Events.{Events}
 use Rattle.vte_c.specs.Record.{data_of, has, record_of, run_record, without_loss}
@@ -109,11 +112,18 @@ abbrev pub with_wanted : Room → VteEvent → Room
 with_wanted room event = if has room.kinds event.kind then with_one room event else room
 
 -- The record of a run that the parser returned for the bytes from a place on, if there is a run.
+abbrev pub with_taken : Room → ℕ → Taken → Room
+with_taken room start (Text text) = with_wanted room (run_record 0 start (length text.now))
+with_taken room start (Data those) = with_wanted room (run_record 3 start (length those.now))
+with_taken room start Nothing = room
+
 abbrev pub with_run : Room → ℕ → Run → Room
-with_run room from run =
-    if nat_lt 0 (length run.text.now) then with_wanted room (run_record 0 (from + run.start) (length run.text.now))
-    else if nat_lt 0 (length run.data.now) then with_wanted room (run_record 3 (from + run.start) (length run.data.now))
-    else room
+with_run room from run = with_taken room (from + run.start) run.taken
+
+-- A text is well-formed.
+abbrev pub AreCharacters : Taken → Type 0
+AreCharacters (Text text) = IsUtf8 text.now
+AreCharacters _ = Unit {0}
 
 -- There may be no room for what one byte adds, or a stop or a pause has come.
 abbrev pub is_full : Room → Bool

@@ -1,14 +1,13 @@
 //! The performer that writes events into the caller's buffers.
 ghost use Rattle.std.specs.Prelude.{◌≡◌, ◌≤◌, ◌<◌, ◌+◌, ◌-◌, ◌^◌, ◌||◌, ◌++◌, ℕ, List, false, [], if◌then◌else◌, length, map, min, nat_lt};
-ghost use Rattle.std.specs.Str.{IsUtf8};
 ghost use Rattle.std.specs.List.{concat, flat_map};
 ghost use Rattle.vte_core.specs.Event.{OscDispatch, Print};
-ghost use Rattle.vte_core.specs.AdvanceToRun.{run_end};
+ghost use Rattle.vte_core.specs.AdvanceToRun.{run_bytes};
 ghost use Rattle.vte_c.specs.Record.{data_of, group_bytes, has, piece_bytes, record_of, sequence_record};
 
 use crate::event::{self, VteEvent, has};
 use crate::packed::Packed;
-use vte_core::{Params, Perform, Run};
+use vte_core::{Params, Perform, Run, Taken};
 
 /// The most data bytes of one event: 16 pieces of together 1,024 bytes, each after four with its length.
 pub(crate) const MOST_DATA: usize = 1088;
@@ -46,9 +45,14 @@ pub(crate) struct Events<'a> {
 }
 
 impl<'a> Events<'a> {
-    ghost use Rattle.vte_c.specs.Events.{HasGrown, Holds, Room, Starts, is_full, pausing, resumed, room_of, with_data, with_event, with_one, with_packed, with_record, with_run};
+    ghost use Rattle.vte_c.specs.Events.{AreCharacters, HasGrown, Holds, Room, Starts, is_full, pausing, resumed, room_of, with_data, with_event, with_one, with_packed, with_record, with_run};
 
-    pub(crate) fn new(events: &'a mut [VteEvent], area: &'a mut [u8], kinds: u32, stops: u32) -> Self
+    pub(crate) fn new(
+        events: &'a mut [VteEvent],
+        area: &'a mut [u8],
+        kinds: u32,
+        stops: u32,
+    ) -> Self
         requires most { 4 ≤ length events.old }
         requires size { 2112 ≤ length area.old }
         ensures starts { Starts (room_of result) }
@@ -162,17 +166,23 @@ impl<'a> Events<'a> {
     /// Writes a run that is in the input, where the parser returned it for the bytes from a place on.
     #[inline(always)]
     pub(crate) fn add_run(&mut self, from: usize, run: Run<'_>)
-        requires { from + run_end run < 2 ^ 32 }
+        requires { from + run.start + length (run_bytes run) < 2 ^ 32 }
         ensures written { room_of self.new ≡ with_run (room_of self.old) from run.entry }
-        ensures utf8 { IsUtf8 run.entry.text.now }
+        ensures utf8 { AreCharacters run.entry.taken }
     {
         let start = (from + run.start) as u32;
-        if !run.text.is_empty() {
-            if self.writes(event::TEXT) {
-                self.add_record(VteEvent::run(event::TEXT, start, run.text.len() as u32));
+        match run.taken {
+            Taken::Text(text) => {
+                if self.writes(event::TEXT) {
+                    self.add_record(VteEvent::run(event::TEXT, start, text.len() as u32));
+                }
             }
-        } else if !run.data.is_empty() && self.writes(event::DATA) {
-            self.add_record(VteEvent::run(event::DATA, start, run.data.len() as u32));
+            Taken::Data(data) => {
+                if self.writes(event::DATA) {
+                    self.add_record(VteEvent::run(event::DATA, start, data.len() as u32));
+                }
+            }
+            Taken::Nothing => {}
         }
     }
 
@@ -244,7 +254,10 @@ impl<'a> Events<'a> {
         ensures { room_of self.new ≡ room_of self.old }
     {
         let place = self.command;
-        if place < self.count && place < self.events.len() && self.events[place].kind == event::OSC {
+        if place < self.count
+            && place < self.events.len()
+            && self.events[place].kind == event::OSC
+        {
             self.events[place] = self.events[place].with_loss();
         }
     }

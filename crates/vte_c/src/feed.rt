@@ -114,5 +114,5 @@ fn read_more(parser: &mut Parser<1024>, bytes: &[u8], from: usize, room: &mut Ev
     let run = parser.advance_to_run(room, &bytes[from..]);
     room.resume(parser.command_lost_data());
     room.add_run(from, run);
-    run.end()
+    run.end
 }

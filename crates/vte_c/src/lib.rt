@@ -5,7 +5,8 @@
 //! written may not overlap anything else that is passed.
 #![tactic(auto)]
 
-ghost use Rattle.std.specs.Prelude.{◌≡◌};
+ghost use Rattle.std.specs.Prelude.{◌≡◌, []};
+ghost use Rattle.vte_core.specs.Saved.{HasReadSaved};
 ghost use Rattle.vte_c.specs.Calls.{Feeds, Strips};
 
 mod event;
@@ -18,7 +19,7 @@ mod text;
 use event::VteEvent;
 use feed::VteCounts;
 use std::mem::size_of;
-use vte_core::Saved;
+use vte_core::{Parser, Saved};
 
 const VERSION: u32 = 6;
 
@@ -65,6 +66,15 @@ pub extern "C" fn vte_strip(
     ensures { Strips parser.old parser.new bytes.now room.old room.new written.new result }
 {
     text::strip(parser, bytes, room, written)
+}
+
+/// Returns whether a sequence or a character is unfinished: 1 or 0.
+#[unsafe(no_mangle)]
+pub extern "C" fn vte_is_open(parser: &Saved) -> u8
+    // If one is, the parser doesn't go on as a new one.
+    ensures opens { result ≡ 1 → HasReadSaved parser.now [] → ⊥ }
+{
+    u8::from(Parser::restored(parser).is_open())
 }
 
 /// Returns the version of this interface. It grows when programs compiled for an earlier version no longer work.

@@ -74,7 +74,7 @@ fn read_more(
     let run = parser.advance_to_run(room, unread)?;
     room.resume(parser.command_lost_data());
     room.add_run(from, run);
-    Ok(run.end())
+    Ok(run.end)
 }
 
 /// Reads bytes until they end, the room is full, a stop comes or memory is refused. Returns how many

@@ -8,8 +8,8 @@
 static int save(const vte_event *event, const uint8_t *data, const char *folder, int number) {
     vte_items pieces = vte_items_of(event, data);
     char path[4096];
-    if (!vte_next_long_piece(&pieces) || pieces.length != 2 || memcmp(pieces.at, "52", 2) != 0) return 0;
-    if (!vte_next_long_piece(&pieces) || !vte_next_long_piece(&pieces) || (pieces.length == 1 && *pieces.at == '?')) return 0;
+    if (!vte_next_piece(&pieces) || pieces.length != 2 || memcmp(pieces.at, "52", 2) != 0) return 0;
+    if (!vte_next_piece(&pieces) || !vte_next_piece(&pieces) || (pieces.length == 1 && *pieces.at == '?')) return 0;
     snprintf(path, sizeof path, "%s/%d", folder, number);
     FILE *file = fopen(path, "wb");
     if (file == NULL || fwrite(pieces.at, 1, pieces.length, file) < pieces.length || fclose(file) != 0) return -1;
@@ -19,22 +19,24 @@ static int save(const vte_event *event, const uint8_t *data, const char *folder,
 int main(int argc, char **argv) {
     vte_long_parser *parser = vte_long_parser_new();
     vte_event events[64];
-    vte_long_counts counts;
+    const uint8_t *data;
+    vte_counts counts;
     uint8_t bytes[65536];
     ssize_t length;
-    int count = 0;
+    int number = 0;
     if (argc != 2 || parser == NULL) return 2;
     while ((length = read(0, bytes, sizeof bytes)) > 0)
         for (size_t at = 0; at < (size_t)length;) {
-            at += vte_long_feed(parser, bytes + at, (size_t)length - at, VTE_KIND(VTE_OSC), 0, events, 64, &counts);
-            if (counts.stop) return 1;
+            size_t count = vte_long_feed(parser, bytes + at, (size_t)length - at, VTE_KIND(VTE_OSC), 0, events, 64, &data, &counts);
+            if (count == VTE_REFUSED) return 1;
+            at += count;
             for (size_t i = 0; i < counts.events; i++) {
-                int saved = save(&events[i], counts.data, argv[1], count);
+                int saved = save(&events[i], data, argv[1], number);
                 if (saved < 0) return 1;
-                count += saved;
+                number += saved;
             }
         }
     vte_long_parser_free(parser);
-    printf("%d\n", count);
+    printf("%d\n", number);
     return length < 0;
 }

@@ -24,9 +24,8 @@ int main(void) {
         fwrite(bytes, 1, (size_t)length, stdout);
         fflush(stdout);
         for (size_t at = 0; at < (size_t)length;) {
-            at += vte_feed(&parser, bytes + at, (size_t)length - at, events, 256, data, sizeof data, &counts);
-            for (size_t i = 0; i < counts.events; i++)
-                if (events[i].kind == VTE_OSC) watch(&events[i], data);
+            at += vte_feed(&parser, bytes + at, (size_t)length - at, VTE_KIND(VTE_OSC), 0, events, 256, data, sizeof data, &counts);
+            for (size_t i = 0; i < counts.events; i++) watch(&events[i], data);
         }
     }
     return length < 0;

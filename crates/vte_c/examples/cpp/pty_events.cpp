@@ -17,7 +17,7 @@ public:
         vte_counts counts;
         for (size_t at = 0; at < length;) {
             const uint8_t *unread = bytes + at;
-            at += vte_feed(&parser, unread, length - at, events.data(), events.size(), data.data(), data.size(), &counts);
+            at += vte_feed(&parser, unread, length - at, VTE_ALL_KINDS, 0, events.data(), events.size(), data.data(), data.size(), &counts);
             for (size_t i = 0; i < counts.events; i++) {
                 const vte_event &event = events[i];
                 const uint8_t *text = vte_text_of(&event, unread, data.data());
@@ -28,7 +28,7 @@ public:
 };
 
 int main(int argc, char **argv) {
-    static const char *const names[] = {"text", "execute", "hook", "put", "unhook", "osc", "csi", "esc", "data"};
+    static const char *const names[] = {"text", "execute", "hook", "data", "unhook", "osc", "csi", "esc"};
     int terminal;
     if (argc < 2) return 2;
     if (forkpty(&terminal, nullptr, nullptr, nullptr) == 0) {

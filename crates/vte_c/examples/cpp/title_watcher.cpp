@@ -29,7 +29,7 @@ int main() {
         size_t length = static_cast<size_t>(count);
         std::cout.write(reinterpret_cast<char *>(bytes.data()), count).flush();
         for (size_t at = 0; at < length;) {
-            at += vte_feed(&parser, &bytes[at], length - at, events.data(), events.size(), data.data(), data.size(), &counts);
+            at += vte_feed(&parser, &bytes[at], length - at, VTE_KIND(VTE_OSC), 0, events.data(), events.size(), data.data(), data.size(), &counts);
             for (size_t i = 0; i < counts.events; i++)
                 if (events[i].kind == VTE_OSC) watch(pieces_of(events[i], data.data()));
         }

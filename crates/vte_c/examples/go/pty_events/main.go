@@ -12,7 +12,7 @@ import (
 	"syscall"
 )
 
-var names = []string{"text", "execute", "hook", "put", "unhook", "osc", "csi", "esc", "data"}
+var names = []string{"text", "execute", "hook", "data", "unhook", "osc", "csi", "esc"}
 
 // start runs a program in a new pty, and returns the side that reads what it writes.
 func start(words []string) *os.File {
@@ -48,7 +48,7 @@ func main() {
 	// Linux answers EIO once the last program has closed the pty.
 	for length, err := terminal.Read(room); err == nil; length, err = terminal.Read(room) {
 		for bytes := room[:length]; len(bytes) > 0; {
-			read := C.vte_feed(&parser, (*C.uint8_t)(&bytes[0]), C.size_t(len(bytes)), &events[0], C.size_t(len(events)),
+			read := C.vte_feed(&parser, (*C.uint8_t)(&bytes[0]), C.size_t(len(bytes)), C.VTE_ALL_KINDS, 0, &events[0], C.size_t(len(events)),
 				(*C.uint8_t)(&data[0]), C.size_t(len(data)), &counts)
 			for _, event := range events[:counts.events] {
 				if event.kind == C.VTE_TEXT {

@@ -30,7 +30,7 @@ func main() {
 		length, err := os.Stdin.Read(room)
 		os.Stdout.Write(room[:length])
 		for bytes := room[:length]; len(bytes) > 0; {
-			read := C.vte_feed(&parser, (*C.uint8_t)(&bytes[0]), C.size_t(len(bytes)), &events[0], C.size_t(len(events)),
+			read := C.vte_feed(&parser, (*C.uint8_t)(&bytes[0]), C.size_t(len(bytes)), 1<<C.VTE_OSC, 0, &events[0], C.size_t(len(events)),
 				data, 8192, &counts)
 			for i := range events[:counts.events] {
 				// Operating system commands 0 and 2 set the title, which may contain `;`.

@@ -27,26 +27,26 @@ returns c =
     (omega (arith, c.min.ensures, c.count.ensures, c.events-1.given.1.0))
     (omega (arith, c.min-2.ensures, c.used.ensures, c.area-1.given.1.0)) in
     record {
-        enough = λ most size. sym count;
-        within = omega (arith, count, within, length-take m bytes);
-        exact = λ told stream rest h.
-            let a = are told stream rest h in
-            let tells = rw kinds at ((feeds told stream rest h).tells (drop m bytes)) in
-            rw (count, a.same_count, a.same_records, a.same_area)
-            (rw (← append_assoc (drop read.result (take m bytes)), ← drop-append-le read.result (take m bytes) (drop m bytes) within, whole) at tells);
-        encoded = λ told stream rest h.
-            let a = are told stream rest h in
-            rw (a.same_count, a.same_used, a.same_records, a.same_area) (rw whole at ((feeds told stream rest h).encodes (drop m bytes)));
-        room = (omega (arith, c.min.ensures, c.events-1.given.1.0), omega (arith, c.min-2.ensures, c.area-1.given.1.0));
-        few = λ few. record { says = search rules; events = search rules; bytes = search rules; same = search rules };
-        little = λ little. record { says = search rules; events = search rules; bytes = search rules; same = search rules };
-        further = λ told stream rest h most size others some.
-            let a = are told stream rest h in
-            let there : 0 < length (take m bytes) = omega (arith, c.min-end.ensures, length-take m bytes, some) in
-            (feeds told stream rest h).further (rw (stops, ← a.same_count, ← a.same_records) others) there;
-        first = λ told stream rest h.
-            let a = are told stream rest h in
-            rw (a.same_count, a.same_records, ← stops) (feeds told stream rest h).first;
-        until = λ stream reads not_text not_data i earlier.
-            rw (kinds, stops, take-take i m bytes (omega (arith, count, within, length-take m bytes))) at (read.ensures.stops stream reads (rw (kinds, stops) (not_text, not_data)) i (rw count at earlier));
+      enough = λ most size. sym count;
+      within = omega (arith, count, within, length-take m bytes);
+      exact = λ told stream rest h.
+          let a = are told stream rest h in
+          let tells = rw kinds at ((feeds told stream rest h).tells (drop m bytes)) in
+          rw (count, a.same_count, a.same_records, a.same_area)
+          (rw (← append_assoc (drop read.result (take m bytes)), ← drop-append-le read.result (take m bytes) (drop m bytes) within, whole) at tells);
+      encoded = λ told stream rest h.
+          let a = are told stream rest h in
+          rw (a.same_count, a.same_used, a.same_records, a.same_area) (rw whole at ((feeds told stream rest h).encodes (drop m bytes)));
+      room = (omega (arith, c.min.ensures, c.events-1.given.1.0), omega (arith, c.min-2.ensures, c.area-1.given.1.0));
+      few = λ few. record { says = search rules; events = search rules; bytes = search rules; same = search rules };
+      little = λ little. record { says = search rules; events = search rules; bytes = search rules; same = search rules };
+      further = λ told stream rest h most size others some.
+          let a = are told stream rest h in
+          let there : 0 < length (take m bytes) = omega (arith, c.min-end.ensures, length-take m bytes, some) in
+          (feeds told stream rest h).further (rw (stops, ← a.same_count, ← a.same_records) others) there;
+      first = λ told stream rest h.
+          let a = are told stream rest h in
+          rw (a.same_count, a.same_records, ← stops) (feeds told stream rest h).first;
+      until = λ stream reads not_text not_data i earlier.
+          rw (kinds, stops, take-take i m bytes (omega (arith, count, within, length-take m bytes))) at (read.ensures.stops stream reads (rw (kinds, stops) (not_text, not_data)) i (rw count at earlier));
     }

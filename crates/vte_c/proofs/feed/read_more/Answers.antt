@@ -24,13 +24,13 @@ returns c =
     } in
     let written = c.add_run.ensures.written ∙ ap (λ (r : Room). with_run r c.args.from run) c.resume.ensures in
     record {
-      within = omega (arith, c.end.ensures, returned.stands.within, c.requires.within);
+      within = omega (arith, returned.stands.within, c.requires.within);
       goes = λ since reads. record {
         next = stream_at since rest run.start ++ run_bytes run;
         reads = rw unread at (call.ensures.reads since reads);
-        goes = rw c.end.ensures (goes-to-run (room_of c.args.room.now) (room_of call.new.performer) (room_of c.add_run.new.self) since bytes c.args.from run laws
-            c.requires.roomy begins returned reads c.add_run.ensures.utf8 written);
+        goes = goes-to-run (room_of c.args.room.now) (room_of call.new.performer) (room_of c.add_run.new.self) since bytes c.args.from run laws
+            c.requires.roomy begins returned reads c.add_run.ensures.utf8 written;
       };
-      further = λ since reads starts others. rw c.end.ensures (further (room_of c.args.room.now) (room_of call.new.performer) (room_of c.add_run.new.self) since bytes c.args.from run laws
-          c.requires.roomy begins returned reads starts c.requires.within written others);
+      further = λ since reads starts others. further (room_of c.args.room.now) (room_of call.new.performer) (room_of c.add_run.new.self) since bytes c.args.from run laws
+          c.requires.roomy begins returned reads starts c.requires.within written others;
     }

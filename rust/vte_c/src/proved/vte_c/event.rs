@@ -8,7 +8,7 @@ pub const EXECUTE: u8 = 1;
 
 pub const HOOK: u8 = 2;
 
-pub const PUT: u8 = 3;
+pub const DATA: u8 = 3;
 
 pub const UNHOOK: u8 = 4;
 
@@ -18,15 +18,15 @@ pub const CSI: u8 = 6;
 
 pub const ESC: u8 = 7;
 
-pub const DATA: u8 = 8;
-
-/// An event, or the events of a text or of data. Groups of numbers and pieces of an operating system command are in the data area, from
-/// `start` on; a text or data is there if `flag` is 1, and otherwise in the input of the call.
+/// An event, or the events of a text or of data. Groups of numbers and pieces of an operating system
+/// command are in the data area, from `start` on; a text or data is there if `flag` is 1, and
+/// otherwise in the input of the call.
 #[repr(C)]
 #[derive(Clone, Copy)]
 pub struct VteEvent {
     pub kind: u8,
-    // `ignore` of a sequence; of a command 1 if BEL ended it, and 2 if data bytes were dropped; whether a text or data is in the data area
+    // `ignore` of a sequence; of a command 1 if BEL ended it, and 2 if it lost data bytes; whether a
+    // text or data is in the data area
     pub flag: u8,
     pub intermediate_count: u8,
     // how many groups or pieces there are
@@ -87,10 +87,10 @@ impl VteEvent {
         }
     }
 
-    /// Returns the event with the flags of a command: whether BEL ended it, and whether data bytes were dropped.
-    pub(crate) fn with_flags(self, bell_terminated: bool, truncated: bool) -> Self {
+    /// Returns the record of a command that lost data bytes.
+    pub(crate) fn with_loss(self) -> Self {
         VteEvent {
-            flag: u8::from(bell_terminated) + 2 * u8::from(truncated),
+            flag: self.flag % 2 + 2,
             ..self
         }
     }
@@ -102,6 +102,12 @@ impl VteEvent {
             ..self
         }
     }
+}
+
+/// Returns whether a kind is in a set of kinds.
+#[inline(always)]
+pub fn has(kinds: u32, kind: u8) -> bool {
+    kind < 32 && (kinds >> kind) % 2 == 1
 }
 
 /// Returns a count as a byte, at most 255.

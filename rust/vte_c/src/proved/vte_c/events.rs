@@ -1,22 +1,21 @@
 // Written by tools/erase from crates/vte_c/src/events.rt. Don't edit this file: edit that one, and run the tool.
 //! The performer that writes events into the caller's buffers.
 
-use crate::proved::vte_c::event::{self, VteEvent};
+use crate::proved::vte_c::event::{self, has, VteEvent};
 use crate::proved::vte_c::packed::Packed;
-use vte::{Params, Perform, Run};
+use vte::{Params, Perform, Run, Taken};
 
-/// The most data bytes of one event: 16 pieces of together 1,024 bytes, each after two bytes with its length.
-pub(crate) const MOST_DATA: usize = 1056;
+/// The most data bytes of one event: 16 pieces of together 1,024 bytes, each after four with its length.
+pub(crate) const MOST_DATA: usize = 1088;
 
 /// The most data bytes of what one byte of a stream adds: an event, and a character after it.
 const MOST_ADDED: usize = MOST_DATA + 4;
 
-/// No kind of event.
-const NO_KIND: u16 = 256;
-
-/// Writes events into the caller's buffers, each as a whole or not at all.
+/// Writes events of some kinds into the caller's buffers, each as a whole or not at all.
 ///
-/// It is terminated if there is no room for what one byte may add: two events, and the data of one and of a character.
+/// It is terminated if there is no room for what one byte may add: two events, and the data of one
+/// and of a character. It also is after a command, so that the parser can be asked whether that lost
+/// data, and after an event of the kinds that stop.
 pub(crate) struct Events<'a> {
     events: &'a mut [VteEvent],
     area: &'a mut [u8],
@@ -25,19 +24,25 @@ pub(crate) struct Events<'a> {
     // how many events and data bytes were written
     count: usize,
     used: usize,
-    // the kind of event after which to stop, or `NO_KIND`, and whether one was written
-    wanted: u16,
+    // the kinds to write, those after which to stop, and whether one of these was written
+    kinds: u32,
+    stops: u32,
     met: bool,
-    // The room is full with at least so many events: with any number once one of the kind was written, or the area has little room left.
+    // whether a command came of which the parser wasn't asked yet, and the place of its record
+    paused: bool,
+    command: usize,
+    // The room is full with at least so many events: with any number once one that stops was
+    // written, after a command, and if the area has little room left.
     full_count: usize,
 }
 
 impl<'a> Events<'a> {
-    pub(crate) fn new(events: &'a mut [VteEvent], area: &'a mut [u8], kind: Option<u8>) -> Self {
-        let wanted = match kind {
-            Some(kind) => u16::from(kind),
-            None => NO_KIND,
-        };
+    pub(crate) fn new(
+        events: &'a mut [VteEvent],
+        area: &'a mut [u8],
+        kinds: u32,
+        stops: u32,
+    ) -> Self {
         let full_count = events.len() - 1;
         let size = area.len().min(u32::MAX as usize);
         Events {
@@ -46,13 +51,22 @@ impl<'a> Events<'a> {
             size,
             count: 0,
             used: 0,
-            wanted,
+            kinds,
+            stops,
             met: false,
+            paused: false,
+            command: 0,
             full_count,
         }
     }
 
-    /// Returns whether there may be no room for what one byte adds, or an event of the kind was written.
+    /// Returns whether events of a kind are written.
+    #[inline(always)]
+    fn writes(&self, kind: u8) -> bool {
+        has(self.kinds, kind)
+    }
+
+    /// Returns whether there may be no room for what one byte adds, or a stop or a pause has come.
     pub(crate) fn is_full(&self) -> bool {
         self.count >= self.full_count
     }
@@ -72,7 +86,7 @@ impl<'a> Events<'a> {
         if count < self.events.len() {
             self.events[count] = event;
             self.count = count + 1;
-            if self.wanted == u16::from(event.kind) {
+            if has(self.stops, event.kind) {
                 self.met = true;
                 self.full_count = 0;
             }
@@ -82,10 +96,12 @@ impl<'a> Events<'a> {
     /// Writes an event without data.
     #[inline(always)]
     fn add_without_data(&mut self, event: VteEvent) {
-        self.add_record(VteEvent {
-            start: self.used as u32,
-            ..event
-        });
+        if self.writes(event.kind) {
+            self.add_record(VteEvent {
+                start: self.used as u32,
+                ..event
+            });
+        }
     }
 
     /// Writes bytes into the area.
@@ -113,20 +129,30 @@ impl<'a> Events<'a> {
     #[inline(always)]
     pub(crate) fn add_run(&mut self, from: usize, run: Run<'_>) {
         let start = (from + run.start) as u32;
-        if !run.text.is_empty() {
-            self.add_record(VteEvent::run(event::TEXT, start, run.text.len() as u32));
-        } else if !run.data.is_empty() {
-            self.add_record(VteEvent::run(event::DATA, start, run.data.len() as u32));
+        match run.taken {
+            Taken::Text(text) => {
+                if self.writes(event::TEXT) {
+                    self.add_record(VteEvent::run(event::TEXT, start, text.len() as u32));
+                }
+            }
+            Taken::Data(data) => {
+                if self.writes(event::DATA) {
+                    self.add_record(VteEvent::run(event::DATA, start, data.len() as u32));
+                }
+            }
+            Taken::Nothing => {}
         }
     }
 
     /// Writes a character.
     #[inline(always)]
     fn add_character(&mut self, c: char) {
-        let mut bytes = [0; 4];
-        let text = c.encode_utf8(&mut bytes).as_bytes();
-        let event = VteEvent::new(event::TEXT, text.len() as u32).with_flag(true);
-        self.add(event, text);
+        if self.writes(event::TEXT) {
+            let mut bytes = [0; 4];
+            let text = c.encode_utf8(&mut bytes).as_bytes();
+            let event = VteEvent::new(event::TEXT, text.len() as u32).with_flag(true);
+            self.add(event, text);
+        }
     }
 
     /// Writes a sequence with parameters.
@@ -138,6 +164,9 @@ impl<'a> Events<'a> {
         ignore: bool,
         action: char,
     ) {
+        if !self.writes(kind) {
+            return;
+        }
         let mut groups = Packed::<96>::new();
         groups.push_groups(params);
         if let Some(bytes) = groups.bytes() {
@@ -149,16 +178,89 @@ impl<'a> Events<'a> {
         }
     }
 
-    /// Writes an operating system command.
-    fn add_command(&mut self, pieces: &[&[u8]], bell_terminated: bool, truncated: bool) {
-        let mut packed = Packed::<MOST_DATA>::new();
-        packed.push_pieces(pieces);
-        if let Some(bytes) = packed.bytes() {
-            let event = VteEvent::new(event::OSC, 0)
-                .with_flags(bell_terminated, truncated)
-                .with_count(pieces.len());
-            self.add(event, bytes);
+    /// Pauses after a command, whose record comes next.
+    fn pause(&mut self) {
+        self.paused = true;
+        self.command = self.count;
+        self.full_count = 0;
+    }
+
+    /// Goes on after a pause, and says in the record of the command whether it lost data.
+    pub(crate) fn resume(&mut self, lost_data: bool) {
+        if self.paused {
+            self.paused = false;
+            if !self.met && self.size - self.used >= MOST_ADDED {
+                self.full_count = self.events.len().saturating_sub(1);
+            }
+            if lost_data {
+                self.add_loss();
+            }
         }
+    }
+
+    /// Says in the record of the last command that it lost data, if it was written.
+    fn add_loss(&mut self) {
+        let place = self.command;
+        if place < self.count && place < self.events.len() && self.events[place].kind == event::OSC
+        {
+            self.events[place] = self.events[place].with_loss();
+        }
+    }
+
+    /// Writes an operating system command.
+    fn add_command(&mut self, pieces: &[&[u8]], bell_terminated: bool) {
+        self.pause();
+        if !self.writes(event::OSC) || self.count >= self.events.len() {
+            return;
+        }
+        if let Some(end) = self.write_pieces(pieces) {
+            let event = VteEvent::new(event::OSC, 0)
+                .with_flag(bell_terminated)
+                .with_count(pieces.len());
+            self.add_written(event, end);
+        }
+    }
+
+    /// Writes the pieces of a command into the area. Returns where they end, if there is room.
+    fn write_pieces(&mut self, pieces: &[&[u8]]) -> Option<usize> {
+        let mut end = self.used;
+        for piece in pieces {
+            end = self.write_piece(end, piece)?;
+        }
+        Some(end)
+    }
+
+    /// Writes a piece at a place in the area, after four bytes with its length.
+    fn write_piece(&mut self, place: usize, piece: &[u8]) -> Option<usize> {
+        let length = piece.len().min(u32::MAX as usize);
+        let bytes = [
+            (length % 256) as u8,
+            (length / 256 % 256) as u8,
+            (length / 65536 % 256) as u8,
+            (length / 16777216) as u8,
+        ];
+        let place = self.write(place, &bytes)?;
+        self.write(place, piece)
+    }
+
+    /// Writes bytes at a place in the area. Returns where they end, if there is room.
+    fn write(&mut self, place: usize, bytes: &[u8]) -> Option<usize> {
+        if place > self.size || bytes.len() > self.size - place {
+            return None;
+        }
+        let end = place + bytes.len();
+        self.area[place..end].copy_from_slice(bytes);
+        Some(end)
+    }
+
+    /// Writes the record of an event whose data was written up to a place.
+    fn add_written(&mut self, event: VteEvent, end: usize) {
+        let start = self.used as u32;
+        self.used = end;
+        if self.size - end < MOST_ADDED {
+            self.full_count = 0;
+        }
+        self.add_record(VteEvent { start, ..event });
     }
 }
 
@@ -183,7 +285,9 @@ impl Perform for Events<'_> {
 
     /// Writes a byte of data that isn't in the input: `advance_to_run` performs none.
     fn put(&mut self, byte: u8) {
-        self.add(VteEvent::new(event::DATA, 1).with_flag(true), &[byte]);
+        if self.writes(event::DATA) {
+            self.add(VteEvent::new(event::DATA, 1).with_flag(true), &[byte]);
+        }
     }
 
     fn unhook(&mut self) {
@@ -191,11 +295,7 @@ impl Perform for Events<'_> {
     }
 
     fn osc_dispatch(&mut self, params: &[&[u8]], bell_terminated: bool) {
-        self.add_command(params, bell_terminated, false);
-    }
-
-    fn osc_dispatch_truncated(&mut self, params: &[&[u8]], bell_terminated: bool) {
-        self.add_command(params, bell_terminated, true);
+        self.add_command(params, bell_terminated);
     }
 
     fn csi_dispatch(&mut self, params: &Params, intermediates: &[u8], ignore: bool, action: char) {

@@ -20,11 +20,12 @@ pub struct VteCounts {
     pub bytes: usize,
 }
 
-/// Reads bytes until they end, the buffers are nearly full, or an event of the kind was written. Returns how many were read.
+/// Reads bytes until they end, the buffers are nearly full, or an event that stops was written. Returns how many were read.
 pub(crate) fn feed(
     parser: &mut Saved,
     bytes: &[u8],
-    kind: Option<u8>,
+    kinds: u32,
+    stops: u32,
     events: &mut [VteEvent],
     area: &mut [u8],
     counts: &mut VteCounts,
@@ -40,7 +41,7 @@ pub(crate) fn feed(
     // Records have 32 bits for places in the input.
     let end = bytes.len().min(u32::MAX as usize);
     let bytes = &bytes[..end];
-    let mut room = Events::new(events, area, kind);
+    let mut room = Events::new(events, area, kinds, stops);
     let read = read_into(parser, bytes, &mut room);
     *counts = VteCounts {
         events: room.count().min(most),
@@ -73,6 +74,7 @@ fn read_all(parser: &mut Parser<1024>, bytes: &[u8], room: &mut Events<'_>) -> u
 /// Reads up to a run of text or data, and the run, whose record it writes.
 fn read_more(parser: &mut Parser<1024>, bytes: &[u8], from: usize, room: &mut Events<'_>) -> usize {
     let run = parser.advance_to_run(room, &bytes[from..]);
+    room.resume(parser.command_lost_data());
     room.add_run(from, run);
-    run.end()
+    run.end
 }

@@ -7,48 +7,42 @@
 
 pub(crate) mod event;
 pub(crate) use event::VteEvent;
-pub(crate) use feed::{VteCounts, NO_ROOM};
-pub(crate) use packed::Packed;
+pub(crate) use events::Events;
+pub(crate) use feed::{VteCounts, LEAST_EVENTS, NO_ROOM};
 mod events;
 mod feed;
 mod packed;
 mod text;
 
 use core::mem::size_of;
-use vte::Saved;
+use vte::{Parser, Saved};
 
-const VERSION: u32 = 5;
+const VERSION: u32 = 6;
 
 const PARSER_SIZE: usize = size_of::<Saved>();
 
 const EVENT_SIZE: usize = size_of::<VteEvent>();
 
-/// Reads bytes, and writes the events that they add to the stream. Returns how many bytes were read.
+/// Reads bytes, and writes the events of some kinds that they add to the stream. Returns how many
+/// bytes were read.
 ///
-/// Text is in runs, and so is the data of device control strings: a record says where one is in the bytes, or in the data area.
+/// Text is in runs, and so is the data of device control strings: a record says where one is in the
+/// bytes, or in the data area.
 ///
-/// It stops early when the buffers are nearly full: call it again with the rest. If there is room for fewer than `vte_least_events` events or
-/// `vte_least_data` data bytes, it reads nothing and returns `usize::MAX`.
+/// It stops early when the buffers are nearly full, and after an event of the kinds `stops`, which at
+/// most one follows: call it again with the rest. If there is room for fewer than
+/// `vte_least_events` events or `vte_least_data` data bytes, it reads nothing and returns
+/// `usize::MAX`.
 pub fn vte_feed(
     parser: &mut Saved,
     bytes: &[u8],
+    kinds: u32,
+    stops: u32,
     events: &mut [VteEvent],
     area: &mut [u8],
     counts: &mut VteCounts,
 ) -> usize {
-    feed::feed(parser, bytes, None, events, area, counts)
-}
-
-/// Reads bytes as `vte_feed` does, and also stops after the first record of a kind. At most one record follows it.
-pub fn vte_feed_until(
-    parser: &mut Saved,
-    bytes: &[u8],
-    kind: u8,
-    events: &mut [VteEvent],
-    area: &mut [u8],
-    counts: &mut VteCounts,
-) -> usize {
-    feed::feed(parser, bytes, Some(kind), events, area, counts)
+    feed::feed(parser, bytes, kinds, stops, events, area, counts)
 }
 
 /// Reads bytes, and writes the text that is left without the sequences. Returns how many bytes were read.
@@ -57,6 +51,11 @@ pub fn vte_feed_until(
 /// is returned.
 pub fn vte_strip(parser: &mut Saved, bytes: &[u8], room: &mut [u8], written: &mut usize) -> usize {
     text::strip(parser, bytes, room, written)
+}
+
+/// Returns whether a sequence or a character is unfinished: 1 or 0.
+pub fn vte_is_open(parser: &Saved) -> u8 {
+    u8::from(Parser::restored(parser).is_open())
 }
 
 /// Returns the version of this interface. It grows when programs compiled for an earlier version no longer work.

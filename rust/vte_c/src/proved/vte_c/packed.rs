@@ -1,5 +1,5 @@
 // Written by tools/erase from crates/vte_c/src/packed.rt. Don't edit this file: edit that one, and run the tool.
-//! The data of an event, as it is written into the data area.
+//! The data of a sequence, as it is written into the data area.
 
 use crate::array_vec::ArrayVec;
 use crate::proved::vte_c::event::count_byte;
@@ -45,19 +45,6 @@ impl<const N: usize> Packed<N> {
     pub(crate) fn push_groups(&mut self, params: &Params) {
         for group in params {
             self.push_group(group);
-        }
-    }
-
-    /// Adds a piece after two bytes with its length.
-    fn push_piece(&mut self, piece: &[u8]) {
-        let length = piece.len().min(65535);
-        self.push(&[(length % 256) as u8, (length / 256) as u8]);
-        self.push(piece);
-    }
-
-    pub(crate) fn push_pieces(&mut self, pieces: &[&[u8]]) {
-        for piece in pieces {
-            self.push_piece(piece);
         }
     }
 }

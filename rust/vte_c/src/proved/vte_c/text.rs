@@ -62,10 +62,6 @@ impl Perform for Text<'_> {
         self.add(b"");
     }
 
-    fn osc_dispatch_truncated(&mut self, params: &[&[u8]], bell_terminated: bool) {
-        self.osc_dispatch(params, bell_terminated);
-    }
-
     fn csi_dispatch(
         &mut self,
         _params: &Params,

@@ -87,7 +87,7 @@ VTE = Plan(
             "crate::proved::vte_core::automaton": "skip_run_blocks",
             "crate::proved::vte_core::utf8": "tell_character tell_single",
             "crate::proved::vte_core::run": "begins_ascii find_ascii_run_end find_longer_run_end find_rest_end",
-            "crate::proved::vte_core::scan": "data find_data_end find_escape find_put_end get get_block text up_to",
+            "crate::proved::vte_core::scan": "data find_data_end find_escape find_put_end get get_block tell_data tell_text text up_to",
         },
     },
     conditions={name: 'feature = "ansi"' for name in ("vte_types", "vte_handler", "vte")},

@@ -2,7 +2,8 @@
 //! Searches of the input.
 
 use crate::prelude::{first_chunk, memchr};
-use crate::proved::vte_core::class::{is_data, ESCAPE};
+use crate::proved::vte_core::class::{is_command_data, is_data, ESCAPE};
+use crate::proved::vte_core::grain::PerformAs;
 use core::str;
 
 /// Returns the bytes up to a place.
@@ -30,7 +31,7 @@ pub(crate) fn data(input: &[u8], from: usize, to: usize) -> &[u8] {
 /// or with the input.
 pub(crate) fn find_data_end(input: &[u8], from: usize) -> usize {
     let mut end = from;
-    while end < input.len() && input[end] >= 0x20 && input[end] != b';' {
+    while end < input.len() && is_command_data(input[end]) {
         end += 1;
     }
     end
@@ -65,4 +66,26 @@ pub(crate) fn get(input: &[u8], index: usize) -> Option<u8> {
 #[inline(always)]
 pub(crate) fn get_block<const N: usize>(input: &[u8], from: usize) -> Option<[u8; N]> {
     first_chunk::<N>(&input[from..]).copied()
+}
+
+/// Tells the run of text that stands from one place to another, which counts its bytes.
+#[inline(always)]
+pub(crate) fn tell_text<P: PerformAs<G>, G>(
+    performer: &mut P,
+    input: &[u8],
+    from: usize,
+    to: usize,
+) {
+    performer.print_text(text(input, from, to));
+}
+
+/// Tells the data that stand from one place to another, which counts them.
+#[inline(always)]
+pub(crate) fn tell_data<P: PerformAs<G>, G>(
+    performer: &mut P,
+    input: &[u8],
+    from: usize,
+    to: usize,
+) {
+    performer.put_slice(data(input, from, to));
 }

@@ -67,33 +67,26 @@ COUNTS = [
     ("CountedPerform<$$b>, $g>", "PerformAs<$g>"),
 ]
 
-# The functions that take text in runs or by the character, and those that may stop: the others only pass these parameters on.
-GRAINED = {"drive", "find_ascii_run_end", "find_longer_run_end", "find_run_end", "print_ascii", "read",
-           "read_device_data", "read_longer", "read_run", "read_text", "read_until_terminated", "tell_data", "tell_text"}
+# The functions that may stop: the others only pass this parameter on.
 ASKING = {"drive", "end_data", "read_device_data", "read_end", "read_ignored_string", "read_run",
-          "read_system_command", "read_text"}
-SILENT = {"read_number", "read_parameters"}
+          "read_system_command", "read_text", "read_until_terminated"}
 
 
 def _head(names):
-    name = names["f"]
-    performer = ["P: PerformAs<G>", "G: Grain"] if name in GRAINED else [] if name in SILENT else ["P: Perform"]
-    parameters = ", ".join(performer + ["const ASKS: bool"] * (name in ASKING))
-    return f"fn {name}<{parameters}>(" if parameters else f"fn {name}("
+    return f"fn {names['f']}<P: PerformAs<G>, G: Grain{', const ASKS: bool' * (names['f'] in ASKING)}>("
 
 
 def _call(names):
-    name = names["f"]
-    grain, asks = [names["g"]] * (name in GRAINED), [names.get("a")] * (name in ASKING)
+    name, grain = names["f"], names["g"]
+    if name in ASKING:
+        return f"{name}::<P, {grain}, {names['a']}>("
     # the arguments tell which performer it is, and its grain
-    is_told = not asks and grain in ([], ["G"])
-    return f"{name}(" if is_told else f"{name}::<{', '.join(['P', *grain, *asks])}>("
+    return f"{name}(" if grain == "G" else f"{name}::<P, {grain}>("
 
 
 PARAMETERS = [
     ("fn $f<P: PerformAs<G>, G: Grain, const ASKS: bool>(", _head),
-    ("fn $f<P: PerformAs<G>, G: Grain>(", _head),
-    ("$f::<P, $g>(", _call),
+    ("$f::<P, G>(", "$f("),
     ("$f::<P, $g, $a>(", _call),
 ]
 

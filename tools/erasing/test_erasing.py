@@ -166,10 +166,10 @@ impl P {
         self.read_character::<P, G, ASKS>(looks, 1);
         looks.at(input, looks.find_escape(input, from) + 1)
     }
-}""", """use crate::proved::vte_core::perform::Perform; use crate::proved::vte_core::scan::find_escape;
+}""", """use crate::proved::vte_core::grain::{Grain, PerformAs}; use crate::proved::vte_core::scan::find_escape;
 pub struct P { machine: M }
 impl P {
-    fn end_data<P: Perform, const ASKS: bool>(&mut self, performer: &mut P, input: &[u8]) -> u8 {
+    fn end_data<P: PerformAs<G>, G: Grain, const ASKS: bool>(&mut self, performer: &mut P, input: &[u8]) -> u8 {
         performer.print('a');
         performer.unhook();
         self.drive::<P, G, true>(bytes);

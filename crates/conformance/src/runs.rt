@@ -108,7 +108,11 @@ fn check_runs<const KEEPS: bool>(rt: &impl Abort, name: &str, pieces: &[&[u8]]) 
     for piece in pieces {
         parser.advance_text(&mut check, piece);
     }
-    assert_eq!(rt; (check.empty, check.with_controls, check.alone), (0, 0, 0), "{name}");
+    assert_eq!(rt;
+        (check.empty, check.with_controls, check.alone),
+        (0, 0, 0),
+        "{name}"
+    );
     check
 }
 

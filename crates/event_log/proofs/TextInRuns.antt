@@ -4,6 +4,7 @@ use Rattle.event_log.proofs.Common.{arith, nat_tests, encode_ascii, encodes-char
 use Rattle.event_log.proofs.Common.{most_bytes, with_event, with_text, HasKept}
 use Rattle.std.proofs.Math.Utf8.{encodes}
 use Rattle.std.specs.Char.{encode_utf8}
+use Rattle.vte_core.specs.Event.{Event}
 use Rattle.event_log.proofs.Collected.{added-append, kept_by}
 use Rattle.event_log.proofs.Lengths.{AreBrief, text_grows_slowly}
 use Rattle.event_log.proofs.Records.{all_taken, record_of, takes_all}
@@ -12,7 +13,7 @@ layout-is_ascii : (c : ℕ) → is_layout c ≡ true → c < 0x80
 layout-is_ascii c e = grind (arith, nat_tests)
 
 -- a character of a run adds its bytes, whether it is printed or executed
-text_of_one : (c : ℕ) → plain_text_of (run_event true c) ≡ encode_utf8 c
+pub text_of_one : (c : ℕ) → plain_text_of (run_event true c) ≡ encode_utf8 c
 unfolding plain_text_of
 text_of_one c = by_layout (is_layout c) refl
   where
@@ -23,6 +24,12 @@ text_of_one c = by_layout (is_layout c) refl
 pub text_of_run : (cs : List ℕ) → flat_map plain_text_of (map (run_event true) cs) ≡ encodes cs
 text_of_run [] = refl
 text_of_run (c ∷ cs) = ap (λ (t : List ℕ). t ++ flat_map plain_text_of (map (run_event true) cs)) (text_of_one c) ∙ ap (λ (t : List ℕ). encode_utf8 c ++ t) (text_of_run cs)
+
+-- what one more character of a run does
+pub after-more : {V : Type 0} (step : V → Event → V) (event_of : ℕ → Event) (cs : List ℕ) (c : ℕ) (old new : V)
+    → new ≡ after step old (map event_of cs) → step new (event_of c) ≡ after step old (map event_of (cs ++ c ∷ []))
+after-more step event_of [] c old new e = ap (λ v. step v (event_of c)) e
+after-more step event_of (x ∷ cs) c old new e = after-more step event_of cs c (step old (event_of x)) new e
 
 -- if a run has room, it is taken as its characters are, one after another
 pub takes_run : (held : Record) (text : List ℕ) → IsUtf8 text → length held.bytes + length text ≤ most_bytes

@@ -88,6 +88,8 @@ pub trait PerformText: Perform {
     ///
     /// ```
     /// impl PerformText for Image {
+    ///     fn print_text(&mut self, _text: &str) {}
+    ///
     ///     fn put_slice(&mut self, bytes: &[u8]) {
     ///         self.data.extend_from_slice(bytes);
     ///     }

@@ -8,17 +8,7 @@ use vte::{Parser, Perform, PerformText};
 #[derive(Default)]
 struct Text(String);
 
-impl Perform for Text {
-    fn print(&mut self, c: char) {
-        self.0.push(c);
-    }
-
-    fn execute(&mut self, byte: u8) {
-        if matches!(byte, b'\n' | b'\r' | b'\t') {
-            self.0.push(char::from(byte));
-        }
-    }
-}
+impl Perform for Text {}
 
 impl PerformText for Text {
     fn keeps_layout(&self) -> bool {

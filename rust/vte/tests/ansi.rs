@@ -90,16 +90,9 @@ fn other_calls_are_passed_on() {
     );
 }
 
-impl vte::ansi::HandlerText for Calls {}
-
 #[test]
-fn runs_are_characters_by_default() {
-    let mut calls = Calls::default();
-    let mut processor = Processor::<Pending>::new();
-    let text = "letters \u{fffd}\u{e9}".repeat(9);
-    processor.advance_text(&mut calls, format!("{text}\x1b[1m!").as_bytes());
-    let shown = calls.0.iter().filter_map(|it| it.strip_prefix("input "));
-    assert_eq!(shown.collect::<String>(), text + "!");
+fn a_processor_says_how_many_bytes_it_holds() {
+    let processor = Processor::<Pending>::new();
     assert_eq!(
         format!("{processor:?}"),
         "Processor { sync_bytes_count: 0, .. }"

@@ -188,10 +188,6 @@ fn a_long_parser_keeps_all() {
 struct Runs(Vec<String>);
 
 impl Perform for Runs {
-    fn print(&mut self, c: char) {
-        self.0.push(c.to_string());
-    }
-
     fn execute(&mut self, _byte: u8) {
         self.0.push("|".to_owned());
     }
@@ -232,7 +228,11 @@ fn text_comes_in_few_runs() {
     }
 }
 
-impl PerformText for Collected {}
+impl PerformText for Collected {
+    fn print_text(&mut self, text: &str) {
+        text.chars().for_each(|c| self.print(c));
+    }
+}
 
 #[test]
 fn what_is_read_to_its_end_is_stopped_by_nobody() {
@@ -244,11 +244,4 @@ fn what_is_read_to_its_end_is_stopped_by_nobody() {
         advance(&mut Parser::new(), &mut collected, b"a\x1b[1mb");
         assert_eq!(collected.text, "a<[1]m>b");
     }
-}
-
-#[test]
-fn runs_are_printed_by_default() {
-    let mut collected = Collected::default();
-    Parser::new().advance_text(&mut collected, "h\u{e9}\x1b[1m!".as_bytes());
-    assert_eq!(collected.text, "h\u{e9}<[1]m>!");
 }

@@ -136,7 +136,7 @@ fn long_parsers_do_too() {
     received.assert_runs(&["all of it", "and more"]);
 }
 
-/// Text whose runs may hold HT, LF and CR, and the controls that came alone.
+/// Text with HT, LF and CR, and the other controls.
 #[derive(Default)]
 struct Lines {
     runs: Vec<String>,
@@ -144,10 +144,6 @@ struct Lines {
 }
 
 impl Perform for Lines {
-    fn print(&mut self, c: char) {
-        self.runs.push(c.to_string());
-    }
-
     fn execute(&mut self, byte: u8) {
         self.alone.push(byte);
     }
@@ -201,12 +197,11 @@ fn parsers_pass_device_data_in_slices() {
 }
 
 #[test]
-fn calls_that_may_stop_pass_device_data_byte_by_byte() {
+fn calls_that_may_stop_pass_slices_of_one_byte() {
     let (mut received, mut parser) = (Received::default(), Parser::new());
     let read = parser.advance_text_until_terminated(&mut received, IMAGE);
     assert_eq!(read, IMAGE.len());
-    assert_eq!(received.bytes, b"#0~\r~~~");
-    assert!(received.slices.is_empty());
+    received.assert_slices(&[b"#", b"0", b"~", b"\r", b"~", b"~", b"~"]);
 }
 
 /// Has no method for slices.
@@ -219,7 +214,9 @@ impl Perform for Bytes {
     }
 }
 
-impl PerformText for Bytes {}
+impl PerformText for Bytes {
+    fn print_text(&mut self, _: &str) {}
+}
 
 #[test]
 fn slices_are_put_byte_by_byte_by_default() {
@@ -228,23 +225,70 @@ fn slices_are_put_byte_by_byte_by_default() {
     assert_eq!(bytes.0, b"#0~\r~~~");
 }
 
-/// Has no method for runs.
+/// Has the methods for text alone. It may keep HT, LF and CR.
 #[derive(Default)]
-struct Characters(String);
+struct Text<const KEEPS: bool>(String);
 
-impl Handler for Characters {
-    fn input(&mut self, c: char) {
-        self.0.push(c);
+impl<const KEEPS: bool> Perform for Text<KEEPS> {}
+
+impl<const KEEPS: bool> PerformText for Text<KEEPS> {
+    fn keeps_layout(&self) -> bool {
+        KEEPS
+    }
+
+    fn print_text(&mut self, text: &str) {
+        self.0.push_str(text);
     }
 }
 
-impl HandlerText for Characters {}
+impl Handler for Text<false> {}
+
+impl HandlerText for Text<false> {
+    fn input_text(&mut self, text: &str) {
+        self.0.push_str(text);
+    }
+}
+
+/// Streams, and their text. The third has line ends within sequences, and a malformed byte.
+const TEXTS: [(&[u8], &str); 3] = [
+    (b"\n\n\nabc\n", "\n\n\nabc\n"),
+    (b"abc\x1b[mabc\x1b[mdefghijkl", "abcabcdefghijkl"),
+    (
+        b"\x1b[\n1m\x1b\r[2m\x1b(\tB\x07\xff\xe2\x82\xac\xf0\x9f",
+        "\n\r\t\u{fffd}\u{20ac}",
+    ),
+];
 
 #[test]
-fn runs_are_input_character_by_character_by_default() {
-    let (mut characters, mut processor) = (Characters::default(), Processor::<Pending>::new());
-    processor.advance_text(&mut characters, "h\u{e9} \x1b[1m\u{4f60}".as_bytes());
-    assert_eq!(characters.0, "h\u{e9} \u{4f60}");
+fn text_comes_by_the_method_for_text_alone_however_it_is_cut() {
+    for (stream, wanted) in TEXTS {
+        let printed = wanted.replace(['\t', '\n', '\r'], "");
+        for at in 0..=stream.len() {
+            let (mut kept, mut parser) = (Text::<true>::default(), Parser::new());
+            let (mut text, mut other) = (Text::<false>::default(), Parser::new());
+            let (mut shown, mut processor) =
+                (Text::<false>::default(), Processor::<Pending>::new());
+            for piece in [&stream[..at], &stream[at..]] {
+                parser.advance_text(&mut kept, piece);
+                other.advance_text(&mut text, piece);
+                processor.advance_text(&mut shown, piece);
+            }
+            assert_eq!(kept.0, wanted, "{stream:?} at {at}");
+            assert_eq!(
+                (&text.0, &shown.0),
+                (&printed, &printed),
+                "{stream:?} at {at}"
+            );
+        }
+    }
+}
+
+#[test]
+fn repeated_characters_come_as_text_too() {
+    let (mut text, mut processor) = (Text::<false>::default(), Processor::<Pending>::new());
+    processor.advance_text(&mut text, "ab\u{e9}\x1b[2bc\x1b[?2026hd\x1b[b".as_bytes());
+    processor.stop_sync_text(&mut text);
+    assert_eq!(text.0, "ab\u{e9}\u{e9}\u{e9}cdd");
 }
 
 #[test]

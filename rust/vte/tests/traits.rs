@@ -121,7 +121,11 @@ impl vte::Perform for Panics {
     }
 }
 
-impl vte::PerformText for Panics {}
+impl vte::PerformText for Panics {
+    fn print_text(&mut self, text: &str) {
+        text.chars().for_each(|_| self.event());
+    }
+}
 
 #[test]
 fn a_parser_can_be_used_after_a_panic_of_its_performer() {

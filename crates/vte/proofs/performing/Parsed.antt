@@ -40,7 +40,7 @@ performed-events m lent (event ∷ events) fit =
 -- ---- the performer gives back what it was lent
 
 module _ {H J T V W : Type 0} (handler_of : H → V) (timeout_of : T → W) (room_of : J → ℕ) (m : Meaning V W) (s : State V W) (f : List ℕ)
-    (old : Lent V W) (new : Performer H T J) {state : ProcessorState T J} (fit : All (FitsText old.room) (added m.limit s.parsed f))
+    (old : Lent V W) (new : Performer H T J G) {state : ProcessorState T J} (fit : All (FitsText old.room) (added m.limit s.parsed f))
     (made : lent_of handler_of timeout_of room_of new
     ≡ performed (with_event m.step m.timeout) old (added m.limit s.parsed f))
     (back_state : old.state_name ≡ new.state.ghost_name → state ≡ new.state.now) where

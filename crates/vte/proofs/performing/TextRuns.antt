@@ -3,6 +3,8 @@ use Rattle.vte.proofs.Common.{◌≡◌, ℕ, ◌≤◌, false, Option, Some, No
 use Rattle.vte.proofs.Common.{drop-append_seam, take-append_seam, nat_tests, append-nil, get_or-append-add, length-append, IsCharBoundary, IsUtf8, chars, Print, Input, after, last_printed_behind}
 use Rattle.vte.proofs.Common.{Call, TimeoutMeaning, Lent, with_event, IsUtf8-drop, IsUtf8-take, chars-append, chars-nil, chars_past_char, option_or}
 use Rattle.std.proofs.Math.Utf8.{encode}
+use Rattle.std.proofs.lemmas.Str.{IsUtf8-encode}
+use Rattle.std.specs.Char.{IsScalar}
 use Rattle.std.specs.Str.Iter.{chars_rest, chars_steps_back}
 use Rattle.vte_core.specs.Perform.{after as performed}
 
@@ -43,6 +45,9 @@ chars_before_last front c is =
     let before : IsUtf8 front = rw take-append_seam at (IsUtf8-take (front ++ encode c) (length front) is (seam front c)) in
     let last : IsUtf8 (encode c) = rw drop-append_seam at (IsUtf8-drop (front ++ encode c) (length front) is (seam front c)) in
     chars-append front (encode c) before ∙ rw (chars_past_char (encode c) [] c last (sym (append-nil (encode c))), chars-nil)
+
+pub chars_encode : (c : ℕ) → IsScalar c → chars (encode c) ≡ c ∷ []
+chars_encode c is = chars_past_char (encode c) [] c (IsUtf8-encode c is) (sym (append-nil (encode c))) ∙ ap (λ cs. c ∷ cs) chars-nil
 
 no_characters : (text : List ℕ) → length text ≡ 0 → chars text ≡ []
 no_characters [] none = chars-nil

@@ -110,8 +110,7 @@ impl<'s, 'h, H: HandlerText, T: Timeout + Drop, J: TextBuffer + Drop> PerformTex
     }
 }
 
-impl<'s, 'h, H: Handler, T: Timeout + Drop, J: TextBuffer + Drop, G>
-    Performer<'s, 'h, H, T, J, G> {
+impl<'s, 'h, H: Handler, T: Timeout + Drop, J: TextBuffer + Drop, G> Performer<'s, 'h, H, T, J, G> {
     /// Sets the private modes, group by group.
     fn set_private_modes(&mut self, params: &Params)
         ensures { lent_of H.value_of T.value_of J.room self.new

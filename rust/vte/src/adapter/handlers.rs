@@ -93,9 +93,8 @@ macro_rules! last {
 
 pub(crate) use {handlers, last};
 
-/// A [`Handler`] that receives text in runs, from [`Processor::advance_text`] and [`Processor::stop_sync_text`].
-///
-/// A terminal that fills cells and a filter that copies text take a run at once:
+/// A [`Handler`] that receives text in runs, from [`Processor::advance_text`] and [`Processor::stop_sync_text`]: there
+/// [`input`](Handler::input) isn't called.
 ///
 /// ```
 /// use vte::ansi::{Handler, HandlerText};
@@ -105,11 +104,7 @@ pub(crate) use {handlers, last};
 /// #[derive(Default)]
 /// struct Plain(String);
 ///
-/// impl Handler for Plain {
-///     fn input(&mut self, c: char) {
-///         self.0.push(c);
-///     }
-/// }
+/// impl Handler for Plain {}
 ///
 /// impl HandlerText for Plain {
 ///     fn input_text(&mut self, text: &str) {
@@ -125,18 +120,13 @@ pub(crate) use {handlers, last};
 /// # }
 /// ```
 ///
-/// How a text is cut into runs, and which of its characters come by [`input`](Handler::input), may change from version to version.
+/// How a text is cut into runs may change from version to version.
 ///
 /// [`Processor::advance_text`]: crate::ansi::Processor::advance_text
 /// [`Processor::stop_sync_text`]: crate::ansi::Processor::stop_sync_text
 pub trait HandlerText: Handler {
-    /// Characters to show, one after another: the same as `input` for each, which it does by default. The text is never empty and
-    /// has no control: neither U+0000..U+001F nor U+0080..U+009F.
-    fn input_text(&mut self, text: &str) {
-        for c in text.chars() {
-            self.input(c);
-        }
-    }
+    /// Characters to show, at least one, in order. None is a control: neither U+0000..U+001F nor U+0080..U+009F.
+    fn input_text(&mut self, text: &str);
 }
 
 impl<H: HandlerText> LentText for H {

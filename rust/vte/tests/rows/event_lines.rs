@@ -133,10 +133,14 @@ impl<const KEEPS: bool> PerformText for EventLines<KEEPS> {
         assert!(!text.is_empty(), "a run without a character");
         assert_eq!(std::str::from_utf8(text.as_bytes()), Ok(text));
         for c in text.chars() {
-            let is_kept = KEEPS && matches!(c, '\t' | '\n' | '\r');
-            assert!(is_kept || !is_control_character(c), "{c:?} in a run");
+            match c {
+                '\t' | '\n' | '\r' if KEEPS => self.execute(c as u8),
+                c => {
+                    assert!(!is_control_character(c), "{c:?} in a run");
+                    self.print(c);
+                }
+            }
         }
-        self.print_each(text);
     }
 
     fn put_slice(&mut self, bytes: &[u8]) {

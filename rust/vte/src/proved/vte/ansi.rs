@@ -8,6 +8,7 @@ mod control_calls;
 mod escape_calls;
 mod growing_text;
 mod hold;
+mod input;
 mod long_parsing;
 mod long_processor;
 mod numbers;

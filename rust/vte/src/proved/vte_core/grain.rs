@@ -1,6 +1,7 @@
 // Written by tools/erase from crates/vte_core/src/looks/grain.rt. Don't edit this file: edit that one, and run the tool.
 //! How performers take text.
 
+use crate::proved::vte_core::automaton::is_layout;
 use crate::proved::vte_core::perform::{Perform, PerformText};
 
 /// How a performer takes what is printed.
@@ -23,10 +24,19 @@ impl Grain for InRuns {
     const IN_RUNS: bool = true;
 }
 
-/// A performer that takes text in a grain.
+/// A performer that takes text and data in a grain.
 pub(crate) trait PerformAs<G>: Perform {
-    /// Returns whether a run may hold HT, LF and CR.
+    /// Returns whether HT, LF and CR come as text.
     fn keeps_layout(&self) -> bool;
+
+    /// Receives a character to print.
+    fn print_char(&mut self, c: char);
+
+    /// Receives a control function of one byte.
+    fn execute_control(&mut self, byte: u8);
+
+    /// Receives a data byte of a device control string.
+    fn put_byte(&mut self, byte: u8);
 
     /// Receives characters to print, at least one.
     fn print_text(&mut self, text: &str);
@@ -39,6 +49,21 @@ impl<P: Perform> PerformAs<Singly> for P {
     #[inline(always)]
     fn keeps_layout(&self) -> bool {
         false
+    }
+
+    #[inline(always)]
+    fn print_char(&mut self, c: char) {
+        Perform::print(self, c);
+    }
+
+    #[inline(always)]
+    fn execute_control(&mut self, byte: u8) {
+        Perform::execute(self, byte);
+    }
+
+    #[inline(always)]
+    fn put_byte(&mut self, byte: u8) {
+        Perform::put(self, byte);
     }
 
     // The machine gives such a performer no text.
@@ -60,6 +85,25 @@ impl<P: PerformText> PerformAs<InRuns> for P {
     #[inline(always)]
     fn keeps_layout(&self) -> bool {
         PerformText::keeps_layout(self)
+    }
+
+    #[inline(always)]
+    fn print_char(&mut self, c: char) {
+        PerformText::print_text(self, c.encode_utf8(&mut [0; 4]));
+    }
+
+    #[inline(always)]
+    fn execute_control(&mut self, byte: u8) {
+        if is_layout(byte) && PerformText::keeps_layout(self) {
+            PerformText::print_text(self, char::from(byte).encode_utf8(&mut [0; 4]));
+        } else {
+            Perform::execute(self, byte);
+        }
+    }
+
+    #[inline(always)]
+    fn put_byte(&mut self, byte: u8) {
+        PerformText::put_slice(self, &[byte]);
     }
 
     #[inline(always)]

@@ -43,38 +43,22 @@ pub trait Perform {
     }
 }
 
-/// Takes characters to print in runs, from `advance_text`.
+/// Takes text in runs, from `advance_text`: there [`print`](Perform::print) and [`put`](Perform::put) aren't called.
 ///
-/// A run is one or more characters of one call, in order. None is a control, except HT, LF and CR if the performer
-/// [keeps](Self::keeps_layout) these. A run isn't always as long as it could be: how a text is cut into runs, and which of its
-/// characters come by [`print`](Perform::print), may change from version to version.
+/// How text and data are cut into runs may change from version to version.
 #[doc = include_str!("../../docs/perform_text.md")]
 pub trait PerformText: Perform {
-    /// Returns whether runs may hold HT (09), LF (0A) and CR (0D), always the same answer. A filter, which keeps these three as they
-    /// are, is faster with longer runs. In a run each stands for its [`execute`](Perform::execute); elsewhere it comes by that.
+    /// Returns whether HT (09), LF (0A) and CR (0D) come by `print_text` instead of [`execute`](Perform::execute), always the same
+    /// answer. A filter, which keeps these three as they are, is faster with longer runs.
     fn keeps_layout(&self) -> bool {
         false
     }
 
-    /// Characters to print, one after another. The text is never empty and has no control, neither U+0000 to U+001F nor U+0080 to
-    /// U+009F, except HT, LF and CR if the performer [keeps](Self::keeps_layout) these.
-    fn print_text(&mut self, text: &str) {
-        self.print_each(text);
-    }
+    /// Characters to print, at least one, in order. None is a control, except HT, LF and CR if the performer
+    /// [keeps](Self::keeps_layout) these.
+    fn print_text(&mut self, text: &str);
 
-    /// Prints the characters of a text one by one, and executes HT, LF and CR if the performer [keeps](Self::keeps_layout) these.
-    // Kept out of a `print_text` that takes most texts whole, which is then small enough to be inlined.
-    #[inline(never)]
-    fn print_each(&mut self, text: &str) {
-        for c in text.chars() {
-            match c {
-                '\t' | '\n' | '\r' if self.keeps_layout() => self.execute(c as u8),
-                _ => self.print(c),
-            }
-        }
-    }
-
-    /// Data bytes of the device control string, one after another. There is at least one.
+    /// Data bytes of the device control string, at least one, in order. By default each comes by [`put`](Perform::put).
     ///
     /// ```
     /// # use vte::{Parser, Perform, PerformText};
@@ -82,6 +66,8 @@ pub trait PerformText: Perform {
     /// # struct Image { data: Vec<u8> }
     /// # impl Perform for Image {}
     /// impl PerformText for Image {
+    ///     fn print_text(&mut self, _text: &str) {}
+    ///
     ///     fn put_slice(&mut self, bytes: &[u8]) {
     ///         self.data.extend_from_slice(bytes);
     ///     }
@@ -90,9 +76,6 @@ pub trait PerformText: Perform {
     /// # Parser::new().advance_text(&mut image, b"\x1bPq#0~~\x1b\\");
     /// # assert_eq!(image.data, b"#0~~");
     /// ```
-    ///
-    /// Calls that may stop early pass each byte by [`put`](Perform::put). How data are cut into slices may change from version to
-    /// version.
     fn put_slice(&mut self, bytes: &[u8]) {
         for byte in bytes {
             self.put(*byte);

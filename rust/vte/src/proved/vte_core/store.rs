@@ -5,7 +5,7 @@ use crate::adapter::array_vec::ArrayVec;
 #[cfg(any(feature = "std", feature = "ansi"))]
 use crate::prelude::Vec;
 use crate::proved::vte_core::buffer::Buffer;
-use crate::proved::vte_core::perform::Perform;
+use crate::proved::vte_core::grain::{Grain, PerformAs};
 
 /// The most pieces of a command.
 const MOST_PIECES: usize = 16;
@@ -68,7 +68,11 @@ impl<B: Buffer> Store<B> {
     }
 
     /// Dispatches the command with its pieces.
-    pub(crate) fn dispatch<P: Perform>(&self, performer: &mut P, bell_terminated: bool) {
+    pub(crate) fn dispatch<P: PerformAs<G>, G: Grain>(
+        &self,
+        performer: &mut P,
+        bell_terminated: bool,
+    ) {
         let (bytes, ends) = (self.bytes.bytes(), self.ends.as_slice());
         // most commands have one piece or two
         match ends {

@@ -149,8 +149,8 @@ pub(crate) fn character_of_four(first: u8, second: u8, third: u8, fourth: u8) ->
 #[inline(always)]
 pub(crate) fn tell_character<P: PerformAs<G>, G>(performer: &mut P, c: char) {
     match c {
-        '\u{0}'..='\u{1f}' | '\u{80}'..='\u{9f}' => performer.execute(c as u8),
-        _ => performer.print(c),
+        '\u{0}'..='\u{1f}' | '\u{80}'..='\u{9f}' => performer.execute_control(c as u8),
+        _ => performer.print_char(c),
     }
 }
 
@@ -158,7 +158,7 @@ pub(crate) fn tell_character<P: PerformAs<G>, G>(performer: &mut P, c: char) {
 #[inline(always)]
 pub(crate) fn tell_single<P: PerformAs<G>, G>(performer: &mut P, byte: u8) {
     match byte {
-        0x00..=0x1f | 0x80..=0x9f => performer.execute(byte),
-        _ => performer.print(char::REPLACEMENT_CHARACTER),
+        0x00..=0x1f | 0x80..=0x9f => performer.execute_control(byte),
+        _ => performer.print_char(char::REPLACEMENT_CHARACTER),
     }
 }

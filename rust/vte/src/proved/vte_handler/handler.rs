@@ -268,16 +268,10 @@ handlers! {
     fn text_area_size_chars(&mut self) {}
 }
 
-/// Receives text in runs, from a processor's `advance_text` and `stop_sync_text`.
+/// Receives text in runs, from a processor's `advance_text` and `stop_sync_text`: there [`input`](Handler::input) isn't called.
 ///
-/// A terminal that fills cells and a filter that copies text take a run at once. How a text is cut into runs, and which of its
-/// characters come by [`input`](Handler::input), may change from version to version.
+/// How a text is cut into runs may change from version to version.
 pub trait HandlerText: Handler {
-    /// Characters to show, one after another: the same as `input` for each. The text is never empty and has no control: neither
-    /// U+0000..U+001F nor U+0080..U+009F.
-    fn input_text(&mut self, text: &str) {
-        for c in text.chars() {
-            self.input(c);
-        }
-    }
+    /// Characters to show, at least one, in order. None is a control: neither U+0000..U+001F nor U+0080..U+009F.
+    fn input_text(&mut self, text: &str);
 }

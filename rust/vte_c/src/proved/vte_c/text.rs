@@ -35,8 +35,7 @@ impl Text<'_> {
 impl Perform for Text<'_> {
     #[inline]
     fn print(&mut self, c: char) {
-        let mut room = [0; 4];
-        self.add(c.encode_utf8(&mut room).as_bytes());
+        self.add(c.encode_utf8(&mut [0; 4]).as_bytes());
     }
 
     fn execute(&mut self, byte: u8) {
@@ -89,9 +88,10 @@ impl PerformText for Text<'_> {
     #[inline]
     fn print_text(&mut self, text: &str) {
         if text.len() <= self.left() {
-            self.add(text.as_bytes());
-        } else {
-            self.print_each(text);
+            return self.add(text.as_bytes());
+        }
+        for c in text.chars() {
+            self.add(c.encode_utf8(&mut [0; 4]).as_bytes());
         }
     }
 }

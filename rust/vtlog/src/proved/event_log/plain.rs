@@ -36,17 +36,8 @@ impl Plain {
 }
 
 impl Perform for Plain {
-    // Where the parser prints, it knows the length of the character, so inlining leaves only that arm.
-    #[inline(always)]
     fn print(&mut self, c: char) {
-        let mut room = [0; 4];
-        // With a constant length in each arm, a copy is a store or two instead of a call.
-        match c.encode_utf8(&mut room).as_bytes() {
-            [first] => self.texts.append(&[*first]),
-            [first, second] => self.texts.append(&[*first, *second]),
-            [first, second, third] => self.texts.append(&[*first, *second, *third]),
-            text => self.texts.append(text),
-        }
+        self.texts.append(c.encode_utf8(&mut [0; 4]).as_bytes());
     }
 
     fn execute(&mut self, byte: u8) {
@@ -101,7 +92,9 @@ impl PerformText for Plain {
             self.texts.append(text.as_bytes());
             return;
         }
-        self.print_each(text);
+        for c in text.chars() {
+            self.texts.append(c.encode_utf8(&mut [0; 4]).as_bytes());
+        }
     }
 }
 

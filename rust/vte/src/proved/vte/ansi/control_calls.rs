@@ -1,6 +1,7 @@
 // Written by tools/erase from crates/vte/src/ansi/control_calls.rt. Don't edit this file: edit that one, and run the tool.
 //! The calls of control sequences.
 
+use crate::proved::vte::ansi::input::InputAs;
 use crate::proved::vte::ansi::numbers::{first_number, NumberIterator};
 use crate::proved::vte::ansi::rendition::perform_attributes;
 use crate::proved::vte::ansi::values::{
@@ -16,7 +17,7 @@ use crate::proved::vte_types::{
 /// Makes the calls of a control sequence, other than `ESC [ ? .. h`: that may begin an update.
 #[inline]
 #[allow(clippy::collapsible_match)]
-pub(crate) fn perform_control<H: Handler>(
+pub(crate) fn perform_control<H: InputAs<G>, G>(
     handler: &mut H,
     last: Option<char>,
     params: &Params,
@@ -30,7 +31,7 @@ pub(crate) fn perform_control<H: Handler>(
                 handler.identify_terminal(intermediates.first().map(|byte| char::from(*byte)));
             }
         }
-        ([], _) => perform_plain(handler, last, params, action),
+        ([], _) => perform_plain::<H, G>(handler, last, params, action),
         ([b'?'], 'W') => {
             if numbers.next_or(0) == 5 {
                 handler.set_tabs(8);
@@ -70,13 +71,18 @@ pub(crate) fn perform_control<H: Handler>(
 
 /// Makes the calls of a control sequence without intermediates, but for DA.
 #[inline]
-fn perform_plain<H: Handler>(handler: &mut H, last: Option<char>, params: &Params, action: char) {
+fn perform_plain<H: InputAs<G>, G>(
+    handler: &mut H,
+    last: Option<char>,
+    params: &Params,
+    action: char,
+) {
     let mut numbers = params.iter();
     match action {
         '@' => handler.insert_blank(usize::from(numbers.next_or(1))),
         'A' => handler.move_up(usize::from(numbers.next_or(1))),
         'B' | 'e' => handler.move_down(usize::from(numbers.next_or(1))),
-        'b' => repeat(handler, last, numbers.next_or(1)),
+        'b' => repeat::<H, G>(handler, last, numbers.next_or(1)),
         'C' | 'a' => handler.move_forward(usize::from(numbers.next_or(1))),
         'D' => handler.move_backward(usize::from(numbers.next_or(1))),
         'd' => handler.goto_line(i32::from(numbers.next_or(1)) - 1),
@@ -115,10 +121,10 @@ fn perform_plain<H: Handler>(handler: &mut H, last: Option<char>, params: &Param
 }
 
 /// Passes a character on this many times.
-fn repeat<H: Handler>(handler: &mut H, last: Option<char>, count: u16) {
+fn repeat<H: InputAs<G>, G>(handler: &mut H, last: Option<char>, count: u16) {
     if let Some(c) = last {
         for _ in 0..count {
-            handler.input(c);
+            handler.input_char(c);
         }
     }
 }

@@ -33,7 +33,7 @@ impl<H: Handler, T: Timeout> Grain<H, T, LongParser> for Singly {
     #[inline(always)]
     fn advance<J: TextBuffer>(
         parser: &mut LongParser,
-        performer: &mut Performer<'_, '_, H, T, J>,
+        performer: &mut Performer<'_, '_, H, T, J, Self>,
         bytes: &[u8],
     ) {
         // There is memory.
@@ -43,7 +43,7 @@ impl<H: Handler, T: Timeout> Grain<H, T, LongParser> for Singly {
     #[inline(always)]
     fn advance_until_begin<J: TextBuffer>(
         parser: &mut LongParser,
-        performer: &mut Performer<'_, '_, H, T, J>,
+        performer: &mut Performer<'_, '_, H, T, J, Self>,
         bytes: &[u8],
     ) -> usize {
         match parser.advance_until_terminated(performer, bytes) {
@@ -57,7 +57,7 @@ impl<H: HandlerText, T: Timeout> Grain<H, T, LongParser> for InRuns {
     #[inline(always)]
     fn advance<J: TextBuffer>(
         parser: &mut LongParser,
-        performer: &mut Performer<'_, '_, H, T, J>,
+        performer: &mut Performer<'_, '_, H, T, J, Self>,
         bytes: &[u8],
     ) {
         // There is memory.
@@ -67,7 +67,7 @@ impl<H: HandlerText, T: Timeout> Grain<H, T, LongParser> for InRuns {
     #[inline(always)]
     fn advance_until_begin<J: TextBuffer>(
         parser: &mut LongParser,
-        performer: &mut Performer<'_, '_, H, T, J>,
+        performer: &mut Performer<'_, '_, H, T, J, Self>,
         bytes: &[u8],
     ) -> usize {
         match parser.advance_text_until_terminated(performer, bytes) {

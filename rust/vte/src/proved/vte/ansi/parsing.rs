@@ -13,6 +13,7 @@ use crate::proved::vte_core::Parser;
 #[cfg(not(feature = "std"))]
 use crate::proved::vte_handler::HandlerText;
 use crate::proved::vte_handler::{Handler, Timeout};
+use core::marker::PhantomData;
 
 /// The parser of a processor.
 #[cfg(not(feature = "std"))]
@@ -36,18 +37,18 @@ impl EventParser for ProcessorParser {
 }
 
 /// How a handler receives text: a character at a time, or in runs.
-pub(crate) trait Grain<H: Handler, T: Timeout, B: EventParser> {
+pub(crate) trait Grain<H: Handler, T: Timeout, B: EventParser>: Sized {
     /// Parses all bytes.
     fn advance<J: TextBuffer>(
         parser: &mut B,
-        performer: &mut Performer<'_, '_, H, T, J>,
+        performer: &mut Performer<'_, '_, H, T, J, Self>,
         bytes: &[u8],
     );
 
     /// Parses bytes until an update begins, and returns how many it parsed.
     fn advance_until_begin<J: TextBuffer>(
         parser: &mut B,
-        performer: &mut Performer<'_, '_, H, T, J>,
+        performer: &mut Performer<'_, '_, H, T, J, Self>,
         bytes: &[u8],
     ) -> usize;
 }
@@ -63,7 +64,7 @@ impl<H: Handler, T: Timeout> Grain<H, T, ProcessorParser> for Singly {
     #[inline(always)]
     fn advance<J: TextBuffer>(
         parser: &mut ProcessorParser,
-        performer: &mut Performer<'_, '_, H, T, J>,
+        performer: &mut Performer<'_, '_, H, T, J, Self>,
         bytes: &[u8],
     ) {
         parser.advance(performer, bytes);
@@ -72,7 +73,7 @@ impl<H: Handler, T: Timeout> Grain<H, T, ProcessorParser> for Singly {
     #[inline(always)]
     fn advance_until_begin<J: TextBuffer>(
         parser: &mut ProcessorParser,
-        performer: &mut Performer<'_, '_, H, T, J>,
+        performer: &mut Performer<'_, '_, H, T, J, Self>,
         bytes: &[u8],
     ) -> usize {
         parser.advance_until_terminated(performer, bytes)
@@ -84,7 +85,7 @@ impl<H: HandlerText, T: Timeout> Grain<H, T, ProcessorParser> for InRuns {
     #[inline(always)]
     fn advance<J: TextBuffer>(
         parser: &mut ProcessorParser,
-        performer: &mut Performer<'_, '_, H, T, J>,
+        performer: &mut Performer<'_, '_, H, T, J, Self>,
         bytes: &[u8],
     ) {
         parser.advance_text(performer, bytes);
@@ -93,7 +94,7 @@ impl<H: HandlerText, T: Timeout> Grain<H, T, ProcessorParser> for InRuns {
     #[inline(always)]
     fn advance_until_begin<J: TextBuffer>(
         parser: &mut ProcessorParser,
-        performer: &mut Performer<'_, '_, H, T, J>,
+        performer: &mut Performer<'_, '_, H, T, J, Self>,
         bytes: &[u8],
     ) -> usize {
         parser.advance_text_until_terminated(performer, bytes)
@@ -117,6 +118,7 @@ pub(crate) fn parse_all<
         state,
         handler,
         terminated: false,
+        grain: PhantomData::<G>,
     };
     G::advance(parser, &mut performer, bytes);
 }
@@ -138,6 +140,7 @@ pub(crate) fn parse_until_begin<
         state,
         handler,
         terminated: false,
+        grain: PhantomData::<G>,
     };
     let read = G::advance_until_begin(parser, &mut performer, bytes);
     (read, performer.terminated)

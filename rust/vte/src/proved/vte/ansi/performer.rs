@@ -4,11 +4,14 @@
 use crate::proved::vte::ansi::command_calls::perform_system_command;
 use crate::proved::vte::ansi::control_calls::{change_mode, perform_control, Change};
 use crate::proved::vte::ansi::escape_calls::{perform_escape, perform_execute};
+use crate::proved::vte::ansi::input::InputAs;
 use crate::proved::vte::ansi::numbers::first_number;
+use crate::proved::vte::ansi::parsing::InRuns;
 use crate::proved::vte::ansi::text_buffer::TextBuffer;
 use crate::proved::vte_core::{Params, Perform, PerformText};
 use crate::proved::vte_handler::{Handler, HandlerText, Timeout};
 use crate::proved::vte_types::NamedPrivateMode;
+use core::marker::PhantomData;
 use core::time::Duration;
 
 /// How long an update may take.
@@ -22,17 +25,20 @@ pub(crate) struct ProcessorState<T, J> {
 }
 
 /// Calls a handler for each event, while it borrows the handler and the processor's state.
-pub(crate) struct Performer<'s, 'h, H: Handler, T: Timeout, J: TextBuffer> {
+pub(crate) struct Performer<'s, 'h, H: Handler, T: Timeout, J: TextBuffer, G> {
     pub(crate) state: &'s mut ProcessorState<T, J>,
     pub(crate) handler: &'h mut H,
     /// Whether an update has begun, so that the next turn reads the bytes that follow.
     pub(crate) terminated: bool,
+    pub(crate) grain: PhantomData<G>,
 }
 
-impl<'s, 'h, H: Handler, T: Timeout, J: TextBuffer> Perform for Performer<'s, 'h, H, T, J> {
+impl<'s, 'h, H: InputAs<G>, T: Timeout, J: TextBuffer, G> Perform
+    for Performer<'s, 'h, H, T, J, G>
+{
     #[inline]
     fn print(&mut self, c: char) {
-        self.handler.input(c);
+        self.handler.input_char(c);
         self.state.preceding_char = Some(c);
     }
 
@@ -62,7 +68,7 @@ impl<'s, 'h, H: Handler, T: Timeout, J: TextBuffer> Perform for Performer<'s, 'h
             self.set_private_modes(params);
         } else {
             let last = self.state.preceding_char;
-            perform_control(self.handler, last, params, intermediates, action);
+            perform_control::<H, G>(self.handler, last, params, intermediates, action);
         }
     }
 
@@ -76,7 +82,9 @@ impl<'s, 'h, H: Handler, T: Timeout, J: TextBuffer> Perform for Performer<'s, 'h
     }
 }
 
-impl<'s, 'h, H: HandlerText, T: Timeout, J: TextBuffer> PerformText for Performer<'s, 'h, H, T, J> {
+impl<'s, 'h, H: HandlerText, T: Timeout, J: TextBuffer> PerformText
+    for Performer<'s, 'h, H, T, J, InRuns>
+{
     fn keeps_layout(&self) -> bool {
         false
     }
@@ -88,7 +96,7 @@ impl<'s, 'h, H: HandlerText, T: Timeout, J: TextBuffer> PerformText for Performe
     }
 }
 
-impl<'s, 'h, H: Handler, T: Timeout, J: TextBuffer> Performer<'s, 'h, H, T, J> {
+impl<'s, 'h, H: Handler, T: Timeout, J: TextBuffer, G> Performer<'s, 'h, H, T, J, G> {
     /// Sets the private modes, group by group.
     fn set_private_modes(&mut self, params: &Params) {
         for group in params {

@@ -2,8 +2,8 @@
 //! The bytes of a character after the first.
 
 use crate::proved::vte_core::buffer::Buffer;
+use crate::proved::vte_core::grain::{Grain, PerformAs};
 use crate::proved::vte_core::parser::{Machine, State};
-use crate::proved::vte_core::perform::Perform;
 use crate::proved::vte_core::utf8::{
     character_of_four, character_of_three, character_of_two, is_continuation, may_begin_four,
     may_begin_three, tell_character, Unfinished,
@@ -13,7 +13,7 @@ impl<B: Buffer> Machine<B> {
     /// Reads the character or the malformed sequence that begins with a lead byte, which was looked at. A byte that breaks it is left
     /// unread, and U+FFFD is printed for those before it.
     #[inline(always)]
-    pub(crate) fn read_character<P: Perform>(
+    pub(crate) fn read_character<P: PerformAs<G>, G: Grain>(
         &mut self,
         performer: &mut P,
         input: &[u8],
@@ -27,7 +27,7 @@ impl<B: Buffer> Machine<B> {
         }
         let second = input[next];
         if !is_continuation(second) {
-            performer.print(char::REPLACEMENT_CHARACTER);
+            performer.print_char(char::REPLACEMENT_CHARACTER);
             return next;
         }
         if first < 0xe0 {
@@ -43,7 +43,7 @@ impl<B: Buffer> Machine<B> {
 
     /// Reads the second and third byte of a character of three. The second was looked at.
     #[inline(always)]
-    pub(crate) fn complete_three<P: Perform>(
+    pub(crate) fn complete_three<P: PerformAs<G>, G: Grain>(
         &mut self,
         performer: &mut P,
         first: u8,
@@ -52,7 +52,7 @@ impl<B: Buffer> Machine<B> {
         from: usize,
     ) -> usize {
         if !may_begin_three(first, second) {
-            performer.print(char::REPLACEMENT_CHARACTER);
+            performer.print_char(char::REPLACEMENT_CHARACTER);
             return from;
         }
         if from + 1 >= input.len() {
@@ -61,7 +61,7 @@ impl<B: Buffer> Machine<B> {
         }
         let third = input[from + 1];
         if !is_continuation(third) {
-            performer.print(char::REPLACEMENT_CHARACTER);
+            performer.print_char(char::REPLACEMENT_CHARACTER);
             return from + 1;
         }
         tell_character(performer, character_of_three(first, second, third));
@@ -70,7 +70,7 @@ impl<B: Buffer> Machine<B> {
 
     /// Reads the last three bytes of a character of four. The second was looked at.
     #[inline(always)]
-    pub(crate) fn complete_four<P: Perform>(
+    pub(crate) fn complete_four<P: PerformAs<G>, G: Grain>(
         &mut self,
         performer: &mut P,
         first: u8,
@@ -79,7 +79,7 @@ impl<B: Buffer> Machine<B> {
         from: usize,
     ) -> usize {
         if !may_begin_four(first, second) {
-            performer.print(char::REPLACEMENT_CHARACTER);
+            performer.print_char(char::REPLACEMENT_CHARACTER);
             return from;
         }
         if from + 2 >= input.len() {
@@ -92,12 +92,12 @@ impl<B: Buffer> Machine<B> {
         }
         let third = input[from + 1];
         if !is_continuation(third) {
-            performer.print(char::REPLACEMENT_CHARACTER);
+            performer.print_char(char::REPLACEMENT_CHARACTER);
             return from + 1;
         }
         let fourth = input[from + 2];
         if !is_continuation(fourth) {
-            performer.print(char::REPLACEMENT_CHARACTER);
+            performer.print_char(char::REPLACEMENT_CHARACTER);
             return from + 2;
         }
         tell_character(performer, character_of_four(first, second, third, fourth));

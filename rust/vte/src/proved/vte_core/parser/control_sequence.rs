@@ -3,16 +3,16 @@
 
 use crate::proved::vte_core::buffer::Buffer;
 use crate::proved::vte_core::class::{ends_all, is_control, is_final};
+use crate::proved::vte_core::grain::{Grain, PerformAs};
 use crate::proved::vte_core::head::HeadPart;
 use crate::proved::vte_core::parser::{Machine, State, Unfinished};
-use crate::proved::vte_core::perform::Perform;
 
 impl<B: Buffer> Machine<B> {
     /// Goes on with a control sequence whose head has come so far: by digits, by separators too if there may be `several` numbers, and
     /// by a final byte right after them. After `ESC [` most sequences have at most one number: for them this calls nothing before the
     /// dispatch, so it saves no registers. Where calls have one byte each, most bytes of long sequences come this way.
     #[inline(always)]
-    pub(crate) fn continue_control_sequence<P: Perform>(
+    pub(crate) fn continue_control_sequence<P: PerformAs<G>, G: Grain>(
         &mut self,
         performer: &mut P,
         input: &[u8],
@@ -38,7 +38,7 @@ impl<B: Buffer> Machine<B> {
 
     /// Reads the head of a control sequence, which has come so far, and the byte after it.
     #[inline(never)]
-    pub(crate) fn read_control_sequence<P: Perform>(
+    pub(crate) fn read_control_sequence<P: PerformAs<G>, G: Grain>(
         &mut self,
         performer: &mut P,
         input: &[u8],
@@ -54,7 +54,7 @@ impl<B: Buffer> Machine<B> {
             if ends_all(byte) {
                 self.end_body(performer, byte);
             } else if is_control(byte) {
-                performer.execute(byte);
+                performer.execute_control(byte);
             }
             // DEL and 80..FF are dropped.
             return head.position + 1;
@@ -64,7 +64,7 @@ impl<B: Buffer> Machine<B> {
 
     /// Ends a control sequence at its final byte: dispatches it, unless its head is malformed. Returns the next place.
     #[inline(always)]
-    fn end_control_sequence<P: Perform>(
+    fn end_control_sequence<P: PerformAs<G>, G: Grain>(
         &mut self,
         performer: &mut P,
         part: HeadPart,
@@ -81,7 +81,7 @@ impl<B: Buffer> Machine<B> {
 
     /// Dispatches a control sequence at its final byte, and returns the next place, so that callers need not keep it.
     #[inline(never)]
-    fn dispatch_control_sequence<P: Perform>(
+    fn dispatch_control_sequence<P: PerformAs<G>, G: Grain>(
         &mut self,
         performer: &mut P,
         ignore: bool,

@@ -6,7 +6,6 @@ use crate::proved::vte_core::class::{ends_all, is_data, is_final};
 use crate::proved::vte_core::grain::{Grain, PerformAs};
 use crate::proved::vte_core::head::HeadPart;
 use crate::proved::vte_core::parser::{Machine, State, Unfinished};
-use crate::proved::vte_core::perform::Perform;
 use crate::proved::vte_core::scan::{find_put_end, tell_data};
 
 /// The one 8-bit control that is read: ST, the end of the data.
@@ -14,7 +13,7 @@ const STRING_TERMINATOR: u8 = 0x9c;
 
 impl<B: Buffer> Machine<B> {
     /// Reads the head of a device control string, which has come so far, and its final byte. Controls in it are dropped.
-    pub(crate) fn read_device_control<P: Perform>(
+    pub(crate) fn read_device_control<P: PerformAs<G>, G: Grain>(
         &mut self,
         performer: &mut P,
         input: &[u8],
@@ -36,7 +35,7 @@ impl<B: Buffer> Machine<B> {
     }
 
     /// Hooks the string at the final byte of its head, or ignores it if the head is malformed.
-    fn hook<P: Perform>(&mut self, performer: &mut P, part: HeadPart, byte: u8) {
+    fn hook<P: PerformAs<G>, G: Grain>(&mut self, performer: &mut P, part: HeadPart, byte: u8) {
         if let HeadPart::IllShaped = part {
             self.state = State::IgnoredString;
             return;
@@ -62,14 +61,14 @@ impl<B: Buffer> Machine<B> {
         for position in from..input.len() {
             let byte = input[position];
             if !is_data(byte) {
-                return self.end_data::<P, ASKS>(performer, input, position, byte);
+                return self.end_data::<P, G, ASKS>(performer, input, position, byte);
             }
             if G::IN_RUNS && !ASKS {
                 let end = find_put_end(input, position + 1);
                 tell_data(performer, input, position, end);
                 return end;
             }
-            performer.put(byte);
+            performer.put_byte(byte);
             if ASKS && performer.terminated() {
                 return position + 1;
             }
@@ -79,7 +78,7 @@ impl<B: Buffer> Machine<B> {
 
     /// Reads a byte among the data that isn't put: it ends them, or is dropped.
     #[inline(never)]
-    pub(crate) fn end_data<P: Perform, const ASKS: bool>(
+    pub(crate) fn end_data<P: PerformAs<G>, G: Grain, const ASKS: bool>(
         &mut self,
         performer: &mut P,
         input: &[u8],
@@ -87,7 +86,7 @@ impl<B: Buffer> Machine<B> {
         byte: u8,
     ) -> usize {
         if ends_all(byte) {
-            return self.read_end::<P, ASKS>(performer, input, from, byte);
+            return self.read_end::<P, G, ASKS>(performer, input, from, byte);
         }
         if byte == STRING_TERMINATOR {
             performer.unhook();

@@ -4,7 +4,6 @@
 use crate::proved::vte_core::buffer::Buffer;
 use crate::proved::vte_core::grain::{Grain, PerformAs};
 use crate::proved::vte_core::parser::{Machine, Refused, State};
-use crate::proved::vte_core::perform::Perform;
 
 impl<B: Buffer> Machine<B> {
     /// Reads the bytes of a call, as many as there is memory for, and returns how many: all of them, or up to a stop if `ASKS`.
@@ -25,7 +24,7 @@ impl<B: Buffer> Machine<B> {
     }
 
     /// Completes the character that an earlier call began, if one is open.
-    pub(crate) fn finish_character<P: Perform>(
+    pub(crate) fn finish_character<P: PerformAs<G>, G: Grain>(
         &mut self,
         performer: &mut P,
         input: &[u8],
@@ -62,8 +61,10 @@ impl<B: Buffer> Machine<B> {
             }
             State::DeviceControl(part) => self.read_device_control(performer, input, part, from),
             State::DeviceData => self.read_device_data::<P, G, ASKS>(performer, input, from),
-            State::SystemCommand => self.read_system_command::<P, ASKS>(performer, input, from)?,
-            State::IgnoredString => self.read_ignored_string::<P, ASKS>(performer, input, from),
+            State::SystemCommand => {
+                self.read_system_command::<P, G, ASKS>(performer, input, from)?
+            }
+            State::IgnoredString => self.read_ignored_string::<P, G, ASKS>(performer, input, from),
         })
     }
 }

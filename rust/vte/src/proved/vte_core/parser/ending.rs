@@ -3,25 +3,25 @@
 
 use crate::proved::vte_core::buffer::Buffer;
 use crate::proved::vte_core::class::ESCAPE;
+use crate::proved::vte_core::grain::{Grain, PerformAs};
 use crate::proved::vte_core::parser::{Machine, State, Unfinished};
-use crate::proved::vte_core::perform::Perform;
 
 impl<B: Buffer> Machine<B> {
     /// Closes what is open, and then begins an escape sequence, or executes CAN or SUB.
     #[inline(never)]
-    pub(crate) fn end_body<P: Perform>(&mut self, performer: &mut P, byte: u8) {
+    pub(crate) fn end_body<P: PerformAs<G>, G: Grain>(&mut self, performer: &mut P, byte: u8) {
         self.close(performer);
         if byte == ESCAPE {
             self.collected.begin_escape();
             self.state = State::Escape;
             return;
         }
-        performer.execute(byte);
+        performer.execute_control(byte);
         self.state = State::Text(Unfinished::Nothing);
     }
 
     /// Reads a byte that ends what is open, which was looked at. After ESC it reads on.
-    pub(crate) fn read_end<P: Perform, const ASKS: bool>(
+    pub(crate) fn read_end<P: PerformAs<G>, G: Grain, const ASKS: bool>(
         &mut self,
         performer: &mut P,
         input: &[u8],
@@ -36,7 +36,7 @@ impl<B: Buffer> Machine<B> {
     }
 
     /// Reports the end of a string: `unhook`, or the operating system command.
-    fn close<P: Perform>(&self, performer: &mut P) {
+    fn close<P: PerformAs<G>, G: Grain>(&self, performer: &mut P) {
         match self.state {
             State::DeviceData => performer.unhook(),
             State::SystemCommand => self.command.dispatch(performer, false),

@@ -6,14 +6,14 @@ use crate::proved::vte_core::class::{
     begins_ignored_string, dispatches_escape, ends_all, is_control, is_final, is_head,
     is_intermediate, ESCAPE,
 };
+use crate::proved::vte_core::grain::{Grain, PerformAs};
 use crate::proved::vte_core::head::HeadPart;
 use crate::proved::vte_core::parser::{Machine, State, Unfinished};
-use crate::proved::vte_core::perform::Perform;
 
 impl<B: Buffer> Machine<B> {
     /// Begins an escape sequence at an ESC in a text, which was looked at, and reads the bytes after it.
     #[inline(never)]
-    pub(crate) fn read_sequence<P: Perform>(
+    pub(crate) fn read_sequence<P: PerformAs<G>, G: Grain>(
         &mut self,
         performer: &mut P,
         input: &[u8],
@@ -38,7 +38,7 @@ impl<B: Buffer> Machine<B> {
 
     /// Reads bytes after ESC, up to the one that says what begins; after `[` the control sequence too.
     #[inline(never)]
-    pub(crate) fn read_escape<P: Perform>(
+    pub(crate) fn read_escape<P: PerformAs<G>, G: Grain>(
         &mut self,
         performer: &mut P,
         input: &[u8],
@@ -63,7 +63,7 @@ impl<B: Buffer> Machine<B> {
     }
 
     /// Reads a byte after ESC, other than `[`.
-    fn read_after_escape<P: Perform>(&mut self, performer: &mut P, byte: u8) {
+    fn read_after_escape<P: PerformAs<G>, G: Grain>(&mut self, performer: &mut P, byte: u8) {
         if is_final(byte) {
             self.begin_body(performer, byte);
         } else if is_intermediate(byte) {
@@ -74,14 +74,14 @@ impl<B: Buffer> Machine<B> {
         } else if ends_all(byte) {
             self.end_body(performer, byte);
         } else if is_control(byte) {
-            performer.execute(byte);
+            performer.execute_control(byte);
         }
         // DEL and 80..FF are dropped.
     }
 
     /// Begins the string that a byte 40..7E other than `[` begins after ESC, or dispatches an escape sequence that ends with it.
     #[inline(never)]
-    fn begin_body<P: Perform>(&mut self, performer: &mut P, byte: u8) {
+    fn begin_body<P: PerformAs<G>, G: Grain>(&mut self, performer: &mut P, byte: u8) {
         if byte == b'P' {
             self.collected.begin_head();
             self.state = State::DeviceControl(HeadPart::Entry);
@@ -96,7 +96,7 @@ impl<B: Buffer> Machine<B> {
     }
 
     /// Reads the intermediates of an escape sequence and its final byte.
-    pub(crate) fn read_intermediates<P: Perform>(
+    pub(crate) fn read_intermediates<P: PerformAs<G>, G: Grain>(
         &mut self,
         performer: &mut P,
         input: &[u8],
@@ -113,7 +113,7 @@ impl<B: Buffer> Machine<B> {
                 self.end_body(performer, byte);
                 return position + 1;
             } else if is_control(byte) {
-                performer.execute(byte);
+                performer.execute_control(byte);
                 return position + 1;
             }
             // DEL and 80..FF are dropped.
@@ -122,7 +122,7 @@ impl<B: Buffer> Machine<B> {
     }
 
     /// Dispatches an escape sequence at its final byte.
-    fn dispatch_escape<P: Perform>(&mut self, performer: &mut P, byte: u8) {
+    fn dispatch_escape<P: PerformAs<G>, G: Grain>(&mut self, performer: &mut P, byte: u8) {
         performer.esc_dispatch(
             self.collected.intermediates.as_slice(),
             self.collected.too_many,

@@ -5,13 +5,13 @@
 
 use crate::proved::vte_core::buffer::Buffer;
 use crate::proved::vte_core::class::{cannot_end, ends_all};
+use crate::proved::vte_core::grain::{Grain, PerformAs};
 use crate::proved::vte_core::parser::machine::Machine;
-use crate::proved::vte_core::perform::Perform;
 use crate::proved::vte_core::scan::get_block;
 
 impl<B: Buffer> Machine<B> {
     /// Reads a string that means nothing, and the byte that ends it.
-    pub(crate) fn read_ignored_string<P: Perform, const ASKS: bool>(
+    pub(crate) fn read_ignored_string<P: PerformAs<G>, G: Grain, const ASKS: bool>(
         &mut self,
         performer: &mut P,
         input: &[u8],
@@ -22,7 +22,7 @@ impl<B: Buffer> Machine<B> {
             return end;
         }
         let byte = input[end];
-        self.read_end::<P, ASKS>(performer, input, end, byte)
+        self.read_end::<P, G, ASKS>(performer, input, end, byte)
     }
 }
 

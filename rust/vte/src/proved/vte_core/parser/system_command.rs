@@ -3,8 +3,8 @@
 
 use crate::proved::vte_core::buffer::Buffer;
 use crate::proved::vte_core::class::ends_all;
+use crate::proved::vte_core::grain::{Grain, PerformAs};
 use crate::proved::vte_core::parser::{Machine, Refused, State, Unfinished};
-use crate::proved::vte_core::perform::Perform;
 use crate::proved::vte_core::scan::find_data_end;
 
 const BELL: u8 = 0x07;
@@ -12,7 +12,7 @@ const BELL: u8 = 0x07;
 impl<B: Buffer> Machine<B> {
     /// Reads data bytes of an operating system command, and the byte after them. It takes memory for the data, or else reads
     /// nothing.
-    pub(crate) fn read_system_command<P: Perform, const ASKS: bool>(
+    pub(crate) fn read_system_command<P: PerformAs<G>, G: Grain, const ASKS: bool>(
         &mut self,
         performer: &mut P,
         input: &[u8],
@@ -28,7 +28,7 @@ impl<B: Buffer> Machine<B> {
         }
         let byte = input[end];
         if ends_all(byte) {
-            return Ok(self.read_end::<P, ASKS>(performer, input, end, byte));
+            return Ok(self.read_end::<P, G, ASKS>(performer, input, end, byte));
         }
         if byte == b';' {
             self.command.end_piece();

@@ -5,7 +5,6 @@ use crate::proved::vte_core::buffer::Buffer;
 use crate::proved::vte_core::class::ESCAPE;
 use crate::proved::vte_core::grain::{Grain, PerformAs};
 use crate::proved::vte_core::parser::{Machine, State};
-use crate::proved::vte_core::perform::Perform;
 use crate::proved::vte_core::run::{begins_ascii, find_ascii_run_end, find_longer_run_end};
 use crate::proved::vte_core::scan::{find_escape, get, tell_text, up_to};
 use crate::proved::vte_core::utf8::{
@@ -49,7 +48,7 @@ fn print_ascii<P: PerformAs<G>, G: Grain>(
         tell_text(performer, input, from, end);
         return AsciiRun { end, next: None };
     }
-    performer.print(char::from(first));
+    performer.print_char(char::from(first));
     let end = from + 1;
     match next {
         Some(byte) if !is_printed_ascii(byte) => AsciiRun { end, next },
@@ -86,7 +85,7 @@ impl<B: Buffer> Machine<B> {
                 }
                 // The place of the last byte that was read: one increment serves all.
                 if is_printed_ascii(byte) {
-                    performer.print(char::from(byte));
+                    performer.print_char(char::from(byte));
                 } else if is_lead(byte) {
                     let next = self.read_longer(performer, input, position, byte);
                     // A path of its own takes fewer instructions if the call may stop after a character, and more otherwise.
@@ -137,7 +136,7 @@ impl<B: Buffer> Machine<B> {
     /// Reads the bytes that an unfinished character continues with. A byte that breaks it is left unread, and U+FFFD is
     /// printed for those before it.
     #[inline(always)]
-    pub(crate) fn continue_character<P: Perform>(
+    pub(crate) fn continue_character<P: PerformAs<G>, G: Grain>(
         &mut self,
         performer: &mut P,
         begun: Unfinished,
@@ -154,7 +153,7 @@ impl<B: Buffer> Machine<B> {
                     return position + 1;
                 }
                 Carried::Broken => {
-                    performer.print(char::REPLACEMENT_CHARACTER);
+                    performer.print_char(char::REPLACEMENT_CHARACTER);
                     self.state = State::Text(Unfinished::Nothing);
                     return position;
                 }

@@ -60,7 +60,7 @@ impl<B: Buffer> Machine<B> {
         performer: &mut P,
         input: &[u8],
     ) -> Result<RunPlace, Refused> {
-        let mut position = self.finish_character(performer, input);
+        let mut position = self.finish_character::<P, Singly>(performer, input);
         while position < input.len() && !performer.terminated() {
             position = match self.state {
                 State::Text(_) => {
@@ -84,7 +84,7 @@ impl<B: Buffer> Machine<B> {
                         });
                     }
                     let byte = input[position];
-                    self.end_data::<P, true>(performer, input, position, byte)
+                    self.end_data::<P, Singly, true>(performer, input, position, byte)
                 }
                 _ => self.read_run::<P, Singly, true>(performer, input, position)?,
             };
@@ -103,7 +103,7 @@ impl<B: Buffer> Machine<B> {
         let mut position = from;
         let mut byte = input[from];
         if is_lead(byte) {
-            return self.read_character(performer, input, from, byte);
+            return self.read_character::<P, Singly>(performer, input, from, byte);
         }
         while byte != ESCAPE {
             tell_single(performer, byte);
@@ -116,6 +116,6 @@ impl<B: Buffer> Machine<B> {
                 return position;
             }
         }
-        self.read_sequence(performer, input, position)
+        self.read_sequence::<P, Singly>(performer, input, position)
     }
 }

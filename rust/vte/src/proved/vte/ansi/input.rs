@@ -1,0 +1,28 @@
+// Written by tools/erase from crates/vte/src/ansi/input.rt. Don't edit this file: edit that one, and run the tool.
+//! How handlers take characters.
+
+use crate::proved::vte::ansi::parsing::{InRuns, Singly};
+use crate::proved::vte_handler::{Handler, HandlerText};
+
+/// A handler that takes characters in a grain.
+pub(crate) trait InputAs<G>: Handler {
+    /// Receives a character to show.
+    fn input_char(&mut self, c: char);
+}
+
+impl<H: Handler> InputAs<Singly> for H {
+    #[inline(always)]
+    fn input_char(&mut self, c: char) {
+        self.input(c);
+    }
+}
+
+impl<H: HandlerText> InputAs<InRuns> for H {
+    fn input_char(&mut self, c: char) {
+        match c {
+            // Never: no control is printed.
+            '\u{0}'..='\u{1f}' | '\u{80}'..='\u{9f}' => self.input(c),
+            _ => self.input_text(c.encode_utf8(&mut [0; 4])),
+        }
+    }
+}

@@ -9,7 +9,7 @@ use crate::parser::{Machine, State};
 use crate::utf8::{Carried, Unfinished, is_lead, is_printed_ascii};
 
 /// The bytes of a text that are read before it is searched for ESC. Shorter texts, and so most, cost no search.
-const SHORT_TEXT: usize = 64;
+const SHORT_TEXT: usize = 128;
 
 impl<B> Looks<B> {
     /// Returns up to where a text is read next: to the byte after the next ESC, or to the end of what was searched.

@@ -12,7 +12,7 @@ use crate::proved::vte_core::utf8::{
 };
 
 /// The bytes of a text that are read before it is searched for ESC. Shorter texts, and so most, cost no search.
-const SHORT_TEXT: usize = 64;
+const SHORT_TEXT: usize = 128;
 
 /// Returns up to where a text is read next: to the byte after the next ESC, or to the end of what was searched.
 #[inline(never)]

@@ -43,7 +43,7 @@ unfoldable pub use Rattle.vte_core.specs.Key.{key_of}
 pub use Rattle.vte_core.specs.Laws.{AreParameters, BeginsAnew, BeginsAnewBehind, CountsData, DispatchesShown, Grows, OpensSilently}
 pub use Rattle.vte_core.specs.LongParser.{MeetsData, data_left, open_size, read_count}
 pub use Rattle.vte_core.specs.Looks.{looked}
-pub use Rattle.vte_core.specs.Others.{IsOther, IsWide, TellsOnly, TellsOthers}
+pub use Rattle.vte_core.specs.Others.{AddsOthers, IsOther, IsWide, TellsOthers}
 pub use Rattle.vte_core.specs.Outcome.{IsLoss, NothingOpen, Open, OpenCharacter, OpenCommand, OpenData, Outcome, closed, closing, leaves, tell, unfinished}
 pub use Rattle.vte_core.specs.Parameters.{AreGroups, Number, colon, count_of, greatest_number, grouped, is_colon, is_separator, most_numbers, number_of, numbers_of, semicolon, with_number}
 unfoldable pub use Rattle.vte_core.specs.Parameters.{groups_of, has_too_many_numbers, numbers, shown}

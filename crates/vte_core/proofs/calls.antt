@@ -6,6 +6,8 @@ pub mod Arms
 pub mod Characters
 pub mod TextRuns
 pub mod Sequences
+pub mod Telling
+pub mod Tellings
 pub mod Heads
 pub mod Data
 pub mod ToRun

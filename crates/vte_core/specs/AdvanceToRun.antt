@@ -9,9 +9,9 @@ use Rattle.vte_core.specs.EarlyStop.{ComesTo, stream_at}
 use Rattle.vte_core.specs.Event.{Event, Print, Put}
 use Rattle.vte_core.specs.Looks.{looks}
 use Rattle.vte_core.specs.machine.Data.{IsPut}
-use Rattle.vte_core.specs.Others.{IsWide, TellsOnly, TellsOthers}
+use Rattle.vte_core.specs.Others.{TellsOthers}
 use Rattle.vte_core.specs.Parser.{HasRead}
-use Rattle.vte_core.specs.Stream.{added, open_end}
+use Rattle.vte_core.specs.Stream.{added}
 use Rattle.vte_core.specs.Text.{HasNoControls, is_control_character}
 use Rattle.vte_core.specs.Utf8.{is_well_formed, scalar_of}
 
@@ -70,10 +70,8 @@ pub record ReadsToRun {V : Type 0} {N : ℕ} (step : V → Event → V) (is_term
   pub returns : ReturnsRun step is_terminated old new (Some N) (HasRead parser) bytes run
   -- The parser goes on behind the run.
   pub reads : (stream : List ℕ) → HasRead parser stream → HasRead next (stream_at stream bytes run.start ++ run_bytes run)
-  -- Characters and data are left to the run: before it only U+FFFD is printed, of what is malformed ..
-  pub others : (stream : List ℕ) → HasRead parser stream → open_end stream ≡ [] → TellsOthers step old new
-  -- .. and a character that was open and isn't ASCII.
-  pub opened : (stream : List ℕ) → HasRead parser stream → TellsOnly IsWide step old new
+  -- Characters and data are left to the run.
+  pub others : (stream : List ℕ) → HasRead parser stream → TellsOthers (Some N) stream bytes run.start
   -- Looks and events are few for the bytes read, and no byte is read without a look.
   pub count : looks next ≤ looks parser + 7 * run.end + 8
   pub least : looks parser + run.end ≤ looks next

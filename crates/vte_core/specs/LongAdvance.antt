@@ -8,9 +8,9 @@ use Rattle.vte_core.specs.EarlyStop.{HasPassed, StopsExactly, stream_at}
 use Rattle.vte_core.specs.Event.{Event}
 use Rattle.vte_core.specs.LongParser.{HasReadLong, LacksMemory, MeetsData, StoresPieces, bytes_read, memory_of, open_size, read_count}
 use Rattle.vte_core.specs.Looks.{looks_long}
-use Rattle.vte_core.specs.Others.{IsWide, TellsOnly, TellsOthers}
+use Rattle.vte_core.specs.Others.{TellsOthers}
 use Rattle.vte_core.specs.Perform.{after}
-use Rattle.vte_core.specs.Stream.{added, open_end}
+use Rattle.vte_core.specs.Stream.{added}
 
 -- A call read so many bytes, and the parser has then read these of each stream. If memory is refused, it stops there.
 pub record GoesOnLong {A Answer : Type 0} (rate : ℕ) (bytes : List ℕ) (result : Result Answer Refused) (n : ℕ) (behind : List ℕ → List ℕ)
@@ -69,13 +69,17 @@ abbrev pub run_count : Result Run Refused → ℕ
 run_count (Ok run) = run.end
 run_count (Err refused) = refused.read
 
+-- How many bytes were performed.
+abbrev pub performed_count : Result Run Refused → ℕ
+performed_count (Ok run) = run.start
+performed_count (Err refused) = refused.read
+
 -- `advance_to_run` of a `LongParser`
 pub record ReadsToRunLong {V A : Type 0} (step : V → Event → V) (is_terminated : V → Bool) (old new : V) (bytes : List ℕ)
     (result : Result Run Refused) (parser next : LongParser A) : Type 0 where
   pub returns : IfOk result (ReturnsRun step is_terminated old new None (HasReadLong parser) bytes)
   pub refuses : PassesLong step is_terminated old new (HasReadLong parser) bytes result
-  -- Characters and data are left to the run, as by a `Parser`.
-  pub others : (stream : List ℕ) → HasReadLong parser stream → open_end stream ≡ [] → TellsOthers step old new
-  pub opened : (stream : List ℕ) → HasReadLong parser stream → TellsOnly IsWide step old new
+  -- Characters and data are left to the run.
+  pub others : (stream : List ℕ) → HasReadLong parser stream → TellsOthers None stream bytes (performed_count result)
   -- The parser goes on behind what was read.
   pub goes_on : GoesOnLong 7 bytes result (run_count result) (λ stream. read_to_run result stream bytes) parser next

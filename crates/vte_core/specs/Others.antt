@@ -1,8 +1,9 @@
 -- Events other than those of runs.
-use Rattle.std.specs.Prelude.{◌≡◌, ◌≤◌, List}
+use Rattle.std.specs.Prelude.{◌≡◌, ℕ, ◌≤◌, Option, List, [], ◌++◌}
 use Rattle.std.specs.List.{All}
+use Rattle.vte_core.specs.EarlyStop.{told}
 use Rattle.vte_core.specs.Event.{Event, Print, Put, replacement}
-use Rattle.vte_core.specs.Perform.{after}
+use Rattle.vte_core.specs.Stream.{open_end}
 
 -- Neither a character that is printed, but for U+FFFD, which is told of what is malformed, nor data.
 abbrev pub IsOther : Event → Type 0
@@ -16,11 +17,14 @@ IsWide (Print c) = 0x80 ≤ c
 IsWide (Put byte) = ⊥
 IsWide _ = Unit {0}
 
--- The performer took such events.
-pub record TellsOnly {V : Type 0} (Is : Event → Type 0) (step : V → Event → V) (old new : V) : Type 0 where
-  pub events : List Event
-  pub are : All Is events
-  pub performed : new ≡ after step old events
+-- What is told before place n of a call: characters and data are left to runs, unless a character was open.
+pub record TellsOthers (limit : Option ℕ) (stream bytes : List ℕ) (n : ℕ) : Type 0 where
+  pub others : open_end stream ≡ [] → All IsOther (told limit stream bytes n)
+  -- Such a character isn't ASCII.
+  pub opened : All IsWide (told limit stream bytes n)
 
-abbrev pub TellsOthers : {V : Type 0} → (V → Event → V) → V → V → Type 0
-TellsOthers step old new = TellsOnly IsOther step old new
+-- What is told between two places.
+pub record AddsOthers (limit : Option ℕ) (stream bytes : List ℕ) (i j : ℕ) : Type 0 where
+  pub events : List Event
+  pub are : All IsOther events
+  pub parts : told limit stream bytes j ≡ told limit stream bytes i ++ events

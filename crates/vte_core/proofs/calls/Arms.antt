@@ -2,7 +2,8 @@
 use Rattle.vte_core.proofs.Common.{◌≡◌, ℕ, ◌+◌, ◌<◌, Bool, false, Option, List, [], ◌∷◌, sym, subst, length, slice_index, class_of, ends_all, Machine, State, Escape, EscapeIntermediate, DeviceData}
 use Rattle.vte_core.proofs.Common.{SystemCommand, IgnoredString, Event, Advances, MayGoOn, IsSettled, Leads, Reads, Holds, Stands, StandsBy, Performs, Place, AtEscape, InEscape, InData}
 use Rattle.vte_core.proofs.Common.{InSystemCommand, InIgnoredString, IsBetween, closing_at, Keeps, Takes, after, escape}
-use Rattle.vte_core.proofs.calls.Runs.{advances-byte}
+use Rattle.vte_core.proofs.calls.Runs.{advances-byte, advances-if}
+use Rattle.vte_core.specs.machine.ToRun.{IsQuietIn}
 use Rattle.vte_core.proofs.fields.Standing.{stands-by, stands-in, stands-place}
 use Rattle.vte_core.proofs.streams.Performing.{takes-performs}
 use Rattle.vte_core.proofs.streams.StreamLemmas.{no_escape, reads-escape}
@@ -21,8 +22,9 @@ performs-in {step = step} {old = old} {new = new} {limit = limit} {b = b} {parse
 pub advances-in : {V B : Type 0} {asks : Bool} {step : V → Event → V} {is_terminated : V → Bool} {old new : V} {limit : Option ℕ} {bytes : List ℕ} {i b : ℕ}
     {state : State} {parser next : Machine B} → parser.state ≡ state → i < length bytes → b ≡ slice_index bytes i → MayGoOn asks is_terminated old → ends_all (class_of b) ≡ false
     → ((place : Place) → StandsBy limit state parser place → Takes step old new limit place b next) → IsSettled next.state
-    → Advances ⊥ asks step is_terminated old new limit bytes i (i + 1) parser next
-advances-in e within is may_go_on ordinary takes settled = advances-byte within is may_go_on (performs-in e ordinary takes) settled
+    → Advances (IsQuietIn state b) asks step is_terminated old new limit bytes i (i + 1) parser next
+advances-in {b = b} e within is may_go_on ordinary takes settled =
+    advances-if (subst (λ (state : State). IsQuietIn state b) (sym e)) (advances-byte within is may_go_on (performs-in e ordinary takes) settled)
 
 -- ---- the place in each state
 

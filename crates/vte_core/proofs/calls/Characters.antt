@@ -7,9 +7,12 @@ use Rattle.vte_core.proofs.bytes.CarriedLemmas.{begins_none, second_open, third_
 use Rattle.vte_core.proofs.bytes.FirstBytes.{ascii_alone}
 use Rattle.vte_core.proofs.fields.Standing.{is_open-truncated, stands-by, stands-in}
 use Rattle.vte_core.specs.machine.Completes.{Completes}
-use Rattle.vte_core.proofs.calls.Runs.{inside-all, inside-moved, performs-begun}
+use Rattle.vte_core.proofs.calls.Runs.{inside-all, inside-moved, not_escape, performs-begun}
+use Rattle.vte_core.proofs.calls.States.{between_characters}
 use Rattle.vte_core.proofs.places.PlaceLeads.{text-lone, text-unfinished, text-whole}
-use Rattle.vte_core.proofs.streams.Others.{longer, tells-none, tells-replacement}
+use Rattle.vte_core.proofs.streams.Others.{longer, other_control}
+use Rattle.vte_core.proofs.calls.Telling.{added-inside, adds-reads, keep, keeps-inside, never, told-at}
+use Rattle.vte_core.proofs.Common.{added, All-cons, All-nil, IsOther, Execute, is_control_character, eqb, AddsOthers, IsAfter, stream_at, Reads, All, cases_Bool}
 use Rattle.vte_core.proofs.streams.Performing.{carried_is_no_escape, open_truncated}
 use Rattle.vte_core.proofs.stops.Told.{breaks-broken, breaks-unfinished, breaks-whole}
 use Rattle.vte_core.proofs.calls.Places.{come-between, come-broken, come-carried}
@@ -182,6 +185,9 @@ pub record GoesOn {V B : Type 0} (asks : Bool) (step : V → Event → V) (is_te
     (begun u : Unfinished) (next : Machine B) : Type 0 where
   pub inside : (old : V) (stream : List ℕ) (parser : Machine B) → parser.state ≡ Text begun → StandsInside asks step is_terminated old value limit stream bytes i parser
       → StandsInside asks step is_terminated old value limit stream bytes j (in_text next u)
+  -- the same for a performer that keeps all events
+  pub kept : (stream : List ℕ) (parser : Machine B) → parser.state ≡ Text begun → StandsInside false keep never [] (added limit stream (take i bytes)) limit stream bytes i parser
+      → StandsInside false keep never [] (added limit stream (take i bytes)) limit stream bytes j (in_text next u)
   pub more : is_open (bytes_of begun) ≡ true → is_truncated (bytes_of u) ≡ true
   pub n : ℕ
   pub far : j ≡ i + n
@@ -191,6 +197,7 @@ module _ {V B : Type 0} {asks : Bool} {step : V → Event → V} {is_terminated 
   pub goes-nowhere : (next : Machine B) → bytes_of begun ≢ [] → GoesOn asks step is_terminated value limit bytes i i begun begun next
   goes-nowhere next some = record {
     inside = λ old stream parser e s. inside-same e refl s;
+    kept = λ stream parser e s. inside-same e refl s;
     more = λ opened. open_truncated (bytes_of begun) opened some;
     n = 0;
     far = omega arith;
@@ -202,6 +209,7 @@ module _ {V B : Type 0} {asks : Bool} {step : V → Event → V} {is_terminated 
       → GoesOn asks step is_terminated value limit bytes i (j + 1) begun v next
   goes-more goes carries within is = record {
     inside = λ old stream parser e s. let more = goes.more (inside-open e s) in carried-more refl more (carries more) refl (goes.inside old stream parser e s) within is;
+    kept = λ stream parser e s. let more = goes.more (inside-open e s) in carried-more refl more (carries more) refl (goes.kept stream parser e s) within is;
     more = λ opened. (carries (goes.more opened)).1;
     n = goes.n + 1;
     far = omega (arith, goes.far);
@@ -214,37 +222,52 @@ module _ {V B : Type 0} {asks : Bool} {step : V → Event → V} {is_terminated 
   completes-all goes end all = record {
     stands_at = λ old stream parser e s. inside-all (inside-moved end (goes.inside old stream parser e s)) all;
     text = λ within. absurd (omega arith);
-    others = λ _. inl tells-none;
+    others = λ old stream parser e s. record {
+      events = [];
+      parts = sym (told-at (inside-all (inside-moved end (goes.kept stream parser e (keeps-inside s))) all)) ∙ sym (append-nil (added limit stream (take i bytes)));
+      are = inl (All-nil IsOther);
+    };
   }
 
   -- a byte ends the character
   pub completes-whole : {new : V} {j k b c : ℕ} {u : Unfinished} {parser next : Machine B} → GoesOn asks step is_terminated value limit bytes i j begun u parser
       → (is_truncated (bytes_of u) ≡ true → Carries (bytes_of u) b (Whole c)) → next.state ≡ Text Nothing → new ≡ step value (character_event c)
       → j < length bytes → b ≡ slice_index bytes j → k ≡ j + 1 → Completes asks step is_terminated value new limit bytes i k begun next
-  completes-whole {u = u} goes carries state performed within is behind = record {
+  completes-whole {c = c} {u = u} {next = next} goes carries state performed within is behind = record {
     stands_at = λ old stream parser e s. let more = goes.more (inside-open e s) in carried-whole refl more (carries more) state performed (goes.inside old stream parser e s) within is behind;
     text = λ _. state;
-    others = λ opened.
+    others = λ old stream parser e s.
+        let opened = inside-open e s in
         let more = goes.more opened in
         let whole = carries more in
         let same = byte_more bytes i goes.n (bytes_of begun) within goes.far is (goes.are opened) in
-        inr (record {
-          n = goes.n + 1;
-          far = omega (arith, goes.far, within);
-          well = subst (λ (x : List ℕ). is_well_formed x ≡ true) same whole.0;
-          long = subst (λ (x : List ℕ). 1 < length x) same (longer _ _ (truncated-some (bytes_of u) more));
-          performed = performed ∙ ap (λ n. step value (character_event n)) (whole.1 ∙ ap scalar_of same);
-        });
+        record {
+          events = character_event c ∷ [];
+          parts = sym (told-at (carried-whole {next = next} refl more whole state refl (goes.kept stream parser e (keeps-inside s)) within is behind));
+          are = inr (record {
+            n = goes.n + 1;
+            far = omega (arith, goes.far, within);
+            well = subst (λ (x : List ℕ). is_well_formed x ≡ true) same whole.0;
+            long = subst (λ (x : List ℕ). 1 < length x) same (longer _ _ (truncated-some (bytes_of u) more));
+            same = ap (λ n. character_event n ∷ []) (whole.1 ∙ ap scalar_of same);
+          });
+        };
   }
 
   -- a byte breaks it
   pub completes-broken : {new : V} {j b : ℕ} {u : Unfinished} {parser next : Machine B} → GoesOn asks step is_terminated value limit bytes i j begun u parser
       → (is_truncated (bytes_of u) ≡ true → Carries (bytes_of u) b Broken) → next.state ≡ Text Nothing → new ≡ step value (Print replacement)
       → j < length bytes → b ≡ slice_index bytes j → Completes asks step is_terminated value new limit bytes i j begun next
-  completes-broken goes carries state performed within is = record {
+  completes-broken {next = next} goes carries state performed within is = record {
     stands_at = λ old stream parser e s. let more = goes.more (inside-open e s) in carried-broken refl more (carries more) state performed (goes.inside old stream parser e s) within is;
     text = λ _. state;
-    others = λ _. inl (tells-replacement performed);
+    others = λ old stream parser e s.
+        let more = goes.more (inside-open e s) in
+        record {
+          events = Print replacement ∷ [];
+          parts = sym (told-at (carried-broken {next = next} refl more (carries more) state refl (goes.kept stream parser e (keeps-inside s)) within is));
+          are = inl (All-cons IsOther (Print replacement) [] refl (All-nil IsOther));
+        };
   }
 
   -- another call goes on
@@ -253,19 +276,27 @@ module _ {V B : Type 0} {asks : Bool} {step : V → Event → V} {is_terminated 
   completes-then {j = j} {u = u} {parser = parser} goes c = record {
     stands_at = λ old stream begun e s. c.stands_at old stream (in_text parser u) refl (goes.inside old stream begun e s);
     text = c.text;
-    others = λ opened. elim (c.others (is_open-truncated (bytes_of u) (goes.more opened))) [
-      | inl others ↦ inl others
-      | inr whole ↦
-          let same : bytes_of u ++ take whole.n (drop j bytes) ≡ bytes_of begun ++ take (goes.n + whole.n) (drop i bytes) =
-          bytes_more bytes i j goes.n whole.n (bytes_of begun) goes.far (goes.are opened) in
-          inr (record {
-            n = goes.n + whole.n;
-            far = omega (arith, goes.far, whole.far);
-            well = subst (λ (x : List ℕ). is_well_formed x ≡ true) same whole.well;
-            long = subst (λ (x : List ℕ). 1 < length x) same whole.long;
-            performed = whole.performed ∙ ap (λ (x : List ℕ). step value (character_event (scalar_of x))) same;
-          })
-    ];
+    others = λ old stream begun_parser e s.
+        let opened = inside-open e s in
+        let told = c.others old stream (in_text parser u) refl (goes.inside old stream begun_parser e s) in
+        let silent = added-inside (goes.kept stream begun_parser e (keeps-inside s)) in
+        record {
+          events = told.events;
+          parts = told.parts ∙ ap (λ (es : List Event). es ++ told.events) (sym silent);
+          are = elim told.are [
+            | inl others ↦ inl others
+            | inr whole ↦
+                let same : bytes_of u ++ take whole.n (drop j bytes) ≡ bytes_of begun ++ take (goes.n + whole.n) (drop i bytes) =
+                bytes_more bytes i j goes.n whole.n (bytes_of begun) goes.far (goes.are opened) in
+                inr (record {
+                  n = goes.n + whole.n;
+                  far = omega (arith, goes.far, whole.far);
+                  well = subst (λ (x : List ℕ). is_well_formed x ≡ true) same whole.well;
+                  long = subst (λ (x : List ℕ). 1 < length x) same whole.long;
+                  same = whole.same ∙ ap (λ (x : List ℕ). character_event (scalar_of x) ∷ []) same;
+                })
+          ];
+        };
   }
 
 module _ {V B : Type 0} {asks : Bool} {step : V → Event → V} {is_terminated : V → Bool} {value : V} {limit : Option ℕ} {bytes : List ℕ} {i x y : ℕ} where
@@ -279,7 +310,7 @@ module _ {V B : Type 0} {asks : Bool} {step : V → Event → V} {is_terminated 
       → z ≡ slice_index bytes (i + 1) → GoesOn asks step is_terminated value limit bytes i (i + 2) (One x) (Three x y z) next
   goes-third {z = z} next low second third within is is_third =
       let goes = goes-more {next = next} (goes-second next (omega arith) second (omega arith) is) (λ more. third_open x y z more third low) (omega arith) is_third in
-      record { inside = λ old stream parser e s. inside-moved (omega arith) (goes.inside old stream parser e s); more = goes.more; n = goes.n; far = omega (arith, goes.far); are = goes.are }
+      record { inside = λ old stream parser e s. inside-moved (omega arith) (goes.inside old stream parser e s); kept = λ stream parser e s. inside-moved (omega arith) (goes.kept stream parser e s); more = goes.more; n = goes.n; far = omega (arith, goes.far); are = goes.are }
 
 -- what is open in a text
 pub opens-text : {B : Type 0} {limit : Option ℕ} {stream : List ℕ} {u : Unfinished} (parser : Machine B) → parser.state ≡ Text u → bytes_of u ≢ [] → IsBehind limit parser stream
@@ -290,3 +321,43 @@ opens-text {limit = limit} {stream = stream} {u = u} parser e some h none =
 
 pub opens-open : {B : Type 0} {limit : Option ℕ} {stream : List ℕ} {u : Unfinished} (parser : Machine B) → parser.state ≡ Text u → IsBehind limit parser stream → is_open (bytes_of u) ≡ true
 opens-open {limit = limit} {u = u} parser e h = (by_text limit parser u h.place (stands-in e h.stands)).begun
+
+-- ---- a byte that is neither printed nor begins a longer one, in what it tells
+
+record Single (limit : Option ℕ) (b : ℕ) : Type 0 where
+  told : List Event
+  reads : Reads limit (InText []) (b ∷ []) told (InText [])
+  are : All IsOther told
+
+malformed_other : (b : ℕ) → All IsOther (malformed_event (b ∷ []) ∷ [])
+unfolding malformed_event
+malformed_other b = elim (cases_Bool (is_control_character b)) [
+  | inl is ↦ rw is (All-cons IsOther (Execute b) [] tt (All-nil IsOther))
+  | inr is ↦ rw is (All-cons IsOther (Print replacement) [] refl (All-nil IsOther))
+]
+
+single : (limit : Option ℕ) (b : ℕ) → b ≢ escape → is_in (to 0x20 0x7f) b ≡ false → is_in (to 0xc2 0xf4) b ≡ false → Single limit b
+single limit b n other no_lead = elim (cases_lt b 0x80) [
+  | inl low ↦ record {
+    told = character_event b ∷ [];
+    reads = reads-byte limit (InText []) (InText []) b _ (not_escape b n) (text-whole limit [] b (ascii_alone b low).is_whole);
+    are = other_control b (grind (arith, nat_tests));
+  }
+  | inr high ↦
+      let lone = begins_none b (elim (cases_lt b 0xc2) [
+        | inl below ↦ inl (high, below)
+        | inr from_c2 ↦ inr (grind (arith, nat_tests))
+      ]) in
+      record {
+        told = malformed_event (b ∷ []) ∷ [];
+        reads = reads-byte limit (InText []) (InText []) b _ (not_escape b n) (text-lone limit b lone.is_whole lone.is_open);
+        are = malformed_other b;
+      }
+]
+
+pub adds-single : {B : Type 0} {limit : Option ℕ} {stream bytes : List ℕ} {i b : ℕ} {place : Place} (parser : Machine B) → parser.state ≡ Text Nothing → b ≢ escape
+    → is_in (to 0x20 0x7f) b ≡ false → is_in (to 0xc2 0xf4) b ≡ false → i < length bytes → b ≡ slice_index bytes i → Stands limit parser place
+    → IsAfter limit (stream_at stream bytes i) place → AddsOthers limit stream bytes i (i + 1)
+adds-single {limit = limit} {stream = stream} {bytes = bytes} {i = i} {b = b} {place = place} parser e n other no_lead within is s after =
+    let one = single limit b n other no_lead in
+    adds-reads within is (subst (IsAfter limit (stream_at stream bytes i)) (between_characters parser place e s) after) one.reads refl one.are

@@ -4,7 +4,7 @@ use Rattle.vte_core.proofs.Common.{Machine, DeviceData, Event, Put, InData, Adva
 use Rattle.vte_core.proofs.bytes.Between.{each-both, each-one}
 use Rattle.vte_core.proofs.bytes.ClassCases.{data_ends_nothing}
 use Rattle.vte_core.proofs.calls.Arms.{advances-in, in_data, taken}
-use Rattle.vte_core.proofs.calls.Runs.{advances-moved, advances-nothing, advances-then, settled-by}
+use Rattle.vte_core.proofs.calls.Runs.{advances-moved, advances-nothing, advances-part, advances-then, settled-by}
 use Rattle.vte_core.proofs.fields.Standing.{stands-by}
 use Rattle.vte_core.proofs.places.PlaceLeads.{data-put}
 
@@ -17,8 +17,8 @@ advances-by {bytes = bytes} {parser = parser} (suc n) i begun within are none =
     let b : ℕ = slice_index bytes i in
     let put = are i (omega arith) (omega arith) in
     rw (drop_more bytes i 0 here) (advances-moved (omega arith) (advances-then
-    (advances-in begun here refl (λ does. absurd (false≢true (sym none ∙ does))) (data_ends_nothing _ put)
-    (in_data parser (taken (Put b ∷ []) InData refl (stands-by begun tt) (data-put _ b put))) (settled-by _ _ begun tt))
+    (advances-part (advances-in begun here refl (λ does. absurd (false≢true (sym none ∙ does))) (data_ends_nothing _ put)
+    (in_data parser (taken (Put b ∷ []) InData refl (stands-by begun tt) (data-put _ b put))) (settled-by _ _ begun tt)))
     (advances-by n (i + 1) begun (omega (arith, within)) (λ k low high. are k (omega (arith, low)) (omega (arith, high))) none)))
 
 pub advances-data : {V B : Type 0} {asks : Bool} {step : V → Event → V} {is_terminated : V → Bool} {old new : V} {limit : Option ℕ} {bytes : List ℕ} {i j : ℕ} {parser : Machine B}

@@ -1,17 +1,19 @@
 -- The bytes of a head.
+use Rattle.vte_core.specs.machine.ToRun.{IsQuietIn}
 use Rattle.vte_core.proofs.Common.{◌≡◌, ℕ, zero, suc, ◌+◌, ◌-◌, ◌<◌, ◌≤◌, ◌⊎◌, inr, eqb, Option, List, [], ◌∷◌, ◌++◌, Bool, true, false, length, take, drop, refl, sym, subst, append_assoc, arith}
 use Rattle.vte_core.proofs.Common.{nat_tests, append-nil, drop-drop, drop_more, take-add, slice_index, MatchOption, class_of, is_head, is_parameter, AreOf, Collected, HeadPart, Entry, Parameters}
 use Rattle.vte_core.proofs.Common.{Machine, State, ControlSequence, DeviceControl, Event, Leads, Counts, KeepsIntermediates, Stands, StandsBy, StandsInHead, Place, InControlSequence, InDeviceControl}
-use Rattle.vte_core.proofs.Common.{IsBetween, Advances, CameTo, IsSettled, MayGoOn, Performs, Takes, ends_all, part_after, ReadsHead, Some, None, TellsOthers}
+use Rattle.vte_core.proofs.Common.{IsBetween, Advances, CameTo, IsSettled, MayGoOn, Performs, Takes, ends_all, part_after, ReadsHead, Some, None}
 use Rattle.vte_core.proofs.bytes.ClassCases.{head_ends_nothing}
 use Rattle.vte_core.proofs.bytes.PieceLemmas.{AreOf-append, parameter_is_head}
 use Rattle.vte_core.proofs.calls.Places.{come-between, come-byte}
 use Rattle.vte_core.proofs.calls.Arms.{performs-in}
-use Rattle.vte_core.proofs.calls.Runs.{advances-byte, advances-telling, advances-then, settled-by}
+use Rattle.vte_core.proofs.calls.Runs.{advances-byte, advances-when, advances-then, settled-by}
 use Rattle.vte_core.proofs.fields.HeadSteps.{holds-parameter}
 use Rattle.vte_core.proofs.fields.Standing.{IsPlace, stands-in}
 use Rattle.vte_core.proofs.places.PlaceLeads.{control-head, device-head}
-use Rattle.vte_core.proofs.streams.Others.{tells-none}
+use Rattle.vte_core.proofs.Common.{told, false≢true, subst}
+use Rattle.vte_core.proofs.calls.Telling.{adds-same, come-told, keep, came-kept, never}
 use Rattle.vte_core.proofs.streams.StreamLemmas.{no_escape, reads-byte}
 
 -- ---- what is collected
@@ -117,6 +119,10 @@ is_between : (shape : Shape) (head : List ℕ) → IsBetween (in_head shape head
 is_between ControlHead head = tt
 is_between DeviceHead head = tt
 
+quiet_head : (shape : Shape) (part : HeadPart) (b : ℕ) → IsQuietIn (state_of shape part) b
+quiet_head ControlHead part b = tt
+quiet_head DeviceHead part b = tt
+
 settled : (shape : Shape) (part : HeadPart) → IsSettled (state_of shape part)
 settled ControlHead part = tt
 settled DeviceHead part = tt
@@ -139,6 +145,7 @@ module _ {V : Type 0} {asks : Bool} {step : V → Event → V} {is_terminated : 
       let far : i + suc n ≡ i + 1 + n = omega arith in
       rw (far, cut) (rw (append_assoc head (b ∷ []) (take n (drop (i + 1) bytes))) at rest)
 
+module _ {V : Type 0} {asks : Bool} {step : V → Event → V} {is_terminated : V → Bool} {limit : Option ℕ} {bytes : List ℕ} where
   pub advances-head : {quiet B : Type 0} {value : V} {i j : ℕ} {reached part : HeadPart} {parser next : Machine B} (shape : Shape) → parser.state ≡ state_of shape reached
       → ReadsHead bytes i j reached part parser.collected next.collected → MayGoOn asks is_terminated value → next.state ≡ state_of shape part
       → Advances quiet asks step is_terminated value value limit bytes i j parser next
@@ -155,17 +162,23 @@ module _ {V : Type 0} {asks : Bool} {step : V → Event → V} {is_terminated : 
           has_come = rw end at (come-head shape (j - i) k.head (omega (arith, reads.high, end)) reads.are may_go_on here);
         };
     settled = λ _. settled-by _ _ state (settled shape part);
-    others = λ _. tells-none;
+    others = λ _ old stream s.
+        let k = place_in shape limit reached parser s.place (stands-in begun s.stands) in
+        let here : CameTo false keep never [] (told limit stream bytes i) limit stream bytes i (in_head shape k.head) =
+        subst (CameTo false keep never [] (told limit stream bytes i) limit stream bytes i) k.same (came-kept s.has_come) in
+        let end : i + (j - i) ≡ j = omega (arith, reads.low) in
+        adds-same (subst (λ n. told limit stream bytes i ≡ told limit stream bytes n) end
+        (come-told (come-head shape (j - i) k.head (omega (arith, reads.high, end)) reads.are (λ does. absurd (false≢true does)) here)));
   }
 
   -- .. and a byte behind it, of which the caller says what it does there
   pub advances-past : {quiet B : Type 0} {old new : V} {i j b : ℕ} {reached part : HeadPart} {parser next : Machine B} {held : Collected} (shape : Shape) → parser.state ≡ state_of shape reached
       → ReadsHead bytes i j reached part parser.collected held → (j < length bytes) × (b ≡ slice_index bytes j) → MayGoOn asks is_terminated old
       → ((place : Place) → Stands {B = B} limit (record { state = state_of shape part; collected = held; command = parser.command }) place → IsBetween place
-      → Performs step old new limit place (b ∷ []) next) → IsSettled next.state → TellsOthers step old new → Advances quiet asks step is_terminated old new limit bytes i (j + 1) parser next
-  advances-past {B = B} {part = part} {parser = parser} {held = held} shape begun reads at may_go_on performs settled others =
+      → Performs step old new limit place (b ∷ []) next) → IsSettled next.state → Advances quiet asks step is_terminated old new limit bytes i (j + 1) parser next
+  advances-past {B = B} {part = part} {parser = parser} {held = held} shape begun reads at may_go_on performs settled =
       let head : Machine B = record { state = state_of shape part; collected = held; command = parser.command } in
-      advances-then (advances-head {next = head} shape begun reads may_go_on refl) (advances-telling others (advances-byte at.0 at.1 may_go_on performs settled))
+      advances-then (advances-head {next = head} shape begun reads may_go_on refl) (advances-when (quiet_head shape part _) (advances-byte at.0 at.1 may_go_on performs settled))
 
 -- a byte other than CAN, SUB and ESC there
 pub performs-head : {V B : Type 0} {step : V → Event → V} {old new : V} {limit : Option ℕ} {b : ℕ} {parser next : Machine B} (shape : Shape) (part : HeadPart)

@@ -3,7 +3,7 @@ use Rattle.vte_core.specs.declared.looks.taken.Run.{Run}
 use Rattle.vte_core.specs.declared.looks.taken.RunPlace.{RunPlace}
 use Rattle.vte_core.specs.LongAdvance.{ReadsToRunLong}
 use Rattle.vte_core.specs.machine.ToRun.{ComesToRun, IsTaken, bytes_at}
-use Rattle.vte_core.proofs.Common.{◌≡◌, [], IsWide, TellsOnly, TellsOthers, open_end}
+use Rattle.vte_core.proofs.Common.{◌≡◌, TellsOthers}
 use Rattle.vte_core.proofs.calls.ToRun.{reads-run, returns-run}
 use Rattle.vte_core.proofs.Common.{ℕ, ◌+◌, ◌*◌, ◌≤◌, Bool, List, None, length, Result, Ok, Err, IfErr, IfOk, IfErr-weaker, IfOk-weaker}
 use Rattle.vte_core.proofs.Common.{refl, arith, rules, false, read_count, ReadsUpTo, Event, Machine, IsBehind, RefusesAt, true, Refused}
@@ -78,13 +78,12 @@ reads_until {step = step} {is_terminated = is_terminated} {old = old} {new = new
 -- `advance_to_run`, if memory is refused ..
 pub to_run-refused : {A V : Type 0} {step : V → Event → V} {is_terminated : V → Bool} {old new : V} {bytes : List ℕ} {parser next : LongParser A} (refused : Refused)
     {drove : Result RunPlace Refused} → RefusesAt true step is_terminated old new None bytes refused.read parser.machine next.machine
-    → Costs 7 bytes drove refused.read parser.machine next.machine parser.looks next.looks → ((stream : List ℕ) → HasReadLong parser stream → open_end stream ≡ [] → TellsOthers step old new)
-    → ((stream : List ℕ) → HasReadLong parser stream → TellsOnly IsWide step old new) → ReadsToRunLong step is_terminated old new bytes (Err refused) parser next
-to_run-refused {step = step} {is_terminated = is_terminated} {old = old} {new = new} {next = next} refused refuses costs others opened = record {
+    → Costs 7 bytes drove refused.read parser.machine next.machine parser.looks next.looks → ((stream : List ℕ) → HasReadLong parser stream → TellsOthers None stream bytes refused.read)
+    → ReadsToRunLong step is_terminated old new bytes (Err refused) parser next
+to_run-refused {step = step} {is_terminated = is_terminated} {old = old} {new = new} {next = next} refused refuses costs others = record {
   returns = tt;
   refuses = passes next.machine (Err refused) refuses;
   others = others;
-  opened = opened;
   goes_on = goes-on true step is_terminated old new (Err refused) (λ stream h. ends-reads (refuses.stands_at stream h)) refuses costs.memory costs.count tt costs.least;
 }
 
@@ -92,12 +91,10 @@ to_run-refused {step = step} {is_terminated = is_terminated} {old = old} {new = 
 pub to_run-read : {A V : Type 0} {step : V → Event → V} {is_terminated : V → Bool} {old new : V} {bytes : List ℕ} {parser next : LongParser A} (run : Run) {place : RunPlace}
     → ComesToRun step is_terminated old new None bytes place parser.machine next.machine → run.start ≡ place.start → run.end ≡ place.end
     → IsTaken place.kind (bytes_at bytes place) run.taken → Costs 7 bytes (Ok place) place.end parser.machine next.machine parser.looks next.looks
-    → ((stream : List ℕ) → HasReadLong parser stream → open_end stream ≡ [] → TellsOthers step old new)
-    → ((stream : List ℕ) → HasReadLong parser stream → TellsOnly IsWide step old new) → ReadsToRunLong step is_terminated old new bytes (Ok run) parser next
-to_run-read {step = step} {is_terminated = is_terminated} {old = old} {new = new} {next = next} run comes starts ends taken costs others opened = record {
+    → ((stream : List ℕ) → HasReadLong parser stream → TellsOthers None stream bytes place.start) → ReadsToRunLong step is_terminated old new bytes (Ok run) parser next
+to_run-read {step = step} {is_terminated = is_terminated} {old = old} {new = new} {next = next} run comes starts ends taken costs others = record {
   returns = returns-run run comes starts ends taken;
   refuses = passes next.machine (Ok run) tt;
-  others = others;
-  opened = opened;
+  others = λ stream h. rw starts (others stream h);
   goes_on = goes-on true step is_terminated old new (Ok run) (reads-run run comes starts ends taken) tt costs.memory costs.count (rw ends costs.paid) (rw ends costs.least);
 }

@@ -5,9 +5,8 @@ use Rattle.vte_core.proofs.Common.{Performs, Place, AtEscape, InControlSequence,
 use Rattle.vte_core.proofs.bytes.ClassCases.{left_is_dropped}
 use Rattle.vte_core.proofs.calls.Arms.{advances-in, at_escape, performs-escape, performs-in, taken}
 use Rattle.vte_core.proofs.fields.Standing.{stands-by, stands-in}
-use Rattle.vte_core.proofs.calls.Runs.{advances-byte, advances-telling, settled-by}
+use Rattle.vte_core.proofs.calls.Runs.{advances-byte, advances-when, settled-by}
 use Rattle.vte_core.proofs.places.PlaceLeads.{byte-dropped, escape-control_sequence}
-use Rattle.vte_core.proofs.streams.Others.{tells-none}
 
 again : {V B : Type 0} (step : V → Event → V) (value : V) (limit : Option ℕ) (b : ℕ) (parser : Machine B) (place : Place) → parser.state ≡ Escape → b ≡ 0x1b
     → Stands limit parser place → StandsBy limit Escape parser place → Performs step value value limit place (b ∷ []) parser
@@ -19,7 +18,7 @@ pub advances-again : {quiet V B : Type 0} {asks : Bool} {step : V → Event → 
     → parser.state ≡ Escape → i < length bytes → b ≡ slice_index bytes i → MayGoOn asks is_terminated value → b ≡ 0x1b
     → Advances quiet asks step is_terminated value value limit bytes i (i + 1) parser parser
 advances-again {step = step} {value = value} {limit = limit} {b = b} {parser = parser} begun within is may_go_on same =
-    advances-telling tells-none (advances-byte within is may_go_on
+    advances-when (rw begun tt) (advances-byte within is may_go_on
     (λ place s between. again step value limit b parser place begun same s (stands-in begun s)) (settled-by _ _ begun tt))
 
 -- DEL and 80..FF
@@ -37,5 +36,5 @@ pub advances-bracket : {quiet V B : Type 0} {asks : Bool} {step : V → Event �
     → Advances quiet asks step is_terminated value value limit bytes i (i + 1) parser next
 unfolding class_of key_of
 advances-bracket {limit = limit} {parser = parser} begun within is may_go_on bracket state holds =
-    advances-telling tells-none (advances-in begun within is may_go_on (rw bracket refl)
+    advances-when tt (advances-in begun within is may_go_on (rw bracket refl)
     (at_escape parser (λ before. taken [] (InControlSequence []) refl (stands-by state (holds before)) (rw bracket (escape-control_sequence limit 0x5b refl refl)))) (settled-by _ _ state tt))

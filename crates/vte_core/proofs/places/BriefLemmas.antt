@@ -1,4 +1,5 @@
 -- The events of one byte are small.
+use Rattle.vte_core.proofs.Common.{IsOther}
 use Rattle.vte_core.proofs.Common.{◌≡◌, ℕ, ◌<◌, ◌≤◌, Bool, true, false, cond, Option, List, [], ◌∷◌, ◌++◌, length, refl, arith, nat_tests, IsBounded, IsBrief, IsExecuted}
 use Rattle.vte_core.proofs.Common.{IsPrintable, IsShort, IsTiny, first_two, Event, Print, Execute, Hook, CsiDispatch, replacement, Head, dispatched, collected, character_event, malformed_event}
 use Rattle.vte_core.proofs.Common.{is_control_character, is_well_formed, scalar_of}
@@ -50,3 +51,11 @@ tiny-both limit (e ∷ []) [] t s = short_bounded limit e t
 tiny-both limit (e ∷ []) (f ∷ []) t s = (short_bounded limit e t, s)
 tiny-both limit (e ∷ []) (f ∷ g ∷ rest) t s = absurd s
 tiny-both limit (e ∷ f ∷ front) rest t s = absurd t
+
+pub other-csi : (head : Head) (final : ℕ) → IsOther (dispatched CsiDispatch head final)
+unfolding dispatched
+other-csi head final = tt
+
+pub other-hook : (head : Head) (final : ℕ) → IsOther (dispatched Hook head final)
+unfolding dispatched
+other-hook head final = tt

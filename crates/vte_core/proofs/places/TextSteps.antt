@@ -1,7 +1,7 @@
 -- What one byte tells in a text, whatever the byte is.
-use Rattle.vte_core.proofs.Common.{◌≡◌, ℕ, ◌⊎◌, inl, inr, true, false, eqb, Option, List, [], ◌∷◌, ◌++◌, refl, ap, sym, subst, ◌∙◌, cases_Bool, false≢true, IsBrief, IsTiny, Event, Print}
+use Rattle.vte_core.proofs.Common.{◌≡◌, ℕ, ◌⊎◌, inl, inr, true, false, eqb, Option, List, [], ◌∷◌, ◌++◌, refl, ap, sym, subst, ◌∙◌, cases_Bool, false≢true, IsBrief, IsTiny, IsOther, class_of, is_data, Event, Print}
 use Rattle.vte_core.proofs.Common.{◌≤◌, ◌+◌, None, arith, FitsStore, Open, OpenCommand, data_left, left_at}
-use Rattle.vte_core.proofs.Common.{replacement, tell, Place, InText, breaks, open_at, escape, Leads, Reads, is_open, is_truncated, is_well_formed}
+use Rattle.vte_core.proofs.Common.{replacement, tell, Place, InData, InText, breaks, open_at, escape, Leads, Reads, is_open, is_truncated, is_well_formed}
 use Rattle.vte_core.proofs.places.PlaceLeads.{text-unfinished, text-whole, text-lone}
 use Rattle.vte_core.proofs.shapes.TextLemmas.{text_broken}
 use Rattle.vte_core.proofs.places.BriefLemmas.{short-character, short-malformed, tiny_brief, tiny-both}
@@ -34,6 +34,17 @@ pub text_left : (limit : Option ℕ) (u : List ℕ) → data_left (left_at limit
 text_left limit [] = refl
 text_left limit (a ∷ u) = refl
 
+-- outside of a text, and of data that are put
+abbrev pub IsQuiet : Place → ℕ → Type 0
+IsQuiet (InText u) b = ⊥
+IsQuiet InData b = is_data (class_of b) ≡ false
+IsQuiet _ b = Unit {0}
+
+abbrev pub AreOthers : List Event → Type 0
+AreOthers [] = Unit {0}
+AreOthers (event ∷ []) = IsOther event
+AreOthers (event ∷ events) = IsOther event × AreOthers events
+
 -- what the byte tells after the place, and where it leads
 pub record Steps (limit : Option ℕ) (place : Place) (b : ℕ) : Type 0 where
   pub told : List Event
@@ -44,12 +55,13 @@ pub record Steps (limit : Option ℕ) (place : Place) (b : ℕ) : Type 0 where
   pub grows : limit ≡ None → data_left (left_at limit next) ≤ data_left (left_at limit place) + 1
   pub leaves : LeavesOpen next told
   pub little : IsText place → breaks (open_at place) (b ∷ []) ≡ false → IsLittle next told
+  pub others : IsQuiet place b → AreOthers told
 
 -- a step of a byte that is not ESC
 pub leads_on : {limit : Option ℕ} {place next : Place} {b : ℕ} {told : List Event} → (IsText place → IsLittle next told) → LeavesOpen next told
     → (limit ≡ None → data_left (left_at limit next) ≤ data_left (left_at limit place) + 1) → eqb b escape ≡ false → Leads limit place b told next → IsPlace next
-    → ((size : Option ℕ) → FitsLeft size (left_at limit place) → IsBrief size told) → Steps limit place b
-leads_on {limit} {place} {next} {b} {told} little leaves grows e l is brief = record {
+    → ((size : Option ℕ) → FitsLeft size (left_at limit place) → IsBrief size told) → (IsQuiet place b → AreOthers told) → Steps limit place b
+leads_on {limit} {place} {next} {b} {told} little leaves grows e l is brief others = record {
   told = told;
   next = next;
   is_place = is;
@@ -58,6 +70,7 @@ leads_on {limit} {place} {next} {b} {told} little leaves grows e l is brief = re
   grows = grows;
   leaves = leaves;
   little = λ text _. little text;
+  others = others;
 }
 
 tiny_of : (next : Place) (told : List Event) → IsLittle next told → IsTiny told
@@ -67,7 +80,7 @@ leads_little : {limit : Option ℕ} {u v : List ℕ} {b : ℕ} {told : List Even
     → IsPlace (InText v) → Steps limit (InText u) b
 leads_little {limit} {v = v} {told = told} little e l is =
     leads_on (λ _. little) (elim little [ inl nothing ↦ inr (inl nothing) | inr closed ↦ inl closed.0 ]) (λ _. omega (arith, text_left limit v)) e l is
-    (λ size _. tiny_brief size told (tiny_of (InText v) told little))
+    (λ size _. tiny_brief size told (tiny_of (InText v) told little)) (λ quiet. absurd quiet)
 
 -- the byte ends the character, or belongs to it, or neither
 by_tests : (limit : Option ℕ) (u : List ℕ) (b : ℕ) → eqb b escape ≡ false
@@ -102,6 +115,7 @@ broken limit u b e more part none =
       grows = λ none. omega (arith, s.grows none);
       leaves = elim little [ inl nothing ↦ inr (inr (ap (λ es. Print replacement ∷ es) nothing)) | inr closed ↦ inl closed.0 ];
       little = λ _ unbroken. absurd (false≢true (sym unbroken ∙ breaks-broken u b more part none));
+      others = λ quiet. absurd quiet;
     }
 
 pub steps-text : (limit : Option ℕ) (u : List ℕ) (b : ℕ) → eqb b escape ≡ false → is_open u ≡ true → Steps limit (InText u) b

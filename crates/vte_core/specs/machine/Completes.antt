@@ -1,23 +1,32 @@
 -- How a character is completed.
-use Rattle.std.specs.Prelude.{ℕ, ◌≡◌, ◌⊎◌, ◌+◌, ◌<◌, ◌≤◌, Bool, true, List, ◌++◌, length, take, drop, Option}
+use Rattle.std.specs.Prelude.{ℕ, ◌≡◌, ◌⊎◌, ◌+◌, ◌<◌, ◌≤◌, Bool, true, List, [], ◌∷◌, ◌++◌, length, take, drop, Option}
 use Rattle.vte_core.specs.declared.parser.machine.Machine.{Machine}
 use Rattle.vte_core.specs.declared.parser.State.TheVariants.{Text}
 use Rattle.vte_core.specs.declared.utf8.Unfinished.{Unfinished}
 use Rattle.vte_core.specs.declared.utf8.Unfinished.TheVariants.{Nothing}
+use Rattle.std.specs.List.{All}
+use Rattle.vte_core.specs.EarlyStop.{told}
+use Rattle.vte_core.specs.Stream.{added}
 use Rattle.vte_core.specs.Event.{Event}
 use Rattle.vte_core.specs.machine.Progress.{StandsAt, StandsInside}
-use Rattle.vte_core.specs.machine.Unfinished.{bytes_of, is_open}
-use Rattle.vte_core.specs.Others.{TellsOthers}
+use Rattle.vte_core.specs.machine.Unfinished.{bytes_of}
+use Rattle.vte_core.specs.Others.{IsOther}
 use Rattle.vte_core.specs.Text.{character_event}
 use Rattle.vte_core.specs.Utf8.{is_well_formed, scalar_of}
 
--- The performer took the character that these bytes and those at place i are.
-pub record TellsWhole {V : Type 0} (step : V → Event → V) (old new : V) (begun bytes : List ℕ) (i : ℕ) : Type 0 where
+-- The event is that of the character that these bytes and those at place i are.
+pub record AreWhole (begun bytes : List ℕ) (i : ℕ) (events : List Event) : Type 0 where
   pub n : ℕ
   pub far : i + n ≤ length bytes
   pub well : is_well_formed (begun ++ take n (drop i bytes)) ≡ true
   pub long : 1 < length (begun ++ take n (drop i bytes))
-  pub performed : new ≡ step old (character_event (scalar_of (begun ++ take n (drop i bytes))))
+  pub same : events ≡ character_event (scalar_of (begun ++ take n (drop i bytes))) ∷ []
+
+-- What is told from place i, inside such a character, to place j.
+pub record AddsCharacter (limit : Option ℕ) (stream begun bytes : List ℕ) (i j : ℕ) : Type 0 where
+  pub events : List Event
+  pub parts : told limit stream bytes j ≡ added limit stream (take i bytes) ++ events
+  pub are : All IsOther events ⊎ AreWhole begun bytes i events
 
 -- The call goes on to place j, in a text if bytes are left, and tells a character or none. At place i a parser would stand inside the character
 -- that these bytes begin.
@@ -26,4 +35,5 @@ pub record Completes {V B : Type 0} (asks : Bool) (step : V → Event → V) (is
   pub stands_at : (value : V) (stream : List ℕ) (parser : Machine B) → parser.state ≡ Text begun →
       StandsInside asks step is_terminated value old limit stream bytes i parser → StandsAt asks step is_terminated value new limit stream bytes j next
   pub text : j < length bytes → next.state ≡ Text Nothing
-  pub others : is_open (bytes_of begun) ≡ true → TellsOthers step old new ⊎ TellsWhole step old new (bytes_of begun) bytes i
+  pub others : (value : V) (stream : List ℕ) (parser : Machine B) → parser.state ≡ Text begun →
+      StandsInside asks step is_terminated value old limit stream bytes i parser → AddsCharacter limit stream (bytes_of begun) bytes i j

@@ -6,7 +6,6 @@ use Rattle.vte_core.specs.declared.parser.refused.Refused.{Refused}
 use Rattle.vte_core.specs.Event.{Event}
 use Rattle.vte_core.specs.Looks.{looked}
 use Rattle.vte_core.specs.machine.Progress.{IsRefusedAt, IsSettled, MayGoOn}
-use Rattle.vte_core.specs.Others.{TellsOthers}
 
 -- The bounds of each state's function, which reads from place i to place j, and gives back no memory. It takes at least one look for
 -- each byte and at most so many, of which the caller took those seen.
@@ -26,10 +25,9 @@ pub record Spends (rate seen ahead : ℕ) {B : Type 0} (bytes : List ℕ) (i j :
   pub least : looked before + j ≤ looked after + i + seen
   pub memory : parser.command.capacity ≤ next.command.capacity
 
--- .. of one that handles a byte which was looked at: no character is open then, none was printed but U+FFFD and no data put, and it counts so many at most
+-- .. of one that handles a byte which was looked at: no character is open then, and it counts so many at most
 pub record Handles (most : ℕ) {V B : Type 0} (step : V → Event → V) (old new : V) (parser next : Machine B) (before after : Looks B) : Type 0 where
   pub settled : IsSettled next.state
-  pub others : TellsOthers step old new
   pub count : looked after ≤ looked before + most
   pub least : looked before ≤ looked after
   pub memory : parser.command.capacity ≤ next.command.capacity

@@ -10,6 +10,7 @@ use Rattle.vte_core.specs.declared.parser.machine.Machine.{Machine}
 use Rattle.vte_core.specs.declared.parser.refused.Refused.{Refused}
 use Rattle.vte_core.specs.declared.parser.State.{State}
 use Rattle.vte_core.specs.declared.parser.State.TheVariants.{Text, DeviceData}
+use Rattle.vte_core.specs.Class.{class_of, is_data}
 use Rattle.vte_core.specs.Event.{Event, Print, Put}
 use Rattle.vte_core.specs.machine.Data.{IsPut}
 use Rattle.vte_core.specs.machine.Parser.{IsBehind}
@@ -23,6 +24,12 @@ abbrev pub IsOutside : State → Type 0
 IsOutside (Text _) = ⊥
 IsOutside DeviceData = ⊥
 IsOutside _ = Unit {0}
+
+-- A byte is read in a sequence or a string, and isn't put.
+abbrev pub IsQuietIn : State → ℕ → Type 0
+IsQuietIn (Text _) b = ⊥
+IsQuietIn DeviceData b = is_data (class_of b) ≡ false
+IsQuietIn _ b = Unit {0}
 
 -- The bytes that stand at the place.
 abbrev pub bytes_at : List ℕ → RunPlace → List ℕ
@@ -68,7 +75,12 @@ pub record ComesToRun {V B : Type 0} (step : V → Event → V) (is_terminated :
   pub may_go_on : place.start < place.end → is_terminated new ≡ false
   pub stops : place.end ≡ place.start → place.start < length bytes → is_terminated new ≡ true
 
--- How many bytes the call read.
+-- How many bytes the call performed ..
+abbrev pub start_count : Result RunPlace Refused → ℕ
+start_count (Ok place) = place.start
+start_count (Err refused) = refused.read
+
+-- .. and how many it read.
 abbrev pub place_count : Result RunPlace Refused → ℕ
 place_count (Ok place) = place.end
 place_count (Err refused) = refused.read

@@ -5,7 +5,7 @@ pub use Rattle.vte_core.specs.Event.{CsiDispatch, EscDispatch, Event, Execute, H
 pub use Rattle.vte_core.specs.Key.{begins_ignored_string}
 pub use Rattle.vte_core.specs.LongParser.{read_count}
 pub use Rattle.vte_core.specs.Looks.{looked}
-pub use Rattle.vte_core.specs.Others.{IsWide, TellsOnly, TellsOthers}
+pub use Rattle.vte_core.specs.Others.{IsOther, IsWide, TellsOthers}
 pub use Rattle.vte_core.specs.Parameters.{greatest_number, is_separator}
 pub use Rattle.vte_core.specs.Perform.{after}
 pub use Rattle.vte_core.specs.Outcome.{IsLoss}
@@ -33,5 +33,5 @@ pub use Rattle.vte_core.specs.machine.Scans.{FindsEnd, IsRange, Scans, TakesFew}
 pub use Rattle.vte_core.specs.machine.Store.{ArePieceEnds, HasMemory, Held, Keeps, Reserves, SameItems, cut_pieces, fitting}
 pub use Rattle.vte_core.specs.machine.Takes.{Dispatches, Performs, Takes}
 pub use Rattle.vte_core.specs.machine.Tells.{Tells, TellsAll}
-pub use Rattle.vte_core.specs.machine.ToRun.{AreOfKind, ComesToRun, IsOutside, IsTaken, place_count}
+pub use Rattle.vte_core.specs.machine.ToRun.{AreOfKind, ComesToRun, IsOutside, IsQuietIn, IsTaken, place_count, start_count}
 pub use Rattle.vte_core.specs.machine.Unfinished.{BeginsFour, BeginsThree, BeginsTwo, Carries, bytes_of, is_open, second_range}

@@ -1,6 +1,6 @@
 //! ESC, CAN and SUB, which end whatever is open, in all states alike.
 ghost use Rattle.std.specs.Prelude.{◌≡◌, true, [], ◌∷◌};
-ghost use Rattle.vte_core.specs.machine.Words.{Advances, Escape, Handles, IsBetween, MayReadByte, Moves, Performs, Place, Stands, TakesFew, TellsOthers, after, class_of, closing_at, ends_all};
+ghost use Rattle.vte_core.specs.machine.Words.{Advances, Escape, Handles, IsBetween, IsQuietIn, MayReadByte, Moves, Performs, Place, Stands, TakesFew, after, class_of, closing_at, ends_all};
 
 use crate::buffer::Buffer;
 use crate::class::ESCAPE;
@@ -43,6 +43,7 @@ impl<B: Buffer> Machine<B> {
     ) -> usize
         requires may_read { MayReadByte ASKS P.is_terminated (P.value_of performer.old) self.old.state self.old input.bytes.now from byte }
         requires ends { ends_all (class_of byte) ≡ true }
+        requires quiet { IsQuietIn self.old.state byte }
         ensures advances { Advances (Unit {0}) ASKS P.step P.is_terminated (P.value_of performer.old) (P.value_of performer.new) B.limit input.entry.bytes.now from result self.old self.new }
         ensures moves { Moves 3 1 input.entry.bytes.now from result self.old self.new looks.old looks.new }
     {
@@ -58,7 +59,6 @@ impl<B: Buffer> Machine<B> {
         ensures told { (place : Place) → Stands B.limit self.now place → IsBetween place → P.value_of performer.new
             ≡ after P.step (P.value_of performer.old) (closing_at B.limit place) }
         ensures few { TakesFew 1 looks.old looks.new }
-        ensures others { TellsOthers P.step (P.value_of performer.old) (P.value_of performer.new) }
     {
         match self.state {
             State::DeviceData => performer.unhook(looks),

@@ -9,8 +9,7 @@ returns-in-Ok g c =
     rw (← c.new-input.ensures) (record {
       returns = returns-run _ d t.start t.end t.taken;
       reads = reads-run c.take_run.result d t.start t.end t.taken;
-      others = c.in-Ok.ensures.others;
-      opened = c.in-Ok.ensures.opened;
+      others = λ stream h. rw t.start (c.in-Ok.ensures.others stream h);
       count = search rules;
       least = search rules;
     })

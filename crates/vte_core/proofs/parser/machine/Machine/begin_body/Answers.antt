@@ -5,7 +5,6 @@ use Rattle.vte_core.proofs.calls.Runs.{settled-by}
 use Rattle.vte_core.proofs.fields.Standing.{stands-escape, stands-text_begun}
 use Rattle.vte_core.proofs.places.PlaceLeads.{escape-device_control, escape-system_command, escape-ignored_string, escape-end}
 use Rattle.vte_core.proofs.shapes.PlainKeys.{other_key}
-use Rattle.vte_core.proofs.streams.Others.{tells-one}
 use Rattle.vte_core.proofs.parser.machine.Machine.begin_body.Goals as goal
 
 pub returns-then-byte-eq80-clause-takes : goal.returns-then-byte-eq80-clause-takes
@@ -35,4 +34,4 @@ returns-else-begins_ignored_string-clause-takes g c = λ s.
 pub returns-else-begins_ignored_string-clause-handles : goal.returns-else-begins_ignored_string-clause-handles
 returns-else-begins_ignored_string-clause-handles g c =
     let d = c.dispatch_escape.ensures in
-    record { settled = settled-by _ _ d.text tt; others = tells-one _ d.tells.value tt; count = omega arith; least = omega arith; memory = d.memory }
+    record { settled = settled-by _ _ d.text tt; count = omega arith; least = omega arith; memory = d.memory }

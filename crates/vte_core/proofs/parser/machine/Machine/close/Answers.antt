@@ -1,7 +1,6 @@
 use Rattle.vte_core.proofs.Common.{sym, ap, ◌∙◌, after, closing_at}
 use Rattle.vte_core.proofs.fields.Standing.{in_command}
 use Rattle.vte_core.proofs.fields.StoreLemmas.{pieces_held}
-use Rattle.vte_core.proofs.streams.Others.{tells-one}
 use Rattle.vte_core.proofs.parser.machine.Machine.close.Goals as goal
 
 pub returns-in-SystemCommand-clause-told : goal.returns-in-SystemCommand-clause-told
@@ -9,9 +8,3 @@ returns-in-SystemCommand-clause-told g c = λ place s b.
     let k = in_command _ place c.in-SystemCommand.is s in
     rw (pieces_held _ _ k.items k.keeps) c.dispatch.ensures.value
     ∙ ap (λ place. after g.P.CountedPerform.step (g.P.CountedPerform.value_of c.args.performer.now) (closing_at g.B.Buffer.limit place)) (sym k.same)
-
-pub returns-in-DeviceData-clause-others : goal.returns-in-DeviceData-clause-others
-returns-in-DeviceData-clause-others g c = tells-one _ c.unhook.ensures.value tt
-
-pub returns-in-SystemCommand-clause-others : goal.returns-in-SystemCommand-clause-others
-returns-in-SystemCommand-clause-others g c = tells-one _ c.dispatch.ensures.value tt

@@ -11,7 +11,7 @@ returns-then-is_final g c =
     let d = c.end_control_sequence.ensures in
     record {
       advances = advances-moved (sym d.next) (advances-past ControlHead c.requires.begun read.reads.head next c.requires.may_go_on
-          (performs-head ControlHead c.read_numbers-head.result.part refl (final_ends_nothing _ (sym c.is_final.ensures ∙ c.if-is_final.true)) d.takes) d.handles.settled d.handles.others);
+          (performs-head ControlHead c.read_numbers-head.result.part refl (final_ends_nothing _ (sym c.is_final.ensures ∙ c.if-is_final.true)) d.takes) d.handles.settled);
       moves = search rules;
     }
 

@@ -1,13 +1,13 @@
 use Rattle.vte_core.proofs.Common.{Err, ap, sym, ◌∙◌, arith, rules, err_from_is_err_and}
 use Rattle.vte_core.proofs.calls.ToRun.{comes-nowhere, comes-to_run, has-data, has-text, outside, settled-text}
-use Rattle.vte_core.proofs.streams.Others.{tells-none, tells-then, tells-weaker}
+use Rattle.vte_core.proofs.calls.Tellings.{tells-more}
 use Rattle.vte_core.proofs.parser.machine.Machine.drive_to_run.Goals.{then-loop-position-test+else-not-terminated, else-loop-position-test}
 use Rattle.vte_core.proofs.parser.machine.Machine.drive_to_run.Goals as goal
 
 pub loop-position-init : goal.loop-position-init
 loop-position-init g c =
     let f = c.finish_character-position.ensures in
-    record { stands_at = f.stands_at; settled = f.settled; others = λ stream h none. rw (f.nothing stream h none) tells-none; opened = f.opened; spends = search rules }
+    record { stands_at = f.stands_at; settled = f.settled; others = f.others; spends = search rules }
 
 pub returns-then-end-position-clause-comes : goal.returns-then-end-position-clause-comes
 returns-then-end-position-clause-comes g c =
@@ -29,8 +29,7 @@ loop-position-preserved-else-end-position g c =
     record {
       stands_at = λ stream h. read.goes_on _ stream (v.stands_at stream h);
       settled = read.settled;
-      others = λ stream h none. tells-then (v.others stream h none) (read.others tt);
-      opened = λ stream h. tells-then (v.opened stream h) (tells-weaker (read.others tt));
+      others = λ stream h. tells-more (v.others stream h) (read.others tt _ stream (v.stands_at stream h));
       spends = search rules;
     }
 
@@ -41,8 +40,7 @@ loop-position-preserved-else-end-position-2 g c =
     record {
       stands_at = λ stream h. read.goes_on _ stream (v.stands_at stream h);
       settled = read.settled;
-      others = λ stream h none. tells-then (v.others stream h none) (read.others tt);
-      opened = λ stream h. tells-then (v.opened stream h) (tells-weaker (read.others tt));
+      others = λ stream h. tells-more (v.others stream h) (read.others tt _ stream (v.stands_at stream h));
       spends = search rules;
     }
 
@@ -53,8 +51,7 @@ loop-position-preserved g c =
     record {
       stands_at = λ stream h. read.goes_on _ stream (v.stands_at stream h);
       settled = read.settled;
-      others = λ stream h none. tells-then (v.others stream h none) (read.others (outside _ c.in_default.not-Text c.in_default.not-DeviceData));
-      opened = λ stream h. tells-then (v.opened stream h) (tells-weaker (read.others (outside _ c.in_default.not-Text c.in_default.not-DeviceData)));
+      others = λ stream h. tells-more (v.others stream h) (read.others (outside _ c.in_default.not-Text c.in_default.not-DeviceData) _ stream (v.stands_at stream h));
       spends = search rules;
     }
 
@@ -72,8 +69,7 @@ returns-in_err-position-in_default g c =
         refused = r.refuses.refused;
       });
       costs = search rules;
-      others = λ stream h none. tells-then (v.others stream h none) (r.advances.others (outside _ c.in_default.not-Text c.in_default.not-DeviceData));
-      opened = λ stream h. tells-then (v.opened stream h) (tells-weaker (r.advances.others (outside _ c.in_default.not-Text c.in_default.not-DeviceData)));
+      others = λ stream h. rw (e.1 ∙ ap Err e.2) (tells-more (v.others stream h) (r.advances.others (outside _ c.in_default.not-Text c.in_default.not-DeviceData) _ stream (v.stands_at stream h)));
     }
 
 pub returns-clause-comes : goal.returns-clause-comes
@@ -84,3 +80,6 @@ returns-clause-comes g c =
       | then-loop-position-test+else-not-terminated w ↦ sym w.terminated.ensures ∙ w.if-not-terminated.false
       | else-loop-position-test w ↦ absurd (omega (arith, left, w.loop-position-test.false, c.len.ensures))
     ])
+
+pub returns-clause-others : goal.returns-clause-others
+returns-clause-others g c stream h = rw c.empty.ensures.start (c.loop-position.invariant.others stream h)

@@ -5,7 +5,6 @@ use Rattle.vte_core.proofs.fields.Standing.{stands-place}
 use Rattle.vte_core.proofs.streams.Performing.{after-append, takes-performs}
 use Rattle.vte_core.proofs.shapes.CancelLemmas.{cancel}
 use Rattle.vte_core.proofs.streams.StreamLemmas.{cancel_is_no_escape}
-use Rattle.vte_core.proofs.streams.Others.{tells-one, tells-then}
 use Rattle.vte_core.proofs.parser.machine.Machine.end_body.Goals as goal
 
 pub returns-then-byte-eq-ESCAPE-clause-performs : goal.returns-then-byte-eq-ESCAPE-clause-performs
@@ -25,4 +24,4 @@ returns-clause-performs g c = λ place s b.
     (cancel limit place c.args.byte (stands-place _ place s) e))
 
 pub returns-clause-handles : goal.returns-clause-handles
-returns-clause-handles g c = search (rules, tells-then c.close.ensures.others (tells-one _ c.execute_control.ensures.value tt))
+returns-clause-handles g c = search rules

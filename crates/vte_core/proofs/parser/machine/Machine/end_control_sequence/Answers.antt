@@ -4,7 +4,6 @@ use Rattle.vte_core.proofs.calls.Runs.{settled-by}
 use Rattle.vte_core.proofs.fields.HeadSteps.{dispatched-ready, head-holds, ill_shaped-now}
 use Rattle.vte_core.proofs.places.PlaceLeads.{control-dispatched, control-silent}
 use Rattle.vte_core.proofs.fields.Standing.{stands-text_begun}
-use Rattle.vte_core.proofs.streams.Others.{tells-one}
 use Rattle.vte_core.proofs.parser.machine.Machine.end_control_sequence.Goals as goal
 
 pub returns-in-IllShaped-clause-takes : goal.returns-in-IllShaped-clause-takes
@@ -34,4 +33,4 @@ returns-clause-takes g c = λ head s.
 pub returns-clause-handles : goal.returns-clause-handles
 returns-clause-handles g c =
     let d = c.dispatch_control_sequence.ensures.dispatches in
-    record { settled = settled-by _ _ d.text tt; others = tells-one _ d.tells.value tt; count = omega arith; least = omega arith; memory = d.memory }
+    record { settled = settled-by _ _ d.text tt; count = omega arith; least = omega arith; memory = d.memory }

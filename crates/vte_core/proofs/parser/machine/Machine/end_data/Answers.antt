@@ -2,9 +2,8 @@ use Rattle.vte_core.proofs.Common.{[], ◌∷◌, refl, sym, ◌∙◌, Unhook, 
 use Rattle.vte_core.proofs.bytes.ClassCases.{ends_no_data, terminator_is_high}
 use Rattle.vte_core.proofs.calls.Arms.{advances-in, in_data, taken}
 use Rattle.vte_core.proofs.fields.Standing.{stands-by}
-use Rattle.vte_core.proofs.calls.Runs.{advances-telling, settled-by}
+use Rattle.vte_core.proofs.calls.Runs.{advances-when, settled-by}
 use Rattle.vte_core.proofs.places.PlaceLeads.{data-dropped, data-terminator}
-use Rattle.vte_core.proofs.streams.Others.{tells-none, tells-one}
 use Rattle.vte_core.proofs.parser.machine.Machine.end_data.Goals.{then-byte-eq-STRING_TERMINATOR, else-byte-eq-STRING_TERMINATOR}
 use Rattle.vte_core.proofs.parser.machine.Machine.end_data.Goals as goal
 
@@ -16,10 +15,10 @@ returns-clause-advances g c =
     elim c.if-byte-eq-STRING_TERMINATOR.branch [
       | then-byte-eq-STRING_TERMINATOR w ↦
           let is = w.if-byte-eq-STRING_TERMINATOR.true in
-          rw (w.self-is, w.performer-is) (advances-telling (tells-one _ w.unhook.ensures.value tt) (advances-in r.begun r.within r.is r.may_go_on ordinary
+          rw (w.self-is, w.performer-is) (advances-when c.requires.other (advances-in r.begun r.within r.is r.may_go_on ordinary
           (in_data parser (taken (Unhook ∷ []) (InText []) w.unhook.ensures.value (record { by = (refl, refl) }) (data-terminator _ c.args.byte (terminator_is_high is) (rw is refl)))) tt))
       | else-byte-eq-STRING_TERMINATOR w ↦
           let dropped = data-dropped _ c.args.byte (ends_no_data c.args.byte ordinary w.if-byte-eq-STRING_TERMINATOR.false) c.requires.other in
-          rw (w.self-is, w.performer-is) (advances-telling tells-none (advances-in r.begun r.within r.is r.may_go_on ordinary
+          rw (w.self-is, w.performer-is) (advances-when c.requires.other (advances-in r.begun r.within r.is r.may_go_on ordinary
           (in_data parser (taken [] InData refl (stands-by r.begun tt) dropped)) (settled-by _ _ r.begun tt)))
     ]

@@ -1,6 +1,6 @@
-use Rattle.vte_core.proofs.Common.{◌≡◌, [], sym, ◌∙◌, inl, inr, false≢true}
-use Rattle.vte_core.proofs.calls.Characters.{opens-open, opens-text}
-use Rattle.vte_core.proofs.streams.Others.{longer, tells-none, tells-weaker, tells-wide, wide}
+use Rattle.vte_core.proofs.Common.{sym, ◌∙◌, false≢true}
+use Rattle.vte_core.proofs.calls.Characters.{opens-text}
+use Rattle.vte_core.proofs.calls.Tellings.{tells-nothing, tells-open}
 use Rattle.vte_core.proofs.calls.Runs.{settled-by, settled-nothing, settled-outside, starts-at, starts-inside}
 use Rattle.vte_core.proofs.parser.machine.Machine.finish_character.Goals as goal
 
@@ -14,11 +14,13 @@ returns-else-is_nothing-clause-stands_at g c = λ stream h. c.continue_character
 pub returns-in_default-clause-stands_at : goal.returns-in_default-clause-stands_at
 returns-in_default-clause-stands_at g c = λ stream h. starts-at (settled-outside _ c.in_default.not-Text) h
 
-pub returns-else-is_nothing-clause-nothing : goal.returns-else-is_nothing-clause-nothing
-returns-else-is_nothing-clause-nothing g c stream h none = absurd (opens-text c.args.self.now c.in-Text.is (λ e. false≢true (sym c.if-is_nothing.false ∙ c.is_nothing.ensures.1 e)) h none)
+pub returns-then-is_nothing-clause-others : goal.returns-then-is_nothing-clause-others
+returns-then-is_nothing-clause-others g c stream h = tells-nothing (settled-by _ _ c.in-Text.is (settled-nothing c.in-Text.begun (c.is_nothing.ensures.0 c.if-is_nothing.true))) h
 
-pub returns-else-is_nothing-clause-opened : goal.returns-else-is_nothing-clause-opened
-returns-else-is_nothing-clause-opened g c stream h = elim (c.continue_character.ensures.completes.others (opens-open c.args.self.now c.in-Text.is h)) [
-  | inl others ↦ tells-weaker others
-  | inr whole ↦ tells-wide _ (wide _ whole.well whole.long) whole.performed
-]
+pub returns-in_default-clause-others : goal.returns-in_default-clause-others
+returns-in_default-clause-others g c stream h = tells-nothing (settled-outside _ c.in_default.not-Text) h
+
+pub returns-else-is_nothing-clause-others : goal.returns-else-is_nothing-clause-others
+returns-else-is_nothing-clause-others g c stream h =
+    let told = c.continue_character.ensures.completes.others _ stream c.args.self.now c.in-Text.is (starts-inside h) in
+    tells-open told (λ none. opens-text c.args.self.now c.in-Text.is (λ e. false≢true (sym c.if-is_nothing.false ∙ c.is_nothing.ensures.1 e)) h none)

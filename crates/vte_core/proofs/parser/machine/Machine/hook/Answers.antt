@@ -2,7 +2,6 @@ use Rattle.vte_core.proofs.Common.{[], ◌∷◌, refl, ap, ◌∙◌, rules, Ho
 use Rattle.vte_core.proofs.bytes.ClassCases.{final}
 use Rattle.vte_core.proofs.fields.HeadSteps.{dispatched-ready, head-holds, ill_shaped-now}
 use Rattle.vte_core.proofs.places.PlaceLeads.{device-well_shaped, device-ill_shaped}
-use Rattle.vte_core.proofs.streams.Others.{tells-one}
 use Rattle.vte_core.proofs.parser.machine.Machine.hook.Goals as goal
 
 pub returns-in-IllShaped-clause-takes : goal.returns-in-IllShaped-clause-takes
@@ -28,4 +27,4 @@ returns-clause-takes g c = λ head s.
     }
 
 pub returns-clause-handles : goal.returns-clause-handles
-returns-clause-handles g c = search (rules, tells-one)
+returns-clause-handles g c = search rules

@@ -7,7 +7,6 @@ use Rattle.vte_core.proofs.calls.Sequences.{performs-dropped}
 use Rattle.vte_core.proofs.fields.Standing.{stands-by, stands-text_begun}
 use Rattle.vte_core.proofs.places.PlaceLeads.{escape-control, escape-intermediate, escape-end}
 use Rattle.vte_core.proofs.shapes.PlainKeys.{below_finals}
-use Rattle.vte_core.proofs.streams.Others.{tells-one}
 use Rattle.vte_core.proofs.parser.machine.Machine.read_after_escape.Goals as goal
 
 pub returns-then-is_final-clause-performs : goal.returns-then-is_final-clause-performs
@@ -47,9 +46,9 @@ returns-else-is_control-clause-performs g c =
 
 pub returns-then-is_control-clause-handles : goal.returns-then-is_control-clause-handles
 returns-then-is_control-clause-handles g c =
-    record { settled = settled-by _ _ c.requires.begun tt; others = tells-one _ c.execute_control.ensures.value tt; count = omega arith; least = omega arith; memory = search rules }
+    record { settled = settled-by _ _ c.requires.begun tt; count = omega arith; least = omega arith; memory = search rules }
 
 pub returns-then-is_head-clause-handles : goal.returns-then-is_head-clause-handles
 returns-then-is_head-clause-handles g c =
     let d = c.dispatch_escape.ensures in
-    record { settled = settled-by _ _ d.text tt; others = tells-one _ d.tells.value tt; count = omega arith; least = omega arith; memory = d.memory }
+    record { settled = settled-by _ _ d.text tt; count = omega arith; least = omega arith; memory = d.memory }

@@ -5,7 +5,6 @@ use Rattle.vte_core.proofs.calls.Heads.{ControlHead, advances-head, advances-pas
 use Rattle.vte_core.proofs.calls.Runs.{advances-moved}
 use Rattle.vte_core.proofs.fields.Standing.{stands-by}
 use Rattle.vte_core.proofs.places.PlaceLeads.{byte-dropped, control-control}
-use Rattle.vte_core.proofs.streams.Others.{tells-none, tells-one}
 use Rattle.vte_core.proofs.parser.machine.Machine.read_control_sequence.Goals.{then-ends_all, else-ends_all+then-is_control, else-ends_all+else-is_control}
 use Rattle.vte_core.proofs.parser.machine.Machine.read_control_sequence.Goals as goal
 
@@ -16,7 +15,7 @@ returns-then-is_final g c =
     let d = c.end_control_sequence.ensures in
     record {
       advances = advances-moved (sym d.next) (advances-past ControlHead c.requires.begun read.reads.head next c.requires.may_go_on
-          (performs-head ControlHead c.read_head-head.result.part refl (final_ends_nothing _ (sym c.is_final.ensures ∙ c.if-is_final.true)) d.takes) d.handles.settled d.handles.others);
+          (performs-head ControlHead c.read_head-head.result.part refl (final_ends_nothing _ (sym c.is_final.ensures ∙ c.if-is_final.true)) d.takes) d.handles.settled);
       moves = search rules;
     }
 
@@ -32,18 +31,18 @@ returns-in-Some-clause-advances g c =
     elim c.if-ends_all.branch [
       | then-ends_all w ↦
           rw (w.self-is, w.performer-is) (advances-past ControlHead c.requires.begun read.reads.head next c.requires.may_go_on
-          w.end_body.ensures.performs w.end_body.ensures.handles.settled w.end_body.ensures.handles.others)
+          w.end_body.ensures.performs w.end_body.ensures.handles.settled)
       | else-ends_all+then-is_control w ↦
           let is = control _ (sym w.is_control.ensures ∙ w.if-is_control.true) in
           rw (w.self-is, w.performer-is) (advances-past ControlHead c.requires.begun read.reads.head next c.requires.may_go_on
           (performs-head ControlHead part refl (rw is refl) (λ bytes stands.
-          taken (Execute b ∷ []) (InControlSequence bytes) w.execute_control.ensures.value (stands-by refl stands) (control-control _ bytes b is))) tt (tells-one _ w.execute_control.ensures.value tt))
+          taken (Execute b ∷ []) (InControlSequence bytes) w.execute_control.ensures.value (stands-by refl stands) (control-control _ bytes b is))) tt)
       | else-ends_all+else-is_control w ↦
           let ordinary = sym c.ends_all.ensures ∙ w.if-ends_all.false in
           let dropped = left_is_dropped (class_of b) (rw c.in-Some.is at read.other) (sym c.is_final.ensures ∙ c.if-is_final.false) ordinary
           (sym w.is_control.ensures ∙ w.if-is_control.false) in
           rw (w.self-is, w.performer-is) (advances-past ControlHead c.requires.begun read.reads.head next c.requires.may_go_on (performs-head ControlHead part refl ordinary (λ bytes stands.
-          taken [] (InControlSequence bytes) refl (stands-by refl stands) (byte-dropped _ (InControlSequence bytes) b _ refl refl dropped))) tt tells-none)
+          taken [] (InControlSequence bytes) refl (stands-by refl stands) (byte-dropped _ (InControlSequence bytes) b _ refl refl dropped))) tt)
     ]
 
 pub returns-clause-advances : goal.returns-clause-advances

@@ -4,7 +4,6 @@ use Rattle.vte_core.proofs.calls.Arms.{taken}
 use Rattle.vte_core.proofs.calls.Heads.{DeviceHead, advances-head, advances-past, at-none, performs-head}
 use Rattle.vte_core.proofs.fields.Standing.{stands-by}
 use Rattle.vte_core.proofs.places.PlaceLeads.{device-dropped}
-use Rattle.vte_core.proofs.streams.Others.{tells-none}
 use Rattle.vte_core.proofs.parser.machine.Machine.read_device_control.Goals.{then-is_final, else-is_final+then-ends_all, else-is_final+else-ends_all}
 use Rattle.vte_core.proofs.parser.machine.Machine.read_device_control.Goals as goal
 
@@ -19,15 +18,15 @@ returns-in-Some g c =
         | then-is_final w ↦
             rw (w.self-is, w.performer-is) (advances-past DeviceHead c.requires.begun read.reads.head next c.requires.may_go_on
             (performs-head DeviceHead part refl (final_ends_nothing (class_of b) (sym c.is_final.ensures ∙ w.if-is_final.true)) w.hook.ensures.takes)
-            w.hook.ensures.handles.settled w.hook.ensures.handles.others)
+            w.hook.ensures.handles.settled)
         | else-is_final+then-ends_all w ↦
             rw (w.self-is, w.performer-is) (advances-past DeviceHead c.requires.begun read.reads.head next c.requires.may_go_on
-            w.end_body.ensures.performs w.end_body.ensures.handles.settled w.end_body.ensures.handles.others)
+            w.end_body.ensures.performs w.end_body.ensures.handles.settled)
         | else-is_final+else-ends_all w ↦
             let ordinary = sym w.ends_all.ensures ∙ w.if-ends_all.false in
             let dropped = left_in_head (class_of b) (rw c.in-Some.is at read.other) (sym c.is_final.ensures ∙ w.if-is_final.false) ordinary in
             rw (w.self-is, w.performer-is) (advances-past DeviceHead c.requires.begun read.reads.head next c.requires.may_go_on (performs-head DeviceHead part refl ordinary (λ bytes stands.
-            taken [] (InDeviceControl bytes) refl (stands-by refl stands) (device-dropped _ bytes b _ refl dropped))) tt tells-none)
+            taken [] (InDeviceControl bytes) refl (stands-by refl stands) (device-dropped _ bytes b _ refl dropped))) tt)
       ];
       moves = search rules;
     }

@@ -18,8 +18,8 @@ loop-position-preserved g c =
     let is = sym c.is_data.ensures ∙ c.if-not-is_data.false in
     record {
       advances = advances-then v.advances
-          (advances-in v.begun (omega arith) c.at-byte.ensures.value v.may_go_on (data_ends_nothing _ is)
-          (in_data c.loop-position.self (taken (Put c.at-byte.result ∷ []) InData c.put_byte.ensures.value (stands-by v.begun tt) (data-put _ c.at-byte.result is))) (settled-by _ _ v.begun tt));
+          (advances-part (advances-in v.begun (omega arith) c.at-byte.ensures.value v.may_go_on (data_ends_nothing _ is)
+          (in_data c.loop-position.self (taken (Put c.at-byte.result ∷ []) InData c.put_byte.ensures.value (stands-by v.begun tt) (data-put _ c.at-byte.result is))) (settled-by _ _ v.begun tt)));
       may_go_on = (λ does. elim c.else-this-ne0.branch [
         | else-this-ne0-via-then-this-ne0+else-terminated w ↦ sym w.terminated.ensures ∙ w.if-terminated.false
         | else-this-ne0-via-else-this-ne0 w ↦ absurd (asks-none g.row.ASKS w.if-this-ne0.false does)
@@ -33,8 +33,8 @@ returns-then-terminated-clause-advances g c =
     let v = c.loop-position.invariant in
     let is = sym c.is_data.ensures ∙ c.if-not-is_data.false in
     advances-then v.advances
-    (advances-in v.begun (omega arith) c.at-byte.ensures.value v.may_go_on (data_ends_nothing _ is)
-    (in_data c.loop-position.self (taken (Put c.at-byte.result ∷ []) InData c.put_byte.ensures.value (stands-by v.begun tt) (data-put _ c.at-byte.result is))) (settled-by _ _ v.begun tt))
+    (advances-part (advances-in v.begun (omega arith) c.at-byte.ensures.value v.may_go_on (data_ends_nothing _ is)
+    (in_data c.loop-position.self (taken (Put c.at-byte.result ∷ []) InData c.put_byte.ensures.value (stands-by v.begun tt) (data-put _ c.at-byte.result is))) (settled-by _ _ v.begun tt)))
 
 pub returns-then-not-this-clause-advances : goal.returns-then-not-this-clause-advances
 returns-then-not-this-clause-advances g c =

@@ -1,14 +1,14 @@
-use Rattle.vte_core.proofs.calls.Runs.{advances-byte, advances-telling, advances-then}
+use Rattle.vte_core.proofs.calls.Runs.{advances-byte, advances-when, advances-then}
 use Rattle.vte_core.proofs.parser.machine.Machine.read_end.Goals as goal
 
 pub returns-then-byte-ne-ESCAPE-clause-advances : goal.returns-then-byte-ne-ESCAPE-clause-advances
 returns-then-byte-ne-ESCAPE-clause-advances g c =
     let r = c.requires.may_read in
     let d = c.end_body.ensures in
-    advances-telling d.handles.others (advances-byte r.within r.is r.may_go_on d.performs d.handles.settled)
+    advances-when c.requires.quiet (advances-byte r.within r.is r.may_go_on d.performs d.handles.settled)
 
 pub returns-clause-advances : goal.returns-clause-advances
 returns-clause-advances g c =
     let r = c.requires.may_read in
     let d = c.end_body.ensures in
-    advances-then (advances-telling d.handles.others (advances-byte r.within r.is r.may_go_on d.performs d.handles.settled)) c.read_escape.ensures.advances
+    advances-then (advances-when c.requires.quiet (advances-byte r.within r.is r.may_go_on d.performs d.handles.settled)) c.read_escape.ensures.advances

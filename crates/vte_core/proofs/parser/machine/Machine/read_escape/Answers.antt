@@ -1,5 +1,5 @@
 use Rattle.vte_core.proofs.Common.{refl, arith, rules}
-use Rattle.vte_core.proofs.calls.Runs.{advances-byte, advances-moved, advances-nothing, advances-telling, advances-then, settled-by}
+use Rattle.vte_core.proofs.calls.Runs.{advances-byte, advances-moved, advances-nothing, advances-when, advances-then, settled-by}
 use Rattle.vte_core.proofs.calls.Sequences.{advances-again, advances-bracket}
 use Rattle.vte_core.proofs.parser.machine.Machine.read_escape.Goals as goal
 
@@ -26,7 +26,7 @@ pub returns-then-byte-ne-ESCAPE-clause-advances : goal.returns-then-byte-ne-ESCA
 returns-then-byte-ne-ESCAPE-clause-advances g c =
     let v = c.loop-position.invariant in
     let read = c.read_after_escape.ensures in
-    advances-then v.advances (advances-telling read.handles.others (advances-byte (omega arith) c.at-byte.ensures.value v.may_go_on read.performs read.handles.settled))
+    advances-then v.advances (advances-when (rw v.begun tt) (advances-byte (omega arith) c.at-byte.ensures.value v.may_go_on read.performs read.handles.settled))
 
 pub returns-clause-advances : goal.returns-clause-advances
 returns-clause-advances g c = advances-moved (omega arith) c.loop-position.invariant.advances

@@ -2,10 +2,9 @@ use Rattle.vte_core.proofs.Common.{◌≡◌, ℕ, zero, suc, ◌+◌, ◌-◌, 
 use Rattle.vte_core.proofs.Common.{AreIgnored, InIgnoredString}
 use Rattle.vte_core.proofs.bytes.ClassCases.{ends_not_cancel}
 use Rattle.vte_core.proofs.calls.Arms.{advances-in, in_ignored, taken}
-use Rattle.vte_core.proofs.calls.Runs.{advances-moved, advances-nothing, advances-telling, advances-then, settled-by}
+use Rattle.vte_core.proofs.calls.Runs.{advances-moved, advances-nothing, advances-when, advances-then, settled-by}
 use Rattle.vte_core.proofs.fields.Standing.{stands-by}
 use Rattle.vte_core.proofs.places.PlaceLeads.{ignored-more}
-use Rattle.vte_core.proofs.streams.Others.{tells-none}
 use Rattle.vte_core.proofs.parser.machine.Machine.read_ignored_string.Goals as goal
 
 -- n ignored bytes
@@ -16,7 +15,7 @@ advances-by zero i begun within are may_go_on = advances-moved (omega arith) (ad
 advances-by {bytes = bytes} {parser = parser} (suc n) i begun within are may_go_on =
     let ordinary = are i (omega arith) (omega arith) in
     advances-moved (omega arith) (advances-then
-    (advances-telling tells-none (advances-in begun (omega (arith, within)) refl may_go_on ordinary
+    (advances-when tt (advances-in begun (omega (arith, within)) refl may_go_on ordinary
     (in_ignored parser (taken [] InIgnoredString refl (stands-by begun tt) (ignored-more _ (slice_index bytes i) (ends_not_cancel _ ordinary)))) (settled-by _ _ begun tt)))
     (advances-by n (i + 1) begun (omega (arith, within)) (λ k low high. are k (omega (arith, low)) (omega (arith, high))) may_go_on))
 

@@ -1,10 +1,9 @@
 use Rattle.vte_core.proofs.Common.{[], ◌∷◌, ◌++◌, refl, sym, ◌∙◌, arith, rules, class_of, EscDispatch, Execute, first_two, are_too_many, InText, InEscape}
 use Rattle.vte_core.proofs.bytes.ClassCases.{control, dispatch_ends_nothing, intermediate, left_of_intermediates}
 use Rattle.vte_core.proofs.calls.Arms.{advances-in, in_escape, taken}
-use Rattle.vte_core.proofs.calls.Runs.{advances-byte, advances-nothing, advances-telling, advances-then, settled-by}
+use Rattle.vte_core.proofs.calls.Runs.{advances-byte, advances-nothing, advances-when, advances-then, settled-by}
 use Rattle.vte_core.proofs.fields.Standing.{stands-by, stands-text_begun}
 use Rattle.vte_core.proofs.places.PlaceLeads.{byte-dropped, intermediate-control, intermediate-end, intermediate-more}
-use Rattle.vte_core.proofs.streams.Others.{tells-none, tells-one}
 use Rattle.vte_core.proofs.parser.machine.Machine.read_intermediates.Goals.{then-is_intermediate, else-is_intermediate+else-dispatches_escape+else-ends_all+else-is_control}
 use Rattle.vte_core.proofs.parser.machine.Machine.read_intermediates.Goals as goal
 
@@ -20,14 +19,14 @@ loop-position-preserved g c =
       advances = advances-then v.advances (elim c.if-is_intermediate.branch [
         | then-is_intermediate w ↦
             let is = intermediate _ (sym c.is_intermediate.ensures ∙ w.if-is_intermediate.true) in
-            rw w.self-is (advances-telling tells-none (advances-in v.begun (omega arith) c.at-byte.ensures.value v.may_go_on (rw is refl)
+            rw w.self-is (advances-when tt (advances-in v.begun (omega arith) c.at-byte.ensures.value v.may_go_on (rw is refl)
             (in_escape parser (λ ints holds. taken [] (InEscape (ints ++ b ∷ [])) refl
             (stands-by v.begun (w.collect.ensures.holds ints holds)) (intermediate-more _ ints b is))) (settled-by _ _ v.begun tt)))
         | else-is_intermediate+else-dispatches_escape+else-ends_all+else-is_control w ↦
             let ordinary = sym w.ends_all.ensures ∙ w.if-ends_all.false in
             let dropped = left_of_intermediates (class_of b) (sym c.is_intermediate.ensures ∙ w.if-is_intermediate.false) (sym w.dispatches_escape.ensures ∙ w.if-dispatches_escape.false) ordinary
             (sym w.is_control.ensures ∙ w.if-is_control.false) in
-            rw w.self-is (advances-telling tells-none (advances-in v.begun (omega arith) c.at-byte.ensures.value v.may_go_on ordinary
+            rw w.self-is (advances-when tt (advances-in v.begun (omega arith) c.at-byte.ensures.value v.may_go_on ordinary
             (in_escape parser (λ ints holds. taken [] (InEscape ints) refl (stands-by v.begun holds) (byte-dropped _ (InEscape ints) b _ refl refl dropped))) (settled-by _ _ v.begun tt)))
       ]);
       may_go_on = v.may_go_on;
@@ -45,7 +44,7 @@ returns-then-dispatches_escape-clause-advances g c =
     let ends = sym c.dispatches_escape.ensures ∙ c.if-dispatches_escape.true in
     let d = c.dispatch_escape.ensures in
     advances-then v.advances
-    (advances-telling (tells-one _ d.tells.value tt) (advances-in v.begun (omega arith) c.at-byte.ensures.value v.may_go_on (dispatch_ends_nothing (class_of b) ends)
+    (advances-when tt (advances-in v.begun (omega arith) c.at-byte.ensures.value v.may_go_on (dispatch_ends_nothing (class_of b) ends)
     (in_escape c.loop-position.self (λ ints holds. taken (EscDispatch (first_two ints) (are_too_many ints) b ∷ []) (InText [])
     (rw (holds.kept, holds.too_many) at d.tells.value) (stands-text_begun _ d.text) (intermediate-end _ ints b _ refl ends))) (settled-by _ _ d.text tt)))
 
@@ -53,7 +52,7 @@ pub returns-then-ends_all-clause-advances : goal.returns-then-ends_all-clause-ad
 returns-then-ends_all-clause-advances g c =
     let v = c.loop-position.invariant in
     let d = c.end_body.ensures in
-    advances-then v.advances (advances-telling d.handles.others (advances-byte (omega arith) c.at-byte.ensures.value v.may_go_on d.performs d.handles.settled))
+    advances-then v.advances (advances-when (rw v.begun tt) (advances-byte (omega arith) c.at-byte.ensures.value v.may_go_on d.performs d.handles.settled))
 
 pub returns-then-is_control-clause-advances : goal.returns-then-is_control-clause-advances
 returns-then-is_control-clause-advances g c =
@@ -61,6 +60,6 @@ returns-then-is_control-clause-advances g c =
     let b = c.at-byte.result in
     let is = control _ (sym c.is_control.ensures ∙ c.if-is_control.true) in
     advances-then v.advances
-    (advances-telling (tells-one _ c.execute_control.ensures.value tt) (advances-in v.begun (omega arith) c.at-byte.ensures.value v.may_go_on (rw is refl)
+    (advances-when tt (advances-in v.begun (omega arith) c.at-byte.ensures.value v.may_go_on (rw is refl)
     (in_escape c.loop-position.self (λ ints holds. taken (Execute b ∷ []) (InEscape ints) c.execute_control.ensures.value (stands-by v.begun holds)
     (intermediate-control _ ints b is))) (settled-by _ _ v.begun tt)))

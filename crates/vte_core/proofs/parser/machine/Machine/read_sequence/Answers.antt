@@ -1,9 +1,8 @@
 use Rattle.vte_core.proofs.Common.{refl, arith, Collected, Escape, Machine}
 use Rattle.vte_core.proofs.calls.States.{between_characters}
-use Rattle.vte_core.proofs.calls.Runs.{advances-byte, advances-telling, advances-then}
+use Rattle.vte_core.proofs.calls.Runs.{advances-byte, advances-escape, advances-then}
 use Rattle.vte_core.proofs.calls.Arms.{performs-escape}
 use Rattle.vte_core.proofs.calls.Sequences.{advances-bracket}
-use Rattle.vte_core.proofs.streams.Others.{tells-none}
 use Rattle.vte_core.proofs.parser.machine.Machine.read_sequence.Goals as goal
 
 -- the machine at the ESC
@@ -14,7 +13,7 @@ pub returns-then-at-eq91-clause-advances : goal.returns-then-at-eq91-clause-adva
 returns-then-at-eq91-clause-advances g c =
     let begun = escaped c.args.self.now c.begin_escape.new.self in
     advances-then
-    (advances-telling tells-none (advances-byte {next = begun} c.requires.may_read.within refl c.requires.may_read.may_go_on
+    (advances-escape c.requires.may_read.begun c.requires.may_read.within c.requires.is (advances-byte {next = begun} c.requires.may_read.within refl c.requires.may_read.may_go_on
     (λ place s between. performs-escape c.requires.is refl c.begin_escape.ensures place s (rw (between_characters _ place c.requires.may_read.begun s) refl))
     tt))
     (advances-then (advances-bracket {parser = begun} refl (omega arith) c.at.ensures.value c.requires.may_read.may_go_on c.if-at-eq91.true refl c.begin_head.ensures)
@@ -23,7 +22,7 @@ returns-then-at-eq91-clause-advances g c =
 pub returns-clause-advances : goal.returns-clause-advances
 returns-clause-advances g c =
     advances-then
-    (advances-telling tells-none (advances-byte c.requires.may_read.within refl c.requires.may_read.may_go_on
+    (advances-escape c.requires.may_read.begun c.requires.may_read.within c.requires.is (advances-byte c.requires.may_read.within refl c.requires.may_read.may_go_on
     (λ place s between. performs-escape c.requires.is refl c.begin_escape.ensures place s (rw (between_characters _ place c.requires.may_read.begun s) refl))
     tt))
     c.read_escape.ensures.advances

@@ -4,9 +4,8 @@ use Rattle.vte_core.proofs.bytes.ClassCases.{left_is_control}
 use Rattle.vte_core.proofs.calls.Arms.{advances-in, in_system_command, taken}
 use Rattle.vte_core.proofs.fields.Standing.{keeps-same, stands-by}
 use Rattle.vte_core.proofs.fields.StoreLemmas.{pieces_held}
-use Rattle.vte_core.proofs.calls.Runs.{advances-items, advances-telling, advances-then, settled-by}
+use Rattle.vte_core.proofs.calls.Runs.{advances-items, advances-when, advances-then, settled-by}
 use Rattle.vte_core.proofs.places.PlaceLeads.{command-item, command-control, command-bell}
-use Rattle.vte_core.proofs.streams.Others.{tells-none, tells-one}
 use Rattle.vte_core.proofs.parser.machine.Machine.read_system_command.Goals.{then-byte-eq59, else-byte-eq59+then-byte-eq-BELL, else-byte-eq59+else-byte-eq-BELL}
 use Rattle.vte_core.proofs.parser.machine.Machine.read_system_command.Goals as goal
 
@@ -43,18 +42,17 @@ returns-clause-advances g c =
     (elim c.if-byte-eq59.branch [
       | then-byte-eq59 w ↦
           let is : byte ≡ 0x3b = w.if-byte-eq59.true in
-          rw (w.self-is, w.performer-is) (advances-telling tells-none (advances-in begun within c.at-byte.ensures.value r.may_go_on ordinary
+          rw (w.self-is, w.performer-is) (advances-when tt (advances-in begun within c.at-byte.ensures.value r.may_go_on ordinary
           (in_system_command after_data (λ items keeps. taken [] (InSystemCommand (items ++ byte ∷ [])) refl
           (stands-by begun (subst (λ b. Keeps limit w.end_piece.new.self (items ++ b ∷ [])) (sym is) (w.end_piece.ensures.keeps items keeps)))
           (command-item limit items byte (omega (arith, is))))) (settled-by _ _ begun tt)))
       | else-byte-eq59+then-byte-eq-BELL w ↦
-          rw (w.self-is, w.performer-is) (advances-telling (tells-one _ w.dispatch.ensures.value tt) (advances-in begun within c.at-byte.ensures.value r.may_go_on ordinary
-          (in_system_command after_data (λ items keeps.
-          taken (OscDispatch (pieces_of limit items) true ∷ []) (InText [])
+          rw (w.self-is, w.performer-is) (advances-when tt (advances-in begun within c.at-byte.ensures.value r.may_go_on ordinary
+          (in_system_command after_data (λ items keeps. taken (OscDispatch (pieces_of limit items) true ∷ []) (InText [])
           (rw (pieces_held _ _ items keeps) w.dispatch.ensures.value) (record { by = (refl, refl) })
           (command-bell limit items byte (left_is_control byte ordinary no_data w.if-byte-eq59.false) (rw w.if-byte-eq-BELL.true refl)))) tt))
       | else-byte-eq59+else-byte-eq-BELL w ↦
-          rw (w.self-is, w.performer-is) (advances-telling tells-none (advances-in begun within c.at-byte.ensures.value r.may_go_on ordinary
+          rw (w.self-is, w.performer-is) (advances-when tt (advances-in begun within c.at-byte.ensures.value r.may_go_on ordinary
           (in_system_command after_data (λ items keeps. taken [] (InSystemCommand items) refl (stands-by begun keeps)
           (command-control limit items byte (left_is_control byte ordinary no_data w.if-byte-eq59.false) (ne_eqb _ _ w.if-byte-eq-BELL.false)))) (settled-by _ _ begun tt)))
     ])

@@ -87,15 +87,15 @@ read : (g : Over) (c : Joined-is_printed_ascii-2 g)
 read g c here = elim c.if-is_printed_ascii-2.branch [
   | then-is_printed_ascii-2 w ↦
       let printed = sym c.is_printed_ascii-in-loop-position-2.ensures ∙ w.if-is_printed_ascii-2.true in
-      rw (w.self-is, w.performer-is, w.position-is) (advances-byte here.within here.is here.may_go_on
-      (performs-printed here.begun printed w.from.ensures w.print_char.ensures.value) (settled-by _ _ here.begun tt))
+      rw (w.self-is, w.performer-is, w.position-is) (advances-part (advances-byte here.within here.is here.may_go_on
+      (performs-printed here.begun printed w.from.ensures w.print_char.ensures.value) (settled-by _ _ here.begun tt)))
   | else-is_printed_ascii-2+then-is_lead+else-this-ne0 w ↦
       let read = w.read_longer-next.ensures in
       rw (w.self-is, w.performer-is, w.position-is) (advances-moved (omega (arith, read.moves.further here.within)) (advances-part read.advances))
   | else-is_printed_ascii-2+else-is_lead+else-byte-eq-ESCAPE w ↦
       let told = w.tell_single.ensures in
-      rw (w.self-is, w.performer-is, w.position-is) (advances-byte here.within here.is here.may_go_on
-      (performs-single here.begun w.if-byte-eq-ESCAPE.false (sym w.is_lead.ensures ∙ w.if-is_lead.false) told.control told.malformed) (settled-by _ _ here.begun tt))
+      rw (w.self-is, w.performer-is, w.position-is) (advances-part (advances-byte here.within here.is here.may_go_on
+      (performs-single here.begun w.if-byte-eq-ESCAPE.false (sym w.is_lead.ensures ∙ w.if-is_lead.false) told.control told.malformed) (settled-by _ _ here.begun tt)))
 ]
 
 pub returns-then-byte-eq-ESCAPE-clause-advances : goal.returns-then-byte-eq-ESCAPE-clause-advances

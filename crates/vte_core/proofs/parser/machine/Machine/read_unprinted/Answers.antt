@@ -1,8 +1,7 @@
 use Rattle.vte_core.proofs.Common.{sym, ◌∙◌, arith, rules}
 use Rattle.vte_core.proofs.calls.Runs.{advances-byte, advances-nothing, advances-telling, advances-then, advances-when, settled-by}
-use Rattle.vte_core.proofs.calls.Characters.{performs-single}
+use Rattle.vte_core.proofs.calls.Characters.{adds-single, performs-single}
 use Rattle.vte_core.proofs.bytes.Ends.{ends-unprinted}
-use Rattle.vte_core.proofs.streams.Others.{tells-single}
 use Rattle.vte_core.proofs.parser.machine.Machine.read_unprinted.Goals as goal
 
 pub returns-then-is_lead-clause-advances : goal.returns-then-is_lead-clause-advances
@@ -25,8 +24,8 @@ loop-byte-preserved g c =
     let v = c.loop-byte.invariant in
     let told = c.tell_single.ensures in
     record {
-      advances = advances-then v.advances (advances-telling (tells-single _ v.other told.control told.malformed) (advances-byte v.may_read.within v.may_read.is v.may_read.may_go_on
-          (performs-single v.may_read.begun c.loop-byte-test.true v.lone told.control told.malformed) (settled-by _ _ v.may_read.begun tt)));
+      advances = advances-then v.advances (advances-telling (advances-byte v.may_read.within v.may_read.is v.may_read.may_go_on
+          (performs-single v.may_read.begun c.loop-byte-test.true v.lone told.control told.malformed) (settled-by _ _ v.may_read.begun tt)) (λ stream place s. adds-single _ v.may_read.begun c.loop-byte-test.true v.other v.lone v.may_read.within v.may_read.is s));
       may_read = record {
         begun = v.may_read.begun;
         may_go_on = λ _. sym c.terminated.ensures ∙ c.if-terminated.false;
@@ -43,15 +42,15 @@ pub returns-then-position-len-clause-advances : goal.returns-then-position-len-c
 returns-then-position-len-clause-advances g c =
     let v = c.loop-byte.invariant in
     let told = c.tell_single.ensures in
-    advances-then v.advances (advances-telling (tells-single _ v.other told.control told.malformed) (advances-byte v.may_read.within v.may_read.is v.may_read.may_go_on
-    (performs-single v.may_read.begun c.loop-byte-test.true v.lone told.control told.malformed) (settled-by _ _ v.may_read.begun tt)))
+    advances-then v.advances (advances-telling (advances-byte v.may_read.within v.may_read.is v.may_read.may_go_on
+    (performs-single v.may_read.begun c.loop-byte-test.true v.lone told.control told.malformed) (settled-by _ _ v.may_read.begun tt)) (λ stream place s. adds-single _ v.may_read.begun c.loop-byte-test.true v.other v.lone v.may_read.within v.may_read.is s))
 
 pub returns-then-is_printed_ascii-clause-advances : goal.returns-then-is_printed_ascii-clause-advances
 returns-then-is_printed_ascii-clause-advances g c =
     let v = c.loop-byte.invariant in
     let told = c.tell_single.ensures in
-    advances-then v.advances (advances-telling (tells-single _ v.other told.control told.malformed) (advances-byte v.may_read.within v.may_read.is v.may_read.may_go_on
-    (performs-single v.may_read.begun c.loop-byte-test.true v.lone told.control told.malformed) (settled-by _ _ v.may_read.begun tt)))
+    advances-then v.advances (advances-telling (advances-byte v.may_read.within v.may_read.is v.may_read.may_go_on
+    (performs-single v.may_read.begun c.loop-byte-test.true v.lone told.control told.malformed) (settled-by _ _ v.may_read.begun tt)) (λ stream place s. adds-single _ v.may_read.begun c.loop-byte-test.true v.other v.lone v.may_read.within v.may_read.is s))
 
 pub returns-clause-moves : goal.returns-clause-moves
 returns-clause-moves g c =

@@ -22,8 +22,7 @@ impl PerformText for Text {
 
 /// Writes the text of what is read.
 pub fn strip(mut input: impl Read, mut output: impl Write) -> io::Result<()> {
-    let (mut parser, mut text) = (Parser::new(), Text::default());
-    let mut room = [0; 4096];
+    let (mut parser, mut text, mut room) = (Parser::new(), Text::default(), [0; 4096]);
     loop {
         let count = input.read(&mut room)?;
         if count == 0 {

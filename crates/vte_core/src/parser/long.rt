@@ -14,7 +14,7 @@ use crate::parser::{Machine, Refused, State};
 use crate::perform::{Perform, PerformText};
 use std::alloc::Allocator;
 
-/// Reads a stream as a [`Parser`](crate::Parser) does, and keeps the text of an operating system command whatever its length.
+/// A [`Parser`](crate::Parser) that keeps operating system commands of any length, and whose calls can be refused memory.
 ///
 /// Where memory for it is refused, the call stops before the byte that needs it, and the rest can be handed in again:
 ///

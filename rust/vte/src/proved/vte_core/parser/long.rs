@@ -7,7 +7,7 @@ use crate::proved::vte_core::parser::{Machine, Refused, State};
 use crate::proved::vte_core::perform::{Perform, PerformText};
 use crate::proved::vte_core::scan::{take_run, Run};
 
-/// Reads a stream as a [`Parser`](crate::Parser) does, and keeps the text of an operating system command whatever its length.
+/// A [`Parser`](crate::Parser) that keeps operating system commands of any length, and whose calls can be refused memory.
 ///
 /// If memory for it is refused, the call stops before the byte that needs it, and the rest can be passed in again:
 ///

@@ -1,6 +1,6 @@
 -- How records of a fixed size, a data area, and the input of a call represent events.
 use Rattle.std.specs.Char.{encode_utf8}
-use Rattle.std.specs.Prelude.{ℕ, suc, ◌+◌, ◌*◌, ◌/◌, ◌%◌, ◌^◌, min, Bool, true, ◌&&◌, List, [], ◌∷◌, ◌++◌, length, take, drop, map, if◌then◌else◌, ◌==◌, nat_lt}
+use Rattle.std.specs.Prelude.{ℕ, suc, ◌+◌, ◌*◌, ◌/◌, ◌%◌, ◌^◌, min, Bool, true, List, [], ◌∷◌, ◌++◌, length, take, drop, map, if◌then◌else◌, ◌==◌}
 use Rattle.std.specs.List.{filter, flat_map}
 use Rattle.std.specs.Str.{chars}
 use Rattle.vte_core.specs.Event.{Event, Print, Execute, Hook, Put, Unhook, OscDispatch, CsiDispatch, EscDispatch}
@@ -111,7 +111,7 @@ kind_of event = (record_of event).kind
 
 -- A set of kinds has a bit for each.
 unfoldable pub has : ℕ → ℕ → Bool
-has kinds kind = nat_lt kind 32 && ((kinds / 2 ^ kind) % 2 == 1)
+has kinds kind = (kinds / 2 ^ (kind % 32)) % 2 == 1
 
 -- The events of these kinds.
 abbrev pub reported : ℕ → List Event → List Event

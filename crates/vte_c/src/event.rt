@@ -123,7 +123,7 @@ impl VteEvent {
 pub fn has(kinds: u32, kind: u8) -> bool
     ensures { result ≡ has kinds kind }
 {
-    kind < 32 && (kinds >> kind) % 2 == 1
+    (kinds >> (kind % 32)) % 2 == 1
 }
 
 /// Returns a count as a byte, at most 255.

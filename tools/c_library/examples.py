@@ -46,7 +46,7 @@ def test_forward(library, report):
     stream, wanted = b"".join(a + b for a, b in zip(kept, [*clipboards, b""])), b"".join(kept)
     report.same("example in C, forward", stream, output_of([program], stream), wanted)
     # one that another sequence ends isn't followed by ST
-    for name in "vim", "titles", "sixel", "malformed-text":
+    for name in "vim", "tmux", "sixel", "malformed-text":
         recorded = (TOOLS / f"recorded/{name}.bin").read_bytes()
         report.same(f"example in C, forward of {name}", recorded, output_of([program], recorded), recorded)
     pieces = [(b"a\x1b]52;c;", b"a"), (b"YQ==\x07b\x1b", b"b"), (b"[mc", b"\x1b[mc")]

@@ -17,35 +17,45 @@ pub record FeedsNothing (parser next : Saved) (counts : VteCounts) (result : ℕ
   pub same : next ≡ parser
 
 -- `vte_feed`
-pub record Feeds (kinds stops : ℕ) (parser next : Saved) (bytes : List ℕ) (old_events events : List VteEvent) (old_area area : List ℕ)
+pub record Feeds (kinds stops : ℕ) (parser next : Saved) (bytes : List ℕ)
+    (old_events events : List VteEvent) (old_area area : List ℕ)
     (counts : VteCounts) (result : ℕ) : Type 0 where
   -- With enough room, the result is how many bytes were read.
   pub enough : 4 ≤ length old_events → 2112 ≤ length old_area → result ≡ read_count result
   pub within : read_count result ≤ length bytes
   -- Whatever was told of these kinds before, what is written now comes next, and nothing else.
-  pub exact : (told : List Event) (stream rest : List ℕ) → HasTold kinds parser told stream (bytes ++ rest) →
-      HasTold kinds next (told ++ events_in counts.events events bytes area) stream (drop (read_count result) bytes ++ rest)
+  pub exact : (told : List Event) (stream rest : List ℕ) →
+      HasTold kinds parser told stream (bytes ++ rest) →
+      HasTold kinds next (told ++ events_in counts.events events bytes area) stream
+      (drop (read_count result) bytes ++ rest)
   -- The records and the data are the encoding of these events, and the counts are theirs.
-  pub encoded : (told : List Event) (stream rest : List ℕ) → HasTold kinds parser told stream (bytes ++ rest) →
-      AreEncoded (events_in counts.events events bytes area) counts.events counts.bytes events bytes area
+  pub encoded : (told : List Event) (stream rest : List ℕ) →
+      HasTold kinds parser told stream (bytes ++ rest) →
+      AreEncoded (events_in counts.events events bytes area)
+      counts.events counts.bytes events bytes area
   -- Whatever the parser's bytes are, what was written is in the buffers.
   pub room : (counts.events ≤ length events) × (counts.bytes ≤ length area)
   -- With less than the least room nothing is read or written.
   pub few : length old_events < 4 → FeedsNothing parser next counts result
   pub little : length old_area < 2112 → FeedsNothing parser next counts result
   -- With enough room, it reads at least one byte, unless it writes a record among the stops.
-  pub further : (told : List Event) (stream rest : List ℕ) → HasTold kinds parser told stream (bytes ++ rest) →
+  pub further : (told : List Event) (stream rest : List ℕ) →
+      HasTold kinds parser told stream (bytes ++ rest) →
       4 ≤ length old_events → 2112 ≤ length old_area →
       HaveOtherKinds stops (kinds_in counts.events events) → 0 < length bytes → 0 < result
   -- If a record among the stops is written, at most one follows it ..
-  pub first : (told : List Event) (stream rest : List ℕ) → HasTold kinds parser told stream (bytes ++ rest) →
+  pub first : (told : List Event) (stream rest : List ℕ) →
+      HasTold kinds parser told stream (bytes ++ rest) →
       StopsAtKind stops (kinds_in counts.events events)
-  -- .. and unless text or data stop, it came with the last byte that was read: no shorter front of the bytes adds one.
-  pub until : (stream : List ℕ) → HasReadSaved parser stream → is_stop kinds stops 0 ≡ false → is_stop kinds stops 3 ≡ false →
-      (i : ℕ) → i < read_count result → AreOthers (is_stop kinds stops) (added (Some 1024) stream (take i bytes))
+  -- .. and unless text or data stop, it came with the last byte that was read: no shorter front of
+  -- the bytes adds one.
+  pub until : (stream : List ℕ) → HasReadSaved parser stream → is_stop kinds stops 0 ≡ false →
+      is_stop kinds stops 3 ≡ false → (i : ℕ) → i < read_count result →
+      AreOthers (is_stop kinds stops) (added (Some 1024) stream (take i bytes))
 
 -- `vte_strip`
-pub record Strips (parser next : Saved) (bytes old_text text : List ℕ) (written result : ℕ) : Type 0 where
+pub record Strips (parser next : Saved) (bytes old_text text : List ℕ)
+    (written result : ℕ) : Type 0 where
   -- With enough room, the result is how many bytes were read.
   pub enough : 16 ≤ length old_text → result ≡ read_count result
   pub within : read_count result ≤ length bytes

@@ -9,8 +9,8 @@ use Rattle.vte_c.specs.declared.event.VteEvent.{VteEvent}
 use Rattle.vte_c.specs.declared.events.Events.{Events}
 use Rattle.vte_c.specs.Record.{data_of, has, record_of, run_record, without_loss}
 
--- What was written, how much that is, how much there is room for, which kinds to write and after which to stop. It is paused after a
--- command. The names identify the caller's slices.
+-- What was written, how much that is, how much there is room for, which kinds to write and after
+-- which to stop. It is paused after a command. The names identify the caller's slices.
 pub record Room : Type 0 where
   pub events : List VteEvent
   pub count : ℕ
@@ -45,7 +45,8 @@ room_of room = record {
 abbrev pub most_data : ℕ
 most_data = 1088
 
--- The maximum number of data bytes of what one byte of a stream adds: an event, and a character after it.
+-- The maximum number of data bytes of what one byte of a stream adds: an event, and a character
+-- after it.
 abbrev pub most_added : ℕ
 most_added = 1092
 
@@ -69,7 +70,9 @@ has_room room more = nat_lt room.count room.most && nat_le (room.used + more) ro
 -- A record is written with its data, which follows that of the others, if there is room for both.
 unfoldable pub with_record : Room → VteEvent → List ℕ → Room
 with_record room event bytes =
-    if has_room room (length bytes) then with_one (with_data room bytes) (record event { start = room.used }) else room
+    if has_room room (length bytes)
+    then with_one (with_data room bytes) (record event { start = room.used })
+    else room
 
 -- The number of data bytes that fit into the `Packed` of a sequence, and into that of no command.
 abbrev pub packed_size : Event → ℕ
@@ -79,7 +82,9 @@ packed_size _ = 96
 -- A record of the kinds is written if its data fits into this many bytes.
 abbrev pub with_packed : Room → VteEvent → List ℕ → ℕ → Room
 with_packed room event bytes packed =
-    if has room.kinds event.kind then (if nat_le (length bytes) packed then with_record room event bytes else room) else room
+    if has room.kinds event.kind
+    then (if nat_le (length bytes) packed then with_record room event bytes else room)
+    else room
 
 abbrev pub is_command : Event → Bool
 is_command (OscDispatch pieces bell) = true
@@ -92,7 +97,8 @@ abbrev pub resumed : Room → Room
 resumed room = record room { paused = false }
 
 abbrev pub with_event : Room → Event → Room
-with_event room event = with_packed (pausing room event) (record_of event) (data_of event) (packed_size event)
+with_event room event =
+    with_packed (pausing room event) (record_of event) (data_of event) (packed_size event)
 
 -- After what was written in a room, the area holds a text up to a place.
 pub record Holds (room : Room) (events : Events) (place : ℕ) (text : List ℕ) : Type 0 where
@@ -102,7 +108,8 @@ pub record Holds (room : Room) (events : Events) (place : ℕ) (text : List ℕ)
   pub held : take place events.area.now ≡ room.area ++ text
 
 -- It holds the text, unless there is no room for that.
-pub record HasGrown (room : Room) (events : Events) (text : List ℕ) (result : Option ℕ) : Type 0 where
+pub record HasGrown (room : Room) (events : Events) (text : List ℕ)
+    (result : Option ℕ) : Type 0 where
   pub same : room_of events ≡ room
   pub some : IfSome result (λ place. Holds room events place text)
   pub fits : is_some result ≡ nat_le (room.used + length text) room.size
@@ -128,7 +135,8 @@ AreCharacters _ = Unit {0}
 -- There may be no room for what one byte adds, or a stop or a pause has come.
 abbrev pub is_full : Room → Bool
 is_full room =
-    room.met || room.paused || nat_lt (room.most - room.count) 2 || nat_lt (room.size - room.used) most_added
+    room.met || room.paused || nat_lt (room.most - room.count) 2
+    || nat_lt (room.size - room.used) most_added
 
 -- An empty room, large enough for what two bytes add.
 pub record Starts (room : Room) : Type 0 where

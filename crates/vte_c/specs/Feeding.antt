@@ -16,18 +16,23 @@ pub record AreFirst (events all : List Event) : Type 0 where
   pub others : List Event
   pub parts : all ≡ events ++ others
 
--- After n of the bytes these events were reported, and a parser that had read one stream continues as one that has read another.
+-- After n of the bytes these events were reported, and a parser that had read one stream continues
+-- as one that has read another.
 pub record Continues (since next bytes : List ℕ) (n : ℕ) (told : List Event) : Type 0 where
-  pub goes_on : (more : List ℕ) → added (Some 1024) since (bytes ++ more) ≡ told ++ added (Some 1024) next (drop n bytes ++ more)
+  pub goes_on : (more : List ℕ) →
+      added (Some 1024) since (bytes ++ more)
+      ≡ told ++ added (Some 1024) next (drop n bytes ++ more)
   -- what a front of the bytes adds, beyond the first n
   pub fronts : (k : ℕ) → n + k ≤ length bytes →
-      AreFirst (added (Some 1024) since (take (n + k) bytes)) (told ++ added (Some 1024) next (take k (drop n bytes)))
+      AreFirst (added (Some 1024) since (take (n + k) bytes))
+      (told ++ added (Some 1024) next (take k (drop n bytes)))
 
 -- The items can be read: an event is within the limits, and what is in the input is a run.
 abbrev pub AreReadable : List ℕ → List Item → Type 0
 AreReadable input [] = Unit {0}
 AreReadable input (Single event ∷ items) = IsBounded (Some 1024) event × AreReadable input items
-AreReadable input (InInput run start size ∷ items) = IsRunAt input run start size × AreReadable input items
+AreReadable input (InInput run start size ∷ items) =
+    IsRunAt input run start size × AreReadable input items
 
 -- Whether a record is of the kinds.
 abbrev pub has_kind : ℕ → List VteEvent → Bool
@@ -46,7 +51,8 @@ AreOthersIn room events = AreOthers (is_stop room.kinds room.stops) events
 
 -- .. of text or data
 abbrev pub StopsAtNone : Room → Type 0
-StopsAtNone room = (is_stop room.kinds room.stops 0 ≡ false) × (is_stop room.kinds room.stops 3 ≡ false)
+StopsAtNone room =
+    (is_stop room.kinds room.stops 0 ≡ false) × (is_stop room.kinds room.stops 3 ≡ false)
 
 -- The room with the records of these items, and their data.
 abbrev pub with_items : Room → List Item → Room
@@ -58,24 +64,27 @@ with_items room items = record room {
   met = room.met || has_kind room.stops (records_from room.used items);
 }
 
--- These items were written: the room holds their records and their data, and of the records at most two follow those that don't stop.
+-- These items were written: the room holds their records and their data, and of the records at most
+-- two follow those that don't stop.
 pub record HasItems (old new : Room) (input : List ℕ) (items : List Item) : Type 0 where
   pub readable : AreReadable input items
   pub room : new ≡ with_items old items
   pub first : StopsAtKind old.stops (kinds_of (records_from old.used items))
 
--- After bytes up to a place n more were read: their events of the kinds are those of items, which were written, and the parser goes on
--- as if it had read `next`.
+-- After bytes up to a place n more were read: their events of the kinds are those of items, which
+-- were written, and the parser goes on as if it had read `next`.
 pub record Goes (old new : Room) (since next bytes : List ℕ) (from n : ℕ) : Type 0 where
   pub told : List Event
   pub items : List Item
   pub continues : Continues since next (drop from bytes) n told
   pub shows : flat_map (item_events bytes) items ≡ reported old.kinds told
   pub holds : HasItems old new bytes items
-  pub before : StopsAtNone old → (i : ℕ) → i < n → AreOthersIn old (added (Some 1024) since (take i (drop from bytes)))
+  pub before : StopsAtNone old → (i : ℕ) → i < n →
+      AreOthersIn old (added (Some 1024) since (take i (drop from bytes)))
 
 -- A call that had read bytes up to a place has read n more.
-pub record HasGone (old new : Room) (parser : Parser 1024) (since bytes : List ℕ) (from n : ℕ) : Type 0 where
+pub record HasGone (old new : Room) (parser : Parser 1024) (since bytes : List ℕ)
+    (from n : ℕ) : Type 0 where
   pub next : List ℕ
   pub reads : HasRead parser next
   pub goes : Goes old new since next bytes from n

@@ -1,6 +1,6 @@
 -- How records of a fixed size, a data area, and the input of a call represent events.
 use Rattle.std.specs.Char.{encode_utf8}
-use Rattle.std.specs.Prelude.{ℕ, suc, ◌+◌, ◌*◌, ◌/◌, ◌%◌, ◌^◌, min, Bool, true, ◌&&◌, List, [], ◌∷◌, ◌++◌, length, take, drop, map, if◌then◌else◌, ◌==◌, nat_lt}
+use Rattle.std.specs.Prelude.{ℕ, suc, ◌+◌, ◌*◌, ◌/◌, ◌%◌, ◌^◌, min, Bool, true, List, [], ◌∷◌, ◌++◌, length, take, drop, map, if◌then◌else◌, ◌==◌}
 use Rattle.std.specs.List.{filter, flat_map}
 use Rattle.std.specs.Str.{chars}
 use Rattle.vte_core.specs.Event.{Event, Print, Execute, Hook, Put, Unhook, OscDispatch, CsiDispatch, EscDispatch}
@@ -28,7 +28,8 @@ four_bytes n = n % 256 ∷ (n / 256) % 256 ∷ (n / 65536) % 256 ∷ n / 1677721
 abbrev pub piece_bytes : List ℕ → List ℕ
 piece_bytes piece = four_bytes (min (length piece) 4294967295) ++ piece
 
--- A character or a byte that isn't in the input as it stands: its UTF-8, the byte. Of a command its pieces.
+-- A character or a byte that isn't in the input as it stands: its UTF-8, the byte. Of a command its
+-- pieces.
 abbrev pub data_of : Event → List ℕ
 data_of (Print c) = encode_utf8 c
 data_of (Hook groups intermediates ignore final) = flat_map group_bytes groups
@@ -92,18 +93,22 @@ with_count event count = record event { count = count_byte count }
 
 abbrev pub sequence_record : ℕ → List (List ℕ) → List ℕ → Bool → ℕ → VteEvent
 sequence_record kind groups intermediates ignore final =
-    with_count (with_flag (with_intermediates (blank_record kind final) intermediates) ignore) (length groups)
+    with_count (with_flag (with_intermediates (blank_record kind final) intermediates) ignore)
+    (length groups)
 
 -- The record of an event whose data starts at 0.
 abbrev pub record_of : Event → VteEvent
 record_of (Print c) = with_flag (blank_record 0 (length (encode_utf8 c))) true
 record_of (Execute byte) = blank_record 1 byte
-record_of (Hook groups intermediates ignore final) = sequence_record 2 groups intermediates ignore final
+record_of (Hook groups intermediates ignore final) =
+    sequence_record 2 groups intermediates ignore final
 record_of (Put byte) = with_flag (blank_record 3 1) true
 record_of Unhook = blank_record 4 0
 record_of (OscDispatch pieces bell) = with_count (with_flag (blank_record 5 0) bell) (length pieces)
-record_of (CsiDispatch groups intermediates ignore final) = sequence_record 6 groups intermediates ignore final
-record_of (EscDispatch intermediates ignore byte) = with_flag (with_intermediates (blank_record 7 byte) intermediates) ignore
+record_of (CsiDispatch groups intermediates ignore final) =
+    sequence_record 6 groups intermediates ignore final
+record_of (EscDispatch intermediates ignore byte) =
+    with_flag (with_intermediates (blank_record 7 byte) intermediates) ignore
 
 -- The number of an event's kind.
 abbrev pub kind_of : Event → ℕ
@@ -111,7 +116,7 @@ kind_of event = (record_of event).kind
 
 -- A set of kinds has a bit for each.
 unfoldable pub has : ℕ → ℕ → Bool
-has kinds kind = nat_lt kind 32 && ((kinds / 2 ^ kind) % 2 == 1)
+has kinds kind = (kinds / 2 ^ (kind % 32)) % 2 == 1
 
 -- The events of these kinds.
 abbrev pub reported : ℕ → List Event → List Event
@@ -152,7 +157,8 @@ placed place (InInput run start size) = run_record (run_kind run) start size
 -- The records of items, each of whose data starts where that of the one before it ends.
 abbrev pub records_from : ℕ → List Item → List VteEvent
 records_from place [] = []
-records_from place (item ∷ items) = placed place item ∷ records_from (place + length (item_data item)) items
+records_from place (item ∷ items) =
+    placed place item ∷ records_from (place + length (item_data item)) items
 
 -- The events of an item.
 abbrev pub item_events : List ℕ → Item → List Event
@@ -179,7 +185,8 @@ pieces_in (suc n) (a ∷ b ∷ c ∷ d ∷ area) =
 pieces_in _ _ = []
 
 abbrev pub intermediates_in : VteEvent → List ℕ
-intermediates_in event = take event.intermediate_count (event.first_intermediate ∷ event.second_intermediate ∷ [])
+intermediates_in event =
+    take event.intermediate_count (event.first_intermediate ∷ event.second_intermediate ∷ [])
 
 -- The event that a record represents, with its data in the area, if it is no run.
 unfoldable pub event_in : List ℕ → VteEvent → Event
@@ -190,12 +197,15 @@ event_in area event =
     else if event.kind == 2 then Hook groups (intermediates_in event) (event.flag == 1) event.code
     else if event.kind == 4 then Unhook
     else if event.kind == 5 then OscDispatch (pieces_in event.count behind) (event.flag % 2 == 1)
-    else if event.kind == 6 then CsiDispatch groups (intermediates_in event) (event.flag == 1) event.code
+    else if event.kind == 6
+    then CsiDispatch groups (intermediates_in event) (event.flag == 1) event.code
     else EscDispatch (intermediates_in event) (event.flag == 1) event.code
 
--- The bytes of a run that a record represents: in the area if it has the flag, in the input otherwise.
+-- The bytes of a run that a record represents: in the area if it has the flag, in the input
+-- otherwise.
 abbrev pub run_in : List ℕ → List ℕ → VteEvent → List ℕ
-run_in input area event = take event.code (drop event.start (if event.flag == 1 then area else input))
+run_in input area event =
+    take event.code (drop event.start (if event.flag == 1 then area else input))
 
 -- The events that a record represents.
 unfoldable pub events_of : List ℕ → List ℕ → VteEvent → List Event

@@ -4,7 +4,8 @@ use Rattle.event_log.specs.Plain.{plain_text_of}
 use Rattle.vte_core.specs.Event.{Event}
 use Rattle.vte_c.specs.declared.text.Text.{Text}
 
--- What was written, how much that is, how much there is room for, and which of the caller's slices it is.
+-- What was written, how much that is, how much there is room for, and which of the caller's slices
+-- it is.
 pub record TextRoom : Type 0 where
   pub text : List ℕ
   pub used : ℕ
@@ -22,7 +23,11 @@ text_room_of text = record {
 -- A text is written if there is room for it.
 unfoldable pub with_text : TextRoom → List ℕ → TextRoom
 with_text room text =
-    if nat_le (room.used + length text) room.size then record room { text = room.text ++ text; used = room.used + length text } else room
+    if nat_le (room.used + length text) room.size then record room {
+      text =
+          room.text ++ text;
+      used = room.used + length text;
+    } else room
 
 abbrev pub with_text_of : TextRoom → Event → TextRoom
 with_text_of room event = with_text room (plain_text_of event)

@@ -14,12 +14,16 @@ use Rattle.vte_c.specs.declared.event.VteEvent.{VteEvent}
 use Rattle.vte_c.specs.declared.events.Events.{Events}
 use Rattle.vte_c.specs.declared.text.Text.{Text}
 
--- The parser has read the stream except for the unread bytes at its end. What was given of its events, followed by what is given of those
--- that the unread and more bytes add, is what is given of the events of all bytes.
-pub record HasGiven {A : Type 0} (of : List Event → List A) (parser : Saved) (given : List A) (stream unread : List ℕ) : Type 0 where
+-- The parser has read the stream except for the unread bytes at its end. What was given of its
+-- events, followed by what is given of those that the unread and more bytes add, is what is given
+-- of the events of all bytes.
+pub record HasGiven {A : Type 0} (of : List Event → List A) (parser : Saved) (given : List A)
+    (stream unread : List ℕ) : Type 0 where
   pub since : List ℕ
   pub reads : HasReadSaved parser since
-  pub goes_on : (more : List ℕ) → given ++ of (added (Some 1024) since (unread ++ more)) ≡ of (events (Some 1024) (stream ++ more))
+  pub goes_on : (more : List ℕ) →
+      given ++ of (added (Some 1024) since (unread ++ more))
+      ≡ of (events (Some 1024) (stream ++ more))
 
 -- The events of these kinds were reported.
 abbrev pub HasTold : ℕ → Saved → List Event → List ℕ → List ℕ → Type 0
@@ -59,7 +63,8 @@ pub record StopsAtKind (stops : ℕ) (kinds : List ℕ) : Type 0 where
   pub others : HaveOtherKinds stops before
   pub few : length last ≤ 2
 
--- A text is well-formed characters, none of them a control. Data may be any bytes: its events are these.
+-- A text is well-formed characters, none of them a control. Data may be any bytes: its events are
+-- these.
 abbrev pub IsRun : Run → List ℕ → Type 0
 IsRun TextRun bytes = IsUtf8 bytes × HasNoControls bytes
 IsRun DataRun bytes = Unit {0}
@@ -76,9 +81,11 @@ AreRuns input [] = Unit {0}
 AreRuns input (Single event ∷ items) = AreRuns input items
 AreRuns input (InInput run start size ∷ items) = IsRunAt input run start size × AreRuns input items
 
--- These events are encoded, and nothing else: by so many records, one for each item, and so many bytes of data, which begin in the
--- area where the record says. A run in the input has no data. That the record of a command says whether data were lost is only tested.
-pub record AreEncoded (events : List Event) (count used : ℕ) (records : List VteEvent) (input area : List ℕ) : Type 0 where
+-- These events are encoded, and nothing else: by so many records, one for each item, and so many
+-- bytes of data, which begin in the area where the record says. A run in the input has no data.
+-- That the record of a command says whether data were lost is only tested.
+pub record AreEncoded (events : List Event) (count used : ℕ) (records : List VteEvent)
+    (input area : List ℕ) : Type 0 where
   pub items : List Item
   pub told : flat_map (item_events input) items ≡ events
   pub runs : AreRuns input items
@@ -87,18 +94,26 @@ pub record AreEncoded (events : List Event) (count used : ℕ) (records : List V
   pub size : used ≡ length (flat_map item_data items)
   pub held : take used area ≡ flat_map item_data items
 
--- A call read the first n bytes and wrote their events into the caller's buffers, where they are found whatever follows the bytes.
-pub record HasFed (old new : Events) (parser : Saved) (told : List Event) (stream bytes rest : List ℕ) (n : ℕ) : Type 0 where
+-- A call read the first n bytes and wrote their events into the caller's buffers, where they are
+-- found whatever follows the bytes.
+pub record HasFed (old new : Events) (parser : Saved) (told : List Event)
+    (stream bytes rest : List ℕ) (n : ℕ) : Type 0 where
   pub events_name : new.events.ghost_name ≡ old.events.ghost_name
   pub area_name : new.area.ghost_name ≡ old.area.ghost_name
-  pub further : HaveOtherKinds (room_of old).stops (kinds_in new.count new.events.now) → 0 < length bytes → 0 < n
+  pub further : HaveOtherKinds (room_of old).stops (kinds_in new.count new.events.now) →
+      0 < length bytes → 0 < n
   pub first : StopsAtKind (room_of old).stops (kinds_in new.count new.events.now)
   pub encodes : (more : List ℕ) →
-      AreEncoded (events_in new.count new.events.now (bytes ++ more) new.area.now) new.count new.used new.events.now (bytes ++ more) new.area.now
-  pub tells : (more : List ℕ) → HasTold (room_of old).kinds parser (told ++ events_in new.count new.events.now (bytes ++ more) new.area.now) stream (drop n bytes ++ rest)
+      AreEncoded (events_in new.count new.events.now (bytes ++ more) new.area.now)
+      new.count new.used new.events.now (bytes ++ more) new.area.now
+  pub tells : (more : List ℕ) →
+      HasTold (room_of old).kinds parser
+      (told ++ events_in new.count new.events.now (bytes ++ more) new.area.now)
+      stream (drop n bytes ++ rest)
 
 -- The same for text.
-pub record StripsMore (old new : Text) (parser : Saved) (text stream bytes rest : List ℕ) (n : ℕ) : Type 0 where
+pub record StripsMore (old new : Text) (parser : Saved) (text stream bytes rest : List ℕ)
+    (n : ℕ) : Type 0 where
   pub name : new.room.ghost_name ≡ old.room.ghost_name
   pub number : new.used ≡ length (take new.used new.room.now)
   pub strips : HasStripped parser (text ++ take new.used new.room.now) stream (drop n bytes ++ rest)

@@ -9,7 +9,8 @@ use crate::event::{self, VteEvent, has};
 use crate::packed::Packed;
 use vte_core::{Params, Perform, Run, Taken};
 
-/// The most data bytes of one event: 16 pieces of together 1,024 bytes, each after four with its length.
+/// The most data bytes of one event: 16 pieces of together 1,024 bytes, each after four with its
+/// length.
 pub(crate) const MOST_DATA: usize = 1088;
 
 /// The most data bytes of what one byte of a stream adds: an event, and a character after it.
@@ -18,8 +19,8 @@ const MOST_ADDED: usize = MOST_DATA + 4;
 /// Writes events of some kinds into the caller's buffers, each as a whole or not at all.
 ///
 /// It is terminated if there is no room for what one byte may add: two events, and the data of one
-/// and of a character. It also is after a command, so that the parser can be asked whether that lost
-/// data, and after an event of the kinds that stop.
+/// and of a character. It also is after a command, so that the parser can be asked whether that
+/// lost data, and after an event of the kinds that stop.
 #[derive(Drop)]
 pub(crate) struct Events<'a> {
     events: &'a mut [VteEvent],
@@ -41,7 +42,8 @@ pub(crate) struct Events<'a> {
     full_count: usize,
     ghost size_limit: { size ≡ min (length area.now) (2 ^ 32 - 1) },
     ghost used_limit: { used ≤ size },
-    ghost count_limit: { full_count ≡ (if met || paused || nat_lt (size - used) 1092 then 0 else length events.now - 1) },
+    ghost count_limit: { full_count
+        ≡ (if met || paused || nat_lt (size - used) 1092 then 0 else length events.now - 1) },
 }
 
 impl<'a> Events<'a> {
@@ -163,7 +165,8 @@ impl<'a> Events<'a> {
         }
     }
 
-    /// Writes a run that is in the input, where the parser returned it for the bytes from a place on.
+    /// Writes a run that is in the input, where the parser returned it for the bytes from a place
+    /// on.
     #[inline(always)]
     pub(crate) fn add_run(&mut self, from: usize, run: Run<'_>)
         requires { from + run.start + length (run_bytes run) < 2 ^ 32 }
@@ -189,7 +192,8 @@ impl<'a> Events<'a> {
     /// Writes a character.
     #[inline(always)]
     fn add_character(&mut self, c: char)
-        ensures { room_of self.new ≡ with_packed (room_of self.old) (record_of (Print c)) (data_of (Print c)) 96 }
+        ensures { room_of self.new
+            ≡ with_packed (room_of self.old) (record_of (Print c)) (data_of (Print c)) 96 }
     {
         if self.writes(event::TEXT) {
             let mut bytes = [0; 4];
@@ -209,7 +213,8 @@ impl<'a> Events<'a> {
         action: char,
     )
         ensures { room_of self.new ≡ with_packed (room_of self.old)
-            (sequence_record kind params.now intermediates.now ignore action) (flat_map group_bytes params.now) 96 }
+            (sequence_record kind params.now intermediates.now ignore action)
+            (flat_map group_bytes params.now) 96 }
     {
         if !self.writes(kind) {
             return;
@@ -264,7 +269,9 @@ impl<'a> Events<'a> {
 
     /// Writes an operating system command.
     fn add_command(&mut self, pieces: &[&[u8]], bell_terminated: bool)
-        ensures { room_of self.new ≡ with_event (room_of self.old) (OscDispatch (map (λ piece. piece.now) pieces.now) bell_terminated) }
+        ensures { room_of self.new
+            ≡ with_event (room_of self.old) (OscDispatch (map
+            (λ piece. piece.now) pieces.now) bell_terminated) }
     {
         self.pause();
         if !self.writes(event::OSC) || self.count >= self.events.len() {
@@ -280,7 +287,8 @@ impl<'a> Events<'a> {
 
     /// Writes the pieces of a command into the area. Returns where they end, if there is room.
     fn write_pieces(&mut self, pieces: &[&[u8]]) -> Option<usize>
-        ensures { HasGrown (room_of self.old) self.new (flat_map piece_bytes (map (λ piece. piece.now) pieces.now)) result }
+        ensures { HasGrown (room_of self.old) self.new (flat_map piece_bytes (map
+            (λ piece. piece.now) pieces.now)) result }
     {
         let mut end = self.used;
         for piece in pieces {
@@ -291,7 +299,8 @@ impl<'a> Events<'a> {
 
     /// Writes a piece at a place in the area, after four bytes with its length.
     fn write_piece(&mut self, place: usize, piece: &[u8]) -> Option<usize>
-        ensures { (room : Room) (text : List ℕ) → Holds room self.old place text → HasGrown room self.new (text ++ piece_bytes piece.now) result }
+        ensures { (room : Room) (text : List ℕ) → Holds room self.old place text →
+            HasGrown room self.new (text ++ piece_bytes piece.now) result }
     {
         let length = piece.len().min(u32::MAX as usize);
         let bytes = [
@@ -306,7 +315,8 @@ impl<'a> Events<'a> {
 
     /// Writes bytes at a place in the area. Returns where they end, if there is room.
     fn write(&mut self, place: usize, bytes: &[u8]) -> Option<usize>
-        ensures { (room : Room) (text : List ℕ) → Holds room self.old place text → HasGrown room self.new (text ++ bytes.now) result }
+        ensures { (room : Room) (text : List ℕ) → Holds room self.old place text →
+            HasGrown room self.new (text ++ bytes.now) result }
     {
         if place > self.size || bytes.len() > self.size - place {
             return None;
@@ -353,6 +363,8 @@ impl Perform for Events<'_> {
         }
     }
 
+    // inlined, it would slow down what comes before each sequence
+    #[inline(never)]
     fn execute(&mut self, byte: u8) {
         self.add_without_data(VteEvent::new(event::EXECUTE, u32::from(byte)));
     }

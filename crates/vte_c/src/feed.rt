@@ -28,7 +28,8 @@ pub struct VteCounts {
     pub bytes: usize,
 }
 
-/// Reads bytes until they end, the buffers are nearly full, or an event that stops was written. Returns how many were read.
+/// Reads bytes until they end, the buffers are nearly full, or an event that stops was written.
+/// Returns how many were read.
 pub(crate) fn feed(
     parser: &mut Saved,
     bytes: &[u8],
@@ -38,7 +39,8 @@ pub(crate) fn feed(
     area: &mut [u8],
     counts: &mut VteCounts,
 ) -> usize
-    ensures { Feeds kinds stops parser.old parser.new bytes.now events.old events.new area.old area.new counts.new result }
+    ensures { Feeds kinds stops parser.old parser.new bytes.now events.old events.new
+        area.old area.new counts.new result }
 {
     *counts = VteCounts {
         events: 0,
@@ -65,9 +67,11 @@ fn read_into(saved: &mut Saved, bytes: &[u8], room: &mut Events<'_>) -> usize
     requires starts { Starts (room_of room.old) }
     requires small { length bytes.now < 2 ^ 32 }
     ensures within { result ≤ length bytes.now }
-    ensures stops { (stream : List ℕ) → HasReadSaved saved.old stream → StopsAtNone (room_of room.old) → (i : ℕ) → i < result →
+    ensures stops { (stream : List ℕ) → HasReadSaved saved.old stream →
+        StopsAtNone (room_of room.old) → (i : ℕ) → i < result →
         AreOthersIn (room_of room.old) (added (Some 1024) stream (take i bytes.now)) }
-    ensures feeds { (told : List Event) (stream rest : List ℕ) → HasTold (room_of room.old).kinds saved.old told stream (bytes.now ++ rest) →
+    ensures feeds { (told : List Event) (stream rest : List ℕ) →
+        HasTold (room_of room.old).kinds saved.old told stream (bytes.now ++ rest) →
         HasFed room.old room.new saved.new told stream bytes.now rest result }
 {
     let mut parser = Parser::restored(saved);
@@ -83,7 +87,8 @@ fn read_all(parser: &mut Parser<1024>, bytes: &[u8], room: &mut Events<'_>) -> u
     ensures within { result ≤ length bytes.now }
     ensures goes { (since : List ℕ) → HasRead parser.old since →
         HasGone (room_of room.old) (room_of room.new) parser.new since bytes.now 0 result }
-    ensures further { (since : List ℕ) → HasRead parser.old since → HaveOtherRecords (room_of room.old).stops (room_of room.new).events →
+    ensures further { (since : List ℕ) → HasRead parser.old since →
+        HaveOtherRecords (room_of room.old).stops (room_of room.new).events →
         0 < length bytes.now → 0 < result }
 {
     let mut position = 0;

@@ -16,9 +16,12 @@ pub fn events_are_told()
     ensures starts { (kinds : ℕ) (parser : Saved) → IsZero parser → HasTold kinds parser [] [] [] }
     // More bytes may come at any time, after those that are still unread.
     ensures more { (kinds : ℕ) (parser : Saved) (told : List Event) (stream unread bytes : List ℕ) →
-        HasTold kinds parser told stream unread → HasTold kinds parser told (stream ++ bytes) (unread ++ bytes) }
-    // Once all are read, exactly these events of the stream have been reported, with 1,024 data bytes of a command.
-    ensures all { (kinds : ℕ) (parser : Saved) (told : List Event) (stream : List ℕ) → HasTold kinds parser told stream [] →
+        HasTold kinds parser told stream unread →
+        HasTold kinds parser told (stream ++ bytes) (unread ++ bytes) }
+    // Once all are read, exactly these events of the stream have been reported, with 1,024 data
+    // bytes of a command.
+    ensures all { (kinds : ℕ) (parser : Saved) (told : List Event) (stream : List ℕ) →
+        HasTold kinds parser told stream [] →
         told ≡ reported kinds (events (Some 1024) stream) }
     // Eight kinds are all.
     ensures every { (events : List Event) → reported 255 events ≡ events }
@@ -30,7 +33,8 @@ pub fn events_are_told()
 /// Calls of `vte_strip` write exactly the text of the stream.
 pub fn text_is_stripped()
     ensures starts { (parser : Saved) → IsZero parser → HasStripped parser [] [] [] }
-    ensures more { (parser : Saved) (text stream unread bytes : List ℕ) → HasStripped parser text stream unread →
+    ensures more { (parser : Saved) (text stream unread bytes : List ℕ) →
+        HasStripped parser text stream unread →
         HasStripped parser text (stream ++ bytes) (unread ++ bytes) }
     ensures all { (parser : Saved) (text stream : List ℕ) → HasStripped parser text stream [] →
         text ≡ plain_text (events (Some 1024) stream) }

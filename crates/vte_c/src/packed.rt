@@ -27,8 +27,10 @@ impl<const N: usize> Packed<N> {
 
     /// Returns the bytes, unless there were too many.
     pub(crate) fn bytes(&self) -> Option<&[u8]>
-        ensures some { IfSome result (λ bytes. (text : List ℕ) → Packs self.now text → bytes.now ≡ text) }
-        ensures fits { (text : List ℕ) → Packs self.now text → is_some result ≡ nat_le (length text) N }
+        ensures some { IfSome result (λ bytes. (text : List ℕ) → Packs self.now text →
+            bytes.now ≡ text) }
+        ensures fits { (text : List ℕ) → Packs self.now text →
+            is_some result ≡ nat_le (length text) N }
     {
         if self.fits {
             Some(self.bytes.as_slice())
@@ -47,7 +49,8 @@ impl<const N: usize> Packed<N> {
 
     /// Adds a group: its count of numbers, and two bytes for each.
     fn push_group(&mut self, group: &[u16])
-        ensures { (text : List ℕ) → Packs self.old text → Packs self.new (text ++ group_bytes group.now) }
+        ensures { (text : List ℕ) → Packs self.old text →
+            Packs self.new (text ++ group_bytes group.now) }
     {
         self.push(&[count_byte(group.len())]);
         for number in group {
@@ -56,7 +59,8 @@ impl<const N: usize> Packed<N> {
     }
 
     pub(crate) fn push_groups(&mut self, params: &Params)
-        ensures { (text : List ℕ) → Packs self.old text → Packs self.new (text ++ flat_map group_bytes params.now) }
+        ensures { (text : List ℕ) → Packs self.old text →
+            Packs self.new (text ++ flat_map group_bytes params.now) }
     {
         for group in params {
             self.push_group(group);

@@ -12,7 +12,8 @@ pub(crate) const LEAST_TEXT: usize = 16;
 /// The most bytes of text that one byte of a stream adds: one byte adds at most two characters.
 const MOST_TEXT: usize = 8;
 
-/// Writes text into the caller's buffer. What doesn't fit is dropped, so it is given only what fits.
+/// Writes text into the caller's buffer. What doesn't fit is dropped, so it is given only what
+/// fits.
 #[derive(Drop)]
 struct Text<'a> {
     room: &'a mut [u8],
@@ -123,7 +124,8 @@ impl PerformText for Text<'_> {
     }
 }
 
-/// Reads bytes until they end or the buffer is nearly full, and writes their text. Returns how many were read.
+/// Reads bytes until they end or the buffer is nearly full, and writes their text. Returns how many
+/// were read.
 pub(crate) fn strip(parser: &mut Saved, bytes: &[u8], room: &mut [u8], written: &mut usize) -> usize
     ensures { Strips parser.old parser.new bytes.now room.old room.new written.new result }
 {
@@ -138,12 +140,14 @@ pub(crate) fn strip(parser: &mut Saved, bytes: &[u8], room: &mut [u8], written: 
     read
 }
 
-/// Reads bytes into an empty buffer, until they end or there may be no room for the text of one more.
+/// Reads bytes into an empty buffer, until they end or there may be no room for the text of one
+/// more.
 fn read_into(saved: &mut Saved, bytes: &[u8], room: &mut Text<'_>) -> usize
     requires starts { StartsText (text_room_of room.old) }
     ensures within { result ≤ length bytes.now }
     ensures further { 0 < length bytes.now → 0 < result }
-    ensures strips { (text stream rest : List ℕ) → HasStripped saved.old text stream (bytes.now ++ rest) →
+    ensures strips { (text stream rest : List ℕ) →
+        HasStripped saved.old text stream (bytes.now ++ rest) →
         StripsMore room.old room.new saved.new text stream bytes.now rest result }
 {
     laws::events_grow();

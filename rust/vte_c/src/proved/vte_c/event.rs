@@ -107,7 +107,7 @@ impl VteEvent {
 /// Returns whether a kind is in a set of kinds.
 #[inline(always)]
 pub fn has(kinds: u32, kind: u8) -> bool {
-    kind < 32 && (kinds >> kind) % 2 == 1
+    (kinds >> (kind % 32)) % 2 == 1
 }
 
 /// Returns a count as a byte, at most 255.

@@ -275,6 +275,8 @@ impl Perform for Events<'_> {
         }
     }
 
+    // inlined, it would slow down what comes before each sequence
+    #[inline(never)]
     fn execute(&mut self, byte: u8) {
         self.add_without_data(VteEvent::new(event::EXECUTE, u32::from(byte)));
     }

@@ -9,6 +9,7 @@
 mod collector;
 mod device;
 mod fault;
+pub mod laws;
 mod lines;
 mod pipeline;
 mod plain;

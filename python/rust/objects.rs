@@ -163,8 +163,15 @@ pub fn list(py: Python<'_>) -> PyResult<Bound<'_, PyList>> {
 }
 
 pub fn append(list: &Bound<'_, PyList>, value: PyObject) -> PyResult<()> {
-    // SAFETY: a list and an object
-    match unsafe { ffi::PyList_Append(list.as_ptr(), value.as_ptr()) } {
+    let value = value.into_ptr();
+    // SAFETY: a list, which makes a reference of its own, and an object, whose reference ends here; a drop asks first whether the lock
+    // is held
+    let done = unsafe {
+        let done = ffi::PyList_Append(list.as_ptr(), value);
+        ffi::Py_DECREF(value);
+        done
+    };
+    match done {
         0 => Ok(()),
         _ => Err(PyErr::fetch(list.py())),
     }

@@ -1,7 +1,9 @@
-"""Tests of the package: python3 -m unittest discover python/tests"""
+"""Tests of the interface of the package, which is to be installed: pytest"""
 import array
 import copy
 import doctest
+import gc
+import importlib.metadata
 import inspect
 import io
 import itertools
@@ -9,6 +11,8 @@ import mmap
 import os
 import pickle
 import pty
+import resource
+import signal
 import subprocess
 import sys
 import tempfile
@@ -17,7 +21,6 @@ import time
 import typing
 import unittest
 from pathlib import Path
-from unittest import mock
 
 import vte
 from vte import Csi, Esc, Execute, Hook, Osc, Put, Text, Unhook, calls
@@ -28,21 +31,6 @@ EVENTS = [
     Text("aü"), Csi(((1,), (2, 3)), b"?", False, "m"), Execute(0x0D), Esc(b"(", False, "B"), Hook(((1,),), b"$", False, "q"),
     Put(ord("m")), Unhook(), Esc(b"", False, "\\"), Osc((b"2", b"t", b"u"), True), Text("\U0001f600\ufffd"),
 ]
-
-# imports the package over a library of which one number is another
-OTHER_LIBRARY = """
-import ctypes, sys
-sizes = {"version": 5, "event_size": 16, "parser_size": 8 * 164}
-sizes[sys.argv[1]] += 1
-class Library(dict):
-    _name = "libother.so"
-    def __missing__(self, name):
-        def function(*_):
-            return sizes.get(name.replace("vte_", ""))
-        return function
-ctypes.PyDLL = lambda _: Library()
-import vte
-"""
 
 # refuses memory to a parser, which goes on, and makes more parsers and processors than there is memory for
 LITTLE_MEMORY = """
@@ -59,7 +47,7 @@ try:
     raise SystemExit("it isn't refused")
 except MemoryError as error:
     read = error.read
-    assert str(error) == f"no memory for an operating system command, after {read} bytes"
+    assert str(error) == f"no memory, after {read} bytes"
     assert isinstance(error, vte.Refused) and error.events == [vte.Osc((b"2", b"t"), True)]
 leave(1 << 30)
 assert 6 < read < len(stream) and parser.feed(stream[read:]) == [vte.Osc((b"52", b"c", text), True)]
@@ -87,14 +75,9 @@ class OwnStripper(vte.Stripper):
     """A stripper of another type."""
 
 
-def calls_of(data):
-    """The calls of a stream, if this build has processors."""
-    return vte.Processor().feed(data) if vte._library.processor_new else []
-
-
 def parsers():
-    """New parsers of each kind that this build has."""
-    return [vte.Parser(limit=limit) for limit in ((None, 1024) if vte._library.long_new else (1024,))]
+    """New parsers without a limit and with one."""
+    return [vte.Parser(), vte.Parser(limit=1024)]
 
 
 def joined(events):
@@ -175,9 +158,6 @@ class Events(unittest.TestCase):
         groups = [((number,), (number // 7,)) for number in range(5000)]
         for parser in parsers():
             self.assertTrue([event.groups for event in parser.feed(stream + stream)] == groups + groups, parser)
-        # those that are kept for a later time are few
-        self.assertLessEqual(len(vte._records._sequences), 1024)
-        self.assertLessEqual(len(vte._lines._known), 1024)
 
     def test_events_of_different_types_differ(self):
         self.assertNotEqual(Execute(7), Put(7))
@@ -189,6 +169,7 @@ class Events(unittest.TestCase):
         for one, again, restored in zip(made, map(copy.deepcopy, made), map(pickle.loads, map(pickle.dumps, made))):
             self.assertTrue(one == again == restored and not one != again and hash(one) == hash(again), one)
             self.assertTrue(type(restored) is type(one) and one != tuple(one) and not one == tuple(one), one)
+            self.assertIs(bool(one), True)
             self.assertEqual(([it for it in made if it == one], [it for it in made if not it != one]), ([one], [one]))
 
     FIELDS = {Text: "text", Execute: "byte", Hook: "groups intermediates ignore final", Put: "byte", vte.Data: "data", Unhook: "",
@@ -208,7 +189,7 @@ class Arguments(unittest.TestCase):
                     self.assertEqual(parser.feed(data), EVENTS)
                 for text in vte.strip(data), vte.Stripper().strip(data), *vte.strip_lines([data]), *vte.strip_lines(iter([data])):
                     self.assertEqual((type(text), text), (bytes, text_of(EVENTS)))
-                self.assertEqual(calls_of(data), calls_of(STREAM))
+                self.assertEqual(vte.Processor().feed(data), vte.Processor().feed(STREAM))
         for parser in parsers():
             for data, wanted in (memoryview(b"a-b-c")[::2], [Text("abc")]), (array.array("H", b"abcd"), [Text("abcd")]), (b"", []), (bytearray(), []):
                 self.assertEqual((parser.feed(data), vte.strip(data)), (wanted, text_of(wanted)))
@@ -240,14 +221,19 @@ class Arguments(unittest.TestCase):
                 vte.Parser(limit=limit)
         self.assertEqual([vte.Parser(1024).limit, vte.Parser(limit=1024).limit], [1024, 1024])
 
-    # the names of what is passed, and what stands for those that may be left out
-    PASSED = [(vte.Parser.__init__, "limit", (None,)), (vte.Parser.feed, "data kinds", (None,)), (vte.Processor.feed, "data", None),
-              (vte.open, "source size kinds", (65536, None)), (vte.strip, "data", None), (vte.Stripper.strip, "data", None), (vte.strip_lines, "lines", None)]
+    # what is passed, and what stands for that which may be left out
+    PASSED = [
+        (vte.Parser, "(limit=None)"), (vte.Parser.feed, "(self, /, data, kinds=None)"),
+        (vte.Parser.feed_until, "(self, /, data, stops, kinds=None)"), (vte.Processor, "()"),
+        (vte.Processor.feed, "(self, /, data)"), (vte.Processor.stop_sync, "(self, /)"),
+        (vte.strip, "(data, errors='replace')"), (vte.Stripper, "()"), (vte.Stripper.strip, "(self, /, data)"),
+    ]
 
     def test_names_of_arguments(self):
-        for function, names, defaults in self.PASSED:
-            given = [name for name in inspect.signature(function).parameters if name != "self"]
-            self.assertEqual((" ".join(given), function.__defaults__), (names, defaults))
+        for function, passed in self.PASSED:
+            self.assertEqual(str(inspect.signature(function)), passed)
+        for function, names in (vte.open, ["source", "size", "kinds"]), (vte.strip_lines, ["lines", "errors"]):
+            self.assertEqual(list(inspect.signature(function).parameters), names)
 
 
 class Strip(unittest.TestCase):
@@ -301,6 +287,9 @@ class Strip(unittest.TestCase):
         decoded = [line.decode() for line in lines if line != b"\xe2\x82" and line != b"\xac\n"]
         for chosen in decoded, ["\x1b[1", "mx"] * 40, ["\x1b]", "\x07"], ["\x1b", "[m"], ["\u20ac", "a"], [Bytes(b"\x1b["), b"ma"], [""] * 65:
             self.assertEqual(list(vte.strip_lines(chosen)), [vte.strip(line) for line in chosen])
+        # what one line leaves open, and how the next begins
+        lines = [b"a\xc3", b"b\n\x18"]
+        self.assertEqual(list(vte.strip_lines(lines)), [b"a", b"b\n"])
         self.assertEqual((next(vte.strip_lines(["a"])), next(vte.strip_lines(("\x1b[ma",)))), ("a", "a"))
         texts = ["a\x1b[1mb\n", "\ud800", "plain"]
         self.assertEqual(list(vte.strip_lines(texts)), ["ab\n", "\ufffd", "plain"])
@@ -310,19 +299,6 @@ class Strip(unittest.TestCase):
         for wrong in b"a", "a", bytearray(b"a"):
             with self.assertRaisesRegex(TypeError, f"an iterable over lines, not {type(wrong).__name__}"):
                 vte.strip_lines(wrong)
-
-    def test_calls_at_a_time(self):
-        # each has a stripper of its own
-        strip = vte.Stripper._strip
-
-        def interrupted(stripper, source):
-            first = strip(stripper, source[:2])
-            with mock.patch.object(vte.Stripper, "_strip", strip):
-                self.assertEqual(vte.strip(b"1mx\x1b[my\x1b["), b"1mxy")
-            return first + strip(stripper, source[2:])
-
-        with mock.patch.object(vte.Stripper, "_strip", interrupted):
-            self.assertEqual([vte.strip(b"\x1b[1mz"), vte.strip("\x1b[1mz")], [b"z", "z"])
 
     def test_str_in_pieces(self):
         stripper = vte.Stripper()
@@ -337,7 +313,6 @@ class Strip(unittest.TestCase):
         self.assertEqual(next(vte.strip_lines(lines())), b"a")
 
 
-@unittest.skipUnless(vte._library.long_new, "this build has only parsers with a limit")
 class Long(unittest.TestCase):
     COMMANDS = [[b"52", b"c", b"Q" * 100_000], [b"x" * 3000], [b"1;2".replace(b";", b"")], [b"%d" % number for number in range(16)]]
 
@@ -417,7 +392,6 @@ class Long(unittest.TestCase):
         self.assertEqual((repr(vte.Parser()), repr(vte.Parser(limit=1024))), ("vte.Parser(limit=None)", "vte.Parser(limit=1024)"))
 
 
-@unittest.skipUnless(vte._library.processor_new, "this build has no processors")
 class Processors(unittest.TestCase):
     STREAM = b"h\xc3\xbc\x1b[5;3H\x1b[1;38;2;1;2;3m\x1b]0;t;i\x07\xff\x1b]8;id=abc;y\x1b\\\x1b[3r\x1b[23;24m\x1b]52;c;YQ==\x07"
     CALLS = [calls.Input("hü"), calls.Goto(4, 2), calls.TerminalAttribute(calls.Attribute.Bold, None),
@@ -464,27 +438,12 @@ class Processors(unittest.TestCase):
 
     def test_errors(self):
         processor = vte.Processor()
-        for status, error, message in (1, MemoryError, "no memory for an operating system command"), (2, RuntimeError, "another thread"):
-            for name, call in ("processor_advance", lambda: processor.feed(b"a")), ("processor_stop_sync", processor.stop_sync):
-                with mock.patch.object(vte._library, name, lambda *_: status), self.assertRaisesRegex(error, message):
-                    call()
-        # a refusal has the calls of what was read
-        advance = vte._library.processor_advance
-        with mock.patch.object(vte._library, "processor_advance", lambda *passed: advance(*passed) or 1), self.assertRaises(vte.Refused) as context:
-            processor.feed(b"b\r")
-        self.assertEqual((context.exception.read, context.exception.events), (2, [calls.Input("b"), calls.CarriageReturn()]))
-        for new, error, message in (lambda *_: None, MemoryError, "no memory for a processor"), (None, RuntimeError, "has no processors"):
-            with mock.patch.object(vte._library, "processor_new", new), self.assertRaisesRegex(error, message):
-                vte.Processor()
-        for new, error in (lambda *_: None, MemoryError), (None, RuntimeError):
-            with mock.patch.object(vte._library, "long_new", new), self.assertRaises(error):
-                vte.Parser()
-        self.assertEqual((processor.feed(b"a"), repr(processor)), ([calls.Input("a")], "vte.Processor()"))
         with self.assertRaisesRegex(TypeError, "feed takes bytes, not str"):
             processor.feed("a")
         for copied in copy.copy, copy.deepcopy, pickle.dumps:
             with self.assertRaisesRegex(TypeError, "processors can't be copied and pickled"):
                 copied(processor)
+        self.assertEqual((processor.feed(b"a"), repr(processor)), ([calls.Input("a")], "vte.Processor()"))
 
     def test_a_text_is_one_call(self):
         processor = vte.Processor()
@@ -495,7 +454,6 @@ class Processors(unittest.TestCase):
         self.assertEqual(vte.Processor().feed(b"\x1b]52;c;" + b"Q" * 100_000 + b"\x07"), [calls.ClipboardStore("c", b"Q" * 100_000)])
 
 
-@unittest.skipUnless(vte._library.processor_new, "this build has no processors")
 class Example(unittest.TestCase):
     # bytes, and a cell that is then shown: its row, column and character
     SHOWN = [(b"ab", 0, 1, "b"), (b"\x1b[5;10Hab\x08c", 4, 10, "c"), (b"\x1b[2Ad", 2, 11, "d"), (b"\x1b[3Be", 5, 12, "e"), (b"\x1b[4Df", 5, 9, "f"),
@@ -534,13 +492,17 @@ class Example(unittest.TestCase):
 
 
 class Hints(unittest.TestCase):
-    def test_types_are_there_at_run_time(self):
-        for function in vte.Parser.feed, vte.Parser.__init__, vte.open, vte.Stripper.strip, vte.Processor.feed:
+    def test_names(self):
+        for function in vte.open, vte.strip_lines:
             typing.get_type_hints(function)
-        self.assertRegex(vte.__version__, r"^\d+\.\d+\.\d+$")
         modules = {name for name, value in vars(vte).items() if isinstance(value, type(vte)) and name != "calls"}
         self.assertEqual(set(vte.__all__), {name for name in vars(vte) if not name.startswith("_")} - modules)
         self.assertEqual(repr(vte.Stripper()), "vte.Stripper()")
+        for name in set(vte.__all__) - {"calls", "Event"}:
+            self.assertIn(getattr(vte, name).__module__, ("vte", "vte._reader", "vte._vte"), name)
+
+    def test_metadata(self):
+        self.assertEqual(importlib.metadata.version("naqshuve-vte"), vte.__version__)
 
     def test_each_name_is_documented(self):
         named = {f"vte.{name}": getattr(vte, name) for name in vte.__all__ if name != "Event"}
@@ -550,7 +512,7 @@ class Hints(unittest.TestCase):
                 named.update({f"{name}.{of}": part for of, part in vars(value).items() if of[0] != "_"})
         # a named tuple without a doc of its own has its fields there
         self.assertEqual([name for name, value in named.items() if not value.__doc__
-                          or isinstance(value, type) and value not in calls.KINDS and value.__doc__.startswith(f"{value.__name__}(")], [])
+                          or isinstance(value, type) and value.__doc__.startswith(f"{value.__name__}(")], [])
 
     def test_wrong_arguments_are_named(self):
         for wrong, message in [(lambda: vte.open(None), "open takes a path, a file descriptor or a binary file, not NoneType"),
@@ -558,10 +520,149 @@ class Hints(unittest.TestCase):
                                (lambda: vte.strip(None), "strip takes bytes, or another object with a buffer, not NoneType"),
                                (lambda: vte.Parser().feed(None), "feed takes bytes, or another object with a buffer, not NoneType"),
                                (lambda: vte.open(b"path"), "open takes a path, a file descriptor or a binary file, not bytes"),
-                               (lambda: next(vte.open(io.StringIO("a"))), "feed takes bytes, not str: .*binary mode"),
+                               (lambda: vte.open(io.StringIO("a")), "not a text file: open it in binary mode"),
+                               (lambda: vte.strip(b"", errors="ignore"), "errors must be 'replace' or 'surrogateescape', not \"ignore\""),
+                               (lambda: vte.Parser().feed_until(b"", {Text}), "stops can't have vte.Text or vte.Data"),
                                *((lambda size=size: vte.open(io.BytesIO(), size), f"size must be at least 1, not {size!r}") for size in (-1, 1.5, None, "9"))]:
             with self.assertRaisesRegex((TypeError, ValueError), message):
                 wrong()
+
+
+class Until(unittest.TestCase):
+    def test_stops(self):
+        for parser in parsers():
+            self.assertEqual(parser.feed_until(STREAM, {Osc}), (EVENTS[:-1], STREAM.index(b"\x07") + 1))
+            self.assertEqual(parser.feed_until(STREAM[STREAM.index(b"\x07") + 1:], {Osc}), (EVENTS[-1:], 5))
+            self.assertEqual(parser.feed_until(STREAM, {Esc, Csi}, {Csi}), (EVENTS[1:2], STREAM.index(b"m") + 1))
+
+    def test_a_stream_cut_at_each_event(self):
+        # in calls that stop, whatever the kinds, are the events of one call
+        kinds = [Execute, Hook, Put, Unhook, Osc, Csi, Esc]
+        for stream in STREAM, STREAM * 500, b"\x1bPq\x1b\\\x1b]a\x18" * 9:
+            for stops in [kinds, *([kind] for kind in kinds)]:
+                for parser in parsers():
+                    events, at = [], 0
+                    while at < len(stream):
+                        more, read = parser.feed_until(stream[at:at + 3000], stops)
+                        self.assertTrue(0 < read <= 3000 and not any(type(it) in stops for it in more[:-2]))
+                        events += more
+                        at += read
+                    self.assertEqual(joined(events), joined(vte.Parser().feed(stream)))
+
+    def test_titles_alone(self):
+        stream = b"text\x1b]0;a\x07more\x1b[1m\x1b]0;b\x07end"
+        events, read = vte.Parser().feed_until(stream, {Osc}, {Osc})
+        self.assertEqual((events, stream[:read]), ([Osc((b"0", b"a"), True)], b"text\x1b]0;a\x07"))
+
+
+class Errors(unittest.TestCase):
+    KEPT = [(b"a\xff\x1b[1mb\xe2\x82c\xc0\xaf\n", b"a\xffb\xe2\x82c\xc0\xaf\n"), (b"\x1b]0;t\xe2\x07\xa2\x1bP\xff\x1b\\z", b"\xa2z"),
+            (b"\xe2\x82\x1b[m\xacz", b"\xe2\x82\xacz"), (b"\xff\x85\x01\xc2\x85\xfe", b"\xff\xfe"), (b"\xef\xbf\xbd\xef\xbf", b"\xef\xbf\xbd")]
+
+    def test_bytes_that_are_not_utf8_stay(self):
+        # without sequences and controls all bytes do, but for a character that is unfinished at the end
+        parts = itertools.product(b"a\n\xc2\xa0\xe2\xbf\xf0\xff\xed\xef\xbd\xf4", repeat=4)
+        for data, wanted in [*self.KEPT, *((bytes(part) + b"z", bytes(part) + b"z") for part in parts)]:
+            self.assertEqual(vte.strip(data, errors="surrogateescape"), wanted)
+        for data, wanted in self.KEPT:
+            text, wanted_text = data.decode(errors="surrogateescape"), wanted.decode(errors="surrogateescape")
+            self.assertEqual(vte.strip(text, errors="surrogateescape"), wanted_text)
+            self.assertEqual(list(vte.strip_lines([data, text], errors="surrogateescape")), [wanted, wanted_text])
+        with self.assertRaises(UnicodeEncodeError):
+            vte.strip("\ud800", errors="surrogateescape")
+
+
+class Threads(unittest.TestCase):
+    def test_a_shared_object_raises(self):
+        data = b"a\x1b[1m" * 40_000
+        for shared, read in (vte.Parser(), "feed"), (vte.Parser(limit=1024), "feed"), (vte.Processor(), "feed"), (vte.Stripper(), "strip"):
+            answers, wanted = [], getattr(type(shared)(), read)(data)
+
+            def use(shared=shared, read=read, answers=answers):
+                for _ in range(4):
+                    try:
+                        answers.append(getattr(shared, read)(data))
+                    except RuntimeError as error:
+                        answers.append(str(error))
+
+            threads = [threading.Thread(target=use) for _ in range(8)]
+            [thread.start() for thread in threads]
+            [thread.join() for thread in threads]
+            self.assertTrue(all(answer in (wanted, "another thread uses this object") for answer in answers))
+            self.assertEqual((len(answers), answers.count(wanted) > 0), (32, True))
+
+    def test_others_run_meanwhile(self):
+        # while bytes are read, another thread goes on
+        data, passes, ends = b"plain text \x1b[1m" * 2_000_000, [0], threading.Event()
+
+        def count():
+            while not ends.is_set():
+                passes[0] += 1
+
+        counter = threading.Thread(target=count)
+        counter.start()
+        try:
+            for read in vte.strip, lambda data: vte.Parser().feed(data, {Osc}):
+                time.sleep(0.05)
+                before = passes[0]
+                read(data)
+                self.assertGreater(passes[0] - before, 1000)
+        finally:
+            ends.set()
+            counter.join()
+
+    def test_a_signal_comes_out_and_the_next_call_goes_on(self):
+        class Alarm(Exception):
+            pass
+
+        def alarm(*_):
+            raise Alarm
+
+        before = signal.signal(signal.SIGALRM, alarm)
+        try:
+            for shared, end in (vte.Parser(), [Csi(((1,), (4,)), b"", False, "m")]), (vte.Processor(), [
+                    calls.TerminalAttribute(calls.Attribute.Bold, None), calls.TerminalAttribute(calls.Attribute.Underline, None)]):
+                with self.assertRaises(Alarm):
+                    signal.setitimer(signal.ITIMER_REAL, 0.005)
+                    for _ in range(1000):
+                        shared.feed(b"a\x1b[m" * 100_000 + b"\x1b[1")
+                        shared.feed(b"m")
+                # the stream is after the one call or the other
+                shared.feed(b"\x18")
+                self.assertEqual(shared.feed(b"\x1b[1;4m"), end)
+        finally:
+            signal.signal(signal.SIGALRM, before)
+
+
+class Leaks(unittest.TestCase):
+    def test_nothing_is_kept(self):
+        stream = b"".join(b"\x1b[%dm\x1b]0;%d\x07text \xff\n\x1bP%dqdata\x1b\\" % (it, it, it) for it in range(5))
+
+        def use():
+            for parser in parsers():
+                parser.feed(stream)
+                parser.feed(stream, {vte.Data})
+                parser.feed_until(stream, {Osc})
+            pickle.loads(pickle.dumps(parser))
+            vte.Processor().feed(stream + b"\x1b[?2026h")
+            for data in stream, stream.decode(errors="replace"), bytearray(stream):
+                vte.strip(data), vte.Stripper().strip(data), vte.strip(data, errors="surrogateescape")
+            for wrong in lambda: parser.feed("a"), lambda: parser.feed(b"", [1]), lambda: vte.Parser(limit=5):
+                with self.assertRaises((TypeError, ValueError)):
+                    wrong()
+
+        def blocks():
+            gc.collect()
+            return sys.getallocatedblocks()
+
+        for _ in range(600):
+            use()
+        before, memory = blocks(), resource.getrusage(resource.RUSAGE_SELF).ru_maxrss
+        for _ in range(300):
+            use()
+        # one object for each call would be 300
+        self.assertLess(blocks() - before, 250)
+        self.assertLess(resource.getrusage(resource.RUSAGE_SELF).ru_maxrss - memory, 8000)
 
 
 class Copies(unittest.TestCase):
@@ -586,7 +687,7 @@ class Copies(unittest.TestCase):
         self.assertEqual((type(refused), refused.read, refused.events), (vte.Refused, 3, [Text("a")]))
 
     def test_a_misspelt_attribute_is_an_error(self):
-        for made in [*parsers(), vte.Stripper(), *([vte.Processor()] if vte._library.processor_new else [])]:
+        for made in [*parsers(), vte.Stripper(), vte.Processor()]:
             for name in "limits", "sync_timeouts":
                 with self.assertRaises(AttributeError):
                     setattr(made, name, 1)
@@ -595,34 +696,16 @@ class Copies(unittest.TestCase):
                     made.limit = None
 
     def test_another_version_is_refused(self):
-        version, content = vte.Parser(limit=1024).__getstate__()
-        for wrong in (0, b""), (version - 1, content), (version, content[1:]):
+        *_, (version, content) = vte.Parser(limit=1024).__reduce__()
+        for wrong in (0, b""), ("0.0.0", content), (version, content[1:]), None, (version, content, 1):
             for made in vte.Parser(limit=1024), vte.Stripper():
-                with self.assertRaisesRegex(ValueError, "pickled with another version of the library"):
+                with self.assertRaisesRegex(ValueError, "pickled with another version of the package"):
                     made.__setstate__(wrong)
-
-    def test_another_library_is_refused(self):
-        for wrong in "version", "event_size", "parser_size":
-            done = subprocess.run([sys.executable, "-c", OTHER_LIBRARY, wrong], capture_output=True, text=True)
-            self.assertIn("ImportError: libother.so has another interface", done.stderr)
-        none = "import ctypes\ndef missing(name): raise OSError('no library')\nctypes.PyDLL = missing\nimport vte"
-        done = subprocess.run([sys.executable, "-c", none], capture_output=True, text=True)
-        self.assertIn("ImportError: no library. Install the package with pip", done.stderr)
-
-    def test_which_library_is_loaded(self):
-        with tempfile.TemporaryDirectory() as folder:
-            package = Path(folder) / "lib/python3/dist-packages/vte"
-            package.mkdir(parents=True)
-            places = [str(place / name) for place, name in ((Path(folder), "other.so"), (package, "libvte_c.so"), (Path(folder) / "lib", "libvte_c.so"))]
-            with mock.patch.object(vte._library, "__file__", str(package / "_library.py")), mock.patch.dict(os.environ, VTE_LIBRARY=places[0]):
-                self.assertEqual(vte._library._place(), "libvte_c.so.5")
-                # the first that there is
-                for place in reversed(places):
-                    Path(place).touch()
-                    self.assertTrue(os.path.samefile(vte._library._place(), place))
-                del os.environ["VTE_LIBRARY"]
-                self.assertEqual(vte._library._place(), places[1])
-        self.assertIsNone(vte._library._declared("vte_none", None))
+        # any content of this length is some parser
+        for byte in range(256):
+            made = vte.Parser(limit=1024)
+            made.__setstate__((version, bytes([byte]) * len(content)))
+            made.feed(STREAM)
 
 
 class Reading(unittest.TestCase):
@@ -677,6 +760,24 @@ class Reading(unittest.TestCase):
         with self.assertRaises(IsADirectoryError):
             next(vte.open(folder))
         os.close(folder)
+
+    def test_files_that_have_nothing_yet(self):
+        reading, writing = os.pipe()
+        os.set_blocking(reading, False)
+        with open(reading, "rb", buffering=0) as file:
+            for source in file, reading:
+                events = vte.open(source)
+                for text in b"a", b"b":
+                    with self.assertRaises(BlockingIOError):
+                        next(events)
+                    os.write(writing, text)
+                    self.assertEqual(next(events), Text(text.decode()))
+            os.close(writing)
+            self.assertEqual(list(vte.open(file)), [])
+        with self.assertRaisesRegex(ValueError, "closed file"):
+            next(vte.open(file))
+        with tempfile.NamedTemporaryFile("w+") as file, self.assertRaisesRegex(TypeError, "open it in binary mode"):
+            vte.open(file)
 
     def test_standard_input(self):
         done = subprocess.run([sys.executable, "-c", "import vte; print([*vte.open(0)])"], input=b"a\n", capture_output=True)

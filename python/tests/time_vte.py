@@ -1,100 +1,124 @@
-"""Times the package, the best of many passes: time_vte.py FILE..
+"""Times the package, the best of many passes: time_vte.py [--beside FOLDER] FILE..
 
-Of each file, in nanoseconds of processor time per byte:
-
-feed     all events, in pieces of 65,536 bytes
-titles   operating system commands alone, in such pieces
-calls    all calls of a processor, in such pieces
-strip    the text of the whole stream
-C call   the same call of the C library for the text, without Python around it
-
-Then, of some lines, as bytes and as `str`, how long they take beside `re.sub(rb"\\x1b\\[[0-9;]*[A-Za-z]", b"", line)`: by strip, by a
-Stripper, and by strip_lines of a list and of an iterator.
+Of each file, in nanoseconds of this thread's time per byte: `feed` of pieces of 65,536 bytes, with all events and with commands alone
+(titles), `Processor.feed` of such pieces (calls), and `strip` of the whole. Then short calls, lines that all differ beside a compiled
+`re.sub`, and two threads. --beside also times another package `vte` in FOLDER, in the same run.
 """
-import ctypes
+import argparse
 import re
 import sys
+import threading
 import time
 from pathlib import Path
 
-import vte
-from vte import _library
-
-PASSES = 30
+PASSES = 15
+LINES = 10_000
 
 
-def best(function, length):
-    times = []
+def package(folder):
+    """Imports the package of a folder, beside others."""
+    for name in [name for name in sys.modules if name.split(".")[0] == "vte"]:
+        del sys.modules[name]
+    sys.path.insert(0, folder) if folder else None
+    import vte
+
+    sys.path.remove(folder) if folder else None
+    return vte
+
+
+def best(*functions):
+    """The least nanoseconds of each of some functions, which take turns."""
+    least = [float("inf")] * len(functions)
     for _ in range(PASSES):
-        begun = time.process_time()
-        function()
-        times.append(time.process_time() - begun)
-    return min(times) * 1e9 / length
+        for place, function in enumerate(functions):
+            begun = time.thread_time_ns()
+            function()
+            least[place] = min(least[place], time.thread_time_ns() - begun)
+    return least
+
+
+def shown(least, count):
+    return " ".join(f"{it / count:8.2f}" if it / count < 1000 else f"{it / count:8.0f}" for it in least)
 
 
 def pieces(stream):
     return [stream[at:at + 65536] for at in range(0, len(stream), 65536)]
 
 
-def feed(stream, kinds=None):
-    parser = vte.Parser()
-    for piece in pieces(stream):
-        parser.feed(piece, kinds)
+def fed(make, stream, *kinds):
+    cut = pieces(stream)
+
+    def feed():
+        reader = make()
+        for piece in cut:
+            reader.feed(piece, *kinds)
+    return feed
 
 
-def process(stream):
-    processor = vte.Processor()
-    for piece in pieces(stream):
-        processor.feed(piece)
+def time_file(packages, stream):
+    ways = {
+        "feed": lambda vte: fed(vte.Parser, stream), "titles": lambda vte: fed(vte.Parser, stream, {vte.Osc}),
+        "calls": lambda vte: fed(vte.Processor, stream), "strip": lambda vte: lambda: vte.strip(stream),
+    }
+    for name, way in ways.items():
+        yield f"{name} {shown(best(*map(way, packages)), len(stream))}"
 
 
-def c_call(stream):
-    """A function that strips a stream in one call, into memory that was written before."""
-    source = ctypes.create_string_buffer(stream, len(stream) + 1)
-    text = ctypes.create_string_buffer(b"x" * (3 * len(stream) + 16))
-    written = ctypes.c_size_t()
-
-    def call():
-        parser = (ctypes.c_uint64 * (_library.WORDS))()
-        return _library.strip(ctypes.addressof(parser), ctypes.addressof(source), len(stream), ctypes.addressof(text), len(text),
-                              ctypes.addressof(written))
-
-    if call() != len(stream):
-        raise AssertionError("a call reads everything if there is room")
-    return call
+def time_calls(packages):
+    coloured = b"\x1b[01;34mdirectory\x1b[0m  and a \x1b[32mgreen\x1b[0m word in a line\r\n"
+    for name, data in ("1 byte", b"a"), ("a plain line", b"The quick brown fox jumps over the lazy dog, and goes home\r\n"), ("a coloured line", coloured):
+        for method in "Parser", "Processor":
+            readers = [getattr(vte, method)().feed for vte in packages]
+            repeat = range(5000)
+            least = best(lambda: [None for _ in repeat], *(lambda feed=feed: [feed(data) for _ in repeat] for feed in readers))
+            print(f"{method}.feed, {name:18}", shown([it - least[0] for it in least[1:]], 5000), "ns", flush=True)
 
 
-LINES = {
-    "plain": b"The quick brown fox jumps over the lazy dog, and then some more words follow it\n",
-    "other letters": "Üben von Xylophon und Querflöte ist ja zweckmäßig, sagte er — und ging dann weg\n".encode(),
-    "Cyrillic": "Съешь же ещё этих мягких французских булок, да\n".encode(),
-    "Chinese": "天地玄黃宇宙洪荒日月盈昃辰宿列張寒來暑往秋收冬藏閏餘\n".encode(),
-    "coloured": b"\x1b[01;34mdirectory\x1b[0m  and a \x1b[32mgreen\x1b[0m word in the middle of an ordinary line\n",
-}
-PATTERN = rb"\x1b\[[0-9;]*[A-Za-z]"
+def lines_of(every):
+    """Lines that differ, of which each so many-th has colours."""
+    coloured = b"\x1b[01;34mdir %06d\x1b[0m and \x1b[32mgreen\x1b[0m words in a row of text\n"
+    plain = b"The quick brown fox %06d jumps over a lazy dog and goes\n"
+    return [(coloured if every and number % every == 0 else plain) % number for number in range(LINES)]
 
 
-def time_lines():
-    stripper = vte.Stripper()
-    for name, line in LINES.items():
-        shown = []
-        for content, pattern in (line, PATTERN), (line.decode(), PATTERN.decode()):
-            lines, nothing = [content] * 1000, content[:0]
-            wanted = best(lambda: [re.sub(pattern, nothing, line) for line in lines], 1000)
-            ways = (lambda: [vte.strip(line) for line in lines], lambda: [stripper.strip(line) for line in lines],
-                    lambda: list(vte.strip_lines(lines)), lambda: list(vte.strip_lines(iter(lines))))
-            shown.append(f"re.sub {wanted:5.0f} ns; " + " ".join(f"{best(way, 1000) / wanted:5.2f}" for way in ways))
-        print(f"{name:16} bytes: {shown[0]}   str: {shown[1]}", flush=True)
+def time_lines(packages):
+    pattern = rb"\x1b\[[0-9;]*[A-Za-z]"
+    for name, every in ("plain", 0), ("1 in 10 coloured", 10), ("all coloured", 1):
+        for kind, lines in ("bytes", lines_of(every)), ("str", [line.decode() for line in lines_of(every)]):
+            sub, nothing = re.compile(pattern if kind == "bytes" else pattern.decode()).sub, lines[0][:0]
+            ways = [lambda: [sub(nothing, line) for line in lines]]
+            for vte in packages:
+                ways += [lambda vte=vte: [vte.strip(line) for line in lines], lambda vte=vte: list(vte.strip_lines(lines))]
+            print(f"{name:18} {kind:6} re.sub, then strip and strip_lines", shown(best(*ways), LINES), "ns", flush=True)
 
 
-def main(names):
-    for name in names:
-        content = Path(name).read_bytes()
-        ways = {"feed": lambda: feed(content), "titles": lambda: feed(content, {vte.Osc}), "calls": lambda: process(content),
-                "strip": lambda: vte.strip(content), "C call": c_call(content)}
-        print(f"{Path(name).name:16} " + "   ".join(f"{way} {best(function, len(content)):6.2f}" for way, function in ways.items()), flush=True)
-    time_lines()
+def time_threads(packages):
+    stream = b"".join(lines_of(1)) * 40
+
+    def wall(vte, count):
+        threads = [threading.Thread(target=vte.strip, args=(stream,)) for _ in range(count)]
+        begun = time.perf_counter()
+        [thread.start() for thread in threads]
+        [thread.join() for thread in threads]
+        return time.perf_counter() - begun
+
+    for vte in packages:
+        one, two = (min(wall(vte, count) for _ in range(PASSES)) for count in (1, 2))
+        print(f"two threads strip {len(stream)} bytes each in {two / one:.2f} of the time of one", flush=True)
+
+
+def main():
+    parser = argparse.ArgumentParser(description=__doc__, formatter_class=argparse.RawDescriptionHelpFormatter)
+    parser.add_argument("--beside", metavar="FOLDER")
+    parser.add_argument("files", nargs="*", type=Path)
+    given = parser.parse_args()
+    packages = [package(None), *([package(given.beside)] if given.beside else [])]
+    for file in given.files:
+        print(f"{file.name:12}", "   ".join(time_file(packages, file.read_bytes())), flush=True)
+    time_calls(packages)
+    time_lines(packages)
+    time_threads(packages)
 
 
 if __name__ == "__main__":
-    main(sys.argv[1:])
+    main()

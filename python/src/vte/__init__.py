@@ -1,4 +1,4 @@
-r"""A parser of the bytes that programs send to a terminal, over the C library of Naqshuve.
+r"""A parser of the bytes that programs send to a terminal.
 
 **Events.** A `Parser` reads a stream in pieces of any length, and reports text, controls and sequences. The events are those of the whole
 stream, in order, however you split it; only a `Text` and a `Data` end where a call of `feed` does.
@@ -14,6 +14,11 @@ If memory is refused, `feed` raises `Refused`. `kinds` selects what is returned,
 
 >>> parser.feed(b"text \x1b]2;a title\x07 more text", kinds={vte.Osc})
 [Osc(pieces=(b'2', b'a title'), bell_terminated=True, truncated=False)]
+
+`feed_until` stops after the first event of some types, and says how many bytes it has read:
+
+>>> parser.feed_until(b"one\ntwo\n", {vte.Execute})
+([Text(text='one'), Execute(byte=10)], 4)
 
 **Files and terminals.** `open` reads a path, a file descriptor or a binary file, and is an iterator over events:
 
@@ -46,13 +51,15 @@ A parser with a limit, and a stripper, can be copied and pickled:
 >>> parser = vte.Parser(limit=1024)
 >>> parser.feed(b"\xe2\x82"), copy.copy(parser).feed(b"\xac"), parser.feed(b"\xac")
 ([], [Text(text='€')], [Text(text='€')])
+
+Parsers, processors and strippers can be shared: a call raises a `RuntimeError` while another thread's call runs.
 """
 from ._events import Csi, Data, Esc, Event, Execute, Hook, Osc, Put, Refused, Text, Unhook
 from . import calls
-from ._parser import Parser
-from ._processor import Processor
-from ._reader import Reader, open
-from ._strip import Stripper, strip, strip_lines
+from ._vte import Parser, Processor, Stripper, __version__, strip
+from ._reader import Reader, open, strip_lines
 
-__version__ = "0.15.0"
-__all__ = ["Parser", "Stripper", "strip", "strip_lines", "Reader", "open", "Processor", "calls", "Event", "Text", "Execute", "Hook", "Put", "Data", "Unhook", "Osc", "Csi", "Esc", "Refused"]
+__all__ = [
+    "Parser", "Stripper", "strip", "strip_lines", "Reader", "open", "Processor", "calls", "Event", "Text",
+    "Execute", "Hook", "Put", "Data", "Unhook", "Osc", "Csi", "Esc", "Refused",
+]

@@ -1,13 +1,15 @@
-"""Reads streams in pieces."""
+"""Reads streams in pieces, and lines one by one."""
 from __future__ import annotations
 
 import builtins
 import errno
 import os
-from typing import IO, Any, Callable, Iterable, Iterator, Optional, Type, Union
+from collections.abc import Callable, Iterable, Iterator
+from functools import partial
+from typing import IO, Any, Union, overload
 
-from ._events import Event
-from ._parser import Parser, chosen
+from ._events import Buffer, Errors, Event, Kinds
+from ._vte import Parser, strip
 
 Source = Union[str, "os.PathLike[str]", int, IO[bytes]]
 
@@ -18,10 +20,13 @@ class Reader(Iterator[Event]):
     As a context manager it closes the file at the end, if `open` opened it.
     """
 
-    def __init__(self, read: Callable[[], bytes], close: Callable[[], Any], kinds: Optional[Iterable[Type[Any]]]) -> None:
-        self._read, self._close, self._kinds = read, close, kinds
-        self._parser = Parser()
-        self._events: Iterator[Event] = iter(())
+    def __init__(
+        self, read: Callable[[], bytes | None], close: Callable[[], object], kinds: Kinds
+    ) -> None:
+        self._read, self._close, self._parser = read, close, Parser()
+        # an iterator lasts for one call only; wrong kinds are an error now
+        self._kinds = list(kinds) if isinstance(kinds, Iterable) else kinds
+        self._events = iter(self._parser.feed(b"", self._kinds))
 
     def __next__(self) -> Event:
         for event in self._events:
@@ -30,6 +35,8 @@ class Reader(Iterator[Event]):
             self._events = iter(self._parser.feed(data, self._kinds))
             for event in self._events:
                 return event
+        if data is None:
+            raise BlockingIOError(errno.EAGAIN, "the file is nonblocking and has no bytes yet")
         raise StopIteration
 
     def __enter__(self) -> Reader:
@@ -43,25 +50,29 @@ class Reader(Iterator[Event]):
         self._close()
 
 
-def open(source: Source, size: int = 65536, kinds: Optional[Iterable[Type[Any]]] = None) -> Reader:
+def open(source: Source, size: int = 65536, kinds: Kinds = None) -> Reader:
     """Returns an iterator over the events of a path, a file descriptor or a binary file, read in pieces of at most `size` bytes.
 
     With `kinds`, a set of types of events, it has these alone. A piece is read when its events are requested, and has what is there by
-    then. A pty, given by its descriptor, ends when no program has it open any more.
+    then; if a nonblocking file has nothing yet, `BlockingIOError` is raised, and the iterator goes on later. A pty, given by its
+    descriptor, ends when no program has it open any more.
     """
     if not isinstance(size, int) or size < 1:
         raise ValueError(f"size must be at least 1, not {size!r}")
-    wanted = chosen(kinds)
     if isinstance(source, int):
-        descriptor = source
-        return Reader(lambda: _read_descriptor(descriptor, size), lambda: None, wanted)
+        return Reader(partial(_read_descriptor, source, size), _nothing, kinds)
     if isinstance(source, (str, os.PathLike)):
         file = builtins.open(source, "rb", buffering=0)
-        return Reader(lambda: file.read(size), file.close, wanted)
+        return Reader(partial(file.read, size), file.close, kinds)
     read: Any = getattr(source, "read1", None) or getattr(source, "read", None)
-    if read is None:
-        raise TypeError(f"open takes a path, a file descriptor or a binary file, not {type(source).__name__}")
-    return Reader(lambda: read(size), lambda: None, wanted)
+    if read is None or hasattr(source, "encoding"):
+        what = "a text file: open it in binary mode" if read else type(source).__name__
+        raise TypeError(f"open takes a path, a file descriptor or a binary file, not {what}")
+    return Reader(partial(read, size), _nothing, kinds)
+
+
+def _nothing() -> None:
+    """Who opened a file closes it."""
 
 
 def _read_descriptor(descriptor: int, size: int) -> bytes:
@@ -72,3 +83,23 @@ def _read_descriptor(descriptor: int, size: int) -> bytes:
         if error.errno == errno.EIO:
             return b""
         raise
+
+
+@overload
+def strip_lines(lines: Iterable[str], errors: Errors = ...) -> Iterator[str]: ...
+
+
+@overload
+def strip_lines(lines: Iterable[Buffer], errors: Errors = ...) -> Iterator[bytes]: ...
+
+
+def strip_lines(lines: Iterable[Any], errors: Errors = "replace") -> Iterator[Any]:
+    """Returns an iterator over the lines without their sequences: each line is stripped for itself, as by `strip`.
+
+    Each line is taken when its text is requested, so that none of a file is late.
+    """
+    if isinstance(lines, (str, bytes, bytearray)):
+        kind = type(lines).__name__
+        raise TypeError(f"strip_lines takes an iterable over lines, not {kind}: pass a list, or call strip")
+    function: Any = strip if errors == "replace" else partial(strip, errors=errors)
+    return map(function, lines)

@@ -3,10 +3,8 @@
 Lines and columns are counted from 0, those of a scrolling region from 1. Modes and the bits of keyboard modes are numbers. A call
 equals another if both are of the same type and have the same values.
 """
-from __future__ import annotations
-
 import enum
-from typing import NamedTuple, Optional, Union
+from typing import NamedTuple, Union, get_args
 
 from ._events import _distinct
 
@@ -24,10 +22,16 @@ class Rgb(NamedTuple):
 
 
 class NamedColor(_Named):
+    """A colour by its name.
+
+    Those of the palette, of text and of the cursor, and their bright and dim forms.
+    """
     Black, Red, Green, Yellow, Blue, Magenta, Cyan, White = 0, 1, 2, 3, 4, 5, 6, 7
-    BrightBlack, BrightRed, BrightGreen, BrightYellow, BrightBlue, BrightMagenta, BrightCyan, BrightWhite = 8, 9, 10, 11, 12, 13, 14, 15
+    BrightBlack, BrightRed, BrightGreen, BrightYellow = 8, 9, 10, 11
+    BrightBlue, BrightMagenta, BrightCyan, BrightWhite = 12, 13, 14, 15
     Foreground, Background, Cursor = 256, 257, 258
-    DimBlack, DimRed, DimGreen, DimYellow, DimBlue, DimMagenta, DimCyan, DimWhite = 259, 260, 261, 262, 263, 264, 265, 266
+    DimBlack, DimRed, DimGreen, DimYellow = 259, 260, 261, 262
+    DimBlue, DimMagenta, DimCyan, DimWhite = 263, 264, 265, 266
     BrightForeground, DimForeground = 267, 268
 
 
@@ -36,132 +40,451 @@ Color = Union[NamedColor, Rgb, int]
 
 
 class Attribute(_Named):
-    Reset, Bold, Dim, Italic, Underline, DoubleUnderline, Undercurl, DottedUnderline, DashedUnderline = 0, 1, 2, 3, 4, 5, 6, 7, 8
+    """What a `TerminalAttribute` changes."""
+    Reset, Bold, Dim, Italic = 0, 1, 2, 3
+    Underline, DoubleUnderline, Undercurl, DottedUnderline, DashedUnderline = 4, 5, 6, 7, 8
     BlinkSlow, BlinkFast, Reverse, Hidden, Strike = 9, 10, 11, 12, 13
-    CancelBold, CancelBoldDim, CancelItalic, CancelUnderline, CancelBlink, CancelReverse, CancelHidden, CancelStrike = 14, 15, 16, 17, 18, 19, 20, 21
+    CancelBold, CancelBoldDim, CancelItalic, CancelUnderline = 14, 15, 16, 17
+    CancelBlink, CancelReverse, CancelHidden, CancelStrike = 18, 19, 20, 21
     Foreground, Background, UnderlineColor = 22, 23, 24
 
 
 class LinePart(_Named):
+    """A part of the line: from the cursor to its end, from its start to the cursor, all of it."""
     Right, Left, All = 0, 1, 2
 
 
 class ScreenPart(_Named):
+    """A part of the screen: below the cursor, above it, all of it, or the scrollback."""
     Below, Above, All, Saved = 0, 1, 2, 3
 
 
 class Tabs(_Named):
+    """The tab stop in the cursor's column, or all of them."""
     Current, All = 0, 1
 
 
 class Shape(_Named):
+    """The cursor's shape."""
     Block, Underline, Beam, HollowBlock, Hidden = 0, 1, 2, 3, 4
 
 
 class Charset(_Named):
+    """A character set: ASCII, or DEC Special Graphics."""
     Ascii, SpecialCharacterAndLineDrawing = 0, 1
 
 
 class Path(_Named):
+    """The direction of characters: the terminal's own, from left to right, from right to left."""
     Default, LTR, RTL = 0, 1, 2
 
 
 class Update(_Named):
+    """What follows the direction: as the terminal decides, what is shown, or the data."""
     ImplementationDependant, DataToPresentation, PresentationToData = 0, 1, 2
 
 
 class Behavior(_Named):
+    """What happens to the keyboard modes that are set."""
     Replace, Union, Difference = 0, 1, 2
 
 
 class OtherKeys(_Named):
+    """Which keys are sent with their modifiers."""
     Reset, EnableExceptWellDefined, EnableAll = 0, 1, 2
 
 
-# text, and format effectors
-Input = NamedTuple("Input", [("text", str)])
-Bell = NamedTuple("Bell", [])
-Backspace = NamedTuple("Backspace", [])
-PutTab = NamedTuple("PutTab", [("count", int)])
-Linefeed = NamedTuple("Linefeed", [])
-CarriageReturn = NamedTuple("CarriageReturn", [])
-Newline = NamedTuple("Newline", [])
-Substitute = NamedTuple("Substitute", [])
-# the cursor
-Goto = NamedTuple("Goto", [("line", int), ("col", int)])
-GotoLine = NamedTuple("GotoLine", [("line", int)])
-GotoCol = NamedTuple("GotoCol", [("col", int)])
-MoveUp = NamedTuple("MoveUp", [("lines", int)])
-MoveDown = NamedTuple("MoveDown", [("lines", int)])
-MoveForward = NamedTuple("MoveForward", [("cols", int)])
-MoveBackward = NamedTuple("MoveBackward", [("cols", int)])
-MoveDownAndCr = NamedTuple("MoveDownAndCr", [("lines", int)])
-MoveUpAndCr = NamedTuple("MoveUpAndCr", [("lines", int)])
-SaveCursorPosition = NamedTuple("SaveCursorPosition", [])
-RestoreCursorPosition = NamedTuple("RestoreCursorPosition", [])
-# scrolling; a bottom of None is the last line
-ReverseIndex = NamedTuple("ReverseIndex", [])
-ScrollUp = NamedTuple("ScrollUp", [("lines", int)])
-ScrollDown = NamedTuple("ScrollDown", [("lines", int)])
-SetScrollingRegion = NamedTuple("SetScrollingRegion", [("top", int), ("bottom", Optional[int])])
-# tab stops
-SetHorizontalTabstop = NamedTuple("SetHorizontalTabstop", [])
-ClearTabs = NamedTuple("ClearTabs", [("which", Tabs)])
-SetTabs = NamedTuple("SetTabs", [("interval", int)])
-MoveForwardTabs = NamedTuple("MoveForwardTabs", [("count", int)])
-MoveBackwardTabs = NamedTuple("MoveBackwardTabs", [("count", int)])
-# editing
-InsertBlank = NamedTuple("InsertBlank", [("cols", int)])
-InsertBlankLines = NamedTuple("InsertBlankLines", [("lines", int)])
-DeleteChars = NamedTuple("DeleteChars", [("cols", int)])
-DeleteLines = NamedTuple("DeleteLines", [("lines", int)])
-EraseChars = NamedTuple("EraseChars", [("cols", int)])
-ClearLine = NamedTuple("ClearLine", [("part", LinePart)])
-ClearScreen = NamedTuple("ClearScreen", [("part", ScreenPart)])
-Decaln = NamedTuple("Decaln", [])
-# appearance; a colour is of Foreground, Background and UnderlineColor alone, and of the last None is the text's
-TerminalAttribute = NamedTuple("TerminalAttribute", [("attribute", Attribute), ("color", Optional[Color])])
-SetColor = NamedTuple("SetColor", [("index", int), ("color", Rgb)])
-ResetColor = NamedTuple("ResetColor", [("index", int)])
-DynamicColorSequence = NamedTuple("DynamicColorSequence", [("prefix", str), ("index", int), ("terminator", str)])
-SetHyperlink = NamedTuple("SetHyperlink", [("id", Optional[str]), ("uri", Optional[str])])
-SetCursorStyle = NamedTuple("SetCursorStyle", [("shape", Optional[Shape]), ("blinking", bool)])
-SetCursorShape = NamedTuple("SetCursorShape", [("shape", Shape)])
-SetMouseCursorIcon = NamedTuple("SetMouseCursorIcon", [("keyword", str)])
-# character sets, and the direction of text
-SetActiveCharset = NamedTuple("SetActiveCharset", [("index", int)])
-ConfigureCharset = NamedTuple("ConfigureCharset", [("index", int), ("charset", Charset)])
-SetScp = NamedTuple("SetScp", [("path", Path), ("update", Update)])
-# modes
-SetMode = NamedTuple("SetMode", [("mode", int)])
-UnsetMode = NamedTuple("UnsetMode", [("mode", int)])
-ReportMode = NamedTuple("ReportMode", [("mode", int)])
-SetPrivateMode = NamedTuple("SetPrivateMode", [("mode", int)])
-UnsetPrivateMode = NamedTuple("UnsetPrivateMode", [("mode", int)])
-ReportPrivateMode = NamedTuple("ReportPrivateMode", [("mode", int)])
-ResetState = NamedTuple("ResetState", [])
-# keyboards
-SetKeypadApplicationMode = NamedTuple("SetKeypadApplicationMode", [])
-UnsetKeypadApplicationMode = NamedTuple("UnsetKeypadApplicationMode", [])
-PushKeyboardMode = NamedTuple("PushKeyboardMode", [("modes", int)])
-PopKeyboardModes = NamedTuple("PopKeyboardModes", [("count", int)])
-SetKeyboardMode = NamedTuple("SetKeyboardMode", [("modes", int), ("behavior", Behavior)])
-ReportKeyboardMode = NamedTuple("ReportKeyboardMode", [])
-SetModifyOtherKeys = NamedTuple("SetModifyOtherKeys", [("keys", OtherKeys)])
-ReportModifyOtherKeys = NamedTuple("ReportModifyOtherKeys", [])
-# titles, clipboards and reports
-SetTitle = NamedTuple("SetTitle", [("title", str)])
-PushTitle = NamedTuple("PushTitle", [])
-PopTitle = NamedTuple("PopTitle", [])
-ClipboardStore = NamedTuple("ClipboardStore", [("clipboard", str), ("data", bytes)])
-ClipboardLoad = NamedTuple("ClipboardLoad", [("clipboard", str), ("terminator", str)])
-DeviceStatus = NamedTuple("DeviceStatus", [("kind", int)])
-IdentifyTerminal = NamedTuple("IdentifyTerminal", [("intermediate", Optional[str])])
-TextAreaSizePixels = NamedTuple("TextAreaSizePixels", [])
-TextAreaSizeChars = NamedTuple("TextAreaSizeChars", [])
+class Input(NamedTuple):
+    """Characters to show."""
+    text: str
 
-# all of them, in the order of vte_handler.h
-KINDS = tuple(kind for kind in list(globals().values())
-              if isinstance(kind, type) and issubclass(kind, tuple) and hasattr(kind, "_fields") and kind is not Rgb)
+
+class Bell(NamedTuple):
+    """BEL: ring or blink."""
+
+
+class Backspace(NamedTuple):
+    """BS: one column to the left, not past the first."""
+
+
+class PutTab(NamedTuple):
+    """HT: to the next tab stop; `count` is 1."""
+    count: int  # type: ignore[assignment]
+
+
+class Linefeed(NamedTuple):
+    """LF, VT, FF and IND, `ESC D`.
+
+    One line down; at the bottom of the scrolling region the text scrolls up.
+    """
+
+
+class CarriageReturn(NamedTuple):
+    """CR, and a part of NEL, `ESC E`: to the first column."""
+
+
+class Newline(NamedTuple):
+    """A line feed and a carriage return in one. No sequence makes it."""
+
+
+class Substitute(NamedTuple):
+    """SUB: a character that was lost."""
+
+
+class Goto(NamedTuple):
+    """CUP, `CSI H`, and HVP, `CSI f`: to a line and a column."""
+    line: int
+    col: int
+
+
+class GotoLine(NamedTuple):
+    """VPA, `CSI d`: to a line."""
+    line: int
+
+
+class GotoCol(NamedTuple):
+    """CHA, `CSI G`, and HPA, `` CSI ` ``: to a column of the line."""
+    col: int
+
+
+class MoveUp(NamedTuple):
+    """CUU, `CSI A`: some lines up."""
+    lines: int
+
+
+class MoveDown(NamedTuple):
+    """CUD, `CSI B`, and VPR, `CSI e`: some lines down."""
+    lines: int
+
+
+class MoveForward(NamedTuple):
+    """CUF, `CSI C`, and HPR, `CSI a`: some columns to the right."""
+    cols: int
+
+
+class MoveBackward(NamedTuple):
+    """CUB, `CSI D`: some columns to the left."""
+    cols: int
+
+
+class MoveDownAndCr(NamedTuple):
+    """CNL, `CSI E`: to the first column, some lines down."""
+    lines: int
+
+
+class MoveUpAndCr(NamedTuple):
+    """CPL, `CSI F`: to the first column, some lines up."""
+    lines: int
+
+
+class SaveCursorPosition(NamedTuple):
+    """DECSC, `ESC 7`, and SCOSC, `CSI s`.
+
+    Save the cursor's position, rendition and character sets.
+    """
+
+
+class RestoreCursorPosition(NamedTuple):
+    """DECRC, `ESC 8`, and SCORC, `CSI u`: restore what was saved last."""
+
+
+class ReverseIndex(NamedTuple):
+    """RI, `ESC M`: one line up; at the top of the scrolling region the text scrolls down."""
+
+
+class ScrollUp(NamedTuple):
+    """SU, `CSI S`: the text of the scrolling region moves up."""
+    lines: int
+
+
+class ScrollDown(NamedTuple):
+    """SD, `CSI T`: the text of the scrolling region moves down."""
+    lines: int
+
+
+class SetScrollingRegion(NamedTuple):
+    """DECSTBM, `CSI r`: the lines that scroll. A bottom of None is the last line."""
+    top: int
+    bottom: int | None
+
+
+class SetHorizontalTabstop(NamedTuple):
+    """HTS, `ESC H`: a tab stop in the cursor's column."""
+
+
+class ClearTabs(NamedTuple):
+    """TBC, `CSI g`: clear the tab stop in the cursor's column, or all of them."""
+    which: Tabs
+
+
+class SetTabs(NamedTuple):
+    """DECST8C, `CSI ? 5 W`: a tab stop at each eighth column; `interval` is 8."""
+    interval: int
+
+
+class MoveForwardTabs(NamedTuple):
+    """CHT, `CSI I`: some tab stops forward."""
+    count: int  # type: ignore[assignment]
+
+
+class MoveBackwardTabs(NamedTuple):
+    """CBT, `CSI Z`: some tab stops back."""
+    count: int  # type: ignore[assignment]
+
+
+class InsertBlank(NamedTuple):
+    """ICH, `CSI @`: blanks at the cursor; the rest of the line moves right."""
+    cols: int
+
+
+class InsertBlankLines(NamedTuple):
+    """IL, `CSI L`: blank lines at the cursor's line; those below move down."""
+    lines: int
+
+
+class DeleteChars(NamedTuple):
+    """DCH, `CSI P`: characters from the cursor on are deleted; the rest of the line moves left."""
+    cols: int
+
+
+class DeleteLines(NamedTuple):
+    """DL, `CSI M`: lines from the cursor's on are deleted; those below move up."""
+    lines: int
+
+
+class EraseChars(NamedTuple):
+    """ECH, `CSI X`: characters from the cursor on become blank; none moves."""
+    cols: int
+
+
+class ClearLine(NamedTuple):
+    """EL, `CSI K`: a part of the line becomes blank."""
+    part: LinePart
+
+
+class ClearScreen(NamedTuple):
+    """ED, `CSI J`: a part of the screen becomes blank, or the scrollback is cleared."""
+    part: ScreenPart
+
+
+class Decaln(NamedTuple):
+    """DECALN, `ESC # 8`: fill the screen with `E`."""
+
+
+class TerminalAttribute(NamedTuple):
+    """SGR, `CSI m`: one attribute of the characters that follow.
+
+    `Foreground`, `Background` and `UnderlineColor` have a colour; None, of the last, is the text's. Others have none.
+    """
+    attribute: Attribute
+    color: Color | None
+
+
+class SetColor(NamedTuple):
+    """OSC 4, 10, 11, 12.
+
+    The colour of an index: 0 to 255 the palette, 256 the foreground, 257 the background, 258
+    the cursor.
+    """
+    index: int  # type: ignore[assignment]
+    color: Rgb
+
+
+class ResetColor(NamedTuple):
+    """OSC 104, 110, 111, 112.
+
+    The colour of an index, as in `SetColor`, is reset to its first value.
+    """
+    index: int  # type: ignore[assignment]
+
+
+class DynamicColorSequence(NamedTuple):
+    """OSC 4, 10, 11, 12 with `?`: report the colour of an index, as in `SetColor`.
+
+    The answer is `ESC ]`, the prefix, `;`, the colour and the terminator.
+    """
+    prefix: str
+    index: int  # type: ignore[assignment]
+    terminator: str
+
+
+class SetHyperlink(NamedTuple):
+    """OSC 8: the characters that follow are a link; a URI of None ends it."""
+    id: str | None
+    uri: str | None
+
+
+class SetCursorStyle(NamedTuple):
+    """DECSCUSR, `CSI SP q`.
+
+    The cursor's shape, and whether it blinks. A shape of None is the terminal's own style.
+    """
+    shape: Shape | None
+    blinking: bool
+
+
+class SetCursorShape(NamedTuple):
+    """OSC 50, `CursorShape=`: the cursor's shape alone."""
+    shape: Shape
+
+
+class SetMouseCursorIcon(NamedTuple):
+    """OSC 22: the mouse pointer's shape, by its keyword in CSS."""
+    keyword: str
+
+
+class SetActiveCharset(NamedTuple):
+    """SI and SO: characters come from the set G0 or G1."""
+    index: int  # type: ignore[assignment]
+
+
+class ConfigureCharset(NamedTuple):
+    """SCS, `ESC (`, `)`, `*` or `+`, and `B` or `0`: what the set G0, G1, G2 or G3 is."""
+    index: int  # type: ignore[assignment]
+    charset: Charset
+
+
+class SetScp(NamedTuple):
+    """SCP, `CSI SP k`: the direction of characters, and how what is shown follows it."""
+    path: Path
+    update: Update
+
+
+class SetMode(NamedTuple):
+    """SM, `CSI h`: a mode is set."""
+    mode: int
+
+
+class UnsetMode(NamedTuple):
+    """RM, `CSI l`: a mode is reset."""
+    mode: int
+
+
+class ReportMode(NamedTuple):
+    """DECRQM, `CSI $ p`: report whether a mode is set."""
+    mode: int
+
+
+class SetPrivateMode(NamedTuple):
+    """DECSET, `CSI ? h`: a private mode is set."""
+    mode: int
+
+
+class UnsetPrivateMode(NamedTuple):
+    """DECRST, `CSI ? l`: a private mode is reset."""
+    mode: int
+
+
+class ReportPrivateMode(NamedTuple):
+    """DECRQM, `CSI ? $ p`: report whether a private mode is set."""
+    mode: int
+
+
+class ResetState(NamedTuple):
+    """RIS, `ESC c`: reset everything to its state when the terminal was switched on."""
+
+
+class SetKeypadApplicationMode(NamedTuple):
+    """DECKPAM, `ESC =`: the keypad's keys send sequences."""
+
+
+class UnsetKeypadApplicationMode(NamedTuple):
+    """DECKPNM, `ESC >`: the keypad's keys send digits."""
+
+
+class PushKeyboardMode(NamedTuple):
+    """`CSI > u`: push keyboard modes onto their stack, and set them (kitty's keyboard protocol)."""
+    modes: int
+
+
+class PopKeyboardModes(NamedTuple):
+    """`CSI < u`: pop keyboard modes off their stack."""
+    count: int  # type: ignore[assignment]
+
+
+class SetKeyboardMode(NamedTuple):
+    """`CSI = u`: replace the keyboard modes, add to them, or remove some."""
+    modes: int
+    behavior: Behavior
+
+
+class ReportKeyboardMode(NamedTuple):
+    """`CSI ? u`: report the keyboard modes that are set."""
+
+
+class SetModifyOtherKeys(NamedTuple):
+    """XTMODKEYS, `CSI > 4 m`: how modified keys are sent."""
+    keys: OtherKeys
+
+
+class ReportModifyOtherKeys(NamedTuple):
+    """XTQMODKEYS, `CSI ? 4 m`: report how modified keys are sent."""
+
+
+class SetTitle(NamedTuple):
+    """OSC 0 and 2: the window's title, without white space at both ends."""
+    title: str
+
+
+class PushTitle(NamedTuple):
+    """XTWINOPS, `CSI 22 t`: push the title onto a stack."""
+
+
+class PopTitle(NamedTuple):
+    """XTWINOPS, `CSI 23 t`: pop the title off the stack."""
+
+
+class ClipboardStore(NamedTuple):
+    """OSC 52.
+
+    Store data in a clipboard, named by a letter. They should be base64, and may be anything.
+    """
+    clipboard: str
+    data: bytes
+
+
+class ClipboardLoad(NamedTuple):
+    """OSC 52 with `?`: report what a clipboard holds. The answer ends with the terminator."""
+    clipboard: str
+    terminator: str
+
+
+class DeviceStatus(NamedTuple):
+    """DSR, `CSI n`: a report by its number: 5 asks for the status, 6 for the cursor's position."""
+    kind: int
+
+
+class IdentifyTerminal(NamedTuple):
+    """DA, `CSI c`, and `ESC Z`: report what terminal this is.
+
+    None asks for the primary attributes, `>` for the secondary, `=` for the tertiary.
+    """
+    intermediate: str | None
+
+
+class TextAreaSizePixels(NamedTuple):
+    """XTWINOPS, `CSI 14 t`: report the text area's size in pixels."""
+
+
+class TextAreaSizeChars(NamedTuple):
+    """XTWINOPS, `CSI 18 t`: report the text area's size in characters."""
+
+
+Call = Union[
+    Input, Bell, Backspace, PutTab, Linefeed, CarriageReturn, Newline, Substitute, Goto, GotoLine,
+    GotoCol, MoveUp, MoveDown, MoveForward, MoveBackward, MoveDownAndCr, MoveUpAndCr,
+    SaveCursorPosition, RestoreCursorPosition, ReverseIndex, ScrollUp, ScrollDown,
+    SetScrollingRegion, SetHorizontalTabstop, ClearTabs, SetTabs, MoveForwardTabs,
+    MoveBackwardTabs, InsertBlank, InsertBlankLines, DeleteChars, DeleteLines, EraseChars,
+    ClearLine, ClearScreen, Decaln, TerminalAttribute, SetColor, ResetColor, DynamicColorSequence,
+    SetHyperlink, SetCursorStyle, SetCursorShape, SetMouseCursorIcon, SetActiveCharset,
+    ConfigureCharset, SetScp, SetMode, UnsetMode, ReportMode, SetPrivateMode, UnsetPrivateMode,
+    ReportPrivateMode, ResetState, SetKeypadApplicationMode, UnsetKeypadApplicationMode,
+    PushKeyboardMode, PopKeyboardModes, SetKeyboardMode, ReportKeyboardMode, SetModifyOtherKeys,
+    ReportModifyOtherKeys, SetTitle, PushTitle, PopTitle, ClipboardStore, ClipboardLoad,
+    DeviceStatus, IdentifyTerminal, TextAreaSizePixels, TextAreaSizeChars,
+]
+# all of them
+KINDS: tuple[type, ...] = get_args(Call)
 for _kind in KINDS:
     _distinct(_kind)

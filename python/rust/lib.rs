@@ -1,0 +1,24 @@
+//! The native half of the package: everything but the types of events and calls, which are written in Python.
+
+mod calls;
+mod events;
+#[cfg(feature = "python-memory")]
+mod memory;
+mod objects;
+mod parser;
+mod processor;
+mod strip;
+
+use pyo3::prelude::*;
+
+#[pymodule]
+fn _vte(module: &Bound<'_, PyModule>) -> PyResult<()> {
+    // what is looked up now needs no memory later
+    events::classes(module.py())?;
+    calls::classes(module.py())?;
+    module.add_class::<parser::Parser>()?;
+    module.add_class::<processor::Processor>()?;
+    module.add_class::<strip::Stripper>()?;
+    module.add_function(wrap_pyfunction!(strip::strip, module)?)?;
+    module.add("__version__", env!("CARGO_PKG_VERSION"))
+}

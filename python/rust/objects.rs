@@ -1,0 +1,226 @@
+//! Python's objects: what functions take, and what they return.
+//!
+//! PyO3's constructors panic if memory is refused, so those here call Python's C interface, and return an error instead. A named
+//! tuple is made by the allocator of its class, as `tuple.__new__` makes it, in a quarter of the time of a call of the class.
+
+use pyo3::exceptions::{PyRuntimeError, PyTypeError};
+use pyo3::types::{PyBool, PyBytes, PyList, PyString, PyTuple, PyType};
+use pyo3::pyclass::boolean_struct::False;
+use pyo3::{ffi, prelude::*, PyClass, PyTypeInfo};
+
+/// From how many bytes on other threads may run meanwhile. Below, a release costs more than it gives: beside a busy thread it takes
+/// up to 5 ms to get the interpreter's lock again.
+pub const LONG: usize = 1 << 17;
+
+/// Runs what needs no object, without the interpreter's lock if there is much to read.
+pub fn run<T: Send>(py: Python<'_>, length: usize, read: impl FnOnce() -> T + Send) -> T {
+    match length < LONG {
+        true => read(),
+        false => py.allow_threads(read),
+    }
+}
+
+/// An error with a text that ends in NUL. PyO3's errors take memory in a way that can't fail.
+pub fn error<T: PyTypeInfo>(py: Python<'_>, text: &'static str) -> PyErr {
+    debug_assert!(text.ends_with('\0'));
+    // SAFETY: a class of exceptions, and a text that ends in NUL
+    unsafe { ffi::PyErr_SetString(T::type_object_raw(py).cast(), text.as_ptr().cast()) };
+    PyErr::fetch(py)
+}
+
+/// Borrows what one thread at a time can use.
+pub fn borrowed<'py, T: PyClass<Frozen = False>>(
+    shared: &Bound<'py, T>,
+) -> PyResult<PyRefMut<'py, T>> {
+    let wrong = |_| error::<PyRuntimeError>(shared.py(), "another thread uses this object\0");
+    shared.try_borrow_mut().map_err(wrong)
+}
+
+/// The bytes of an object with a buffer. Those that can change meanwhile are copied.
+pub fn bytes_of<'py>(data: &Bound<'py, PyAny>, what: &str) -> PyResult<Bound<'py, PyBytes>> {
+    if let Ok(bytes) = data.downcast::<PyBytes>() {
+        return Ok(bytes.clone());
+    }
+    if data.is_instance_of::<PyString>() {
+        return Err(PyTypeError::new_err(format!(
+            "{what} takes bytes, not str: pass text.encode(), or read the stream in binary mode"
+        )));
+    }
+    let py = data.py();
+    // SAFETY: new references
+    let copied = unsafe {
+        made(py, ffi::PyMemoryView_FromObject(data.as_ptr()))
+            .and_then(|view| made(py, ffi::PyBytes_FromObject(view.as_ptr())))
+    };
+    match copied {
+        Ok(bytes) => Ok(bytes.into_bound(py).downcast_into()?),
+        Err(error) if error.is_instance_of::<PyTypeError>(py) => Err(PyTypeError::new_err(format!(
+            "{what} takes bytes, or another object with a buffer, not {}",
+            data.get_type().name()?
+        ))),
+        Err(error) => Err(error),
+    }
+}
+
+/// The bytes of a `str` in an encoding, both named by texts that end in NUL.
+pub fn encoded<'py>(
+    text: &Bound<'py, PyString>,
+    encoding: &'static str,
+    errors: &'static str,
+) -> PyResult<Bound<'py, PyBytes>> {
+    debug_assert!(encoding.ends_with('\0') && errors.ends_with('\0'));
+    let (encoding, errors) = (encoding.as_ptr().cast(), errors.as_ptr().cast());
+    // SAFETY: a `str`, texts that end in NUL, and a new reference
+    let made = unsafe {
+        made(text.py(), ffi::PyUnicode_AsEncodedString(text.as_ptr(), encoding, errors))?
+    };
+    Ok(made.into_bound(text.py()).downcast_into()?)
+}
+
+/// Whether this is a `str` or `bytes`, and of no class made from them: then it can be returned as it is.
+pub fn is_plain(data: &Bound<'_, PyAny>) -> bool {
+    data.is_exact_instance_of::<PyBytes>() || data.is_exact_instance_of::<PyString>()
+}
+
+/// The error of memory that was refused, which needs none itself.
+pub fn no_memory(py: Python<'_>) -> PyErr {
+    // SAFETY: the lock is held
+    unsafe { ffi::PyErr_NoMemory() };
+    PyErr::fetch(py)
+}
+
+/// The owner of a new object.
+///
+/// # Safety
+///
+/// The pointer is a new reference, or null if Python has set an error.
+unsafe fn made(py: Python<'_>, object: *mut ffi::PyObject) -> PyResult<PyObject> {
+    unsafe { PyObject::from_owned_ptr_or_err(py, object) }
+}
+
+fn size(length: usize) -> ffi::Py_ssize_t {
+    // no slice is longer than `isize::MAX`
+    length as ffi::Py_ssize_t
+}
+
+/// A `str` of text in UTF-8, which Python checks.
+pub fn text(py: Python<'_>, utf8: &[u8]) -> PyResult<PyObject> {
+    decoded(py, utf8, "strict\0")
+}
+
+/// A `str` of UTF-8, in which errors are treated as a text says that ends in NUL.
+pub fn decoded(py: Python<'_>, utf8: &[u8], errors: &'static str) -> PyResult<PyObject> {
+    debug_assert!(errors.ends_with('\0'));
+    let (place, errors) = (utf8.as_ptr().cast(), errors.as_ptr().cast());
+    // SAFETY: the bytes are those of a slice, and the text ends in NUL
+    unsafe { made(py, ffi::PyUnicode_DecodeUTF8(place, size(utf8.len()), errors)) }
+}
+
+pub fn letter(py: Python<'_>, byte: u8) -> PyResult<PyObject> {
+    text(py, char::from(byte).encode_utf8(&mut [0; 4]).as_bytes())
+}
+
+pub fn bytes(py: Python<'_>, content: &[u8]) -> PyResult<PyObject> {
+    // SAFETY: the bytes are those of a slice
+    unsafe { made(py, ffi::PyBytes_FromStringAndSize(content.as_ptr().cast(), size(content.len()))) }
+}
+
+pub fn number(py: Python<'_>, value: i64) -> PyResult<PyObject> {
+    // SAFETY: the lock is held
+    unsafe { made(py, ffi::PyLong_FromLongLong(value)) }
+}
+
+pub fn real(py: Python<'_>, value: f64) -> PyResult<PyObject> {
+    // SAFETY: the lock is held
+    unsafe { made(py, ffi::PyFloat_FromDouble(value)) }
+}
+
+pub fn flag(py: Python<'_>, value: bool) -> PyObject {
+    PyBool::new_bound(py, value).to_owned().into_any().unbind()
+}
+
+/// A tuple of as many values.
+pub fn tuple(
+    py: Python<'_>,
+    count: usize,
+    values: impl Iterator<Item = PyResult<PyObject>>,
+) -> PyResult<PyObject> {
+    // SAFETY: a new tuple, in which each place is set once
+    unsafe {
+        let made = made(py, ffi::PyTuple_New(size(count)))?;
+        for (place, value) in values.take(count).enumerate() {
+            ffi::PyTuple_SetItem(made.as_ptr(), size(place), value?.into_ptr());
+        }
+        Ok(made)
+    }
+}
+
+/// A new list.
+pub fn list(py: Python<'_>) -> PyResult<Bound<'_, PyList>> {
+    // SAFETY: a new list
+    let made = unsafe { made(py, ffi::PyList_New(0))? };
+    Ok(made.into_bound(py).downcast_into()?)
+}
+
+pub fn append(list: &Bound<'_, PyList>, value: PyObject) -> PyResult<()> {
+    let value = value.into_ptr();
+    // SAFETY: a list, which makes a reference of its own, and an object, whose reference ends here; a drop asks first whether the lock
+    // is held
+    let done = unsafe {
+        let done = ffi::PyList_Append(list.as_ptr(), value);
+        ffi::Py_DECREF(value);
+        done
+    };
+    match done {
+        0 => Ok(()),
+        _ => Err(PyErr::fetch(list.py())),
+    }
+}
+
+/// A class of named tuples.
+pub struct Class(Py<PyType>);
+
+impl Class {
+    /// Looks a class up, which must be a tuple and no more.
+    pub fn of(module: &Bound<'_, PyModule>, name: &str) -> PyResult<Self> {
+        let class = module.getattr(name)?.downcast_into::<PyType>()?;
+        let tuple = PyTuple::type_object_bound(class.py());
+        let size = class.getattr("__basicsize__")?;
+        if !class.is_subclass(&tuple)? || size.gt(tuple.getattr("__basicsize__")?)? {
+            return Err(PyTypeError::new_err(format!("{name} isn't a named tuple")));
+        }
+        Ok(Class(class.unbind()))
+    }
+
+    pub fn is(&self, other: &Bound<'_, PyAny>) -> bool {
+        self.0.is(other)
+    }
+
+    /// Makes a tuple of values.
+    #[inline]
+    pub fn make<const N: usize>(&self, py: Python<'_>, values: [PyObject; N]) -> PyResult<PyObject> {
+        self.make_of(py, N, values.into_iter().map(Ok))
+    }
+
+    /// Makes a tuple of as many values.
+    #[inline]
+    pub fn make_of(
+        &self,
+        py: Python<'_>,
+        count: usize,
+        values: impl Iterator<Item = PyResult<PyObject>>,
+    ) -> PyResult<PyObject> {
+        // SAFETY: the class has the layout of a tuple, of which its allocator makes one with as many places; each is set once, or
+        // stays null if a value can't be made, which nothing but the deallocator sees
+        unsafe {
+            let class = self.0.as_ptr().cast::<ffi::PyTypeObject>();
+            let made = made(py, ffi::PyType_GenericAlloc(class, size(count)))?;
+            // what it holds is in no cycle, so the collector needn't look at it
+            ffi::PyObject_GC_UnTrack(made.as_ptr().cast());
+            for (place, value) in values.take(count).enumerate() {
+                ffi::PyTuple_SetItem(made.as_ptr(), size(place), value?.into_ptr());
+            }
+            Ok(made)
+        }
+    }
+}

@@ -1,0 +1,233 @@
+//! Texts without sequences.
+
+use crate::objects::{
+    borrowed, bytes, bytes_of, decoded, encoded, is_plain, no_memory, run, text, tuple,
+};
+use crate::parser::Limited;
+use pyo3::exceptions::{PyUnicodeEncodeError, PyValueError};
+use pyo3::prelude::*;
+use pyo3::types::PyString;
+use std::borrow::Cow;
+use std::collections::TryReserveError;
+use vte::{Perform, PerformText};
+
+/// What is shown. Nothing is copied as long as it is the front of the source.
+struct Shown<'a> {
+    source: &'a [u8],
+    same: usize,
+    text: Vec<u8>,
+    refused: Option<TryReserveError>,
+}
+
+impl<'a> Shown<'a> {
+    fn new(source: &'a [u8]) -> Self {
+        Shown { source, same: 0, text: Vec::new(), refused: None }
+    }
+
+    #[inline]
+    fn add(&mut self, more: &[u8]) {
+        if self.text.is_empty() && self.source[self.same..].starts_with(more) {
+            self.same += more.len();
+        } else if self.refused.is_none() {
+            self.refused = self.push(more).err();
+        }
+    }
+
+    fn push(&mut self, more: &[u8]) -> Result<(), TryReserveError> {
+        if self.text.is_empty() {
+            self.text.try_reserve(self.source.len() + more.len())?;
+            self.text.extend_from_slice(&self.source[..self.same]);
+        }
+        self.text.try_reserve(more.len())?;
+        self.text.extend_from_slice(more);
+        Ok(())
+    }
+
+    fn all(self) -> Result<Cow<'a, [u8]>, TryReserveError> {
+        match self.refused {
+            Some(refused) => Err(refused),
+            None if self.text.is_empty() => Ok(Cow::Borrowed(&self.source[..self.same])),
+            None => Ok(Cow::Owned(self.text)),
+        }
+    }
+}
+
+impl Perform for Shown<'_> {
+    fn print(&mut self, c: char) {
+        self.add(c.encode_utf8(&mut [0; 4]).as_bytes());
+    }
+
+    fn execute(&mut self, byte: u8) {
+        if matches!(byte, b'\t' | b'\n' | b'\r') {
+            self.add(&[byte]);
+        }
+    }
+}
+
+impl PerformText for Shown<'_> {
+    fn keeps_layout(&self) -> bool {
+        true
+    }
+
+    fn print_text(&mut self, text: &str) {
+        self.add(text.as_bytes());
+    }
+
+    fn put_slice(&mut self, _: &[u8]) {}
+}
+
+/// The text of more of a stream.
+fn shown<'a>(parser: &mut Limited, source: &'a [u8]) -> Result<Cow<'a, [u8]>, TryReserveError> {
+    let mut shown = Shown::new(source);
+    parser.get().advance_text(&mut shown, source);
+    shown.all()
+}
+
+/// Takes the character or the control that an advance to a run performs before it.
+#[derive(Default)]
+struct Single(Option<char>);
+
+impl Perform for Single {
+    fn print(&mut self, c: char) {
+        self.0 = Some(c);
+    }
+
+    fn execute(&mut self, byte: u8) {
+        self.0 = matches!(byte, b'\t' | b'\n' | b'\r').then(|| char::from(byte));
+    }
+
+    fn terminated(&self) -> bool {
+        self.0.is_some()
+    }
+}
+
+/// The text of a whole stream, with malformed bytes as they are.
+fn shown_with_bytes(source: &[u8]) -> Result<Cow<'_, [u8]>, TryReserveError> {
+    let (mut parser, mut shown, mut at) = (Limited::new(), Shown::new(source), 0);
+    while at < source.len() {
+        let mut single = Single::default();
+        let run = parser.get().advance_to_run(&mut single, &source[at..]);
+        match single.0 {
+            // a well-formed one comes in a run
+            Some(char::REPLACEMENT_CHARACTER) => shown.add(malformed_end(&source[at..at + run.start])),
+            Some(c) => shown.add(c.encode_utf8(&mut [0; 4]).as_bytes()),
+            None => {}
+        }
+        shown.add(run.text.as_bytes());
+        at += run.end();
+    }
+    shown.all()
+}
+
+/// The malformed bytes at the end: the front of a character, or one byte.
+fn malformed_end(bytes: &[u8]) -> &[u8] {
+    let ends = (1..=bytes.len().min(3)).rev().map(|count| &bytes[bytes.len() - count..]);
+    let is_front = |end: &&[u8]| matches!(std::str::from_utf8(end), Err(error) if error.valid_up_to() == 0 && error.error_len().is_none());
+    ends.clone().find(is_front).unwrap_or(&bytes[bytes.len() - 1..])
+}
+
+/// The UTF-8 of a `str`, with a replacement character for each surrogate.
+fn without_surrogates(data: &Bound<'_, PyString>) -> PyResult<Vec<u8>> {
+    let codes = encoded(data, "utf-32-le\0", "surrogatepass\0")?;
+    let codes = codes.as_bytes();
+    let mut made = Vec::new();
+    // no character has more bytes in UTF-8 than in UTF-32
+    made.try_reserve(codes.len()).map_err(|_| no_memory(data.py()))?;
+    for code in codes.chunks_exact(4) {
+        let code = u32::from_le_bytes([code[0], code[1], code[2], code[3]]);
+        let c = char::from_u32(code).unwrap_or(char::REPLACEMENT_CHARACTER);
+        made.extend_from_slice(c.encode_utf8(&mut [0; 4]).as_bytes());
+    }
+    Ok(made)
+}
+
+/// The text of a `str` or bytes by a function of bytes.
+fn strip_by<F>(py: Python<'_>, data: &Bound<'_, PyAny>, read: F) -> PyResult<PyObject>
+where
+    F: for<'a> FnOnce(&'a [u8]) -> Result<Cow<'a, [u8]>, TryReserveError> + Send,
+{
+    let (of_text, of_bytes);
+    let (source, is_text, is_itself) = match data.downcast::<PyString>() {
+        Ok(data) => match data.to_str() {
+            Ok(utf8) => (utf8.as_bytes(), true, true),
+            Err(error) if error.is_instance_of::<PyUnicodeEncodeError>(py) => {
+                of_text = without_surrogates(data)?;
+                (of_text.as_slice(), true, false)
+            }
+            Err(error) => return Err(error),
+        },
+        Err(_) => {
+            of_bytes = bytes_of(data, "strip")?;
+            (of_bytes.as_bytes(), false, true)
+        }
+    };
+    let shown = run(py, source.len(), || read(source)).map_err(|_| no_memory(py))?;
+    let is_all = matches!(&shown, Cow::Borrowed(same) if same.len() == source.len());
+    match is_text {
+        _ if is_all && is_itself && is_plain(data) => Ok(data.clone().unbind()),
+        true => text(py, &shown),
+        false => bytes(py, &shown),
+    }
+}
+
+/// The text of a `str` or bytes, in which bytes that aren't UTF-8 stay.
+fn strip_with_bytes(py: Python<'_>, data: &Bound<'_, PyAny>) -> PyResult<PyObject> {
+    let data = match data.downcast::<PyString>() {
+        Ok(data) => encoded(data, "utf-8\0", "surrogateescape\0")?,
+        Err(_) => return strip_by(py, data, shown_with_bytes),
+    };
+    let source = data.as_bytes();
+    let shown = run(py, source.len(), || shown_with_bytes(source)).map_err(|_| no_memory(py))?;
+    decoded(py, &shown, "surrogateescape\0")
+}
+
+/// Returns the text of a whole stream, a `str` or bytes, without its sequences.
+///
+/// For what isn't UTF-8, bytes or a lone surrogate of a `str`, U+FFFD stands in the text. With `errors="surrogateescape"` these bytes
+/// stay, and the surrogates that stand for bytes. An unfinished character at the end gives no text.
+#[pyfunction]
+#[pyo3(signature = (data, errors="replace"))]
+pub fn strip(py: Python<'_>, data: &Bound<'_, PyAny>, errors: &str) -> PyResult<PyObject> {
+    match errors {
+        "replace" => strip_by(py, data, |source| shown(&mut Limited::new(), source)),
+        "surrogateescape" => strip_with_bytes(py, data),
+        _ => Err(PyValueError::new_err(format!("errors must be 'replace' or 'surrogateescape', not {errors:?}"))),
+    }
+}
+
+/// Reads a stream in pieces of any length and returns its text. It can be copied and pickled, for the same version of the package.
+#[pyclass(module = "vte", subclass, weakref)]
+pub struct Stripper(Limited);
+
+#[pymethods]
+impl Stripper {
+    #[new]
+    fn new() -> Self {
+        Stripper(Limited::new())
+    }
+
+    fn __repr__(slf: &Bound<'_, Self>) -> PyResult<PyObject> {
+        text(slf.py(), b"vte.Stripper()")
+    }
+
+    /// Reads more of the stream, and returns the text that this adds, without the sequences: characters, HT, LF and CR.
+    ///
+    /// Of a `str` the text is a `str`, and of bytes it is in UTF-8.
+    #[pyo3(signature = (data))]
+    fn strip(slf: &Bound<'_, Self>, data: &Bound<'_, PyAny>) -> PyResult<PyObject> {
+        let mut stripper = borrowed(slf)?;
+        let parser = &mut stripper.0;
+        strip_by(slf.py(), data, |source| shown(parser, source))
+    }
+
+    fn __reduce__(slf: &Bound<'_, Self>) -> PyResult<PyObject> {
+        let (stripper, py) = (borrowed(slf)?, slf.py());
+        let class = slf.get_type().into_any().unbind();
+        tuple(py, 3, [Ok(class), tuple(py, 0, std::iter::empty()), stripper.0.state(py)].into_iter())
+    }
+
+    fn __setstate__(slf: &Bound<'_, Self>, state: &Bound<'_, PyAny>) -> PyResult<()> {
+        borrowed(slf)?.0 = Limited::of_state(state)?;
+        Ok(())
+    }
+}

@@ -1,14 +1,15 @@
 // Tries a parser on events.json: cc run.c my_parser.c && ./a.out [WORD ..] <events.json
 //
-// Each vector is tried as it is, in one piece, and byte by byte. A word is a level, a rule, or a house rule
-// (docs/VECTORS.md): vectors that have it are left out.
+// Each vector is tried as it is, in one piece, and byte by byte. A word is a level, a rule, or a
+// house rule (docs/VECTORS.md): vectors that have it are left out.
 #include <signal.h>
 #include <stdio.h>
 #include <stdlib.h>
 #include <string.h>
 
-void reset(void);                                      // your parser: begins a stream,
-void parse(const unsigned char *bytes, size_t length); // reads a piece, and calls `event` for each line
+// your parser: begins a stream, and reads a piece, and calls `event` for each line
+void reset(void);
+void parse(const unsigned char *bytes, size_t length);
 
 typedef struct {
     char *text;
@@ -19,7 +20,8 @@ static Text row, wanted, told, shown, stream;
 static char id[200];
 
 static void add(Text *to, const char *text, size_t length) {
-    while (to->length + length + 1 > to->room) to->text = realloc(to->text, to->room = 2 * to->room + 99);
+    while (to->length + length + 1 > to->room)
+        to->text = realloc(to->text, to->room = 2 * to->room + 99);
     memcpy(to->text + to->length, text, length);
     to->text[to->length += length] = 0;
 }
@@ -29,7 +31,8 @@ void event(const char *line) {
     add(&told, "\n", 1);
 }
 
-// Appends what a value stands for: a text, to which an end is added, a list of values, or a repetition.
+// Appends what a value stands for: a text, to which an end is added, a list of values, or a
+// repetition.
 static const char *write_out(Text *to, const char *at, const char *end) {
     at += strspn(at, " ,");
     if (*at == '[') {
@@ -50,7 +53,8 @@ static const char *write_out(Text *to, const char *at, const char *end) {
     at = write_out(to, at + strlen("{\"repeat\": "), end);
     size_t length = to->length - before;
     char *once = memcpy(malloc(length + 1), to->text + before, length), *after;
-    for (long times = strtol(strchr(at, ':') + 1, &after, 10); times > 1; times--) add(to, once, length);
+    for (long times = strtol(strchr(at, ':') + 1, &after, 10); times > 1; times--)
+        add(to, once, length);
     free(once);
     return after + 1;
 }
@@ -82,7 +86,8 @@ static int answers(const char *piece, int way) {
     }
     free(hex.text);
     if (way == 1) give(0, stream.length);
-    return told.length == wanted.length && (!told.length || !memcmp(told.text, wanted.text, told.length));
+    return told.length == wanted.length
+        && (told.length == 0 || memcmp(told.text, wanted.text, told.length) == 0);
 }
 
 static void crashed(int number) {
@@ -119,7 +124,8 @@ int main(int count, char **words) {
         for (int way = 0; way < 3; way++) {
             if (answers(strchr(limit, '['), way)) continue;
             add(&told, "", 0), add(&wanted, "", 0), wrong++;
-            printf("wrong: %s: %.300s\ngives\n%.300s\nnot\n%.300s\n", id, shown.text, told.text, wanted.text);
+            printf("wrong: %s: %.300s\n", id, shown.text);
+            printf("gives\n%.300s\nnot\n%.300s\n", told.text, wanted.text);
             break;
         }
     }

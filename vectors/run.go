@@ -1,8 +1,8 @@
 // Tries a parser on events.json: go run run.go my_parser.go [WORD ..] <events.json
 //
-// my_parser.go, of package main, has parsePieces, a function from pieces to event lines. Each vector is tried
-// as it is, in one piece, and byte by byte. A word is a level, a rule, or a house rule (docs/VECTORS.md):
-// vectors that have it are left out.
+// my_parser.go, of package main, has parsePieces, a function from pieces to event lines. Each
+// vector is tried as it is, in one piece, and byte by byte. A word is a level, a rule, or a house rule
+// (docs/VECTORS.md): vectors that have it are left out.
 package main
 
 import (
@@ -50,8 +50,9 @@ func answer(pieces [][]byte) (told string) {
 func isRight(v vector, wanted string, pieces [][]byte) bool {
 	told := answer(pieces)
 	if told != wanted {
-		fmt.Printf("%s: %.300s gives %.300q, not %.300q (%s: %s)\n", v.ID, fmt.Sprintf("%x", pieces), told,
-			wanted, v.Level, v.Rules)
+		given := fmt.Sprintf("%x", pieces)
+		fmt.Printf("%s: %.300s gives %.300q, not %.300q (%s: %s)\n", v.ID, given, told, wanted,
+			v.Level, v.Rules)
 	}
 	return told == wanted
 }
@@ -81,7 +82,8 @@ func main() {
 			single = append(single, stream[i:i+1])
 		}
 		wanted := writtenOut(v.Events, "\n")
-		if !(isRight(v, wanted, cut) && isRight(v, wanted, [][]byte{stream}) && isRight(v, wanted, single)) {
+		joined := [][]byte{stream}
+		if !isRight(v, wanted, cut) || !isRight(v, wanted, joined) || !isRight(v, wanted, single) {
 			wrong++
 		}
 	}

@@ -1,8 +1,8 @@
 // Tries a parser on events.json: node run.js MY_PARSER.js [WORD ..]
 //
-// MY_PARSER.js exports a function from pieces, which are buffers, to event lines. Each vector is tried as it
-// is, in one piece, and byte by byte. A word is a level, a rule, or a house rule (docs/VECTORS.md): vectors
-// that have it are left out.
+// MY_PARSER.js exports a function from pieces, which are buffers, to event lines. Each vector is
+// tried as it is, in one piece, and byte by byte. A word is a level, a rule, or a house rule
+// (docs/VECTORS.md): vectors that have it are left out.
 const fs = require("fs");
 const path = require("path");
 const parsePieces = require(path.resolve(process.argv[2]));

@@ -1,9 +1,9 @@
 #!/usr/bin/env python3
 """Tries a parser on events.json: run.py [WORD ..]
 
-Import it here as `parse_pieces`, a function from pieces to event lines. Each vector is tried as it is, in
-one piece, and byte by byte. A word is a level, a rule, or a house rule (docs/VECTORS.md): vectors that have
-it are left out.
+Import it here as `parse_pieces`, a function from pieces to event lines. Each vector is tried as it
+is, in one piece, and byte by byte. A word is a level, a rule, or a house rule (docs/VECTORS.md):
+vectors that have it are left out.
 """
 import json
 import sys
@@ -19,7 +19,8 @@ def written_out(value, end=""):
         return "".join(written_out(item, end) for item in value)
     if isinstance(value, dict):
         is_line = "line" in value
-        return written_out(value["line"]) + end if is_line else (value["repeat"] + end) * value["times"]
+        text = written_out(value["line"]) if is_line else value["repeat"]
+        return (text + end) * value.get("times", 1)
     return value + end
 
 

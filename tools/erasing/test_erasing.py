@@ -133,6 +133,7 @@ TOLD = [
     (dict(rules={"a/x": [("S<const N: usize>", "S<const N: usize = 7>")]}), "struct S<const N: usize>;", "struct S<const N: usize = 7>;"),
     (dict(dropped={"a/x": ("const N", "fn f")}, added={"a/x": "use crate::N;"}), "/// N.\npub const N: u8 = 1; impl A {\n/// F.\n fn f() {} fn ff() {} }",
      "use crate::N; impl A { fn ff() {} }"),
+    (dict(dropped={"a/x": ("fn f",)}), "const A: u8 = 1; // one\nfn f() {}", "const A: u8 = 1; // one\n"),
     (dict(left_out={"a/x/y"}), "mod y; pub use y::Z; mod z;", "mod z;"),
     (dict(under={"a": {"x": {"B"}}, "a/x": {"y": {"E"}}}), "use c::{A, B, C}; pub use c::{B, E}; struct D; impl D for B {}",
      "use c::{A, C}; #[cfg(x)] use c::B; #[cfg(x)] pub use c::B; #[cfg(y)] pub use c::E; struct D; #[cfg(x)] impl D for B {}"),

@@ -1,4 +1,5 @@
-"""Somebody's program: streams go in, whole or in framed pieces (docs/JUDGE.md), and event lines come back.
+"""Somebody's program: streams go in, whole or in framed pieces (docs/JUDGE.md), and event lines
+come back.
 
 If the program doesn't answer as it should, the last line of its answer is a mark, such as
 `(crash: signal 11)`.
@@ -144,7 +145,8 @@ class Program:
         except subprocess.TimeoutExpired:
             raise Broken(HANG) from None
         if status:
-            raise Broken(f"(crash: signal {-status})" if status < 0 else f"(crash: status {status})")
+            raise Broken(f"(crash: signal {-status})" if status < 0
+                         else f"(crash: status {status})")
 
     def close(self):
         """Ends the guard, and with it all that is left."""

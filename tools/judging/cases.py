@@ -1,4 +1,5 @@
-"""The streams on which a parser is judged: vectors, recorded, random and hostile ones, in pieces."""
+"""The streams on which a parser is judged: vectors, recorded, random and hostile ones, in pieces.
+"""
 import json
 import random
 from pathlib import Path
@@ -43,7 +44,8 @@ def from_recordings(seed):
 
 
 def from_generators(seed, count):
-    """Hostile streams, of all and mostly of text, in turn. One depends on the seed and its number."""
+    """Hostile streams, of all and mostly of text, in turn. One depends on the seed and its number.
+    """
     for number in range(count):
         if number % 2:
             yield Case(f"stream {number} of seed {seed}, mostly text",

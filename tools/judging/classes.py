@@ -1,8 +1,8 @@
 """Classes of differences: which rule a difference is about, and how a stream is freed of a rule.
 
-The class of a difference is the name of a rule, `/`, and the kind of the difference. The rule has `cut:`
-before it if the parser answers rightly as soon as the stream comes whole: then it is the rule of what a
-cut divides.
+The class of a difference is the name of a rule, `/`, and the kind of the difference. The rule has
+`cut:` before it if the parser answers rightly as soon as the stream comes whole: then it is the
+rule of what a cut divides.
 """
 import re
 from bisect import bisect_left, bisect_right
@@ -41,7 +41,8 @@ def is_class(text):
 
 
 def rule_of(name):
-    """The rules of a class: for a cut the one about cuts, then the one of what is cut, if there is one."""
+    """The rules of a class: for a cut the one about cuts, then the one of what is cut, if there is
+    one."""
     rule = name.partition("/")[0]
     rest = rule.replace(CUT_PREFIX, "", 1)
     is_known = rest in RULES or rest in ALONE or rule == BETWEEN
@@ -57,8 +58,8 @@ def level_of(name):
 
 
 def rule_needed(pieces, depends_on_cut, same, kind, house, but=""):
-    """The name of the rule that a case is about that differs after some lines, but not a certain one.
-    It is exact if the case is shrunk."""
+    """The name of the rule that a case is about that differs after some lines, but not a certain
+    one. It is exact if the case is shrunk."""
     steps = steps_of(b"".join(pieces), house)
     if not steps:
         return "text"
@@ -72,12 +73,13 @@ def rule_needed(pieces, depends_on_cut, same, kind, house, but=""):
     last = next((index for index, end in enumerate(ends) if end > same), len(steps) - 1)
     needed = steps[:last + 1] if kind in FIELDS else [
         step for step in steps if "terminator" not in step.rules or step == steps[last]]
-    return most_special({name for step in needed for name in rules_about(step, kind) if name != but})
+    return most_special({name for step in needed for name in rules_about(step, kind)
+                         if name != but})
 
 
 def rules_about(step, kind):
-    """The rules of a step that a kind can be about. What is near a limit is about it, as the case is
-    the smallest."""
+    """The rules of a step that a kind can be about. What is near a limit is about it, as the case
+    is the smallest."""
     names = [name.replace(NEAR, "") for name in step.rules]
     return [name for name in names if kind not in DATA or name not in ENDS]
 
@@ -88,8 +90,8 @@ def filled(pieces):
 
 
 def steps_at_cuts(steps, cuts):
-    """For each cut the index of the smallest step that it divides. What is malformed or unfinished is
-    found to be so after its end."""
+    """For each cut the index of the smallest step that it divides. What is malformed or unfinished
+    is found to be so after its end."""
     found = dict.fromkeys(cuts)
     for index, step in enumerate(steps):
         last = step.end if step.rules[0] in ("malformed", "unfinished") else step.end - 1

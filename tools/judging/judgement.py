@@ -1,4 +1,5 @@
-"""Judges a parser: compares it with the reference, shrinks what differs, and goes on past what is known."""
+"""Judges a parser: compares it with the reference, shrinks what differs, and goes on past what is
+known."""
 import time
 from collections import Counter
 from dataclasses import dataclass, field
@@ -12,8 +13,10 @@ from judging.kinds import FAILURES, differences_of
 from judging.rules import ALONE
 from judging.shrinking import Shrinker, shrunk
 
-# how many differences are shrunk that turn out to be of a class that was found before, and for one rule
-# and kind; one that isn't shrunk, because the kind doesn't show without the other rules, counts a tenth
+# how many differences are shrunk that turn out to be of a class that was found before, and for one
+# rule
+# and kind; one that isn't shrunk, because the kind doesn't show without the other rules, counts a
+# tenth
 MOST_AGAIN, MOST_TRIES = 20, 3
 # how many cases are tried to shrink one
 MOST_CASES = 2000
@@ -30,7 +33,8 @@ PROBE = [b"a"]
 
 @dataclass
 class Finding:
-    """A class of differences: its smallest example, whether it is known, and in how many streams it is."""
+    """A class of differences: its smallest example, whether it is known, and in how many streams it
+    is."""
 
     name: str
     difference: Difference
@@ -199,8 +203,8 @@ class Judge:
             self.find(name, rest, is_new if is_new(rest) else self.difference, size)
 
     def examine_kinds(self, name, difference):
-        """Finds out whether a case differs in ways for which its rules have no class yet, and counts
-        it."""
+        """Finds out whether a case differs in ways for which its rules have no class yet, and
+        counts it."""
         pieces, rules = difference.pieces, self.rules()
         signatures = [(*nearest(pieces, place, rules, self.house), kind)
                       for place, kind in differences_of(*difference[1:3])]
@@ -214,7 +218,8 @@ class Judge:
         self.count(self.class_found(rule, kind))
 
     def class_found(self, rule, kind):
-        """The class for which a difference counts: of the rule and the kind, or the rule's first."""
+        """The class for which a difference counts: of the rule and the kind, or the rule's first.
+        """
         name = f"{rule}/{kind}"
         resolved = name if name in self.result.findings else self.resolved.get((rule, kind))
         of_rule = [it for it, finding in self.result.findings.items() if finding.rule == rule]
@@ -251,7 +256,8 @@ class Judge:
         return difference._replace(before=())
 
     def tell_unsteady(self, name, difference, again):
-        """Tells or counts that a case has different answers: after other streams, or at any time."""
+        """Tells or counts that a case has different answers: after other streams, or at any time.
+        """
         is_told = NOT_DETERMINISTIC in self.result.findings
         after = self.after_others(difference) if difference.before and not is_told else None
         if not self.count(KEPT_STATE if after else NOT_DETERMINISTIC):
@@ -265,7 +271,7 @@ class Judge:
         """The smallest streams of which the last is answered so after the others alone, or None."""
         if KEPT_STATE in self.result.findings:
             return difference
-        tries = iter(range(1, MOST_CASES // 4))
+        tries = iter(range(1, MOST_CASES // 20))
 
         def wrong(streams):
             *before, pieces = streams

@@ -55,8 +55,8 @@ def find_vtlog(given=None):
     proved = TOP / "crates" / "vtlog" / "out" / "vtlog"
     found = built_by_cargo() or (proved if proved.is_file() else shutil.which("vtlog"))
     if not found:
-        raise NoReference("there is no vtlog: give --vtlog PROGRAM, install cargo 1.63 or later, or "
-                          "build it with ./vtlog")
+        raise NoReference("there is no vtlog: give --vtlog PROGRAM, install cargo 1.63 or later, "
+                          "or build it with ./vtlog")
     return str(found)
 
 
@@ -68,7 +68,8 @@ def built_by_cargo():
         return program
     if not shutil.which("cargo"):
         return None
-    words = ["cargo", "build", "--quiet", "--release", "--locked", "--target-dir", CARGO_CRATE / "target",
+    words = ["cargo", "build", "--quiet", "--release", "--locked", "--target-dir",
+             CARGO_CRATE / "target",
              "--manifest-path", CARGO_CRATE / "Cargo.toml"]
     for more in (["--offline"], []):
         done = subprocess.run([*words, *more], stdin=subprocess.DEVNULL, capture_output=True)

@@ -13,7 +13,8 @@ def runs_of(piece):
 
 
 def shown_bytes(pieces):
-    """The pieces in hex, with `|` at each cut and `*` after a byte that is repeated, as --case reads."""
+    """The pieces in hex, with `|` at each cut and `*` after a byte that is repeated, as --case
+    reads."""
     return " | ".join(" ".join(f"{byte:02x}" + f"*{times}" * (times > 1)
                                for byte, times in runs_of(piece)) for piece in pieces)
 
@@ -37,8 +38,10 @@ def case_shown(text):
 
 
 def shown_text(pieces):
-    """The pieces: text as it is, controls by their names, and other bytes in hex, as in `ESC ] <80> BEL`."""
-    names = {0x07: "BEL", 0x0A: "LF", 0x0D: "CR", 0x18: "CAN", 0x1A: "SUB", 0x1B: "ESC", 0x20: "blank"}
+    """The pieces: text as it is, controls by their names, and other bytes in hex, as in `ESC ] <80>
+    BEL`."""
+    names = {0x07: "BEL", 0x0A: "LF", 0x0D: "CR", 0x18: "CAN", 0x1A: "SUB", 0x1B: "ESC",
+             0x20: "blank"}
     words, text = [], ""
     for piece in pieces:
         for byte, times in runs_of(piece):
@@ -67,7 +70,8 @@ def shown_line(line, at=0):
 
 
 def shown_answers(one, other):
-    """Both answers as they are shown: from their first difference on if they or its lines are long."""
+    """Both answers as they are shown: from their first difference on if they or its lines are long.
+    """
     same = first_difference(one, other)
     longest = max([len(line) for line in one[same:same + 1] + other[same:same + 1]], default=0)
     if max(len(one), len(other)) > MOST_LINES or longest > LONGEST:
@@ -106,11 +110,13 @@ def shown_sum(result, seed):
         for finding in sorted(result.findings.values(), key=lambda each: -each.streams):
             size = sum(map(len, finding.difference.pieces))
             limit = f" (in {finding.allowed})" if finding.allowed is not None else ""
-            lines.append(f"{finding.name:{width}}  {level_of(finding.name):7}  {finding.streams:7}  "
-                         f"{size:8}  {'yes' if finding.is_known else 'no'}{limit}")
+            level = level_of(finding.name)
+            lines.append(f"{finding.name:{width}}  {level:7}  {finding.streams:7}  {size:8}  "
+                         f"{'yes' if finding.is_known else 'no'}{limit}")
     if result.unexplained:
         lines.append(f"{result.unexplained} of the streams that differ weren't assigned to a class")
     if result.ended_early:
         lines.append(f"ended early: {result.ended_early}")
     return "\n".join([*lines, f"{result.streams} streams, {result.different} differ; "
-                      f"{len(result.findings)} classes, {len(result.new())} of them new; seed {seed}"])
+                      f"{len(result.findings)} classes, {len(result.new())} of them new; "
+                      f"seed {seed}"])

@@ -1,7 +1,9 @@
-"""The rules by which a stream has its events: what each says, where, what binds a parser, and the source.
+"""The rules by which a stream has its events: what each says, where, what binds a parser, and the
+source.
 
-The name of a rule is the first half of the name of a class. rules.json goes from general rules to special
-ones: a difference belongs to the most special rule that its smallest stream needs. The levels:
+The name of a rule is the first half of the name of a class. rules.json goes from general rules to
+special ones: a difference belongs to the most special rule that its smallest stream needs. The
+levels:
 
 - must: a standard says shall or must, in the sentence that the source quotes
 - should: a standard or the VT500 parser, which terminals follow, has it so
@@ -37,7 +39,8 @@ CUT = Rule("The events of a stream don't depend on how it is cut into pieces.",
 ALONE = {
     "not-deterministic": Rule("A stream has the same events each time.", "events", MUST,
                               "each run must give the same"),
-    "kept-state": Rule("The events of a stream don't depend on the streams before it.", "events", MUST,
+    "kept-state": Rule("The events of a stream don't depend on the streams before it.", "events",
+                       MUST,
                        "docs/JUDGE.md: each stream must have a new parser"),
     "protocol": Rule("A program prints one line per event, and nothing else.",
                      "events-and-their-lines", MUST, "docs/JUDGE.md: it must answer each stream")}

@@ -1,4 +1,5 @@
-"""Shrinks a case that differs: by delta debugging, first over its cuts, then over its bytes, until nothing can go."""
+"""Shrinks a case that differs: by delta debugging, first over its cuts, then over its bytes, until
+nothing can go."""
 import concurrent.futures
 from itertools import accumulate
 
@@ -6,14 +7,16 @@ from generating.random_text import cut_at
 
 # in longer cases all bytes of a value are replaced at once
 SHORT = 40
-# kinds of bytes by their last one, and the bytes tried instead of others of the kind, the plainest first
+# kinds of bytes by their last one, and the bytes tried instead of others of the kind, the plainest
+# first
 PLAIN = [(0x1A, b"a\x0a\x07\x18"), (0x1B, b""), (0x1F, b"a\x0a"), (0x7E, b"a1;mX"), (0x7F, b"a"),
          (0x9F, b"a\x80"), (0xBF, b"a\xa0"), (0xC1, b"a"), (0xDF, b"a\xc3"), (0xEF, b"a\xe4"),
          (0xF4, b"a\xf0"), (0xFF, b"a\xff")]
 
 
 def shrunk(pieces, differs, at_once=1):
-    """The smallest case found that still differs. `differs` says whether a case does; so many cases are tried at once."""
+    """The smallest case found that still differs. `differs` says whether a case does; so many cases
+    are tried at once."""
     shrinker = Shrinker(differs, at_once)
     case = [piece for piece in pieces if piece]
     case = shrinker.without_ends(case if shrinker.differs(case) else pieces)
@@ -49,14 +52,16 @@ class Shrinker:
         for start in range(0, len(choices), self.at_once):
             some = choices[start:start + self.at_once]
             cases = map(case_of, some)
-            answers = self.threads.map(self.differs, cases) if self.at_once > 1 else map(self.differs, cases)
+            answers = self.threads.map(self.differs,
+                                       cases) if self.at_once > 1 else map(self.differs, cases)
             found = next((choice for choice, answer in zip(some, answers) if answer), None)
             if found is not None:
                 return found
         return None
 
     def without_ends(self, pieces):
-        """The case without its end and its beginning, as far as halving shows that they don't matter."""
+        """The case without its end and its beginning, as far as halving shows that they don't
+        matter."""
         stream, cuts = b"".join(pieces), cuts_of(pieces)
 
         def part(start, end):
@@ -102,7 +107,8 @@ class Shrinker:
         """Replaces bytes by plainer ones: one by one, or in a long case all that are the same."""
         if sum(map(len, pieces)) > SHORT:
             for byte in sorted(set(b"".join(pieces))):
-                choices = [[piece.replace(bytes([byte]), bytes([plain])) for piece in pieces] for plain in plainer(byte)]
+                choices = [[piece.replace(bytes([byte]), bytes([plain])) for piece in pieces]
+                           for plain in plainer(byte)]
                 pieces = self.first(choices, lambda case: case) or pieces
             return pieces
         for index, piece in enumerate(pieces):

@@ -1,7 +1,7 @@
 //! Checks what is promised of the held bytes.
 
-use test_lines::TestTimeout;
 use std::alloc::Allocator;
+use test_lines::TestTimeout;
 use vte::ansi::Processor;
 use vte::{Params, Parser, Perform};
 
@@ -11,7 +11,8 @@ const BEGIN_UPDATE: &[u8] = b"\x1b[?2026h";
 
 const END_UPDATE: &[u8] = b"\x1b[?2026l";
 
-/// Returns whether a processor may hold the last of the bytes that it was given: not too many, and no end of an update.
+/// Returns whether a processor may hold the last of the bytes that it was given: not too many, and
+/// no end of an update.
 pub(crate) fn is_within_limits<A: Allocator>(
     processor: &Processor<TestTimeout, A>,
     given: &[u8],
@@ -24,7 +25,8 @@ pub(crate) fn is_within_limits<A: Allocator>(
     count <= MOST_HELD && !held.windows(8).any(|window| window == END_UPDATE)
 }
 
-/// Returns whether bytes are held only inside an update, for a timeout that is pending from `set_timeout` to `clear_timeout`.
+/// Returns whether bytes are held only inside an update, for a timeout that is pending from
+/// `set_timeout` to `clear_timeout`.
 pub(crate) fn is_inside_an_update<A: Allocator>(
     processor: &Processor<TestTimeout, A>,
     given: &[u8],

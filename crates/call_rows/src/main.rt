@@ -1,5 +1,6 @@
-//! Shows which handler calls streams make. It reads rows from standard input, gives the stream of each row to a `Processor`,
-//! and writes the name of each row that made other calls than it says, and finally the number of rows.
+//! Shows which handler calls streams make. It reads rows from standard input, gives the stream of
+//! each row to a `Processor`, and writes the name of each row that made other calls than it says,
+//! and finally the number of rows.
 //!
 //! `row` describes the form of the rows. `tools/make_call_rows.py` writes them.
 #![tactic(auto)]

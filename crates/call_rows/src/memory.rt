@@ -1,9 +1,9 @@
 //! Processors and handlers with as much memory as they need, or with only what they allocate first.
 
-use test_lines::{Answers, CallLines, TestTimeout};
 use linked_list_allocator::LocalHeap;
 use std::alloc::{Allocator, Global};
 use std::io::{self, ErrorKind};
+use test_lines::{Answers, CallLines, TestTimeout};
 use vte::ansi::Processor;
 
 /// The size of the buffer that a processor allocates.

@@ -3,11 +3,11 @@ ghost use Rattle.std.specs.Prelude.{◌<◌};
 
 use crate::row::Row;
 use crate::streams;
-use test_lines::CallLines;
 use std::alloc::Global;
 use std::cell::RefCell;
 use std::io::{self, ErrorKind};
 use std::time::Duration;
+use test_lines::CallLines;
 use vte::ansi::{ByCall, HandlerCall, Processor, TakeCall, Timeout};
 
 /// Streams are given in pieces shorter than this.

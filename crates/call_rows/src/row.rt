@@ -1,7 +1,7 @@
 //! Rows, as the program reads them: blocks of lines, separated by empty lines.
 //!
-//! The first line of a block is its kind and its name: `stream`, `stops`, `order` or `run`. The other lines are acts on one
-//! processor, each followed by its results:
+//! The first line of a block is its kind and its name: `stream`, `stops`, `order` or `run`. The
+//! other lines are acts on one processor, each followed by its results:
 //!
 //! | line | meaning |
 //! |---|---|
@@ -13,11 +13,11 @@
 //! | `count N` | the timeout was set N times since it was last cleared |
 //! | `sets N`, `clears N` | the act has set, or cleared, the timeout N times |
 
-use test_lines::Answers;
 use std::alloc::Global;
 use std::fmt::Write;
 use std::io::{self, ErrorKind};
 use std::str::Lines;
+use test_lines::Answers;
 
 /// What a row shows.
 #[derive(Clone, Copy)]
@@ -26,7 +26,8 @@ pub(crate) enum Kind {
     Stream,
     /// The same for prints and attributes only, with a stop at the cut.
     Stops,
-    /// Its bytes make its calls of the handler and the timeout, in this order, in pieces of every length.
+    /// Its bytes make its calls of the handler and the timeout, in this order, in pieces of every
+    /// length.
     Order,
     /// Each act makes the calls that follow it.
     Run,

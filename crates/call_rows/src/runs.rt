@@ -4,12 +4,13 @@ use crate::held::{is_inside_an_update, is_within_limits};
 use crate::memory::{Memory, new_processor};
 use crate::row::{Line, Row};
 use crate::streams::text_of;
-use test_lines::{Answers, CallLines, TestTimeout};
 use std::alloc::{Allocator, Global};
 use std::io;
+use test_lines::{Answers, CallLines, TestTimeout};
 use vte::ansi::{ByCall, Processor};
 
-/// Returns whether each act of a row has its results, with memory and without any beyond the processor's buffer.
+/// Returns whether each act of a row has its results, with memory and without any beyond the
+/// processor's buffer.
 pub(crate) fn is_shown(alloc: Global, row: &Row<'_>) -> io::Result<bool> {
     let processor = new_processor(alloc, row.answers()?)?;
     let run = Run::new(alloc, processor, CallLines::new(alloc));

@@ -4,16 +4,16 @@ ghost use Rattle.std.specs.Prelude.{◌<◌};
 use crate::held::{is_inside_an_update, is_within_limits};
 use crate::memory::{Memory, new_processor};
 use crate::row::Row;
-use test_lines::{Answers, CallLines, TestTimeout};
 use std::alloc::{Allocator, Global};
 use std::io::{self, ErrorKind};
+use test_lines::{Answers, CallLines, TestTimeout};
 use vte::ansi::{ByCall, Processor};
 
 /// Streams are cut at this many places at most, from their start.
 const MOST_CUT: usize = 2048;
 
-/// Returns whether the bytes of a row make its calls: whole, byte by byte, and cut at every place; and whole and byte by byte
-/// without any memory beyond the processor's buffer.
+/// Returns whether the bytes of a row make its calls: whole, byte by byte, and cut at every place;
+/// and whole and byte by byte without any memory beyond the processor's buffer.
 pub(crate) fn is_shown(alloc: Global, row: &Row<'_>) -> io::Result<bool> {
     let (stream, calls) = (row.bytes(alloc)?, row.calls(alloc)?);
     let (stream, calls) = (stream.as_slice(), calls.as_str());
@@ -37,8 +37,8 @@ pub(crate) fn is_shown(alloc: Global, row: &Row<'_>) -> io::Result<bool> {
     Ok(same)
 }
 
-/// Returns whether the bytes of a row make its prints and attributes, cut at every place with a stop there, and the promises about
-/// held bytes are kept after each call.
+/// Returns whether the bytes of a row make its prints and attributes, cut at every place with a
+/// stop there, and the promises about held bytes are kept after each call.
 pub(crate) fn is_shown_with_stops(alloc: Global, row: &Row<'_>) -> io::Result<bool> {
     let (stream, calls) = (row.bytes(alloc)?, row.calls(alloc)?);
     let mut same = true;

@@ -5,9 +5,9 @@ mod rows;
 use crate::feed::feed_with_stop;
 use crate::rows::{LinesRow, tables};
 use crate::tests::joined_lines;
-use test_lines::{EventLines, Stop};
 use std::process::Abort;
 use std::test::Fail;
+use test_lines::{EventLines, Stop};
 use vte_core::{Parser, Perform};
 
 /// Calls of a parser that has read `behind`, with a performer that asks for a stop at `stop`.

@@ -36,7 +36,10 @@ impl Events {
 
     /// Writes and clears the lines. The next stream has a new parser.
     pub(crate) fn end<W: Write>(&mut self, output: &mut W) -> io::Result<()> {
-        let text = self.lines.text().ok_or(io::Error::from(ErrorKind::OutOfMemory))?;
+        let text = self
+            .lines
+            .text()
+            .ok_or(io::Error::from(ErrorKind::OutOfMemory))?;
         output.write_all(text.as_bytes())?;
         self.lines.clear();
         self.parser = Parser::new_with_size();

@@ -1,4 +1,5 @@
-//! Feeds streams to a parser, in pieces, character by character or in runs of text, or with an early stop.
+//! Feeds streams to a parser, in pieces, character by character or in runs of text, or with an
+//! early stop.
 
 use test_lines::EventLines;
 use vte_core::Parser;
@@ -35,7 +36,8 @@ fn feed<const N: usize>(
     }
 }
 
-/// Feeds the pieces to a new parser whose buffer has `size` bytes. Returns false for a size that isn't listed here.
+/// Feeds the pieces to a new parser whose buffer has `size` bytes. Returns false for a size that
+/// isn't listed here.
 pub(crate) fn feed_new(size: usize, lines: &mut EventLines, text: Text, pieces: &[&[u8]]) -> bool {
     match size {
         0 => feed(&mut Parser::<0>::new_with_size(), lines, text, pieces),
@@ -56,7 +58,8 @@ fn stop<const N: usize>(parser: &mut Parser<N>, lines: &mut EventLines, bytes: &
     parser.advance(lines, &bytes[read..]);
 }
 
-/// Does this with a new parser whose buffer has `size` bytes. Returns false for a size that isn't listed here.
+/// Does this with a new parser whose buffer has `size` bytes. Returns false for a size that isn't
+/// listed here.
 pub(crate) fn feed_with_stop(size: usize, lines: &mut EventLines, bytes: &[u8]) -> bool {
     match size {
         0 => stop(&mut Parser::<0>::new_with_size(), lines, bytes),

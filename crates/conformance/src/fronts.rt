@@ -2,9 +2,9 @@
 
 use crate::feed::{Text, feed_new};
 use crate::rows::{LinesRow, tables};
-use test_lines::{EventLines, Stop};
 use std::process::Abort;
 use std::test::Fail;
+use test_lines::{EventLines, Stop};
 
 /// Streams of at most this many bytes are broken off at every place.
 const BROKEN_OFF: usize = 64;

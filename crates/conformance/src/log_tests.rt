@@ -1,4 +1,5 @@
-//! `run`, `run_text` and their performers: the rows, and streams with their plain text. tools/make_tables.py writes the tables.
+//! `run`, `run_text` and their performers: the rows, and streams with their plain text.
+//! tools/make_tables.py writes the tables.
 
 mod faults;
 mod flushes;
@@ -36,8 +37,8 @@ struct FailingReadRow {
     lines: &'static [&'static str],
 }
 
-/// The stream `front`, `times` times `unit`, and `back`; the number of bytes that a recorder holds after it, and whether a
-/// line was lost.
+/// The stream `front`, `times` times `unit`, and `back`; the number of bytes that a recorder holds
+/// after it, and whether a line was lost.
 struct RecorderRow {
     name: &'static str,
     front: &'static [u8],
@@ -193,7 +194,8 @@ fn run_goes_on_where_the_recorder_stopped(rt: HostRuntime) -> Result<(), Fail> {
     )
 }
 
-/// The recorder also stops at broken characters, and the last character of the piece continues in the next.
+/// The recorder also stops at broken characters, and the last character of the piece continues in
+/// the next.
 #[test]
 fn run_goes_on_inside_a_character(rt: HostRuntime) -> Result<(), Fail> {
     let mut lines = repeated(rt.alloc(), b"print fffd\n", 4095)?;
@@ -224,8 +226,8 @@ fn plain_takes_no_part_of_a_character(rt: HostRuntime) {
     assert!(rt; !plain.lost() && plain.bytes().is_empty());
 }
 
-/// A run that doesn't fit whole is taken character by character: next to 8,190 bytes, `a` and `c` fit, and what has more bytes
-/// doesn't.
+/// A run that doesn't fit whole is taken character by character: next to 8,190 bytes, `a` and `c`
+/// fit, and what has more bytes doesn't.
 #[test]
 fn plain_takes_a_run(rt: HostRuntime) {
     let mut plain = Plain::new();

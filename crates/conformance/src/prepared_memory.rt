@@ -6,7 +6,8 @@ use event_log::{Device, run};
 use std::process::Abort;
 use std::test::Fail;
 
-/// With every allocation refused, a run writes the lines of a row into memory that was allocated before.
+/// With every allocation refused, a run writes the lines of a row into memory that was allocated
+/// before.
 fn assert_written(rt: &(impl Abort + AllocGlobal), row: &LinesRow) -> Result<(), Fail> {
     // The parser of a run has a buffer of 1,024 bytes.
     if row.size != 1024 {

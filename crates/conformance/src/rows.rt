@@ -1,4 +1,5 @@
-//! Rows: streams with the lines of their events, worked out by hand. `tools/make_tables.py` writes the tables.
+//! Rows: streams with the lines of their events, worked out by hand. `tools/make_tables.py` writes
+//! the tables.
 
 mod characters;
 mod cuts;
@@ -9,7 +10,8 @@ mod strings;
 
 use std::alloc::{AllocError, Global};
 
-/// The tables of short streams. No other function names them: each that does costs a proof over the whole table.
+/// The tables of short streams. No other function names them: each that does costs a proof over the
+/// whole table.
 pub(crate) fn tables() -> [&'static [LinesRow]; 5] {
     [
         &first_path::ROWS,

@@ -1,4 +1,5 @@
-//! All text comes in runs: one character or more, and none of them a control, but for line ends and tabs if these are kept.
+//! All text comes in runs: one character or more, and none of them a control, but for line ends and
+//! tabs if these are kept.
 
 use crate::rows::{LinesRow, tables};
 use std::process::Abort;

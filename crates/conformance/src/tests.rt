@@ -2,10 +2,10 @@
 
 use crate::feed::{Text, feed_new, feed_saved};
 use crate::rows::{self, LinesRow, RepeatedBytes, RepeatedText};
-use test_lines::{EventLines, Stop};
 use std::alloc::{AllocError, Global};
 use std::process::Abort;
 use std::test::Fail;
+use test_lines::{EventLines, Stop};
 
 /// Streams of at most this many bytes are cut at every place.
 const CUT_EVERYWHERE: usize = 2048;

@@ -5,10 +5,10 @@ ghost use Rattle.std.specs.Prelude.{◌<◌};
 use crate::rows::{RepeatedBytes, RepeatedText};
 use crate::tests::{repeated_bytes, repeated_text};
 use bumpalo::Bump;
-use test_lines::{EventLines, Stop};
 use std::alloc::Allocator;
 use std::process::Abort;
 use std::test::Fail;
+use test_lines::{EventLines, Stop};
 use vte_core::{LongParser, Refused, Run, Taken};
 
 /// A stream, and the lines of all its events.
@@ -86,7 +86,8 @@ static SHORT_ROWS: [UnlimitedRow; 2] = [
     },
 ];
 
-/// The parser reads all bytes. Tests call this and not `advance`, whose contract would be opened by the proof of each.
+/// The parser reads all bytes. Tests call this and not `advance`, whose contract would be opened by
+/// the proof of each.
 fn assert_read<A: Allocator>(
     rt: &impl Abort,
     name: &str,
@@ -270,7 +271,8 @@ fn text_is_taken_from_the_input(rt: HostRuntime) {
     assert_eq!(rt; lines.text(), Some("osc true 2 32 616263\n"));
 }
 
-/// No run is a control, a malformed sequence or an unfinished character, nor inside a character or a sequence.
+/// No run is a control, a malformed sequence or an unfinished character, nor inside a character or
+/// a sequence.
 #[test]
 fn no_text_is_taken(rt: HostRuntime) {
     for bytes in [

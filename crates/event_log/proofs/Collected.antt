@@ -4,11 +4,13 @@ use Rattle.event_log.proofs.Common.{flat_map-append, drop_all, length-drop, take
 use Rattle.event_log.proofs.Records.{record_of}
 
 pub added_nothing : (stream : List ℕ) → added (Some 1024) stream [] ≡ []
-added_nothing stream = rw append-nil (drop_all (length (events (Some 1024) stream)) (events (Some 1024) stream) (omega arith))
+added_nothing stream =
+    rw append-nil (drop_all (length (events (Some 1024) stream)) (events (Some 1024) stream) (omega arith))
 
 -- what two pieces add
 pub added-append : Grows (Some 1024) → (stream first second : List ℕ)
-    → added (Some 1024) stream (first ++ second) ≡ added (Some 1024) stream first ++ added (Some 1024) (stream ++ first) second
+    → added (Some 1024) stream (first ++ second)
+    ≡ added (Some 1024) stream first ++ added (Some 1024) (stream ++ first) second
 added-append grows stream first second =
     let before = events (Some 1024) stream in
     let parts : events (Some 1024) (stream ++ (first ++ second))
@@ -17,7 +19,8 @@ added-append grows stream first second =
     ∙ grows (stream ++ first) second
     ∙ ap (λ (es : List Event). es ++ added (Some 1024) (stream ++ first) second) (grows stream first)
     ∙ append_assoc before _ _ in
-    ap (drop (length before)) parts ∙ drop-append_seam before (added (Some 1024) stream first ++ added (Some 1024) (stream ++ first) second)
+    ap (drop (length before)) parts
+    ∙ drop-append_seam before (added (Some 1024) stream first ++ added (Some 1024) (stream ++ first) second)
 
 -- before a call, nothing is held, and the whole is the text of what the unread bytes and more add
 pub adds_up_at_first : {text_of : Event → List ℕ} {parser : Parser 1024} (h : HasReadSome parser) (unread : List ℕ)
@@ -33,9 +36,11 @@ pub cut_from : (n : ℕ) (bytes : List ℕ) → take (length bytes - n) (drop n 
 cut_from n bytes = take_all (length bytes - n) (drop n bytes) (omega (arith, length-drop n bytes))
 
 -- a call reported events, whose texts were all taken, and goes on from another stream
-pub kept_by : {text_of : Event → List ℕ} {whole : List ℕ → List ℕ} {unread unread_then : List ℕ} {parser parser_then : Parser 1024} {held held_then : Record}
+pub kept_by : {text_of : Event → List ℕ} {whole : List ℕ → List ℕ} {unread unread_then : List ℕ}
+    {parser parser_then : Parser 1024} {held held_then : Record}
     (events : List Event) (since : List ℕ) → (h : HasKept text_of whole held parser unread)
-    → ((more : List ℕ) → added (Some 1024) h.adds_up.since (unread ++ more) ≡ events ++ added (Some 1024) since (unread_then ++ more))
+    → ((more : List ℕ)
+    → added (Some 1024) h.adds_up.since (unread ++ more) ≡ events ++ added (Some 1024) since (unread_then ++ more))
     → HasRead parser_then since → held_then ≡ record_of (held.bytes ++ flat_map text_of events) false
     → HasKept text_of whole held_then parser_then unread_then
 kept_by {text_of} {unread_then = unread_then} {held = held} events since h goes_on parsed holds = record {
@@ -46,7 +51,8 @@ kept_by {text_of} {unread_then = unread_then} {held = held} events since h goes_
         let behind = flat_map text_of (added (Some 1024) since (unread_then ++ more)) in
         ap (λ (r : Record). r.bytes ++ behind) holds
         ∙ append_assoc held.bytes (flat_map text_of events) behind
-        ∙ ap (λ (t : List ℕ). held.bytes ++ t) (sym (flat_map-append text_of events _) ∙ ap (flat_map text_of) (sym (goes_on more)))
+        ∙ ap (λ (t : List ℕ). held.bytes ++ t)
+        (sym (flat_map-append text_of events _) ∙ ap (flat_map text_of) (sym (goes_on more)))
         ∙ h.adds_up.goes_on more;
   };
   kept = ap (λ (r : Record). r.lost) holds;

@@ -43,7 +43,8 @@ pub three_more : (n : ℕ) → 1000 ≤ n → n < 2 ^ 64
     → decimal n ≡ decimal (n / 1000) ++ (48 + n / 100 % 10) ∷ (48 + n / 10 % 10) ∷ (48 + n % 10) ∷ []
 three_more n high fits = grind (arith, decimal_step, append_assoc)
 
-pub three_digits : (n : ℕ) → 100 ≤ n → n < 1000 → decimal n ≡ (48 + n / 100 % 10) ∷ (48 + n / 10 % 10) ∷ (48 + n % 10) ∷ []
+pub three_digits : (n : ℕ) → 100 ≤ n → n < 1000
+    → decimal n ≡ (48 + n / 100 % 10) ∷ (48 + n / 10 % 10) ∷ (48 + n % 10) ∷ []
 three_digits n high low = grind (arith, decimal_step, two_digits)
 
 -- the fields of pieces, as they are pushed one after another

@@ -14,6 +14,8 @@ entries_checked : entries_match 256 ≡ true
 unfolding hex_byte hex_digit
 entries_checked = refl
 
-pub table_entry : (b : ℕ) → b < 256 → get_or HEX_PAIRS.now (2 * b) 0 ∷ get_or HEX_PAIRS.now (2 * b + 1) 0 ∷ [] ≡ hex_byte b
+pub table_entry : (b : ℕ) → b < 256
+    → get_or HEX_PAIRS.now (2 * b) 0 ∷ get_or HEX_PAIRS.now (2 * b + 1) 0 ∷ [] ≡ hex_byte b
 table_entry =
-    (Decides-below_and (λ b. bytes_eq (entry b) (hex_byte b)) (λ b. entry b ≡ hex_byte b) entries_match (λ b. bytes_eq-Decides _ _) refl (λ _. refl) 256).0 entries_checked
+    (Decides-below_and (λ b. bytes_eq (entry b) (hex_byte b)) (λ b. entry b ≡ hex_byte b) entries_match
+    (λ b. bytes_eq-Decides _ _) refl (λ _. refl) 256).0 entries_checked

@@ -29,7 +29,8 @@ unfolding flag_field
 length_flag_field true = omega arith
 length_flag_field false = omega arith
 
-length_pieces : (pieces : List (List ℕ)) → length (flat_map hex_field pieces) ≤ 2 * length pieces + 2 * length (concat pieces)
+length_pieces : (pieces : List (List ℕ))
+    → length (flat_map hex_field pieces) ≤ 2 * length pieces + 2 * length (concat pieces)
 length_pieces [] = omega arith
 length_pieces (p ∷ pieces) = simp length-append (omega (arith, length_hex_field p, length_pieces pieces))
 
@@ -53,13 +54,15 @@ length_shown groups h = omega (arith, joined groups h.filled h.small, h.few)
     joined : (groups : List (List ℕ)) → All (λ group. 0 < length group) groups → All (All IsSmallNumber) groups
         → length (join_with_byte semicolon (map group_text groups)) ≤ 7 * count_of groups
     joined [] filled small = omega arith
-    joined (x ∷ []) filled small = omega (arith, length_numbers x (All-head (All IsSmallNumber) x [] small), sum_by-cons length x [])
+    joined (x ∷ []) filled small =
+        omega (arith, length_numbers x (All-head (All IsSmallNumber) x [] small), sum_by-cons length x [])
     joined (x ∷ y ∷ groups) filled small =
         let some : 0 < length x = All-head (λ group. 0 < length group) x (y ∷ groups) filled in
         simp length-append (omega (
           arith,
           length_numbers x (All-head (All IsSmallNumber) x (y ∷ groups) small),
-          joined (y ∷ groups) (All-tail (λ group. 0 < length group) x (y ∷ groups) filled) (All-tail (All IsSmallNumber) x (y ∷ groups) small),
+          joined (y ∷ groups) (All-tail (λ group. 0 < length group) x (y ∷ groups) filled)
+              (All-tail (All IsSmallNumber) x (y ∷ groups) small),
           sum_by-cons length x (y ∷ groups),
         ))
 
@@ -73,11 +76,26 @@ length_line : (event : Event) → IsBounded (Some 1024) event → length (line_o
 unfolding line_of hex_byte sequence_fields pieces_fields
 length_line (Print c) h = omega (arith, length_line_of_character c)
 length_line (Hook groups intermediates ignore final) h =
-    simp length-append (omega (arith, length_shown groups h.0, length_hex_field intermediates, length_flag_field ignore, length_hex_character 2 final))
+    simp length-append
+    (omega (
+      arith,
+      length_shown groups h.0,
+      length_hex_field intermediates,
+      length_flag_field ignore,
+      length_hex_character 2 final,
+    ))
 length_line (CsiDispatch groups intermediates ignore final) h =
-    simp length-append (omega (arith, length_shown groups h.0, length_hex_field intermediates, length_flag_field ignore, length_hex_character 2 final))
+    simp length-append
+    (omega (
+      arith,
+      length_shown groups h.0,
+      length_hex_field intermediates,
+      length_flag_field ignore,
+      length_hex_character 2 final,
+    ))
 length_line (OscDispatch pieces bell) h =
-    let count : length (decimal (length pieces)) ≤ 2 = length-decimal-le 2 (length pieces) (omega arith) (omega arith) (omega arith) in
+    let count : length (decimal (length pieces)) ≤ 2 =
+    length-decimal-le 2 (length pieces) (omega arith) (omega arith) (omega arith) in
     simp length-append (omega (arith, length_flag_field bell, length_pieces pieces))
 length_line (EscDispatch intermediates ignore byte) h =
     simp length-append (omega (arith, length_hex_field intermediates, length_flag_field ignore))
@@ -88,7 +106,8 @@ pub lines_are_small : IsSmall line_of
 unfolding line_of hex_byte
 lines_are_small [] h = omega arith
 lines_are_small (event ∷ []) h = simp length-append (omega (arith, length_line event h))
-lines_are_small (event ∷ Print c ∷ []) h = simp length-append (omega (arith, length_line event h.0, length_hex_character 4 c))
+lines_are_small (event ∷ Print c ∷ []) h =
+    simp length-append (omega (arith, length_line event h.0, length_hex_character 4 c))
 lines_are_small (event ∷ Execute byte ∷ []) h = simp length-append (omega (arith, length_line event h.0))
 lines_are_small (event ∷ last ∷ []) h = absurd h.1
 lines_are_small (event ∷ last ∷ more ∷ events) h = absurd h
@@ -120,11 +139,17 @@ at_most_two (event ∷ []) h = omega arith
 at_most_two (event ∷ last ∷ []) h = omega arith
 at_most_two (event ∷ last ∷ more ∷ events) h = absurd h
 
-events_grow_slowly : Grows (Some 1024) → AreBrief → (stream bytes : List ℕ) → length (added (Some 1024) stream bytes) ≤ 2 * length bytes
+events_grow_slowly : Grows (Some 1024) → AreBrief → (stream bytes : List ℕ)
+    → length (added (Some 1024) stream bytes) ≤ 2 * length bytes
 events_grow_slowly grows brief stream [] = rw added_nothing (omega arith)
 events_grow_slowly grows brief stream (b ∷ bytes) =
     rw (added-append grows stream (b ∷ []) bytes) (simp length-append
-    (omega (arith, at_most_two (added (Some 1024) stream (b ∷ [])) (brief stream b), events_grow_slowly grows brief (stream ++ b ∷ []) bytes)))
+    (omega (
+      arith,
+      at_most_two (added (Some 1024) stream (b ∷ [])) (brief stream b),
+      events_grow_slowly grows brief
+          (stream ++ b ∷ []) bytes,
+    )))
 
 -- The text of what bytes add has at most eight bytes for each of them.
 pub text_grows_slowly : Grows (Some 1024) → AreBrief

@@ -8,7 +8,8 @@ use Rattle.event_log.proofs.Collected.{added_nothing, adds_up_at_first}
 
 -- ---- devices whose bytes are known
 
-appended : (after : Option (List ℕ)) (known bytes : List ℕ) → Appends (Some known) after bytes → after ≡ Some (known ++ bytes)
+appended : (after : Option (List ℕ)) (known bytes : List ℕ) → Appends (Some known) after bytes
+    → after ≡ Some (known ++ bytes)
 appended None known bytes h = absurd h
 appended (Some ys) known bytes h = ap Some h
 
@@ -25,16 +26,19 @@ consumed : (after : Option (List ℕ)) (known piece : List ℕ) → Consumes (So
 consumed None known piece h = absurd h
 consumed (Some ys) known piece h = record { rest = ys; told = refl; parts = h }
 
-kept_where_told : (after : Option (List ℕ)) (known : List ℕ) → KeepsWhereTold (Some known) after → IfSome after (λ bytes. bytes ≡ known)
+kept_where_told : (after : Option (List ℕ)) (known : List ℕ) → KeepsWhereTold (Some known) after
+    → IfSome after (λ bytes. bytes ≡ known)
 kept_where_told None known h = tt
 kept_where_told (Some ys) known h = h
 
 -- ---- a piece
 
 -- what was collected is written, and the run goes on with the unread bytes
-pub written_more : {text_of : Event → List ℕ} {whole : List ℕ → List ℕ} {unread unread_then collected : List ℕ} {parser parser_then : Parser 1024}
+pub written_more : {text_of : Event → List ℕ} {whole : List ℕ → List ℕ} {unread unread_then collected : List ℕ}
+    {parser parser_then : Parser 1024}
     {taken taken_then : Option (List ℕ)} → HasWritten text_of whole taken parser unread
-    → ((part : List ℕ → List ℕ) → AddsUpTo text_of part [] parser unread → AddsUpTo text_of part collected parser_then unread_then)
+    → ((part : List ℕ → List ℕ) → AddsUpTo text_of part [] parser unread
+    → AddsUpTo text_of part collected parser_then unread_then)
     → Appends taken taken_then collected → HasWritten text_of whole taken_then parser_then unread_then
 written_more {unread = unread} {collected = collected} {taken_then = taken_then} h collects appends =
     let k = collects _ (adds_up_at_first (record { since = h.adds_up.since; parsed = h.adds_up.parsed }) unread) in
@@ -45,13 +49,16 @@ written_more {unread = unread} {collected = collected} {taken_then = taken_then}
         since = k.since;
         parsed = k.parsed;
         goes_on = λ more.
-            append_assoc h.written collected _ ∙ ap (λ (t : List ℕ). h.written ++ t) (k.goes_on more) ∙ h.adds_up.goes_on more;
+            append_assoc h.written collected _ ∙ ap (λ (t : List ℕ). h.written ++ t) (k.goes_on more)
+            ∙ h.adds_up.goes_on more;
       };
     }
 
 -- a piece is still to be given to the parser
-pub written_before : {text_of : Event → List ℕ} {whole : List ℕ → List ℕ} {parser : Parser 1024} {taken : Option (List ℕ)}
-    (piece : List ℕ) → HasWritten text_of whole taken parser [] → HasWritten text_of (λ more. whole (piece ++ more)) taken parser piece
+pub written_before : {text_of : Event → List ℕ} {whole : List ℕ → List ℕ} {parser : Parser 1024}
+    {taken : Option (List ℕ)}
+    (piece : List ℕ) → HasWritten text_of whole taken parser []
+    → HasWritten text_of (λ more. whole (piece ++ more)) taken parser piece
 written_before piece h = record {
   written = h.written;
   told = h.told;
@@ -62,9 +69,12 @@ written_before piece h = record {
   };
 }
 
-pub written_kept : {text_of : Event → List ℕ} {whole : List ℕ → List ℕ} {parser : Parser 1024} {taken taken_then : Option (List ℕ)} {unread : List ℕ}
-    → HasWritten text_of whole taken parser unread → Keeps taken taken_then → HasWritten text_of whole taken_then parser unread
-written_kept {taken_then = taken_then} h keeps = record { written = h.written; told = kept taken_then h.written (rw h.told at keeps); adds_up = h.adds_up }
+pub written_kept : {text_of : Event → List ℕ} {whole : List ℕ → List ℕ} {parser : Parser 1024}
+    {taken taken_then : Option (List ℕ)} {unread : List ℕ}
+    → HasWritten text_of whole taken parser unread → Keeps taken taken_then
+    → HasWritten text_of whole taken_then parser unread
+written_kept {taken_then = taken_then} h keeps =
+    record { written = h.written; told = kept taken_then h.written (rw h.told at keeps); adds_up = h.adds_up }
 
 -- ---- a run
 
@@ -120,13 +130,18 @@ module _ {text_of : Event → List ℕ} {input held : List ℕ} {parser : Parser
       }
 
   -- all that was read is written
-  written_all : {reads : ℕ} → (h : HasCome text_of input held reads parser to_come taken) → taken ≡ Some (held ++ means text_of h.stream)
+  written_all : {reads : ℕ} → (h : HasCome text_of input held reads parser to_come taken)
+      → taken ≡ Some (held ++ means text_of h.stream)
   written_all h =
       let w = h.written in
-      w.told ∙ ap Some (sym (rw (added_nothing w.adds_up.since) (append-nil w.written)) ∙ w.adds_up.goes_on [] ∙ h.is [] ∙ rw append-nil refl)
+      w.told
+      ∙ ap Some
+      (sym (rw (added_nothing w.adds_up.since) (append-nil w.written)) ∙ w.adds_up.goes_on [] ∙ h.is []
+      ∙ rw append-nil refl)
 
   -- a read that fails ends a run, and so do as many reads as there may be
-  pub come_to_front : {reads : ℕ} {to_come_then : Option (List ℕ)} {failed : Bool} → HasCome text_of input held reads parser to_come taken
+  pub come_to_front : {reads : ℕ} {to_come_then : Option (List ℕ)} {failed : Bool}
+      → HasCome text_of input held reads parser to_come taken
       → KeepsWhereTold to_come to_come_then → (failed ≡ true) ⊎ (most_reads ≤ reads)
       → WritesFront (means text_of) input held to_come_then taken failed
   come_to_front {to_come_then = to_come_then} h keeps cause = record {
@@ -143,7 +158,8 @@ module _ {text_of : Event → List ℕ} {input held : List ℕ} {parser : Parser
 
   -- a read that gives nothing ends a run
   pub come_to_end : {reads : ℕ} {to_come_then : Option (List ℕ)} → HasCome text_of input held reads parser to_come taken
-      → Consumes to_come to_come_then [] → IsAtEnd to_come_then → WritesAll (means text_of) input held to_come_then taken
+      → Consumes to_come to_come_then [] → IsAtEnd to_come_then
+      → WritesAll (means text_of) input held to_come_then taken
   come_to_end {to_come_then = to_come_then} h consumes end =
       let left = consumed to_come_then h.rest [] (rw h.left at consumes) in
       let none : left.rest ≡ [] = rw left.told at end in

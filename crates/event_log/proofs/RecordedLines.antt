@@ -11,19 +11,24 @@ short_replacement : is_to_be_written (with_event line_of empty_record (Print rep
 unfolding line_of hex_character hex_length six_hex_digits hex_byte hex_digit with_text
 short_replacement = refl
 
--- A call reads a byte: neither an empty recorder nor the line of a replacement character stops it at once.
+-- A call reads a byte: neither an empty recorder nor the line of a replacement character stops it
+-- at once.
 pub reads_some : {old new : Record} {stream bytes : List ℕ} {n : ℕ} → old ≡ empty_record
     → StopsExactly (with_event line_of) is_to_be_written old new (Some 1024) stream bytes n → 0 < length bytes → 0 < n
 unfolding told
-reads_some {stream = stream} {bytes = bytes} {n = zero} empty s some = absurd (elim (cases_Bool (breaks_at stream bytes 0)) [
-  | inl broken ↦ let e = rw (broken, added_nothing, empty) at s.comes.performed in let h = short_replacement in let f : ⊥ = cc (s.stops some) in f
-  | inr whole ↦ let e = rw (whole, added_nothing, empty) at s.comes.performed in let f : ⊥ = cc (s.stops some) in f
-])
+reads_some {stream = stream} {bytes = bytes} {n = zero} empty s some =
+    absurd (elim (cases_Bool (breaks_at stream bytes 0)) [
+      | inl broken ↦ let e = rw (broken, added_nothing, empty) at s.comes.performed in let h = short_replacement in
+          let f : ⊥ = cc (s.stops some) in f
+      | inr whole ↦ let e = rw (whole, added_nothing, empty) at s.comes.performed in let f : ⊥ = cc (s.stops some) in f
+    ])
 reads_some {n = suc n} empty s some = omega arith
 
 -- At a start where the recorder isn't terminated, at most half of the room is in use.
-pub kept_lines : {whole : List ℕ → List ℕ} {n : ℕ} {parser parser_then : Parser 1024} {old new : Record} (unread : List ℕ)
-    → GoesOnFromPlaces (Some 1024) → TellsUnits (Some 1024) → old ≡ empty_record → (before : AddsUpTo line_of whole [] parser unread)
+pub kept_lines : {whole : List ℕ → List ℕ} {n : ℕ} {parser parser_then : Parser 1024} {old new : Record}
+    (unread : List ℕ)
+    → GoesOnFromPlaces (Some 1024) → TellsUnits (Some 1024) → old ≡ empty_record
+    → (before : AddsUpTo line_of whole [] parser unread)
     → StopsExactly (with_event line_of) is_to_be_written old new (Some 1024) before.since unread n
     → HasRead parser_then (stream_at before.since unread n)
     → HasKept line_of whole new parser_then (drop n unread)
@@ -34,5 +39,8 @@ kept_lines {whole = whole} {n = n} {parser = parser} {old = old} unread goes_on 
       kept = ap (λ (r : Record). r.lost) empty;
     } in
     kept_by (told (Some 1024) since unread n) (stream_at since unread n) h (λ more. goes_on since unread more n) parsed
-    (s.comes.performed ∙ takes_told line_of lines_are_small units since unread old h.kept (half_has_room old (ap is_to_be_written empty)) n s.comes.within
-    (λ j earlier start. half_has_room (after (with_event line_of) old (told (Some 1024) since unread j)) (s.comes.earlier j earlier start)))
+    (s.comes.performed
+    ∙ takes_told line_of lines_are_small units since unread old h.kept
+    (half_has_room old (ap is_to_be_written empty)) n s.comes.within
+    (λ j earlier start. half_has_room (after (with_event line_of) old (told (Some 1024) since unread j))
+    (s.comes.earlier j earlier start)))

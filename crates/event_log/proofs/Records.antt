@@ -1,4 +1,5 @@
--- What a record holds after texts, and that it holds the texts of all events if there is room at each start.
+-- What a record holds after texts, and that it holds the texts of all events if there is room at
+-- each start.
 use Rattle.event_log.proofs.Common.{◌≡◌, ℕ, zero, suc, ◌+◌, ◌<◌, ◌≤◌, Bool, false, List, [], ◌∷◌, ◌++◌, length, Some, inl, inr, refl, sym, ap, subst, ◌∙◌}
 use Rattle.event_log.proofs.Common.{append_assoc, append-nil, length-append, arith, take-append_seam, cases_Bool, le-leb, nat_tests, flat_map-append, flat_map, IsBrief, IsStart, told, Event, after}
 use Rattle.event_log.proofs.Common.{TellsUnits, Record, Begins, Extends, Ends, has_room, held_in, is_to_be_written, most_bytes, with_event, with_text, Lines}
@@ -46,12 +47,14 @@ all_taken text_of bytes lost [] fits = same_record (sym (append-nil bytes)) refl
 all_taken text_of bytes lost (event ∷ more) fits =
     let text = text_of event in
     let both = length-append text (flat_map text_of more) in
-    ap (λ (held : Record). after (with_event text_of) held more) (with_text_taken (record_of bytes lost) text (omega (arith, both)))
+    ap (λ (held : Record). after (with_event text_of) held more)
+    (with_text_taken (record_of bytes lost) text (omega (arith, both)))
     ∙ all_taken text_of (bytes ++ text) lost more (omega (arith, both, length-append bytes text))
     ∙ same_record (append_assoc bytes text (flat_map text_of more)) refl
 
 -- a text is taken as the texts of events are, one after another, if there is room for it
-pub takes_all : (text_of : Event → List ℕ) (held : Record) (text : List ℕ) (events : List Event) → text ≡ flat_map text_of events
+pub takes_all : (text_of : Event → List ℕ) (held : Record) (text : List ℕ) (events : List Event)
+    → text ≡ flat_map text_of events
     → length held.bytes + length text ≤ most_bytes → with_text held text ≡ after (with_event text_of) held events
 takes_all text_of held text events spelt fits =
     with_text_taken held text (omega arith)
@@ -60,7 +63,8 @@ takes_all text_of held text events spelt fits =
 
 -- ---- a collector that has room at each start
 
--- The most bytes of the texts of what is reported from one start to the next: those of a line and of a character's line.
+-- The most bytes of the texts of what is reported from one start to the next: those of a line and
+-- of a character's line.
 abbrev pub most_of_unit : ℕ
 most_of_unit = 2213
 
@@ -74,12 +78,14 @@ HasRoomForUnit held = length held.bytes + most_of_unit ≤ most_bytes
 pub half_has_room : (held : Record) → is_to_be_written held ≡ false → HasRoomForUnit held
 half_has_room held asked = grind (arith, nat_tests)
 
-module _ (text_of : Event → List ℕ) (small : IsSmall text_of) (units : TellsUnits (Some 1024)) (stream bytes : List ℕ) (old : Record) (kept : old.lost ≡ false)
+module _ (text_of : Event → List ℕ) (small : IsSmall text_of) (units : TellsUnits (Some 1024)) (stream bytes : List ℕ)
+    (old : Record) (kept : old.lost ≡ false)
     (room : HasRoomForUnit old) where
   abbrev Takes : List Event → Type 0
   Takes events = after (with_event text_of) old events ≡ record_of (old.bytes ++ flat_map text_of events) false
 
-  takes_unit : (events unit : List Event) → Takes events → HasRoomForUnit (after (with_event text_of) old events) → IsBrief (Some 1024) unit
+  takes_unit : (events unit : List Event) → Takes events → HasRoomForUnit (after (with_event text_of) old events)
+      → IsBrief (Some 1024) unit
       → Takes (events ++ unit)
   takes_unit events unit taken has_room brief =
       after-append (with_event text_of) old events unit
@@ -88,9 +94,11 @@ module _ (text_of : Event → List ℕ) (small : IsSmall text_of) (units : Tells
       (omega (arith, small unit brief, ap (λ (r : Record). length r.bytes) taken))
       ∙ same_record (simp (append_assoc, flat_map-append)) refl
 
-  -- by induction on m: what was reported before a place is what was reported at an earlier start, and one unit
+  -- by induction on m: what was reported before a place is what was reported at an earlier start,
+  -- and one unit
   takes_below : (m i : ℕ) → i < m → i ≤ length bytes
-      → ((j : ℕ) → j < i → IsStart stream bytes j → HasRoomForUnit (after (with_event text_of) old (told (Some 1024) stream bytes j)))
+      → ((j : ℕ) → j < i → IsStart stream bytes j
+      → HasRoomForUnit (after (with_event text_of) old (told (Some 1024) stream bytes j)))
       → Takes (told (Some 1024) stream bytes i)
   takes_below zero i below within rooms = absurd (omega arith)
   takes_below (suc m) i below within rooms =
@@ -100,12 +108,14 @@ module _ (text_of : Event → List ℕ) (small : IsSmall text_of) (units : Tells
         | inr t ↦
             let earlier : t.start < i = t.earlier in
             let before = takes_below m t.start (omega arith) (omega arith) (λ j h. rooms j (omega arith)) in
-            rw t.are (takes_unit (told (Some 1024) stream bytes t.start) u.unit before (rooms t.start earlier t.starts) u.brief)
+            rw t.are
+            (takes_unit (told (Some 1024) stream bytes t.start) u.unit before (rooms t.start earlier t.starts) u.brief)
       ])
 
   -- if there was room at each start before a place, all texts were taken
   pub takes_told : (i : ℕ) → i ≤ length bytes
-      → ((j : ℕ) → j < i → IsStart stream bytes j → HasRoomForUnit (after (with_event text_of) old (told (Some 1024) stream bytes j)))
+      → ((j : ℕ) → j < i → IsStart stream bytes j
+      → HasRoomForUnit (after (with_event text_of) old (told (Some 1024) stream bytes j)))
       → after (with_event text_of) old (told (Some 1024) stream bytes i)
       ≡ record_of (old.bytes ++ flat_map text_of (told (Some 1024) stream bytes i)) false
   takes_told i within rooms = takes_below (i + 1) i (omega arith) within rooms

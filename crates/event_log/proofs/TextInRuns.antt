@@ -23,7 +23,9 @@ text_of_one c = by_layout (is_layout c) refl
 
 pub text_of_run : (cs : List ℕ) → flat_map plain_text_of (map (run_event true) cs) ≡ encodes cs
 text_of_run [] = refl
-text_of_run (c ∷ cs) = ap (λ (t : List ℕ). t ++ flat_map plain_text_of (map (run_event true) cs)) (text_of_one c) ∙ ap (λ (t : List ℕ). encode_utf8 c ++ t) (text_of_run cs)
+text_of_run (c ∷ cs) =
+    ap (λ (t : List ℕ). t ++ flat_map plain_text_of (map (run_event true) cs)) (text_of_one c)
+    ∙ ap (λ (t : List ℕ). encode_utf8 c ++ t) (text_of_run cs)
 
 -- what one more character of a run does
 pub after-more : {V : Type 0} (step : V → Event → V) (event_of : ℕ → Event) (cs : List ℕ) (c : ℕ) (old new : V)
@@ -35,10 +37,12 @@ after-more step event_of (x ∷ cs) c old new e = after-more step event_of cs c 
 pub takes_run : (held : Record) (text : List ℕ) → IsUtf8 text → length held.bytes + length text ≤ most_bytes
     → with_text held text ≡ after (with_event plain_text_of) held (map (run_event true) (chars text))
 takes_run held text utf8 room =
-    takes_all plain_text_of held text (map (run_event true) (chars text)) (sym (text_of_run (chars text) ∙ encodes-chars text utf8)) room
+    takes_all plain_text_of held text (map (run_event true) (chars text))
+    (sym (text_of_run (chars text) ∙ encodes-chars text utf8)) room
 
 -- the text of a chunk that was read whole
-pub kept_text : {whole : List ℕ → List ℕ} {unread : List ℕ} {parser parser_then : Parser 1024} {held held_then : Record} (chunk rest : List ℕ)
+pub kept_text : {whole : List ℕ → List ℕ} {unread : List ℕ} {parser parser_then : Parser 1024} {held held_then : Record}
+    (chunk rest : List ℕ)
     → Grows (Some 1024) → AreBrief → (h : HasKept plain_text_of whole held parser unread) → chunk ++ rest ≡ unread
     → length held.bytes + 8 * length chunk ≤ most_bytes
     → held_then ≡ after (with_event plain_text_of) held (added (Some 1024) h.adds_up.since chunk)
@@ -47,7 +51,9 @@ pub kept_text : {whole : List ℕ → List ℕ} {unread : List ℕ} {parser pars
 kept_text {held = held} chunk rest grows brief h parts room performed parsed =
     let since = h.adds_up.since in
     let reported = added (Some 1024) since chunk in
-    let taken = all_taken plain_text_of held.bytes held.lost reported (omega (arith, room, text_grows_slowly grows brief since chunk)) in
+    let taken =
+    all_taken plain_text_of held.bytes held.lost reported
+    (omega (arith, room, text_grows_slowly grows brief since chunk)) in
     kept_by reported (since ++ chunk) h
     (λ more. rw (← parts, append_assoc chunk rest more) (added-append grows since chunk (rest ++ more)))
     parsed

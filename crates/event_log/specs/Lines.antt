@@ -25,7 +25,8 @@ hex_length n =
 
 -- All six hex digits of a number below 2 ^ 24.
 unfoldable pub six_hex_digits : ℕ → List ℕ
-six_hex_digits n = hex_byte (n / 0x10000 % 0x100) ++ hex_byte (n / 0x100 % 0x100) ++ hex_byte (n % 0x100)
+six_hex_digits n =
+    hex_byte (n / 0x10000 % 0x100) ++ hex_byte (n / 0x100 % 0x100) ++ hex_byte (n % 0x100)
 
 -- The number of a character in hex, padded to at least this many digits.
 unfoldable pub hex_character : ℕ → ℕ → List ℕ
@@ -49,7 +50,8 @@ hex_field (b ∷ bytes) = blank ++ flat_map hex_byte (b ∷ bytes)
 unfoldable pub flag_field : Bool → List ℕ
 flag_field b = blank ++ true_or_false b
 
--- The fields of a control sequence or device control string: parameters, intermediates, `ignore`, and the final byte.
+-- The fields of a control sequence or device control string: parameters, intermediates, `ignore`,
+-- and the final byte.
 unfoldable pub sequence_fields : List (List ℕ) → List ℕ → Bool → ℕ → List ℕ
 sequence_fields groups intermediates ignore final =
     codes " [" ++ shown groups ++ codes "]" ++ hex_field intermediates ++ flag_field ignore ++ blank
@@ -72,7 +74,8 @@ line_of (OscDispatch pieces bell) =
 line_of (CsiDispatch groups intermediates ignore final) =
     codes "csi" ++ sequence_fields groups intermediates ignore final ++ line_feed
 line_of (EscDispatch intermediates ignore byte) =
-    codes "esc" ++ hex_field intermediates ++ flag_field ignore ++ blank ++ hex_byte byte ++ line_feed
+    codes "esc" ++ hex_field intermediates ++ flag_field ignore ++ blank
+    ++ hex_byte byte ++ line_feed
 
 abbrev pub lines_of : List Event → List ℕ
 lines_of events = flat_map line_of events

@@ -11,21 +11,26 @@ pub record HasReadSome (parser : Parser 1024) : Type 0 where
   pub since : List ℕ
   pub parsed : HasRead parser since
 
--- A text, followed by the text of what the unread bytes and any more add, is the whole text, which depends on the bytes to come.
-pub record AddsUpTo (text_of : Event → List ℕ) (whole : List ℕ → List ℕ) (text : List ℕ) (parser : Parser 1024) (unread : List ℕ)
+-- A text, followed by the text of what the unread bytes and any more add, is the whole text, which
+-- depends on the bytes to come.
+pub record AddsUpTo (text_of : Event → List ℕ) (whole : List ℕ → List ℕ) (text : List ℕ)
+    (parser : Parser 1024) (unread : List ℕ)
     : Type 0 where
   pub since : List ℕ
   pub parsed : HasRead parser since
-  pub goes_on : (more : List ℕ) → text ++ flat_map text_of (added (Some 1024) since (unread ++ more)) ≡ whole more
+  pub goes_on : (more : List ℕ)
+      → text ++ flat_map text_of (added (Some 1024) since (unread ++ more)) ≡ whole more
 
 -- The text is what a record holds, and nothing was lost.
-pub record HasKept (text_of : Event → List ℕ) (whole : List ℕ → List ℕ) (held : Record) (parser : Parser 1024) (unread : List ℕ)
+pub record HasKept (text_of : Event → List ℕ) (whole : List ℕ → List ℕ) (held : Record)
+    (parser : Parser 1024) (unread : List ℕ)
     : Type 0 where
   pub adds_up : AddsUpTo text_of whole held.bytes parser unread
   pub kept : held.lost ≡ false
 
 -- The text is all that a writer has taken.
-pub record HasWritten (text_of : Event → List ℕ) (whole : List ℕ → List ℕ) (taken : Option (List ℕ)) (parser : Parser 1024) (unread : List ℕ)
+pub record HasWritten (text_of : Event → List ℕ) (whole : List ℕ → List ℕ) (taken : Option (List ℕ))
+    (parser : Parser 1024) (unread : List ℕ)
     : Type 0 where
   pub written : List ℕ
   pub told : taken ≡ Some written

@@ -46,7 +46,8 @@ pub record Begins (old new : Lines) : Type 0 where
   pub fits : new.fits ≡ true
   pub lost : new.lost ≡ old.lost
 
--- A part of a line is appended if there is room and the line has fitted so far. The bytes that were there stay.
+-- A part of a line is appended if there is room and the line has fitted so far. The bytes that were
+-- there stay.
 pub record Extends (old : Lines) (text : List ℕ) (new : Lines) : Type 0 where
   pub start : new.start ≡ old.start
   pub fits : new.fits ≡ (old.fits && has_room old.bytes.items text)
@@ -56,5 +57,6 @@ pub record Extends (old : Lines) (text : List ℕ) (new : Lines) : Type 0 where
 
 -- A line ends. If it doesn't fit, it is removed and counts as lost.
 pub record Ends (old new : Lines) : Type 0 where
-  pub bytes : new.bytes.items ≡ (if old.fits then old.bytes.items else take old.start old.bytes.items)
+  pub bytes : new.bytes.items
+      ≡ (if old.fits then old.bytes.items else take old.start old.bytes.items)
   pub lost : new.lost ≡ (not old.fits || old.lost)

@@ -19,13 +19,15 @@ abbrev pub most_reads : ℕ
 most_reads = 2 ^ 64 - 1
 
 -- The whole input was read, and its meaning was written after what the writer held.
-pub record WritesAll (meaning : List ℕ → List ℕ) (input held : List ℕ) (to_come taken : Option (List ℕ)) : Type 0 where
+pub record WritesAll (meaning : List ℕ → List ℕ) (input held : List ℕ)
+    (to_come taken : Option (List ℕ)) : Type 0 where
   pub at_end : to_come ≡ Some []
   pub written : taken ≡ Some (held ++ meaning input)
 
--- A prefix of the input was read, and its meaning was written. Either the reader has failed, or it has given bytes in as
--- many reads as a run makes.
-pub record WritesFront (meaning : List ℕ → List ℕ) (input held : List ℕ) (to_come taken : Option (List ℕ)) (failed : Bool)
+-- A prefix of the input was read, and its meaning was written. Either the reader has failed, or it
+-- has given bytes in as many reads as a run makes.
+pub record WritesFront (meaning : List ℕ → List ℕ) (input held : List ℕ)
+    (to_come taken : Option (List ℕ)) (failed : Bool)
     : Type 0 where
   pub stream : List ℕ
   pub rest : List ℕ
@@ -35,16 +37,23 @@ pub record WritesFront (meaning : List ℕ → List ℕ) (input held : List ℕ)
   pub cause : (failed ≡ true) ⊎ (most_reads ≤ length stream)
 
 -- How a run leaves a reader and a writer whose bytes were known when it began.
-abbrev pub WritesExactly : (List ℕ → List ℕ) → Result (Unit {0}) Fault → (input held : List ℕ) → Option (List ℕ)
+abbrev pub WritesExactly : (List ℕ → List ℕ) → Result (Unit {0}) Fault → (input held : List ℕ)
+    → Option (List ℕ)
     → Option (List ℕ) → Bool → Type 0
-WritesExactly meaning (Ok _) input held to_come taken failed = WritesAll meaning input held to_come taken
-WritesExactly meaning (Err Read) input held to_come taken failed = WritesFront meaning input held to_come taken failed
+WritesExactly meaning (Ok _) input held to_come taken failed =
+    WritesAll meaning input held to_come taken
+WritesExactly meaning (Err Read) input held to_come taken failed =
+    WritesFront meaning input held to_come taken failed
 WritesExactly meaning (Err Write) input held to_come taken failed = Unit {0}
 
-abbrev pub LogsExactly : Result (Unit {0}) Fault → (input held : List ℕ) → Option (List ℕ) → Option (List ℕ) → Bool
+abbrev pub LogsExactly : Result (Unit {0}) Fault → (input held : List ℕ) → Option (List ℕ)
+    → Option (List ℕ) → Bool
     → Type 0
-LogsExactly result input held to_come taken failed = WritesExactly log_of result input held to_come taken failed
+LogsExactly result input held to_come taken failed =
+    WritesExactly log_of result input held to_come taken failed
 
-abbrev pub StripsExactly : Result (Unit {0}) Fault → (input held : List ℕ) → Option (List ℕ) → Option (List ℕ) → Bool
+abbrev pub StripsExactly : Result (Unit {0}) Fault → (input held : List ℕ) → Option (List ℕ)
+    → Option (List ℕ) → Bool
     → Type 0
-StripsExactly result input held to_come taken failed = WritesExactly text_in result input held to_come taken failed
+StripsExactly result input held to_come taken failed =
+    WritesExactly text_in result input held to_come taken failed

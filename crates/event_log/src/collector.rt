@@ -17,12 +17,14 @@ pub(crate) trait Collector {
 
     ghost record_of: { Self → Record };
 
-    /// Parses bytes and collects their text until it is time to write it. Nothing is lost. Returns the unread bytes.
+    /// Parses bytes and collects their text until it is time to write it. Nothing is lost. Returns
+    /// the unread bytes.
     fn collect<'a>(&mut self, parser: &mut RunParser, bytes: &'a [u8]) -> &'a [u8]
         requires parsed { HasReadSome parser.old }
         requires empty { record_of self.old ≡ empty_record }
         ensures further { 0 < length bytes.now → length result.now < length bytes.now }
-        ensures collects { (whole : List ℕ → List ℕ) → AddsUpTo text_of whole [] parser.old bytes.now →
+        ensures collects { (whole : List ℕ → List ℕ)
+            → AddsUpTo text_of whole [] parser.old bytes.now →
             HasKept text_of whole (record_of self.new) parser.new result.now };
 
     /// Returns the collected text.

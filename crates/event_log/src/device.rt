@@ -7,14 +7,15 @@ use std::io::{Read, Write};
 
 /// A source of bytes.
 ///
-/// Two ghost members define its meaning: the bytes still to come, if they are known, and whether it has failed. A source that has
-/// failed stays failed.
+/// Two ghost members define its meaning: the bytes still to come, if they are known, and whether it
+/// has failed. A source that has failed stays failed.
 pub trait Source {
     ghost to_come: { Self → Option (List ℕ) };
 
     ghost has_failed: { Self → Bool };
 
-    /// Moves the next bytes to the front of `room` and returns their number, which is 0 for a non-empty `room` only at the end.
+    /// Moves the next bytes to the front of `room` and returns their number, which is 0 for a
+    /// non-empty `room` only at the end.
     ///
     /// # Errors
     ///
@@ -25,14 +26,15 @@ pub trait Source {
         ensures bound { IfOk result (λ count. count ≤ length room.new) }
         ensures moves { IfOk result (λ count.
             Consumes (to_come self.old) (to_come self.new) (take count room.new)) }
-        ensures end { IfOk result (λ count. count ≡ 0 → 0 < length room.new → IsAtEnd (to_come self.new)) }
+        ensures end { IfOk result (λ count. count ≡ 0 → 0 < length room.new
+            → IsAtEnd (to_come self.new)) }
         ensures none_taken { OnErr result (KeepsWhereTold (to_come self.old) (to_come self.new)) };
 }
 
 /// A destination for bytes.
 ///
-/// Two ghost members define its meaning: the bytes taken, if they are known, and whether it has failed. A sink that has failed
-/// stays failed.
+/// Two ghost members define its meaning: the bytes taken, if they are known, and whether it has
+/// failed. A sink that has failed stays failed.
 pub trait Sink {
     ghost taken: { Self → Option (List ℕ) };
 
@@ -62,8 +64,8 @@ pub trait Sink {
 
 /// A [`Read`] or [`Write`] of std as a [`Source`] or [`Sink`].
 ///
-/// After the first error of the reader or writer inside, it has failed: every further call is an error, and nothing is known of
-/// its bytes.
+/// After the first error of the reader or writer inside, it has failed: every further call is an
+/// error, and nothing is known of its bytes.
 #[derive(Drop)]
 pub struct Device<D> {
     inner: D,

@@ -13,8 +13,8 @@ const ROOM: usize = 8192;
 
 /// A buffer of 8,192 bytes for lines, each appended whole or not at all.
 ///
-/// A line that doesn't fit is dropped, and [`lost`](Self::lost) is true from then on until [`clear`](Self::clear). The buffer never
-/// allocates.
+/// A line that doesn't fit is dropped, and [`lost`](Self::lost) is true from then on until
+/// [`clear`](Self::clear). The buffer never allocates.
 #[derive(Drop)]
 pub struct Lines {
     bytes: ArrayVec<u8, ROOM>,

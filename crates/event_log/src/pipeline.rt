@@ -19,14 +19,15 @@ const PIECE: usize = 4096;
 
 /// Reads to the end, and writes one line per event.
 ///
-/// The reader is read in pieces of up to 4,096 bytes, and the lines of each piece are written and flushed before the next read. A
-/// sequence that is unfinished at the end gives no line.
+/// The reader is read in pieces of up to 4,096 bytes, and the lines of each piece are written and
+/// flushed before the next read. A sequence that is unfinished at the end gives no line.
 ///
 /// # Errors
 ///
 /// Ends at the first failed read or write. Everything read before a failed read has been written.
 pub fn run<R: Source, W: Sink>(reader: &mut R, writer: &mut W) -> Result<(), Fault>
-    ensures lines { (input held : List ℕ) → R.to_come reader.old ≡ Some input → W.taken writer.old ≡ Some held →
+    ensures lines { (input held : List ℕ) → R.to_come reader.old ≡ Some input
+        → W.taken writer.old ≡ Some held →
         LogsExactly result input held (R.to_come reader.new) (W.taken writer.new) (R.has_failed reader.new) }
     ensures read_to_the_end { OnOk result (R.has_failed reader.new ≡ false) }
     ensures write_failed { result ≡ Err Fault.Write → W.has_failed writer.new ≡ true }
@@ -36,9 +37,11 @@ pub fn run<R: Source, W: Sink>(reader: &mut R, writer: &mut W) -> Result<(), Fau
 
 /// Reads to the end, and writes the text without its sequences.
 ///
-/// It reads, writes, flushes and fails as [`run`] does. A character that is unfinished at the end gives no text.
+/// It reads, writes, flushes and fails as [`run`] does. A character that is unfinished at the end
+/// gives no text.
 pub fn run_text<R: Source, W: Sink>(reader: &mut R, writer: &mut W) -> Result<(), Fault>
-    ensures text { (input held : List ℕ) → R.to_come reader.old ≡ Some input → W.taken writer.old ≡ Some held →
+    ensures text { (input held : List ℕ) → R.to_come reader.old ≡ Some input
+        → W.taken writer.old ≡ Some held →
         StripsExactly result input held (R.to_come reader.new) (W.taken writer.new) (R.has_failed reader.new) }
     ensures read_to_the_end { OnOk result (R.has_failed reader.new ≡ false) }
     ensures write_failed { result ≡ Err Fault.Write → W.has_failed writer.new ≡ true }
@@ -53,7 +56,8 @@ fn run_with<C: Collector, R: Source, W: Sink>(
     writer: &mut W,
 ) -> Result<(), Fault>
     requires empty { C.record_of collector.old ≡ empty_record }
-    ensures texts { (input held : List ℕ) → R.to_come reader.old ≡ Some input → W.taken writer.old ≡ Some held →
+    ensures texts { (input held : List ℕ) → R.to_come reader.old ≡ Some input
+        → W.taken writer.old ≡ Some held →
         WritesExactly (λ stream. flat_map C.text_of (events (Some 1024) stream)) result input held
         (R.to_come reader.new) (W.taken writer.new) (R.has_failed reader.new) }
     ensures read_to_the_end { OnOk result (R.has_failed reader.new ≡ false) }
@@ -87,8 +91,11 @@ fn write_piece<C: Collector, W: Sink>(
     requires empty { C.record_of collector.old ≡ empty_record }
     ensures reads { OnOk result (HasReadSome parser.new) }
     ensures empties { OnOk result (C.record_of collector.new ≡ empty_record) }
-    ensures writes { (whole : List ℕ → List ℕ) → HasWritten C.text_of whole (W.taken writer.old) parser.old [] →
-        OnOk result (HasWritten C.text_of (λ more. whole (piece.now ++ more)) (W.taken writer.new) parser.new []) }
+    ensures writes { (whole : List ℕ → List ℕ)
+        → HasWritten C.text_of whole (W.taken writer.old) parser.old [] →
+        OnOk result
+        (HasWritten C.text_of (λ more. whole (piece.now ++ more))
+        (W.taken writer.new) parser.new []) }
     ensures fails { is_err result ≡ true → W.has_failed writer.new ≡ true }
 {
     let mut unread = piece;
@@ -107,11 +114,14 @@ fn write_some<'a, C: Collector, W: Sink>(
 ) -> Result<&'a [u8], ()>
     requires parsed { HasReadSome parser.old }
     requires empty { C.record_of collector.old ≡ empty_record }
-    ensures further { IfOk result (λ unread. 0 < length bytes.now → length unread.now < length bytes.now) }
+    ensures further { IfOk result (λ unread. 0 < length bytes.now
+        → length unread.now < length bytes.now) }
     ensures reads { OnOk result (HasReadSome parser.new) }
     ensures empties { OnOk result (C.record_of collector.new ≡ empty_record) }
-    ensures writes { (whole : List ℕ → List ℕ) → HasWritten C.text_of whole (W.taken writer.old) parser.old bytes.now →
-        IfOk result (λ unread. HasWritten C.text_of whole (W.taken writer.new) parser.new unread.now) }
+    ensures writes { (whole : List ℕ → List ℕ)
+        → HasWritten C.text_of whole (W.taken writer.old) parser.old bytes.now →
+        IfOk result
+        (λ unread. HasWritten C.text_of whole (W.taken writer.new) parser.new unread.now) }
     ensures fails { is_err result ≡ true → W.has_failed writer.new ≡ true }
 {
     let unread = collector.collect(parser, bytes);

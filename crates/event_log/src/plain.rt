@@ -13,8 +13,9 @@ const MOST_TEXT: usize = 8;
 
 /// Collects the text of a stream, without its sequences, in a buffer of 8,192 bytes.
 ///
-/// Characters are kept as UTF-8, and HT, LF and CR as they are. A character that doesn't fit is dropped, and [`lost`](Self::lost)
-/// is true from then on until [`clear`](Self::clear). `Plain` is terminated when it holds more than 4,096 bytes.
+/// Characters are kept as UTF-8, and HT, LF and CR as they are. A character that doesn't fit is
+/// dropped, and [`lost`](Self::lost) is true from then on until [`clear`](Self::clear). `Plain` is
+/// terminated when it holds more than 4,096 bytes.
 #[derive(Drop)]
 pub struct Plain {
     texts: Lines,

@@ -10,8 +10,8 @@ use vte_core::{Params, Perform, laws};
 
 /// Collects one line per event in a buffer of 8,192 bytes.
 ///
-/// A line that doesn't fit is dropped, and [`lost`](Self::lost) is true from then on until [`clear`](Self::clear). The recorder is
-/// terminated when it holds more than 4,096 bytes.
+/// A line that doesn't fit is dropped, and [`lost`](Self::lost) is true from then on until
+/// [`clear`](Self::clear). The recorder is terminated when it holds more than 4,096 bytes.
 #[derive(Drop)]
 pub struct Recorder {
     lines: Lines,
@@ -65,7 +65,9 @@ impl Recorder {
         ignore: bool,
         action: char,
     )
-        ensures { self.new ≡ with_text self.old (name.now ++ sequence_fields params.now intermediates.now ignore action ++ line_feed) }
+        ensures { self.new
+            ≡ with_text self.old
+            (name.now ++ sequence_fields params.now intermediates.now ignore action ++ line_feed) }
     {
         self.lines.begin();
         self.lines.push(name);

@@ -1,4 +1,5 @@
-//! A handler of a few calls: writes the text of standard input and its titles, and whether it rings.
+//! A handler of a few calls: writes the text of standard input and its titles, and whether it
+//! rings.
 #![tactic(auto)]
 
 ghost use Rattle.example_handler.specs.Page.{rung_after};
@@ -125,7 +126,8 @@ impl Timeout for NeverPending {
 ///
 /// `AllocError` if there is no memory for the processor.
 fn rings(alloc: Global, stream: &[u8]) -> Result<bool, AllocError>
-    ensures { IfOk result (λ rung. rung ≡ after rung_after false (calls (events (Some 1024) stream.now))) }
+    ensures { IfOk result
+        (λ rung. rung ≡ after rung_after false (calls (events (Some 1024) stream.now))) }
 {
     laws::empty_stream();
     let mut page = ByCall(Page {

@@ -87,7 +87,8 @@ impl Screen {
         self.column += 1;
     }
 
-    /// Writes the characters of a text at the cursor, one after another. It is kept out of the parser's loop, as `line_feed` is.
+    /// Writes the characters of a text at the cursor, one after another. It is kept out of the
+    /// parser's loop, as `line_feed` is.
     #[inline(never)]
     pub(crate) fn draw_text(&mut self, text: &str) {
         if text.is_ascii() {
@@ -112,7 +113,8 @@ impl Screen {
         }
     }
 
-    /// Writes the characters that have these numbers, as `draw` does for each: first those for which the row has room.
+    /// Writes the characters that have these numbers, as `draw` does for each: first those for
+    /// which the row has room.
     #[inline]
     fn draw_bytes(&mut self, bytes: &[u8]) {
         let room = COLUMNS - self.column;
@@ -127,7 +129,8 @@ impl Screen {
         }
     }
 
-    /// Writes characters into the cells from the cursor on, as many as the row has room for, and advances the cursor.
+    /// Writes characters into the cells from the cursor on, as many as the row has room for, and
+    /// advances the cursor.
     #[inline]
     fn fill(&mut self, bytes: &[u8]) {
         let (line, column, style) = (self.line_of(self.row), self.column, self.style);
@@ -137,8 +140,8 @@ impl Screen {
         self.column += fitting.len();
     }
 
-    /// Moves the cursor to the next row. In the last row it scrolls. It is kept out of `draw`, which then fits where the parser
-    /// prints.
+    /// Moves the cursor to the next row. In the last row it scrolls. It is kept out of `draw`,
+    /// which then fits where the parser prints.
     #[inline(never)]
     pub(crate) fn line_feed(&mut self) {
         if self.row + 1 == ROWS {
@@ -148,8 +151,8 @@ impl Screen {
         self.move_to(self.row + 1, self.column);
     }
 
-    /// Erases rows up to `end`: what is after the cursor (0), before it (1), or all (2), with the cell at the cursor. The colors
-    /// stay the current ones.
+    /// Erases rows up to `end`: what is after the cursor (0), before it (1), or all (2), with the
+    /// cell at the cursor. The colors stay the current ones.
     pub(crate) fn erase(&mut self, part: u16, start: usize, end: usize)
         requires { end ≤ ROWS }
     {
@@ -183,7 +186,8 @@ fn set_characters(cells: &mut [Cell], bytes: &[u8], style: Style)
     }
 }
 
-/// Sets cells to the next characters in a style, as long as there are both, and returns how many cells it set.
+/// Sets cells to the next characters in a style, as long as there are both, and returns how many
+/// cells it set.
 #[inline]
 fn take_characters(cells: &mut [Cell], characters: &mut Chars<'_>, style: Style) -> usize
     ensures { result ≤ length cells.old }

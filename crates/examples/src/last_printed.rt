@@ -72,7 +72,8 @@ impl Watcher {
 
     /// Reads more of the stream.
     pub(crate) fn read(&mut self, bytes: &[u8])
-        ensures { (stream : List ℕ) → Watches self.old stream → Watches self.new (stream ++ bytes.now) }
+        ensures { (stream : List ℕ) → Watches self.old stream
+            → Watches self.new (stream ++ bytes.now) }
     {
         laws::events_grow();
         self.parser.advance(&mut self.last, bytes);

@@ -1,5 +1,5 @@
-//! What a caller of the parser writes and what it can prove, an example a module. The program runs all of them on its
-//! standard input, and prints what they answer.
+//! What a caller of the parser writes and what it can prove, an example a module. The program runs
+//! all of them on its standard input, and prints what they answer.
 //!
 //! docs/RATTLE.md goes through them.
 #![tactic(auto)]

@@ -54,7 +54,8 @@ impl Perform for Printed {
 
 /// Whether a stream, which comes in pieces, prints a character.
 pub(crate) fn prints(pieces: &[&[u8]]) -> bool
-    ensures { result ≡ after seen_after false (events (Some 1024) (flat_map (λ piece. piece.now) pieces.now)) }
+    ensures { result
+        ≡ after seen_after false (events (Some 1024) (flat_map (λ piece. piece.now) pieces.now)) }
 {
     let mut printed = Printed { seen: false };
     laws::replay::<Printed, 1024>(&mut printed, pieces);

@@ -1,11 +1,12 @@
-//! Commands of any length: titles, links, clipboards and colours, whole and byte by byte, and with memory refused.
+//! Commands of any length: titles, links, clipboards and colours, whole and byte by byte, and with
+//! memory refused.
 
 use crate::updates::HOLD;
-use test_lines::{Answers, TestTimeout};
 use linked_list_allocator::LocalHeap;
 use std::alloc::{AllocError, Allocator, Global};
 use std::process::Abort;
 use std::test::Fail;
+use test_lines::{Answers, TestTimeout};
 use vte::Refused;
 use vte::ansi::laws::{RefusedStep, Step, replay_long};
 use vte::ansi::{ByCall, HandlerCall, LongProcessor, TakeCall};
@@ -47,7 +48,8 @@ impl TakeCall for Measure {
     }
 }
 
-/// Reads bytes. Tests call this and not `advance`, whose contract would be opened by the proof of each.
+/// Reads bytes. Tests call this and not `advance`, whose contract would be opened by the proof of
+/// each.
 fn read<A: Allocator>(
     processor: &mut LongProcessor<TestTimeout, A>,
     handler: &mut ByCall<Measure>,
@@ -67,7 +69,8 @@ fn command<A: Allocator>(alloc: A, begin: &[u8], count: usize) -> Result<Vec<u8,
     Ok(stream)
 }
 
-/// Checks what the four kinds of commands call for texts with this many bytes, if they come in calls of this many.
+/// Checks what the four kinds of commands call for texts with this many bytes, if they come in
+/// calls of this many.
 fn check(rt: &impl Abort, alloc: Global, count: usize, piece: usize) -> Result<(), Fail> {
     let mut handler = ByCall(Measure(NONE));
     match LongProcessor::new(alloc, TestTimeout::new(Answers::Never)) {

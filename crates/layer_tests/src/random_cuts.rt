@@ -2,11 +2,11 @@
 
 use crate::reader::PieceReader;
 use crate::streams::Streams;
-use test_lines::{Answers, CallLines, EventLines, Stop, TestTimeout};
 use event_log::{Device, Source, run, run_text};
 use std::alloc::{AllocError, Allocator, Global};
 use std::process::Abort;
 use std::test::Fail;
+use test_lines::{Answers, CallLines, EventLines, Stop, TestTimeout};
 use vte::ansi::{ByCall, Processor};
 use vte_core::{LongParser, Parser};
 
@@ -134,7 +134,8 @@ fn lines_and_text(rt: HostRuntime) -> Result<(), Fail> {
     Ok(())
 }
 
-/// The calls of a stream in pieces, with stops after some of them. The stop after the last leaves nothing held.
+/// The calls of a stream in pieces, with stops after some of them. The stop after the last leaves
+/// nothing held.
 fn calls_of(
     rt: &(impl Abort + AllocGlobal),
     answers: Answers,

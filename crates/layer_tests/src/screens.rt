@@ -1,10 +1,10 @@
-//! What a screen shows of streams, worked by hand from ECMA-48; both by a parser and by a processor. Runs of text must show the same
-//! as characters, in each cell.
+//! What a screen shows of streams, worked by hand from ECMA-48; both by a parser and by a
+//! processor. Runs of text must show the same as characters, in each cell.
 ghost use Rattle.std.specs.Prelude.{◌<◌};
 
-use test_lines::{Answers, TestTimeout};
 use example_screen::{Cell, ROWS, Screen};
 use std::alloc::Global;
+use test_lines::{Answers, TestTimeout};
 use vte::ansi::{ByCall, Color, NamedColor, Processor, Rgb};
 use vte_core::Parser;
 

@@ -1,4 +1,5 @@
-//! Random hostile streams: parts of the grammar, complete, broken off, at a limit, or with a byte that doesn't belong there.
+//! Random hostile streams: parts of the grammar, complete, broken off, at a limit, or with a byte
+//! that doesn't belong there.
 ghost use Rattle.std.specs.Prelude.{◌<◌};
 
 use rand_core::Rng;

@@ -1,10 +1,10 @@
 //! Refused memory, and the moments at which updates expire.
 
-use test_lines::{Answers, CallLines, TestTimeout};
 use linked_list_allocator::LocalHeap;
 use std::alloc::Allocator;
 use std::test::Fail;
 use std::time::Duration;
+use test_lines::{Answers, CallLines, TestTimeout};
 use vte::ansi::{ByCall, Clock, Processor, StdSyncHandler, Timeout};
 
 /// The size of the buffer that a processor allocates.
@@ -26,7 +26,8 @@ impl Clock for StoppedClock {
     }
 }
 
-/// Gives bytes to a processor. Tests call this and not `advance`, whose contract would be opened by the proof of each.
+/// Gives bytes to a processor. Tests call this and not `advance`, whose contract would be opened by
+/// the proof of each.
 fn advance<A: Allocator>(
     processor: &mut Processor<TestTimeout, A>,
     handler: &mut ByCall<CallLines>,

@@ -9,7 +9,8 @@ use vte::ansi::{
     Attr, Color, CursorStyle, HandlerCall, Hyperlink, KeyboardModesApplyBehavior, Rgb, TakeCall,
 };
 
-/// Folds the calls of a processor: a number for the name of each, and its arguments. `ByCall` makes a handler of it.
+/// Folds the calls of a processor: a number for the name of each, and its arguments. `ByCall` makes
+/// a handler of it.
 #[derive(Drop)]
 pub(crate) struct CallChecksum {
     pub(crate) checksum: Checksum,
@@ -31,8 +32,8 @@ impl CallChecksum {
     }
 }
 
-/// A number for a name of four bytes or more: its first and last four bytes, and its length. It is straight-line code, which the
-/// compiler computes.
+/// A number for a name of four bytes or more: its first and last four bytes, and its length. It is
+/// straight-line code, which the compiler computes.
 #[inline]
 fn number_of(name: &str) -> u64 {
     let bytes = name.as_bytes();

@@ -1,12 +1,13 @@
 //! Times a parser or a processor for `bench/run`: `race KIND PIECE PASSES`.
 //!
-//! KIND is `parser`, `long` or `processor`, with a performer or handler that folds everything into a checksum, or `screen` or
-//! `terminal`, with a screen as the performer of a parser or the handler of a processor. `screen_runs` and `terminal_runs` get text
-//! in runs.
+//! KIND is `parser`, `long` or `processor`, with a performer or handler that folds everything into
+//! a checksum, or `screen` or `terminal`, with a screen as the performer of a parser or the handler
+//! of a processor. `screen_runs` and `terminal_runs` get text in runs.
 //!
-//! It reads a stream from standard input to its end and gives it PASSES times to one parser or processor, in pieces of PIECE
-//! bytes. Standard output gets the checksum of all events or calls, or of the screen, which must be the crate's; standard error
-//! gets the nanoseconds of the fastest pass.
+//! It reads a stream from standard input to its end and gives it PASSES times to one parser or
+//! processor, in pieces of PIECE bytes. Standard output gets the checksum of all events or calls,
+//! or of the screen, which must be the crate's; standard error gets the nanoseconds of the fastest
+//! pass.
 #![tactic(auto)]
 
 ghost use Rattle.std.specs.Prelude.{◌<◌, IfOk};

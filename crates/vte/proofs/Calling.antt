@@ -11,7 +11,9 @@ one_less n i inside = omega arith
 module _ {V : Type 0} (step : V → Call → V) (old new all : V) where
   -- one pair is read
   pub pair_made : (terminator : List ℕ) (left : List (Bor (List ℕ))) (d e : Bor (List ℕ)) → 2 ≤ length left
-      → new ≡ after step old (pair_calls terminator (decimal_number (slice_index_or left 0 d).now) (slice_index_or left 1 e).now)
+      → new
+      ≡ after step old
+      (pair_calls terminator (decimal_number (slice_index_or left 0 d).now) (slice_index_or left 1 e).now)
       → after step old (pairs_calls terminator (map (λ piece. piece.now) left)) ≡ all
       → after step new (pairs_calls terminator (map (λ piece. piece.now) (take (length left - 2) (drop 2 left)))) ≡ all
   pair_made terminator [] d e some made before = absurd (omega arith)
@@ -27,7 +29,8 @@ attributes_behind zero (group ∷ groups) = refl
 attributes_behind (suc n) [] = refl
 attributes_behind (suc n) (group ∷ groups) = attributes_behind n groups
 
-pub some_link : (parameters uri : List ℕ) → (uri ≡ [] → ⊥) → link_to parameters uri ≡ Some (record { id = id_of parameters; uri = uri })
+pub some_link : (parameters uri : List ℕ) → (uri ≡ [] → ⊥)
+    → link_to parameters uri ≡ Some (record { id = id_of parameters; uri = uri })
 some_link parameters [] some = absurd (some refl)
 some_link parameters (byte ∷ uri) some = refl
 

@@ -10,7 +10,8 @@ abbrev pub joined_more : Bool → List (List ℕ) → List ℕ
 joined_more is_first [] = []
 joined_more is_first (text ∷ texts) = behind is_first text ++ joined_more false texts
 
-joined-behind : (text : List ℕ) (texts : List (List ℕ)) → join_with_byte 0x3b (text ∷ texts) ≡ text ++ joined_more false texts
+joined-behind : (text : List ℕ) (texts : List (List ℕ))
+    → join_with_byte 0x3b (text ∷ texts) ≡ text ++ joined_more false texts
 joined-behind text [] = sym (append-nil text)
 joined-behind text (next ∷ texts) = ap (λ more. text ++ (0x3b ∷ more)) (joined-behind next texts)
 
@@ -18,15 +19,20 @@ joined-all : (texts : List (List ℕ)) → joined_more true texts ≡ join_with_
 joined-all [] = refl
 joined-all (text ∷ texts) = sym (joined-behind text texts)
 
--- the text holds what was joined, the texts of the pieces that are left add the rest, and there is room for them
-pub record Joins (keeps_all : Bool) (room : ℕ) (text : List ℕ) (is_first : Bool) (left all : List (List ℕ)) : Type 0 where
+-- the text holds what was joined, the texts of the pieces that are left add the rest, and there is
+-- room for them
+pub record Joins (keeps_all : Bool) (room : ℕ) (text : List ℕ) (is_first : Bool)
+    (left all : List (List ℕ)) : Type 0 where
   pub joins : text ++ joined_more is_first (filter_map (text_in keeps_all) left) ≡ joined_texts keeps_all all
   pub fits : length text + joined_size left ≤ room
 
-pub joins-begin : {keeps_all : Bool} {room : ℕ} {text : List ℕ} {all : List (List ℕ)} → text ≡ [] → FitsRoom room all → Joins keeps_all room text true all all
-joins-begin {keeps_all} {all = all} empty fits = record { joins = rw empty (joined-all (filter_map (text_in keeps_all) all)); fits = rw empty (omega (arith, fits)) }
+pub joins-begin : {keeps_all : Bool} {room : ℕ} {text : List ℕ} {all : List (List ℕ)} → text ≡ [] → FitsRoom room all
+    → Joins keeps_all room text true all all
+joins-begin {keeps_all} {all = all} empty fits =
+    record { joins = rw empty (joined-all (filter_map (text_in keeps_all) all)); fits = rw empty (omega (arith, fits)) }
 
-texts-more : (keeps_all : Bool) (piece : List ℕ) {part : List ℕ} (left : List (List ℕ)) → Some part ≡ text_in keeps_all piece
+texts-more : (keeps_all : Bool) (piece : List ℕ) {part : List ℕ} (left : List (List ℕ))
+    → Some part ≡ text_in keeps_all piece
     → filter_map (text_in keeps_all) (piece ∷ left) ≡ part ∷ filter_map (text_in keeps_all) left
 texts-more keeps_all piece left has = rw (← has) refl
 
@@ -41,8 +47,10 @@ behind-length : (is_first : Bool) (text : List ℕ) → length (behind is_first 
 behind-length true text = omega arith
 behind-length false text = omega arith
 
-module _ (keeps_all : Bool) (pieces : List (Bor (List ℕ))) (i : ℕ) (d : Bor (List ℕ)) (inside : i < length pieces) {room : ℕ} {text : List ℕ} {is_first : Bool}
-    {all : List (List ℕ)} (before : Joins keeps_all room text is_first (map (λ piece. piece.now) (drop i pieces)) all) where
+module _ (keeps_all : Bool) (pieces : List (Bor (List ℕ))) (i : ℕ) (d : Bor (List ℕ)) (inside : i < length pieces)
+    {room : ℕ} {text : List ℕ} {is_first : Bool}
+    {all : List (List ℕ)}
+    (before : Joins keeps_all room text is_first (map (λ piece. piece.now) (drop i pieces)) all) where
   abbrev piece : List ℕ
   piece = (get_or pieces i d).now
 
@@ -57,7 +65,8 @@ module _ (keeps_all : Bool) (pieces : List (Bor (List ℕ))) (i : ℕ) (d : Bor 
   joins-room part is = omega (arith, text-short keeps_all piece part is, opened.fits, length-append piece (concat left))
 
   -- a piece has a text
-  pub joins-more : (part : List ℕ) → Some part ≡ text_in keeps_all piece → Joins keeps_all room (text ++ behind is_first part) false left all
+  pub joins-more : (part : List ℕ) → Some part ≡ text_in keeps_all piece
+      → Joins keeps_all room (text ++ behind is_first part) false left all
   joins-more part is = record {
     joins = append_assoc text (behind is_first part) _ ∙ (rw (texts-more keeps_all piece left is) at opened.joins);
     fits = omega (
@@ -72,7 +81,11 @@ module _ (keeps_all : Bool) (pieces : List (Bor (List ℕ))) (i : ℕ) (d : Bor 
 
   -- or has none
   pub joins-same : None ≡ text_in keeps_all piece → Joins keeps_all room text is_first left all
-  joins-same none = record { joins = rw (texts-same keeps_all piece left none) at opened.joins; fits = omega (arith, opened.fits, length-append piece (concat left)) }
+  joins-same none =
+      record {
+        joins = rw (texts-same keeps_all piece left none) at opened.joins;
+        fits = omega (arith, opened.fits, length-append piece (concat left));
+      }
 
 -- ---- pieces that may be no text
 
@@ -83,7 +96,8 @@ pub is_text : (text : List ℕ) → IsUtf8 text → is_utf8 text ≡ true
 is_text text is = is_utf8-from_IsUtf8 text is
 
 -- one piece needs no joining
-pub one_text : (keeps_all : Bool) (piece : List ℕ) (found : Option (Bor (List ℕ))) (nothing : Bor (List ℕ)) → option_map (λ text. text.now) found ≡ text_in keeps_all piece
+pub one_text : (keeps_all : Bool) (piece : List ℕ) (found : Option (Bor (List ℕ))) (nothing : Bor (List ℕ))
+    → option_map (λ text. text.now) found ≡ text_in keeps_all piece
     → nothing.now ≡ [] → joined_texts keeps_all (piece ∷ []) ≡ (unwrap_or found nothing).now
 one_text keeps_all piece None nothing is empty = rw (← is, empty) refl
 one_text keeps_all piece (Some text) nothing is empty = rw (← is) refl

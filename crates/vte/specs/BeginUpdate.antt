@@ -19,10 +19,12 @@ abbrev pub is_private : List ℕ → Bool
 is_private (byte ∷ []) = byte == 0x3f
 is_private _ = false
 
--- How often an event begins an update: once per group of the mode, in a sequence `?h` that isn't ignored.
+-- How often an event begins an update: once per group of the mode, in a sequence `?h` that isn't
+-- ignored.
 abbrev pub begins_of : Event → ℕ
 begins_of (CsiDispatch groups intermediates ignore final) =
-    if ignore then 0 else if final == 0x68 && is_private intermediates then update_groups groups else 0
+    if ignore then 0 else if final == 0x68 && is_private intermediates
+    then update_groups groups else 0
 begins_of _ = 0
 
 abbrev pub begin_count : List Event → ℕ

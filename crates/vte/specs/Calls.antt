@@ -16,7 +16,8 @@ sequence_calls last groups intermediates false final = control_calls last interm
 abbrev pub calls_of : Option ℕ → Event → List Call
 calls_of last (Print c) = call.Input c ∷ []
 calls_of last (Execute byte) = execute_calls byte
-calls_of last (CsiDispatch groups intermediates ignore final) = sequence_calls last groups intermediates ignore final
+calls_of last (CsiDispatch groups intermediates ignore final) =
+    sequence_calls last groups intermediates ignore final
 calls_of last (EscDispatch intermediates ignore byte) = escape_calls intermediates byte
 calls_of last (OscDispatch pieces bell) = system_command_calls pieces bell
 calls_of last _ = []
@@ -32,7 +33,8 @@ last_printed_behind last (event ∷ events) = last_printed_behind (last_behind l
 
 abbrev pub calls_behind : Option ℕ → List Event → List Call
 calls_behind last [] = []
-calls_behind last (event ∷ events) = calls_of last event ++ calls_behind (last_behind last event) events
+calls_behind last (event ∷ events) =
+    calls_of last event ++ calls_behind (last_behind last event) events
 
 -- The character of the last `Print` among the events.
 abbrev pub last_printed : List Event → Option ℕ

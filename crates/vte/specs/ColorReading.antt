@@ -22,7 +22,8 @@ pub record ReadColor : Type 0 where
   pub color : Option Color
   pub used : ℕ
 
--- Too few components after a kind: either no number is left, or the next is above 255 and is used too.
+-- Too few components after a kind: either no number is left, or the next is above 255 and is used
+-- too.
 abbrev pub short_color : ℕ → List ℕ → ReadColor
 short_color parts [] = record { color = None; used = parts }
 short_color parts (number ∷ numbers) = record { color = None; used = suc parts }
@@ -44,9 +45,12 @@ kind_reading kind numbers = reading_of (beside kinds kind) numbers
 
 abbrev pub color_reading : List ℕ → ReadColor
 color_reading [] = record { color = None; used = 0 }
-color_reading (kind ∷ numbers) = let reading = kind_reading kind numbers in record { color = reading.color; used = suc reading.used }
+color_reading (kind ∷ numbers) =
+    let reading =
+    kind_reading kind numbers in record { color = reading.color; used = suc reading.used }
 
--- The numbers after 38, 48 or 58 in one group. If there are more than four, the second, a colour space, is skipped.
+-- The numbers after 38, 48 or 58 in one group. If there are more than four, the second, a colour
+-- space, is skipped.
 abbrev pub without_space : List ℕ → List ℕ
 without_space (kind ∷ space ∷ numbers) =
     if nat_lt 4 (suc (suc (length numbers))) then kind ∷ numbers else kind ∷ space ∷ numbers

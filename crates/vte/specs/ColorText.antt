@@ -20,7 +20,9 @@ top count number = 256 * number / 16 ^ count
 
 -- A component of one to four hex digits, converted by `value`.
 abbrev pub part_by : (ℕ → ℕ → ℕ) → List ℕ → Option ℕ
-part_by value digits = if is_size (length digits) then option_map (λ number. value (length digits) number) (hex_number digits) else None
+part_by value digits =
+    if is_size (length digits)
+    then option_map (λ number. value (length digits) number) (hex_number digits) else None
 
 -- r/g/b
 abbrev pub color_of_parts : List (List ℕ) → Option Rgb
@@ -32,7 +34,8 @@ abbrev pub color_of_thirds : List ℕ → Option Rgb
 color_of_thirds digits =
     let count = length digits / 3 in
     if length digits == 3 * count
-    then color_by (part_by top (take count digits)) (part_by top (take count (drop count digits))) (part_by top (drop (2 * count) digits))
+    then color_by (part_by top (take count digits)) (part_by top (take count (drop count digits)))
+    (part_by top (drop (2 * count) digits))
     else None
 
 -- `rgb:` and three components, or `#` and three components with the same number of digits.

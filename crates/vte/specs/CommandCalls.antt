@@ -29,12 +29,14 @@ color_calls prefix index terminator text =
 -- 4: an index and a colour
 abbrev pub pair_calls : List ℕ → Option ℕ → List ℕ → List Call
 pair_calls terminator None text = []
-pair_calls terminator (Some index) text = color_calls (codes "4;" ++ decimal index) index terminator text
+pair_calls terminator (Some index) text =
+    color_calls (codes "4;" ++ decimal index) index terminator text
 
 abbrev pub pairs_calls : List ℕ → List (List ℕ) → List Call
 pairs_calls terminator [] = []
 pairs_calls terminator (index ∷ []) = []
-pairs_calls terminator (index ∷ text ∷ texts) = pair_calls terminator (decimal_number index) text ++ pairs_calls terminator texts
+pairs_calls terminator (index ∷ text ∷ texts) =
+    pair_calls terminator (decimal_number index) text ++ pairs_calls terminator texts
 
 abbrev pub palette_calls : List ℕ → List (List ℕ) → List Call
 palette_calls terminator texts = if length texts % 2 == 0 then pairs_calls terminator texts else []
@@ -54,7 +56,8 @@ link_to parameters (byte ∷ uri) = Some (record { id = id_of parameters; uri = 
 abbrev pub link_calls : List (List ℕ) → List Call
 link_calls [] = []
 link_calls (parameters ∷ []) = []
-link_calls (parameters ∷ text ∷ texts) = call.SetHyperlink (link_to parameters (joined_texts true (text ∷ texts))) ∷ []
+link_calls (parameters ∷ text ∷ texts) =
+    call.SetHyperlink (link_to parameters (joined_texts true (text ∷ texts))) ∷ []
 
 -- 10, 11, 12: the foreground, the background, the cursor; further colours are for the next ones
 abbrev pub dynamic_prefixes : List (Row (List ℕ))
@@ -62,12 +65,14 @@ dynamic_prefixes = (10, codes "10") ∷ (11, codes "11") ∷ (12, codes "12") �
 
 abbrev pub dynamic_call : ℕ → List ℕ → List ℕ → Option (List ℕ) → List Call
 dynamic_call code terminator text None = []
-dynamic_call code terminator text (Some prefix) = color_calls prefix (256 + (code - 10)) terminator text
+dynamic_call code terminator text (Some prefix) =
+    color_calls prefix (256 + (code - 10)) terminator text
 
 abbrev pub dynamic_calls : ℕ → List ℕ → List (List ℕ) → List Call
 dynamic_calls code terminator [] = []
 dynamic_calls code terminator (text ∷ texts) =
-    dynamic_call code terminator text (beside dynamic_prefixes code) ++ dynamic_calls (code + 1) terminator texts
+    dynamic_call code terminator text (beside dynamic_prefixes code)
+    ++ dynamic_calls (code + 1) terminator texts
 
 -- 22
 abbrev pub pointer_calls : List (List ℕ) → List Call
@@ -85,7 +90,9 @@ shape_behind (Some (byte ∷ bytes)) = beside shapes byte
 
 abbrev pub shape_calls : List (List ℕ) → List Call
 shape_calls [] = []
-shape_calls (text ∷ texts) = those (λ shape. call.SetCursorShape shape) (shape_behind (behind_word (codes "CursorShape=") text))
+shape_calls (text ∷ texts) =
+    those (λ shape. call.SetCursorShape shape)
+    (shape_behind (behind_word (codes "CursorShape=") text))
 
 -- 52: the first byte selects the clipboard, `c` if there is none
 abbrev pub clipboard_of : List ℕ → ℕ
@@ -106,7 +113,8 @@ all_reset = map (λ index. call.ResetColor index) (range_with_len 0 256)
 abbrev pub reset_calls : List (List ℕ) → List Call
 reset_calls [] = all_reset
 reset_calls ([] ∷ texts) = all_reset
-reset_calls ((byte ∷ text) ∷ texts) = map (λ index. call.ResetColor index) (filter_map decimal_number ((byte ∷ text) ∷ texts))
+reset_calls ((byte ∷ text) ∷ texts) =
+    map (λ index. call.ResetColor index) (filter_map decimal_number ((byte ∷ text) ∷ texts))
 
 -- xterm's commands: the first piece selects what the others ask for.
 abbrev pub command_rows : List (List ℕ × (List ℕ → List (List ℕ) → List Call))
@@ -128,10 +136,12 @@ command_rows =
     []
 
 -- A command without a row makes no call.
-abbrev pub calls_by : List ℕ → List (List ℕ) → Option (List ℕ → List (List ℕ) → List Call) → List Call
+abbrev pub calls_by : List ℕ → List (List ℕ)
+    → Option (List ℕ → List (List ℕ) → List Call) → List Call
 calls_by terminator texts None = []
 calls_by terminator texts (Some calls_of) = calls_of terminator texts
 
 abbrev pub system_command_calls : List (List ℕ) → Bool → List Call
 system_command_calls [] bell = []
-system_command_calls (first ∷ texts) bell = calls_by (terminator_of bell) texts (beside_word command_rows first)
+system_command_calls (first ∷ texts) bell =
+    calls_by (terminator_of bell) texts (beside_word command_rows first)

@@ -28,7 +28,8 @@ window_rows =
     []
 
 module _ (last : Option ℕ) (intermediates : List ℕ) (groups : List (List ℕ)) where
-  -- Parameters as ECMA-48 names them, one per group: a number Pn is 1 if it is 0 or omitted, and an omitted Ps is 0.
+  -- Parameters as ECMA-48 names them, one per group: a number Pn is 1 if it is 0 or omitted, and an
+  -- omitted Ps is 0.
   abbrev pub pn : ℕ
   pn = first_or 1 (first_numbers groups)
 
@@ -90,8 +91,11 @@ module _ (last : Option ℕ) (intermediates : List ℕ) (groups : List (List ℕ
       []
 
   abbrev pub greater_rows : List (Row (List Call))
-  greater_rows =
-      (0x6d, if pn == 4 then those (λ keys. call.SetModifyOtherKeys keys) (beside keys_rows ps2) else []) ∷  -- m: XTMODKEYS
+  greater_rows = (
+    0x6d,
+    if pn == 4 then those (λ keys. call.SetModifyOtherKeys keys) (beside keys_rows ps2)
+        else [],
+  ) ∷  -- m: XTMODKEYS
       (0x75, call.PushKeyboardMode (keyboard_modes ps) ∷ []) ∷  -- u: kitty
       []
 
@@ -106,8 +110,11 @@ module _ (last : Option ℕ) (intermediates : List ℕ) (groups : List (List ℕ
       []
 
   abbrev pub blank_rows : List (Row (List Call))
-  blank_rows =
-      (0x6b, both (λ path update. call.SetScp path update) (beside path_rows ps) (beside update_rows ps2)) ∷  -- k: SCP
+  blank_rows = (
+    0x6b,
+    both (λ path update. call.SetScp path update) (beside path_rows ps)
+        (beside update_rows ps2),
+  ) ∷  -- k: SCP
       (0x71, those (λ style. call.SetCursorStyle style) (beside cursor_rows ps)) ∷  -- q: DECSCUSR
       []
 
@@ -138,5 +145,6 @@ module _ (last : Option ℕ) (intermediates : List ℕ) (groups : List (List ℕ
   -- Device attributes (DA) may have any intermediates. A sequence without a row makes no call.
   abbrev pub control_calls : ℕ → List Call
   control_calls final =
-      if final == 0x63 then (if ps == 0 then call.IdentifyTerminal (first_of intermediates) ∷ [] else [])
+      if final == 0x63
+      then (if ps == 0 then call.IdentifyTerminal (first_of intermediates) ∷ [] else [])
       else or_none (beside (rows_of intermediates) final)

@@ -11,7 +11,8 @@ held_of hold = drop hold.released hold.bytes.items
 abbrev pub released_of : {A : Type 0} → SyncState A → List ℕ
 released_of hold = take hold.released hold.bytes.items
 
--- The end of a hold, from a place on, to whose bytes others were added: these, and at most seven before them.
+-- The end of a hold, from a place on, to whose bytes others were added: these, and at most seven
+-- before them.
 pub record IsEnd (held more text : List ℕ) (start : ℕ) : Type 0 where
   pub start_is : start ≡ length held - 7
   pub is : text ≡ drop start (held ++ more)
@@ -22,7 +23,9 @@ pub record Adds (bytes : List ℕ) (new : ℕ) (added : Added) : Type 0 where
   pub released : added.released ≡ length bytes - length (kept_of bytes)
 
 -- Bytes were added to those that were held.
-pub record IsAdded {A : Type 0} (held more : List ℕ) (hold : SyncState A) (begins : ℕ) : Type 0 where
+pub record IsAdded {A : Type 0} (held more : List ℕ) (hold : SyncState A)
+    (begins : ℕ) : Type 0 where
   pub held_is : held_of hold ≡ kept_of (held ++ more)
-  pub released_is : released_of hold ≡ take (length (held ++ more) - length (kept_of (held ++ more))) (held ++ more)
+  pub released_is : released_of hold
+      ≡ take (length (held ++ more) - length (kept_of (held ++ more))) (held ++ more)
   pub begins_are : begins ≡ begins_among (length more) (last_part (held ++ more))

@@ -48,7 +48,8 @@ with_private_modes step timeout lent groups = record lent {
   terminated = lent.terminated || nat_lt 0 (update_groups groups);
 }
 
--- A parser has read bytes behind a stream, and performed what they add. It still has memory for so many.
+-- A parser has read bytes behind a stream, and performed what they add. It still has memory for so
+-- many.
 pub record HasPerformed {P V W : Type 0} (reading : Reading P) (limit : Option ℕ)
     (step : Lent V W → Event → Lent V W) (next : P) (old new : Lent V W)
     (stream bytes : List ℕ) (n : ℕ) : Type 0 where

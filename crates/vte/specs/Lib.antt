@@ -33,7 +33,8 @@ pub mod Told
 pub mod Turn
 pub mod UpdateExamples
 pub mod Values
--- Crates that depend on `vte` find here the definitions that its contracts use from the crates below.
+-- Crates that depend on `vte` find here the definitions that its contracts use from the crates
+-- below.
 pub use Rattle.vte_core.specs.Body
 pub use Rattle.vte_core.specs.Brief
 pub use Rattle.vte_core.specs.Class

@@ -9,11 +9,14 @@ pub record Meaning (H W : Type 0) : Type 1 where
   pub step : H → Call → H
   pub timeout : TimeoutMeaning W
 
-abbrev pub timeout_meaning : {W : Type 0} → (W → ℕ → W) → (W → W) → (W → Bool → Type 0) → TimeoutMeaning W
+abbrev pub timeout_meaning : {W : Type 0} → (W → ℕ → W) → (W → W) → (W → Bool → Type 0)
+    → TimeoutMeaning W
 timeout_meaning set clear allows = record { set = set; clear = clear; allows = allows }
 
-abbrev pub meaning : {H W : Type 0} → Option ℕ → (H → Call → H) → (W → ℕ → W) → (W → W) → (W → Bool → Type 0) → Meaning H W
-meaning limit step set clear allows = record { limit = limit; step = step; timeout = timeout_meaning set clear allows }
+abbrev pub meaning : {H W : Type 0} → Option ℕ → (H → Call → H) → (W → ℕ → W) → (W → W)
+    → (W → Bool → Type 0) → Meaning H W
+meaning limit step set clear allows =
+    record { limit = limit; step = step; timeout = timeout_meaning set clear allows }
 
 -- The timeout of an update, 150 ms.
 abbrev pub update_nanos : ℕ

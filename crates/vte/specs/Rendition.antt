@@ -87,7 +87,9 @@ underline_rows =
 
 -- The attribute that a number makes of a colour.
 abbrev pub color_rows : List (Row (Color → Attr))
-color_rows = (38, λ color. attr.Foreground color) ∷ (48, λ color. attr.Background color) ∷ (58, λ color. attr.UnderlineColor (Some color)) ∷ []
+color_rows =
+    (38, λ color. attr.Foreground color) ∷ (48, λ color. attr.Background color)
+    ∷ (58, λ color. attr.UnderlineColor (Some color)) ∷ []
 
 -- The attribute of a group, and how many of the following groups it uses.
 pub record Rendition : Type 0 where
@@ -96,14 +98,16 @@ pub record Rendition : Type 0 where
 
 -- A colour in the groups that follow a single 38, 48 or 58.
 abbrev pub rendition_read : (Color → Attr) → ReadColor → Rendition
-rendition_read with_color reading = record { attribute = option_map with_color reading.color; used = reading.used }
+rendition_read with_color reading =
+    record { attribute = option_map with_color reading.color; used = reading.used }
 
 abbrev pub alone : Option Attr → Rendition
 alone attribute = record { attribute = attribute; used = 0 }
 
 -- A group of one number.
 abbrev pub single : ℕ → Option (Color → Attr) → List (List ℕ) → Rendition
-single number (Some with_color) groups = rendition_read with_color (color_reading (first_numbers groups))
+single number (Some with_color) groups =
+    rendition_read with_color (color_reading (first_numbers groups))
 single number None groups = alone (beside attribute_rows number)
 
 -- Any other kind is a plain underline.
@@ -117,13 +121,15 @@ underline_of _ = attr.Underline
 
 -- A group of several numbers.
 abbrev pub joined : ℕ → List ℕ → Option (Color → Attr) → Rendition
-joined number numbers (Some with_color) = alone (option_map with_color (color_reading (without_space numbers)).color)
+joined number numbers (Some with_color) =
+    alone (option_map with_color (color_reading (without_space numbers)).color)
 joined number numbers None = if number == 4 then alone (Some (underline_of numbers)) else alone None
 
 abbrev pub rendition : List ℕ → List (List ℕ) → Rendition
 rendition [] groups = alone None
 rendition (number ∷ []) groups = single number (beside color_rows number) groups
-rendition (number ∷ more ∷ numbers) groups = joined number (more ∷ numbers) (beside color_rows number)
+rendition (number ∷ more ∷ numbers) groups =
+    joined number (more ∷ numbers) (beside color_rows number)
 
 -- The attributes of groups, the first of which may already be used.
 abbrev pub attributes_from : ℕ → List (List ℕ) → List Attr

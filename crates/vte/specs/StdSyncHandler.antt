@@ -16,10 +16,17 @@ abbrev pub is_pending : {C : Type 0} → StdSyncHandler C → Bool
 is_pending timeout = is_some timeout.expiry
 
 abbrev pub pending_meaning : TimeoutMeaning Bool
-pending_meaning = record { set = λ value nanos. true; clear = λ value. false; allows = λ value answer. answer ≡ value }
+pending_meaning =
+    record {
+      set = λ value nanos. true;
+      clear = λ value. false;
+      allows = λ value answer. answer ≡ value;
+    }
 
--- The expiry is a moment that the clock tells plus this many nanoseconds, at most the greatest `Duration`.
-pub record ExpiresAfter {V : Type 0} (tells : V → ℕ → Type 0) (clock : V) (nanos : ℕ) (expiry : Duration) : Type 0 where
+-- The expiry is a moment that the clock tells plus this many nanoseconds, at most the greatest
+-- `Duration`.
+pub record ExpiresAfter {V : Type 0} (tells : V → ℕ → Type 0) (clock : V) (nanos : ℕ)
+    (expiry : Duration) : Type 0 where
   pub moment : ℕ
   pub told : tells clock moment
   pub sum : as_nanos expiry ≡ min (moment + nanos) max_nanos

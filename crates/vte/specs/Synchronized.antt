@@ -1,4 +1,5 @@
--- The sequences that begin and end a synchronized update. In a hold, only exactly these eight bytes are recognised.
+-- The sequences that begin and end a synchronized update. In a hold, only exactly these eight bytes
+-- are recognised.
 use Rattle.vte_handler.specs.Call.{Call, UnsetPrivateMode}
 use Rattle.vte_types.specs.declared.mode.NamedPrivateMode.TheVariants.{SyncUpdate}
 use Rattle.vte_types.specs.declared.mode.PrivateMode.TheVariants.{Named}
@@ -33,7 +34,8 @@ abbrev pub from_begin : List ℕ → List ℕ
 from_begin [] = []
 from_begin (b ∷ text) = if begins_with begin_update (b ∷ text) then b ∷ text else from_begin text
 
--- What stays held of a text: all of it or, if there is an end-update, what follows the last one from the earliest begin-update on.
+-- What stays held of a text: all of it or, if there is an end-update, what follows the last one
+-- from the earliest begin-update on.
 abbrev pub kept_part : List ℕ → Option (List ℕ) → List ℕ
 kept_part text (Some behind) = from_begin behind
 kept_part text None = text
@@ -45,9 +47,11 @@ kept_of text = kept_part text (behind_last_end text)
 abbrev pub begins_among : ℕ → List ℕ → ℕ
 begins_among n [] = 0
 begins_among n (b ∷ text) =
-    (if begins_with begin_update (b ∷ text) && nat_lt (length (drop 8 (b ∷ text))) n then 1 else 0) + begins_among n text
+    (if begins_with begin_update (b ∷ text) && nat_lt (length (drop 8 (b ∷ text))) n then 1 else 0)
+    + begins_among n text
 
--- The part of a text in which begin-updates count: what follows the last end-update or, without one, all of it.
+-- The part of a text in which begin-updates count: what follows the last end-update or, without
+-- one, all of it.
 abbrev pub counted_part : List ℕ → Option (List ℕ) → List ℕ
 counted_part text (Some behind) = behind
 counted_part text None = text

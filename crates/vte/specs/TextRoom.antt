@@ -1,5 +1,5 @@
--- Whether the joined pieces of a command fit the buffer for texts. They fit 1,040 bytes if the parser keeps 1,024 bytes,
--- since there are at most 16 pieces.
+-- Whether the joined pieces of a command fit the buffer for texts. They fit 1,040 bytes if the
+-- parser keeps 1,024 bytes, since there are at most 16 pieces.
 use Rattle.std.specs.Prelude.{ℕ, ◌+◌, ◌≤◌, Bool, List, length, nat_le}
 use Rattle.std.specs.List.{concat}
 

@@ -9,7 +9,8 @@ use Rattle.vte_handler.specs.Call.{Call, SetTitle}
 abbrev pub number_behind : ℕ → List ℕ → Option ℕ
 number_behind number [] = Some number
 number_behind number (byte ∷ bytes) =
-    if nat_lt (digit_value byte) 10 && nat_lt (10 * number + digit_value byte) 256 then number_behind (10 * number + digit_value byte) bytes else None
+    if nat_lt (digit_value byte) 10 && nat_lt (10 * number + digit_value byte) 256
+    then number_behind (10 * number + digit_value byte) bytes else None
 
 abbrev pub decimal_number : List ℕ → Option ℕ
 decimal_number [] = None
@@ -20,7 +21,8 @@ abbrev pub behind : Bool → List ℕ → List ℕ
 behind true text = text
 behind false text = 0x3b ∷ text
 
--- The text of a piece. One that isn't UTF-8 counts as empty if all are kept, and is left out otherwise.
+-- The text of a piece. One that isn't UTF-8 counts as empty if all are kept, and is left out
+-- otherwise.
 abbrev pub text_in : Bool → List ℕ → Option (List ℕ)
 text_in keeps_all piece = if is_utf8 piece then Some piece else if keeps_all then Some [] else None
 

@@ -21,7 +21,8 @@ all_bytes s = s.parsed ++ s.held
 abbrev pub most_held : ℕ
 most_held = 2097150
 
--- Bytes are parsed: the handler receives the calls that they add, and each update that they begin sets the timeout.
+-- Bytes are parsed: the handler receives the calls that they add, and each update that they begin
+-- sets the timeout.
 abbrev pub parse : {H W : Type 0} → Meaning H W → State H W → List ℕ → State H W
 parse m s bytes = record {
   parsed = s.parsed ++ bytes;
@@ -31,10 +32,11 @@ parse m s bytes = record {
 }
 
 abbrev pub with_held : {H W : Type 0} → State H W → List ℕ → State H W
-with_held s bytes = record { parsed = s.parsed; held = bytes; timeout = s.timeout; handler = s.handler }
+with_held s bytes =
+    record { parsed = s.parsed; held = bytes; timeout = s.timeout; handler = s.handler }
 
--- A stop: the whole hold is parsed, the handler receives the call that reports the end of an update, and the timeout is
--- cleared.
+-- A stop: the whole hold is parsed, the handler receives the call that reports the end of an
+-- update, and the timeout is cleared.
 abbrev pub stop : {H W : Type 0} → Meaning H W → State H W → State H W
 stop m s = let p = parse m s s.held in record {
   parsed = p.parsed;
@@ -61,7 +63,8 @@ open_turn m s bytes =
     let front = begin_front m.limit s.parsed bytes in
     record { state = parse m s front; rest = drop (length front) bytes }
 
--- The bytes join the hold. Each begin-update that ends among them, and after the last end-update, sets the timeout.
+-- The bytes join the hold. Each begin-update that ends among them, and after the last end-update,
+-- sets the timeout.
 abbrev pub extend : {H W : Type 0} → Meaning H W → State H W → List ℕ → State H W
 extend m s bytes = let all = s.held ++ bytes in record {
   parsed = s.parsed;
@@ -74,12 +77,14 @@ extend m s bytes = let all = s.held ++ bytes in record {
 abbrev pub cut_at : {H W : Type 0} → Meaning H W → State H W → ℕ → State H W
 cut_at m s place = with_held (parse m s (take place s.held)) (drop place s.held)
 
--- Bytes at the end of the hold are kept, and those before them parsed. If none are kept, the update is stopped.
+-- Bytes at the end of the hold are kept, and those before them parsed. If none are kept, the update
+-- is stopped.
 abbrev pub keep : {H W : Type 0} → Meaning H W → State H W → List ℕ → State H W
 keep m s [] = stop m s
 keep m s (b ∷ kept) = cut_at m s (length s.held - length (b ∷ kept))
 
--- A hold turn. Without an end-update everything stays held; after the last one, what the next begin-update begins.
+-- A hold turn. Without an end-update everything stays held; after the last one, what the next
+-- begin-update begins.
 abbrev pub hold_turn : {H W : Type 0} → Meaning H W → State H W → List ℕ → State H W
 hold_turn m s bytes = keep m (extend m s bytes) (kept_of (s.held ++ bytes))
 
@@ -87,7 +92,8 @@ hold_turn m s bytes = keep m (extend m s bytes) (kept_of (s.held ++ bytes))
 abbrev pub is_held : {H W : Type 0} → Bool → State H W → List ℕ → Bool
 is_held answer s bytes = answer && nat_le (length (s.held ++ bytes)) most_held
 
--- Otherwise they are parsed. If the timeout is pending, or bytes are held whose update has expired, the update is stopped first.
+-- Otherwise they are parsed. If the timeout is pending, or bytes are held whose update has expired,
+-- the update is stopped first.
 abbrev pub is_stopped : {H W : Type 0} → Bool → State H W → Bool
 is_stopped answer s = answer || nat_lt 0 (length s.held)
 
@@ -96,20 +102,28 @@ opened m answer s = if is_stopped answer s then stop m s else s
 
 -- A turn, by the timeout's answer.
 abbrev pub turn : {H W : Type 0} → Meaning H W → Bool → State H W → List ℕ → Turn H W
-turn m answer s bytes = if is_held answer s bytes then record { state = hold_turn m s bytes; rest = [] } else open_turn m (opened m answer s) bytes
+turn m answer s bytes =
+    if is_held answer s bytes then record { state = hold_turn m s bytes; rest = [] }
+    else open_turn m (opened m answer s) bytes
 
--- Turns of a call that led to a state and left these bytes, each with an answer that the timeout's value allows.
-pub data TakesTurns {H W : Type 0} (m : Meaning H W) : State H W → List ℕ → State H W → List ℕ → Type 0 where
+-- Turns of a call that led to a state and left these bytes, each with an answer that the timeout's
+-- value allows.
+pub data TakesTurns {H W : Type 0} (m : Meaning H W) : State H W → List ℕ → State H W → List ℕ
+    → Type 0 where
   done : {s : State H W} {bytes : List ℕ} → TakesTurns m s bytes s bytes
-  turns : {s t : State H W} {b : ℕ} {rest left : List ℕ} → (answer : Bool) → m.timeout.allows s.timeout answer
-      → TakesTurns m (turn m answer s (b ∷ rest)).state (turn m answer s (b ∷ rest)).rest t left → TakesTurns m s (b ∷ rest) t left
+  turns : {s t : State H W} {b : ℕ} {rest left : List ℕ} → (answer : Bool)
+      → m.timeout.allows s.timeout answer
+      → TakesTurns m (turn m answer s (b ∷ rest)).state (turn m answer s (b ∷ rest)).rest t left
+      → TakesTurns m s (b ∷ rest) t left
 
 -- A call of `advance`: turns until all bytes are read.
 abbrev pub TakesAllTurns : {H W : Type 0} → Meaning H W → State H W → List ℕ → State H W → Type 0
 TakesAllTurns m s bytes t = TakesTurns m s bytes t []
 
--- An open turn that was refused memory: it has parsed a front of its bytes, in which no update begins, and left some.
-pub record Halts {H W : Type 0} (m : Meaning H W) (s : State H W) (bytes : List ℕ) (t : State H W) (left : List ℕ) : Type 0 where
+-- An open turn that was refused memory: it has parsed a front of its bytes, in which no update
+-- begins, and left some.
+pub record Halts {H W : Type 0} (m : Meaning H W) (s : State H W) (bytes : List ℕ) (t : State H W)
+    (left : List ℕ) : Type 0 where
   pub front : List ℕ
   pub bytes_are : front ++ left ≡ bytes
   pub some_left : 0 < length left
@@ -117,11 +131,15 @@ pub record Halts {H W : Type 0} (m : Meaning H W) (s : State H W) (bytes : List 
   pub state_is : t ≡ parse m s front
 
 -- The same of a turn, by the timeout's answer. A turn that holds bytes takes its memory before.
-abbrev pub TurnHalts : {H W : Type 0} → Meaning H W → Bool → State H W → List ℕ → State H W → List ℕ → Type 0
-TurnHalts m answer s bytes t left = (is_held answer s bytes ≡ false) × Halts m (opened m answer s) bytes t left
+abbrev pub TurnHalts : {H W : Type 0} → Meaning H W → Bool → State H W → List ℕ → State H W
+    → List ℕ → Type 0
+TurnHalts m answer s bytes t left =
+    (is_held answer s bytes ≡ false) × Halts m (opened m answer s) bytes t left
 
 -- Turns of a call, after which a further one may have been refused memory on the way.
-pub data TakesSome {H W : Type 0} (m : Meaning H W) (s : State H W) (bytes : List ℕ) (t : State H W) (left : List ℕ) : Type 0 where
+pub data TakesSome {H W : Type 0} (m : Meaning H W) (s : State H W) (bytes : List ℕ) (t : State H W)
+    (left : List ℕ) : Type 0 where
   between : TakesTurns m s bytes t left → TakesSome m s bytes t left
-  within : {u : State H W} {rest : List ℕ} → TakesTurns m s bytes u rest → (answer : Bool) → m.timeout.allows u.timeout answer
+  within : {u : State H W} {rest : List ℕ} → TakesTurns m s bytes u rest → (answer : Bool)
+      → m.timeout.allows u.timeout answer
       → TurnHalts m answer u rest t left → TakesSome m s bytes t left

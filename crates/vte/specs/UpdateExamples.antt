@@ -1,5 +1,6 @@
--- Examples of synchronized updates, worked out by hand: the calls of a processor, what its handler then has received,
--- and what is held. The prover compares them with the definitions, not with code.
+-- Examples of synchronized updates, worked out by hand: the calls of a processor, what its handler
+-- then has received, and what is held. The prover compares them with the definitions, not with
+-- code.
 use Rattle.std.specs.Prelude.{◌≡◌, ℕ, zero, suc, Bool, true, false, List, [], ◌∷◌, ◌++◌, length, map, Option, Some, None, codes}
 use Rattle.vte_handler.specs.Call.{Call, Input, SetPrivateMode, TerminalAttribute}
 use Rattle.vte_types.specs.declared.color.Attr.TheVariants.{Bold, Foreground, Underline}
@@ -11,12 +12,18 @@ use Rattle.vte.specs.Meaning.{Meaning}
 use Rattle.vte.specs.Synchronized.{begin_update, end_update, update_ended}
 use Rattle.vte.specs.Turn.{State, stop, turn}
 
--- The handler's value is the list of its calls; the timeout is pending from when it is set until it is cleared.
+-- The handler's value is the list of its calls; the timeout is pending from when it is set until it
+-- is cleared.
 abbrev pub plain_meaning : Meaning (List Call) Bool
 plain_meaning = record {
   limit = Some 1024;
   step = λ told call. told ++ call ∷ [];
-  timeout = record { set = λ pending nanos. true; clear = λ pending. false; allows = λ pending answer. answer ≡ pending };
+  timeout =
+      record {
+        set = λ pending nanos. true;
+        clear = λ pending. false;
+        allows = λ pending answer. answer ≡ pending;
+      };
 }
 
 abbrev pub PlainState : Type 0
@@ -56,7 +63,8 @@ led_of s = record { told = s.handler; held = s.held }
 
 abbrev pub AreLed : List UpdateExample → Type 0
 AreLed examples =
-    map (λ example. led_of (led_by start example.acts)) examples ≡ map (λ example. example.led) examples
+    map (λ example. led_of (led_by start example.acts)) examples
+    ≡ map (λ example. example.led) examples
 
 abbrev pub update_begun : Call
 update_begun = SetPrivateMode (Named SyncUpdate)
@@ -67,31 +75,48 @@ inputs text = map (λ c. Input c) text
 abbrev pub update_examples : List UpdateExample
 update_examples =
     -- after the end of an update, everything from the next begin on stays held
-    leads (Some (begin_update ++ codes "\u{1b}[1m") ∷ Some (end_update ++ begin_update ++ codes "\u{1b}[4m") ∷ [])
+    leads
+    (Some (begin_update ++ codes "\u{1b}[1m")
+    ∷ Some (end_update ++ begin_update ++ codes "\u{1b}[4m") ∷ [])
     (update_begun ∷ TerminalAttribute Bold ∷ update_ended ∷ []) (begin_update ++ codes "\u{1b}[4m")
-    ∷ leads (Some (begin_update ++ codes "\u{1b}[1m") ∷ Some (end_update ++ begin_update ++ codes "\u{1b}[4m") ∷ Some end_update ∷ [])
-    (update_begun ∷ TerminalAttribute Bold ∷ update_ended ∷ update_begun ∷ TerminalAttribute Underline ∷ update_ended ∷ update_ended ∷ []) []
+    ∷ leads
+    (Some (begin_update ++ codes "\u{1b}[1m")
+    ∷ Some (end_update ++ begin_update ++ codes "\u{1b}[4m") ∷ Some end_update ∷ [])
+    (update_begun ∷ TerminalAttribute Bold ∷ update_ended ∷ update_begun
+    ∷ TerminalAttribute Underline ∷ update_ended ∷ update_ended ∷ []) []
     -- both sequences are cut across calls
     ∷ leads
-    (Some (codes "\u{1b}[?20") ∷ Some (codes "26h") ∷ Some (codes "random \u{1b}[31m stuff") ∷ Some (codes "\u{1b}[?20") ∷ Some (codes "26h")
+    (Some (codes "\u{1b}[?20") ∷ Some (codes "26h") ∷ Some (codes "random \u{1b}[31m stuff")
+    ∷ Some (codes "\u{1b}[?20") ∷ Some (codes "26h")
     ∷ Some (codes "\u{1b}[?20") ∷ Some (codes "26l") ∷ [])
-    (update_begun ∷ inputs (codes "random ") ++ TerminalAttribute (Foreground (color.Named Red)) ∷ inputs (codes " stuff")
+    (update_begun ∷ inputs (codes "random ") ++ TerminalAttribute (Foreground (color.Named Red))
+    ∷ inputs (codes " stuff")
     ++ update_begun ∷ update_ended ∷ update_ended ∷ []) []
-    -- a begin beside another mode isn't recognised in the hold; it makes its calls when it is parsed
+    -- a begin beside another mode isn't recognised in the hold; it makes its calls when it is
+    -- parsed
     ∷ leads (Some begin_update ∷ Some (codes "a\u{1b}[?25;2026hb") ∷ Some end_update ∷ [])
-    (update_begun ∷ Input 0x61 ∷ SetPrivateMode (Named ShowCursor) ∷ update_begun ∷ Input 0x62 ∷ update_ended ∷ update_ended ∷ []) []
+    (update_begun ∷ Input 0x61 ∷ SetPrivateMode (Named ShowCursor) ∷ update_begun ∷ Input 0x62
+    ∷ update_ended ∷ update_ended ∷ []) []
     -- a stop with nothing held
     ∷ leads (None ∷ []) (update_ended ∷ []) []
     -- an update that a sequence of two modes begins, and a stop
-    ∷ leads (Some (codes "\u{1b}[?25;2026hx") ∷ []) (SetPrivateMode (Named ShowCursor) ∷ update_begun ∷ []) (codes "x")
-    ∷ leads (Some (codes "\u{1b}[?25;2026hx") ∷ None ∷ []) (SetPrivateMode (Named ShowCursor) ∷ update_begun ∷ Input 0x78 ∷ update_ended ∷ []) []
+    ∷ leads (Some (codes "\u{1b}[?25;2026hx") ∷ [])
+    (SetPrivateMode (Named ShowCursor) ∷ update_begun ∷ []) (codes "x")
+    ∷ leads (Some (codes "\u{1b}[?25;2026hx") ∷ None ∷ [])
+    (SetPrivateMode (Named ShowCursor) ∷ update_begun ∷ Input 0x78 ∷ update_ended ∷ []) []
     -- the last of two ends decides
-    ∷ leads (Some (begin_update ++ codes "a" ++ end_update ++ begin_update ++ codes "b" ++ end_update ++ codes "c") ∷ [])
-    (update_begun ∷ Input 0x61 ∷ update_ended ∷ update_begun ∷ Input 0x62 ∷ update_ended ∷ Input 0x63 ∷ update_ended ∷ []) []
+    ∷ leads
+    (Some
+    (begin_update ++ codes "a" ++ end_update ++ begin_update ++ codes "b" ++ end_update
+    ++ codes "c") ∷ [])
+    (update_begun ∷ Input 0x61 ∷ update_ended ∷ update_begun ∷ Input 0x62 ∷ update_ended
+    ∷ Input 0x63 ∷ update_ended ∷ []) []
     ∷ []
 
--- An expired update is stopped before new bytes are parsed: the timeout answers "not pending" although bytes are held.
+-- An expired update is stopped before new bytes are parsed: the timeout answers "not pending"
+-- although bytes are held.
 abbrev pub expired_example : Type 0
 expired_example =
-    (turn plain_meaning false (led_by start (Some (begin_update ++ codes "x") ∷ [])) (codes "y")).state.handler
+    (turn plain_meaning false (led_by start (Some (begin_update ++ codes "x") ∷ []))
+    (codes "y")).state.handler
     ≡ update_begun ∷ Input 0x78 ∷ update_ended ∷ Input 0x79 ∷ []

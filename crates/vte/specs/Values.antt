@@ -42,7 +42,9 @@ abbrev pub path_rows : List (Row ScpCharPath)
 path_rows = (0, path.Default) ∷ (1, path.LTR) ∷ (2, path.RTL) ∷ []
 
 abbrev pub update_rows : List (Row ScpUpdateMode)
-update_rows = (0, update.ImplementationDependant) ∷ (1, update.DataToPresentation) ∷ (2, update.PresentationToData) ∷ []
+update_rows =
+    (0, update.ImplementationDependant) ∷ (1, update.DataToPresentation)
+    ∷ (2, update.PresentationToData) ∷ []
 
 -- DECSCUSR; `None` is the terminal's default style
 abbrev pub steady : CursorShape → Option CursorStyle

@@ -35,13 +35,17 @@ run_events run = taken_events run.taken
 
 -- No character that is printed begins at the place: a well-formed sequence there is a control.
 abbrev pub BeginsNoCharacter : List ℕ → ℕ → Type 0
-BeginsNoCharacter bytes place = (n : ℕ) → place + n ≤ length bytes → is_well_formed (take n (drop place bytes)) ≡ true
+BeginsNoCharacter bytes place =
+    (n : ℕ) → place + n ≤ length bytes → is_well_formed (take n (drop place bytes)) ≡ true
     → is_control_character (scalar_of (take n (drop place bytes))) ≡ true
 
--- A text has a character and no control, and no character that is printed follows. Data have a byte, and no byte that is put follows.
+-- A text has a character and no control, and no character that is printed follows. Data have a
+-- byte, and no byte that is put follows.
 abbrev pub IsWhole : List ℕ → ℕ → Taken → Type 0
-IsWhole bytes end (Text text) = (0 < length text.now) × HasNoControls text.now × BeginsNoCharacter bytes end
-IsWhole bytes end (Data those) = (0 < length those.now) × (end < length bytes → IsPut (slice_index bytes end) → ⊥)
+IsWhole bytes end (Text text) =
+    (0 < length text.now) × HasNoControls text.now × BeginsNoCharacter bytes end
+IsWhole bytes end (Data those) =
+    (0 < length those.now) × (end < length bytes → IsPut (slice_index bytes end) → ⊥)
 IsWhole bytes end Nothing = Unit {0}
 
 -- The run stands in the bytes at its place.
@@ -52,26 +56,32 @@ pub record IsRunIn (bytes : List ℕ) (run : Run) : Type 0 where
   pub whole : IsWhole bytes run.end run.taken
 
 -- A call of a parser that has read such streams returned the run.
-pub record ReturnsRun {V : Type 0} (step : V → Event → V) (is_terminated : V → Bool) (old new : V) (limit : Option ℕ) (HasReadBefore : List ℕ → Type 0)
+pub record ReturnsRun {V : Type 0} (step : V → Event → V) (is_terminated : V → Bool) (old new : V)
+    (limit : Option ℕ) (HasReadBefore : List ℕ → Type 0)
     (bytes : List ℕ) (run : Run) : Type 0 where
   pub stands : IsRunIn bytes run
   -- The performer takes what is told before the run, and nothing of the run ..
-  pub comes : (stream : List ℕ) → HasReadBefore stream → ComesTo step is_terminated old new limit stream bytes run.start
+  pub comes : (stream : List ℕ) → HasReadBefore stream
+      → ComesTo step is_terminated old new limit stream bytes run.start
   -- .. whose characters would be printed, or its data put.
-  pub adds : (stream : List ℕ) → HasReadBefore stream → added limit (stream_at stream bytes run.start) (run_bytes run) ≡ run_events run
+  pub adds : (stream : List ℕ) → HasReadBefore stream
+      → added limit (stream_at stream bytes run.start) (run_bytes run) ≡ run_events run
   -- There is a run only if the performer isn't terminated ..
   pub may_go_on : run.start < run.end → is_terminated new ≡ false
   -- .. and if there is none, the performer is terminated or all bytes were read.
   pub stops : run.end ≡ run.start → run.start < length bytes → is_terminated new ≡ true
 
 -- `advance_to_run` of a `Parser`
-pub record ReadsToRun {V : Type 0} {N : ℕ} (step : V → Event → V) (is_terminated : V → Bool) (old new : V) (bytes : List ℕ) (run : Run)
+pub record ReadsToRun {V : Type 0} {N : ℕ} (step : V → Event → V) (is_terminated : V → Bool)
+    (old new : V) (bytes : List ℕ) (run : Run)
     (parser next : Parser N) : Type 0 where
   pub returns : ReturnsRun step is_terminated old new (Some N) (HasRead parser) bytes run
   -- The parser goes on behind the run.
-  pub reads : (stream : List ℕ) → HasRead parser stream → HasRead next (stream_at stream bytes run.start ++ run_bytes run)
+  pub reads : (stream : List ℕ) → HasRead parser stream
+      → HasRead next (stream_at stream bytes run.start ++ run_bytes run)
   -- Characters and data are left to the run.
-  pub others : (stream : List ℕ) → HasRead parser stream → TellsOthers (Some N) stream bytes run.start
+  pub others : (stream : List ℕ) → HasRead parser stream
+      → TellsOthers (Some N) stream bytes run.start
   -- Looks and events are few for the bytes read, and no byte is read without a look.
   pub count : looks next ≤ looks parser + 7 * run.end + 8
   pub least : looks parser + run.end ≤ looks next

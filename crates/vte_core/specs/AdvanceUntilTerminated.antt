@@ -6,12 +6,16 @@ use Rattle.vte_core.specs.Event.{Event}
 use Rattle.vte_core.specs.Looks.{looks}
 use Rattle.vte_core.specs.Parser.{HasRead}
 
--- `advance_until_terminated` and `advance_text_until_terminated` of a `Parser`, which read n of the bytes
-pub record ReadsUntilTerminated {V : Type 0} {N : ℕ} (step : V → Event → V) (is_terminated : V → Bool) (old new : V) (bytes : List ℕ) (n : ℕ)
+-- `advance_until_terminated` and `advance_text_until_terminated` of a `Parser`, which read n of the
+-- bytes
+pub record ReadsUntilTerminated {V : Type 0} {N : ℕ} (step : V → Event → V) (is_terminated : V
+    → Bool) (old new : V) (bytes : List ℕ) (n : ℕ)
     (parser next : Parser N) : Type 0 where
   pub within : n ≤ length bytes
-  -- The call ends at the first start where the performer is terminated, with what was told before it ..
-  pub stops : (stream : List ℕ) → HasRead parser stream → StopsExactly step is_terminated old new (Some N) stream bytes n
+  -- The call ends at the first start where the performer is terminated, with what was told before
+  -- it ..
+  pub stops : (stream : List ℕ) → HasRead parser stream
+      → StopsExactly step is_terminated old new (Some N) stream bytes n
   -- .. and the parser goes on from there.
   pub reads : (stream : List ℕ) → HasRead parser stream → HasRead next (stream_at stream bytes n)
   -- Looks and events are few for the bytes read, and no byte is read without a look.

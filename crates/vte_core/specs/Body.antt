@@ -22,14 +22,16 @@ shape_outcome limit SystemCommand key bytes = system_command_outcome limit bytes
 shape_outcome limit IgnoredString key bytes = ignored_string_outcome bytes
 shape_outcome limit Dispatch key bytes = escape_outcome (key ∷ bytes)
 
--- The body from its key on. CAN and SUB are executed, and text follows. Without a key nothing is left open.
+-- The body from its key on. CAN and SUB are executed, and text follows. Without a key nothing is
+-- left open.
 abbrev pub body_rest : Option ℕ → List ℕ → Outcome
 body_rest limit [] = leaves NothingOpen
 body_rest limit (key ∷ bytes) =
     if is_cancel (class_of key) then tell (Execute key ∷ []) (text_outcome bytes)
     else shape_outcome limit (key_of key) key bytes
 
--- The key is the first byte among 20..7E, CAN and SUB. Before it, C0 is executed and everything else is dropped.
+-- The key is the first byte among 20..7E, CAN and SUB. Before it, C0 is executed and everything
+-- else is dropped.
 unfoldable pub body_outcome : Option ℕ → List ℕ → Outcome
 body_outcome limit bytes =
     tell (executed (before (λ b. is_key (class_of b)) bytes))

@@ -24,7 +24,8 @@ IsExecuted byte = is_control_character byte ≡ true
 -- A control sequence or a device control string: at least one group, and a final byte among 40..7E.
 abbrev pub IsSequence : List (List ℕ) → List ℕ → ℕ → Type 0
 IsSequence groups intermediates final =
-    AreGroups groups × (length intermediates ≤ 2) × (final < 0x7f) × (0x40 ≤ final) × (0 < length groups)
+    AreGroups groups × (length intermediates ≤ 2) × (final < 0x7f) × (0x40 ≤ final)
+    × (0 < length groups)
 
 -- The limits of an event. The final byte of an escape sequence is among 30..7E.
 abbrev pub IsBounded : Option ℕ → Event → Type 0
@@ -35,8 +36,10 @@ IsBounded limit (Put byte) = is_data (class_of byte) ≡ true
 IsBounded limit Unhook = Unit {0}
 IsBounded limit (OscDispatch pieces bell) =
     (length pieces ≤ most_pieces) × FitsStore limit pieces × (0 < length pieces)
-IsBounded limit (CsiDispatch groups intermediates ignore final) = IsSequence groups intermediates final
-IsBounded limit (EscDispatch intermediates ignore final) = (length intermediates ≤ 2) × (final < 0x7f) × (0x30 ≤ final)
+IsBounded limit (CsiDispatch groups intermediates ignore final) =
+    IsSequence groups intermediates final
+IsBounded limit (EscDispatch intermediates ignore final) =
+    (length intermediates ≤ 2) × (final < 0x7f) × (0x30 ≤ final)
 
 -- A printed character or an executed byte.
 abbrev pub IsShort : Event → Type 0

@@ -7,7 +7,8 @@ use Rattle.vte_core.specs.Outcome.{Outcome, NothingOpen, leaves, tell}
 use Rattle.vte_core.specs.Pieces.{before, from_first}
 use Rattle.vte_core.specs.Text.{text_outcome, executed}
 
--- CAN and SUB are executed. A final byte dispatches a well-shaped head, and gives nothing after any other.
+-- CAN and SUB are executed. A final byte dispatches a well-shaped head, and gives nothing after any
+-- other.
 unfoldable pub control_sequence_end : List ℕ → ℕ → List Event
 control_sequence_end head end =
     if is_cancel (class_of end) then Execute end ∷ []
@@ -19,7 +20,8 @@ abbrev pub control_sequence_rest : List ℕ → List ℕ → Outcome
 control_sequence_rest head [] = leaves NothingOpen
 control_sequence_rest head (end ∷ text) = tell (control_sequence_end head end) (text_outcome text)
 
--- The end is the first of 40..7E, CAN and SUB. Before it, C0 is executed, 20..3F are the head, and the rest is dropped.
+-- The end is the first of 40..7E, CAN and SUB. Before it, C0 is executed, 20..3F are the head, and
+-- the rest is dropped.
 unfoldable pub control_sequence_outcome : List ℕ → Outcome
 control_sequence_outcome bytes =
     let inside = before (λ b. ends_head (class_of b)) bytes in

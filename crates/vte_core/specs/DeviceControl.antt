@@ -9,7 +9,8 @@ use Rattle.vte_core.specs.Outcome.{Outcome, NothingOpen, OpenData, leaves, tell}
 use Rattle.vte_core.specs.Pieces.{before, from_first}
 use Rattle.vte_core.specs.Text.{text_outcome}
 
--- ST as a single byte. It is the only 8-bit control that is recognised outside text, and only in these data.
+-- ST as a single byte. It is the only 8-bit control that is recognised outside text, and only in
+-- these data.
 abbrev pub string_terminator : ℕ
 string_terminator = 0x9c
 
@@ -25,16 +26,20 @@ abbrev pub data_rest : List ℕ → Outcome
 data_rest [] = leaves OpenData
 data_rest (end ∷ text) = tell (data_end end) (text_outcome text)
 
--- The data of a hooked string end at the first 9C, CAN or SUB. C0 and 20..7E are put, and the rest is dropped.
+-- The data of a hooked string end at the first 9C, CAN or SUB. C0 and 20..7E are put, and the rest
+-- is dropped.
 unfoldable pub data_outcome : List ℕ → Outcome
 data_outcome bytes =
-    tell (map Put (filter (λ b. is_data (class_of b)) (before ends_data bytes))) (data_rest (from_first ends_data bytes))
+    tell (map Put (filter (λ b. is_data (class_of b)) (before ends_data bytes)))
+    (data_rest (from_first ends_data bytes))
 
--- CAN and SUB are executed. A final byte hooks if the head is well shaped; otherwise the string is ignored.
+-- CAN and SUB are executed. A final byte hooks if the head is well shaped; otherwise the string is
+-- ignored.
 unfoldable pub device_control_end : List ℕ → ℕ → List ℕ → Outcome
 device_control_end head end bytes =
     if is_cancel (class_of end) then tell (Execute end ∷ []) (text_outcome bytes)
-    else if is_well_shaped (head_of head) then tell (dispatched Hook (head_of head) end ∷ []) (data_outcome bytes)
+    else if is_well_shaped (head_of head)
+    then tell (dispatched Hook (head_of head) end ∷ []) (data_outcome bytes)
     else ignored_string_outcome bytes
 
 -- The end of the head, and the bytes that follow it. Without an end nothing is left open.

@@ -1,5 +1,5 @@
--- The right division of a text: each piece is the well-formed sequence that starts there; failing that, the longest
--- truncated one; failing that, one byte.
+-- The right division of a text: each piece is the well-formed sequence that starts there; failing
+-- that, the longest truncated one; failing that, one byte.
 use Rattle.std.specs.Prelude.{◌≡◌, ◌⊎◌, ℕ, ◌≤◌, true, List, [], ◌∷◌, ◌++◌, length, take}
 use Rattle.std.specs.List.{concat}
 use Rattle.vte_core.specs.Utf8.{is_well_formed, is_truncated, further, segments}
@@ -12,9 +12,11 @@ pub record IsDividedRight (b : ℕ) (bytes : List ℕ) : Type 0 where
   pub within : further b bytes ≤ length bytes
   pub is_piece : IsPiece (b ∷ take (further b bytes) bytes)
   -- If a well-formed sequence starts there, it is the piece.
-  pub whole : (n : ℕ) → n ≤ length bytes → is_well_formed (b ∷ take n bytes) ≡ true → further b bytes ≡ n
+  pub whole : (n : ℕ) → n ≤ length bytes → is_well_formed (b ∷ take n bytes) ≡ true
+      → further b bytes ≡ n
   -- No longer truncated sequence starts there.
-  pub longest : (n : ℕ) → n ≤ length bytes → is_truncated (b ∷ take n bytes) ≡ true → n ≤ further b bytes
+  pub longest : (n : ℕ) → n ≤ length bytes → is_truncated (b ∷ take n bytes) ≡ true
+      → n ≤ further b bytes
 
 -- The pieces join to the text.
 abbrev pub IsAllDivided : List ℕ → Type 0
@@ -24,9 +26,11 @@ IsAllDivided text = concat (segments text) ≡ text
 pub record IsRightPiece (piece behind : List ℕ) : Type 0 where
   pub is_piece : IsPiece piece
   -- If a well-formed sequence starts there, it is the piece.
-  pub whole : (front rest : List ℕ) → front ++ rest ≡ piece ++ behind → is_well_formed front ≡ true → front ≡ piece
+  pub whole : (front rest : List ℕ) → front ++ rest ≡ piece ++ behind → is_well_formed front ≡ true
+      → front ≡ piece
   -- No longer truncated sequence starts there.
-  pub longest : (front rest : List ℕ) → front ++ rest ≡ piece ++ behind → is_truncated front ≡ true → length front ≤ length piece
+  pub longest : (front rest : List ℕ) → front ++ rest ≡ piece ++ behind → is_truncated front ≡ true
+      → length front ≤ length piece
 
 -- Each piece is the right one if the others follow it.
 abbrev pub AreRightPieces : List (List ℕ) → Type 0

@@ -1,5 +1,5 @@
--- Where a call may stop early, and what has been reported by then. The performer is asked before each character,
--- malformed sequence or byte that starts in the call.
+-- Where a call may stop early, and what has been reported by then. The performer is asked before
+-- each character, malformed sequence or byte that starts in the call.
 use Rattle.std.specs.Prelude.{◌≡◌, ◌⊎◌, ℕ, ◌<◌, ◌≤◌, Bool, true, false, ◌&&◌, not, List, [], ◌∷◌, ◌++◌, length, take, drop, Option, if◌then◌else◌}
 use Rattle.vte_core.specs.Event.{Event, Print, replacement}
 use Rattle.vte_core.specs.Perform.{after}
@@ -18,40 +18,55 @@ breaks (a ∷ bytes) (b ∷ unread) =
 unfoldable pub breaks_at : List ℕ → List ℕ → ℕ → Bool
 breaks_at stream bytes i = breaks (open_end (stream ++ take i bytes)) (drop i bytes)
 
--- A start is a place before one of the bytes where no character is open, or where that byte breaks the open one.
+-- A start is a place before one of the bytes where no character is open, or where that byte breaks
+-- the open one.
 pub record IsStart (stream bytes : List ℕ) (i : ℕ) : Type 0 where
   pub within : i < length bytes
   pub starts : (open_end (stream ++ take i bytes) ≡ []) ⊎ (breaks_at stream bytes i ≡ true)
 
--- The events reported before place i: those that the first i bytes add, and U+FFFD if the next byte breaks a character.
+-- The events reported before place i: those that the first i bytes add, and U+FFFD if the next byte
+-- breaks a character.
 unfoldable pub told : Option ℕ → List ℕ → List ℕ → ℕ → List Event
 told limit stream bytes i =
-    added limit stream (take i bytes) ++ (if breaks_at stream bytes i then Print replacement ∷ [] else [])
+    added limit stream (take i bytes)
+    ++ (if breaks_at stream bytes i then Print replacement ∷ [] else [])
 
--- The stream from which the parser continues after a stop at n: the empty one if the next byte breaks a character.
+-- The stream from which the parser continues after a stop at n: the empty one if the next byte
+-- breaks a character.
 unfoldable pub stream_at : List ℕ → List ℕ → ℕ → List ℕ
 stream_at stream bytes n = if breaks_at stream bytes n then [] else stream ++ take n bytes
 
--- The performer has received the events of the first i bytes, and was terminated at no start before i.
-pub record HasPassed {V : Type 0} (step : V → Event → V) (is_terminated : V → Bool) (old value : V) (limit : Option ℕ) (stream bytes : List ℕ) (i : ℕ) : Type 0 where
+-- The performer has received the events of the first i bytes, and was terminated at no start before
+-- i.
+pub record HasPassed {V : Type 0} (step : V → Event → V) (is_terminated : V → Bool) (old value : V)
+    (limit : Option ℕ) (stream bytes : List ℕ) (i : ℕ) : Type 0 where
   pub performed : value ≡ after step old (added limit stream (take i bytes))
-  pub earlier : (j : ℕ) → j < i → IsStart stream bytes j → is_terminated (after step old (told limit stream bytes j)) ≡ false
+  pub earlier : (j : ℕ) → j < i → IsStart stream bytes j
+      → is_terminated (after step old (told limit stream bytes j)) ≡ false
 
--- The call came to place n: the performer took what is told before it, and was terminated at no start before it.
-pub record ComesTo {V : Type 0} (step : V → Event → V) (is_terminated : V → Bool) (old new : V) (limit : Option ℕ) (stream bytes : List ℕ) (n : ℕ) : Type 0 where
+-- The call came to place n: the performer took what is told before it, and was terminated at no
+-- start before it.
+pub record ComesTo {V : Type 0} (step : V → Event → V) (is_terminated : V → Bool) (old new : V)
+    (limit : Option ℕ) (stream bytes : List ℕ) (n : ℕ) : Type 0 where
   pub within : n ≤ length bytes
   pub performed : new ≡ after step old (told limit stream bytes n)
-  pub earlier : (i : ℕ) → i < n → IsStart stream bytes i → is_terminated (after step old (told limit stream bytes i)) ≡ false
+  pub earlier : (i : ℕ) → i < n → IsStart stream bytes i
+      → is_terminated (after step old (told limit stream bytes i)) ≡ false
   pub starts : n < length bytes → IsStart stream bytes n
   -- The bytes from there on in a further call leave the performer as one call with all bytes would.
-  pub goes_on : after step new (added limit (stream_at stream bytes n) (drop n bytes)) ≡ after step old (added limit stream bytes)
+  pub goes_on : after step new (added limit (stream_at stream bytes n) (drop n bytes))
+      ≡ after step old (added limit stream bytes)
 
--- The call stopped at n: at the first start where the performer was terminated or, if there was none, after all bytes.
-pub record StopsExactly {V : Type 0} (step : V → Event → V) (is_terminated : V → Bool) (old new : V) (limit : Option ℕ) (stream bytes : List ℕ) (n : ℕ) : Type 0 where
+-- The call stopped at n: at the first start where the performer was terminated or, if there was
+-- none, after all bytes.
+pub record StopsExactly {V : Type 0} (step : V → Event → V) (is_terminated : V → Bool) (old new : V)
+    (limit : Option ℕ) (stream bytes : List ℕ) (n : ℕ) : Type 0 where
   pub comes : ComesTo step is_terminated old new limit stream bytes n
   pub stops : n < length bytes → is_terminated new ≡ true
   pub all : n ≡ length bytes → new ≡ after step old (added limit stream bytes)
 
 -- No character of a run terminates a performer.
 abbrev pub NoCharacterStops : {V : Type 0} → Bool → (V → Event → V) → (V → Bool) → Type 0
-NoCharacterStops {V = V} keeps step is_terminated = (value : V) (c : ℕ) → is_terminated value ≡ false → is_terminated (step value (run_event keeps c)) ≡ false
+NoCharacterStops {V = V} keeps step is_terminated =
+    (value : V) (c : ℕ) → is_terminated value ≡ false
+    → is_terminated (step value (run_event keeps c)) ≡ false

@@ -17,11 +17,14 @@ escape_end intermediates end =
 -- The end, and the text that follows it. Without an end nothing is left open.
 abbrev pub escape_rest : List ℕ → List ℕ → Outcome
 escape_rest intermediates [] = leaves NothingOpen
-escape_rest intermediates (end ∷ text) = tell (escape_end intermediates end ∷ []) (text_outcome text)
+escape_rest intermediates (end ∷ text) =
+    tell (escape_end intermediates end ∷ []) (text_outcome text)
 
--- The end is the first of 30..7E, CAN and SUB. Before it, C0 is executed and 20..2F are the intermediates.
+-- The end is the first of 30..7E, CAN and SUB. Before it, C0 is executed and 20..2F are the
+-- intermediates.
 unfoldable pub escape_outcome : List ℕ → Outcome
 escape_outcome bytes =
     let inside = before (λ b. ends_escape (class_of b)) bytes in
     tell (executed inside)
-    (escape_rest (filter (λ b. is_intermediate (class_of b)) inside) (from_first (λ b. ends_escape (class_of b)) bytes))
+    (escape_rest (filter (λ b. is_intermediate (class_of b)) inside)
+    (from_first (λ b. ends_escape (class_of b)) bytes))

@@ -6,7 +6,8 @@ pub data Event : Type 0 where
   Print : ℕ → Event
   -- a control character, C0 or C1
   Execute : ℕ → Event
-  -- the start of a device control string: parameters, intermediates, whether there were too many of either, final byte
+  -- the start of a device control string: parameters, intermediates, whether there were too many of
+  -- either, final byte
   Hook : List (List ℕ) → List ℕ → Bool → ℕ → Event
   -- a data byte of the string
   Put : ℕ → Event

@@ -1,4 +1,5 @@
--- Examples worked out by hand: streams and all their events. The prover compares them with the definitions, not with code.
+-- Examples worked out by hand: streams and all their events. The prover compares them with the
+-- definitions, not with code.
 use Rattle.std.specs.Prelude.{replicate, ◌≡◌, ℕ, true, false, List, [], ◌∷◌, ◌++◌, map, Option, codes}
 use Rattle.std.specs.List.{repeat}
 use Rattle.vte_core.specs.Event.{Event, Print, Execute, Hook, Put, Unhook, OscDispatch, CsiDispatch, EscDispatch}
@@ -15,7 +16,8 @@ gives stream told = record { stream = stream; told = told }
 
 -- Each example has exactly its events, with a buffer of this size.
 abbrev pub AreRight : Option ℕ → List Example → Type 0
-AreRight limit examples = map (λ example. events limit example.stream) examples ≡ map (λ example. example.told) examples
+AreRight limit examples =
+    map (λ example. events limit example.stream) examples ≡ map (λ example. example.told) examples
 
 abbrev pub text_examples : List Example
 text_examples =
@@ -23,7 +25,8 @@ text_examples =
     ∷ gives (codes "\u{7f}" ++ 0x80 ∷ 0xa0 ∷ []) (Print 0x7f ∷ Execute 0x80 ∷ Print 0xfffd ∷ [])
     ∷ gives (codes "\u{18}\u{1a}") (Execute 0x18 ∷ Execute 0x1a ∷ [])
     -- characters of two, one and four bytes
-    ∷ gives (0xc4 ∷ 0xb8 ∷ codes "a" ++ 0xf0 ∷ 0x9f ∷ 0x8e ∷ 0x89 ∷ []) (Print 0x138 ∷ Print 0x61 ∷ Print 0x1f389 ∷ [])
+    ∷ gives (0xc4 ∷ 0xb8 ∷ codes "a" ++ 0xf0 ∷ 0x9f ∷ 0x8e ∷ 0x89 ∷ [])
+    (Print 0x138 ∷ Print 0x61 ∷ Print 0x1f389 ∷ [])
     -- U+0085 is a control character
     ∷ gives (0xc2 ∷ 0x85 ∷ []) (Execute 0x85 ∷ [])
     -- an unfinished character stays open, and is replaced once anything else follows
@@ -39,7 +42,8 @@ text_examples =
 
 abbrev pub escape_examples : List Example
 escape_examples =
-    gives (codes "a\u{1b}(B\n") (Print 0x61 ∷ EscDispatch (codes "(") false 0x42 ∷ Execute 0x0a ∷ [])
+    gives (codes "a\u{1b}(B\n")
+    (Print 0x61 ∷ EscDispatch (codes "(") false 0x42 ∷ Execute 0x0a ∷ [])
     -- at most two intermediates
     ∷ gives (codes "\u{1b}()*B") (EscDispatch (codes "()") true 0x42 ∷ [])
     ∷ gives (codes "\u{1b}(\nB") (Execute 0x0a ∷ EscDispatch (codes "(") false 0x42 ∷ [])
@@ -47,7 +51,8 @@ escape_examples =
     ∷ gives (codes "\u{1b}\u{7f}c") (EscDispatch [] false 0x63 ∷ [])
     ∷ gives (codes "\u{1b}\u{18}a") (Execute 0x18 ∷ Print 0x61 ∷ [])
     -- ESC breaks an open character
-    ∷ gives (0xd8 ∷ codes "\u{1b}012") (Print 0xfffd ∷ EscDispatch [] false 0x30 ∷ Print 0x31 ∷ Print 0x32 ∷ [])
+    ∷ gives (0xd8 ∷ codes "\u{1b}012")
+    (Print 0xfffd ∷ EscDispatch [] false 0x30 ∷ Print 0x31 ∷ Print 0x32 ∷ [])
     ∷ gives (0xf0 ∷ 0x9f ∷ 0x8e ∷ codes "\u{1b}c") (Print 0xfffd ∷ EscDispatch [] false 0x63 ∷ [])
     ∷ []
 
@@ -55,11 +60,14 @@ abbrev pub control_sequence_examples : List Example
 control_sequence_examples =
     gives (codes "\u{1b}[38:2:255:0:255;1m")
     (CsiDispatch ((38 ∷ 2 ∷ 255 ∷ 0 ∷ 255 ∷ []) ∷ (1 ∷ []) ∷ []) [] false 0x6d ∷ [])
-    ∷ gives (codes "\u{1b}[3;1\u{1b}[?1049h") (CsiDispatch ((1049 ∷ []) ∷ []) (codes "?") false 0x68 ∷ [])
+    ∷ gives (codes "\u{1b}[3;1\u{1b}[?1049h")
+    (CsiDispatch ((1049 ∷ []) ∷ []) (codes "?") false 0x68 ∷ [])
     ∷ gives (codes "\u{1b}[;4m") (CsiDispatch ((0 ∷ []) ∷ (4 ∷ []) ∷ []) [] false 0x6d ∷ [])
     -- a number is at most 65,535
-    ∷ gives (codes "\u{1b}[65535;65536m") (CsiDispatch ((65535 ∷ []) ∷ (65535 ∷ []) ∷ []) [] false 0x6d ∷ [])
-    ∷ gives (codes "\u{1b}[9223372036854775808m") (CsiDispatch ((65535 ∷ []) ∷ []) [] false 0x6d ∷ [])
+    ∷ gives (codes "\u{1b}[65535;65536m")
+    (CsiDispatch ((65535 ∷ []) ∷ (65535 ∷ []) ∷ []) [] false 0x6d ∷ [])
+    ∷ gives (codes "\u{1b}[9223372036854775808m")
+    (CsiDispatch ((65535 ∷ []) ∷ []) [] false 0x6d ∷ [])
     -- 32 numbers, then 33
     ∷ gives (codes "\u{1b}[" ++ repeat 31 (codes "1;") ++ codes "p")
     (CsiDispatch (repeat 31 ((1 ∷ []) ∷ []) ++ (0 ∷ []) ∷ []) [] false 0x70 ∷ [])
@@ -72,7 +80,8 @@ control_sequence_examples =
     ∷ gives (codes "\u{1b}[1$2pa") (Print 0x61 ∷ [])
     ∷ gives (codes "\u{1b}[1?\u{1a}m") (Execute 0x1a ∷ Print 0x6d ∷ [])
     -- C0 is executed where it stands; 7F and 80..FF are dropped
-    ∷ gives (codes "\u{1b}[1\n\u{7f}" ++ 0x80 ∷ codes "2m") (Execute 0x0a ∷ CsiDispatch ((12 ∷ []) ∷ []) [] false 0x6d ∷ [])
+    ∷ gives (codes "\u{1b}[1\n\u{7f}" ++ 0x80 ∷ codes "2m")
+    (Execute 0x0a ∷ CsiDispatch ((12 ∷ []) ∷ []) [] false 0x6d ∷ [])
     ∷ gives (codes "\u{1b}[1\u{18}m") (Execute 0x18 ∷ Print 0x6d ∷ [])
     ∷ gives (codes "\u{1b}[1") []
     ∷ []
@@ -90,9 +99,11 @@ device_control_examples =
     ∷ gives (codes "\u{1b}Pqa\u{7f}" ++ 0x80 ∷ codes "b" ++ 0x9c ∷ [])
     (Hook ((0 ∷ []) ∷ []) [] false 0x71 ∷ Put 0x61 ∷ Put 0x62 ∷ Unhook ∷ [])
     -- CAN and ESC end the data
-    ∷ gives (codes "\u{1b}P1qa\u{18}") (Hook ((1 ∷ []) ∷ []) [] false 0x71 ∷ Put 0x61 ∷ Unhook ∷ Execute 0x18 ∷ [])
+    ∷ gives (codes "\u{1b}P1qa\u{18}")
+    (Hook ((1 ∷ []) ∷ []) [] false 0x71 ∷ Put 0x61 ∷ Unhook ∷ Execute 0x18 ∷ [])
     ∷ gives (codes "\u{1b}P=1sZZZ\u{1b}+\\")
-    (Hook ((1 ∷ []) ∷ []) (codes "=") false 0x73 ∷ map Put (codes "ZZZ") ++ Unhook ∷ EscDispatch (codes "+") false 0x5c ∷ [])
+    (Hook ((1 ∷ []) ∷ []) (codes "=") false 0x73 ∷ map Put (codes "ZZZ") ++ Unhook
+    ∷ EscDispatch (codes "+") false 0x5c ∷ [])
     ∷ gives (codes "\u{1b}Pqa") (Hook ((0 ∷ []) ∷ []) [] false 0x71 ∷ Put 0x61 ∷ [])
     -- after an ill-shaped head everything is dropped up to CAN
     ∷ gives (codes "\u{1b}P1?qx" ++ 0x9c ∷ codes "\u{18}a") (Execute 0x18 ∷ Print 0x61 ∷ [])

@@ -1,4 +1,5 @@
--- The head of a control sequence or a device control string: the bytes 20..3F (ECMA-48, section 5.4).
+-- The head of a control sequence or a device control string: the bytes 20..3F (ECMA-48, section
+-- 5.4).
 use Rattle.std.specs.Prelude.{ℕ, Bool, ◌||◌, List, [], ◌∷◌, ◌++◌, if◌then◌else◌, not}
 use Rattle.std.specs.List.{filter, list_all}
 use Rattle.vte_core.specs.Class.{class_of, is_head, is_intermediate, is_marker, is_parameter}
@@ -7,7 +8,8 @@ use Rattle.vte_core.specs.Event.{Event}
 use Rattle.vte_core.specs.Parameters.{groups_of, has_too_many_numbers}
 use Rattle.vte_core.specs.Pieces.{before, from_first}
 
--- A head: an optional private marker, then parameter bytes, then the rest, which should be intermediates.
+-- A head: an optional private marker, then parameter bytes, then the rest, which should be
+-- intermediates.
 pub record Head : Type 0 where
   pub marker : List ℕ
   pub parameters : List ℕ
@@ -23,7 +25,8 @@ behind_marker marker bytes = record {
 
 unfoldable pub head_of : List ℕ → Head
 head_of [] = behind_marker [] []
-head_of (b ∷ bytes) = if is_marker (class_of b) then behind_marker (b ∷ []) bytes else behind_marker [] (b ∷ bytes)
+head_of (b ∷ bytes) =
+    if is_marker (class_of b) then behind_marker (b ∷ []) bytes else behind_marker [] (b ∷ bytes)
 
 -- Only intermediates follow the parameters.
 unfoldable pub is_well_shaped : Head → Bool
@@ -33,7 +36,8 @@ is_well_shaped head = list_all (λ b. is_intermediate (class_of b)) head.interme
 abbrev pub collected : Head → List ℕ
 collected head = head.marker ++ head.intermediates
 
--- The event of a well-shaped head: groups, intermediates, whether there were too many of either, final byte.
+-- The event of a well-shaped head: groups, intermediates, whether there were too many of either,
+-- final byte.
 unfoldable pub dispatched : (List (List ℕ) → List ℕ → Bool → ℕ → Event) → Head → ℕ → Event
 dispatched call head final = call (groups_of head.parameters) (first_two (collected head))
     (are_too_many (collected head) || has_too_many_numbers head.parameters) final

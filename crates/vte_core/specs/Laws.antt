@@ -15,16 +15,20 @@ pub record AreParameters (groups : List (List ℕ)) : Type 0 where
   pub some : 0 < count_of groups
   pub groups_are : AreGroups groups
 
--- If the text of the groups is sent as ESC, `[`, text, `m`, the one event is a dispatch of the same groups.
+-- If the text of the groups is sent as ESC, `[`, text, `m`, the one event is a dispatch of the same
+-- groups.
 abbrev pub DispatchesShown : Option ℕ → List (List ℕ) → Type 0
 DispatchesShown limit groups =
     events limit (0x1b ∷ 0x5b ∷ (shown groups ++ 0x6d ∷ [])) ≡ CsiDispatch groups [] false 0x6d ∷ []
 
 -- The events of a prefix are a prefix of the events.
 abbrev pub Grows : Option ℕ → Type 0
-Grows limit = (stream more : List ℕ) → events limit (stream ++ more) ≡ events limit stream ++ added limit stream more
+Grows limit =
+    (stream more : List ℕ)
+    → events limit (stream ++ more) ≡ events limit stream ++ added limit stream more
 
--- After the byte, whatever came before it, the rest of the stream gives the events of a stream of its own.
+-- After the byte, whatever came before it, the rest of the stream gives the events of a stream of
+-- its own.
 abbrev pub BeginsAnewBehind : Option ℕ → ℕ → Type 0
 BeginsAnewBehind limit byte = (stream more : List ℕ) →
     events limit (stream ++ byte ∷ more) ≡ events limit (stream ++ byte ∷ []) ++ events limit more
@@ -34,12 +38,15 @@ pub record BeginsAnew (limit : Option ℕ) : Type 0 where
   pub cancel : BeginsAnewBehind limit 0x18
   pub substitute : BeginsAnewBehind limit 0x1a
   pub escape : (stream more : List ℕ) →
-      events limit (stream ++ escape ∷ more) ≡ events limit (stream ++ escape ∷ []) ++ events limit (escape ∷ more)
+      events limit (stream ++ escape ∷ more)
+      ≡ events limit (stream ++ escape ∷ []) ++ events limit (escape ∷ more)
 
--- If a character is open after a byte, the byte added no event, or U+FFFD for another character that it broke.
+-- If a character is open after a byte, the byte added no event, or U+FFFD for another character
+-- that it broke.
 abbrev pub OpensSilently : Option ℕ → Type 0
 OpensSilently limit = (stream : List ℕ) (byte : ℕ) → (open_end (stream ++ byte ∷ []) ≡ [])
-    ⊎ ((added limit stream (byte ∷ []) ≡ []) ⊎ (added limit stream (byte ∷ []) ≡ Print replacement ∷ []))
+    ⊎ ((added limit stream (byte ∷ []) ≡ [])
+    ⊎ (added limit stream (byte ∷ []) ≡ Print replacement ∷ []))
 
 -- The bytes are the standard library's encoding of their character.
 pub record IsEncoding (bytes : List ℕ) : Type 0 where
@@ -56,9 +63,11 @@ AreWellFormed pieces = All (λ piece. is_well_formed piece ≡ true) pieces
 
 -- A text of the standard library without ESC gives one event per character.
 abbrev pub GivesCharacters : Option ℕ → List ℕ → Type 0
-GivesCharacters limit text = All (λ b. b ≢ escape) text → events limit text ≡ map character_event (chars text)
+GivesCharacters limit text =
+    All (λ b. b ≢ escape) text → events limit text ≡ map character_event (chars text)
 
--- A command that bytes dispatch, or leave open, has no more data than was open before them and they can add.
+-- A command that bytes dispatch, or leave open, has no more data than was open before them and they
+-- can add.
 pub record CountsData (stream bytes : List ℕ) : Type 0 where
   pub told : All (IsBounded (Some (open_size stream + length bytes))) (added None stream bytes)
   pub left : open_size (stream ++ bytes) ≤ open_size stream + length bytes

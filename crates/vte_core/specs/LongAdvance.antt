@@ -12,8 +12,10 @@ use Rattle.vte_core.specs.Others.{TellsOthers}
 use Rattle.vte_core.specs.Perform.{after}
 use Rattle.vte_core.specs.Stream.{added}
 
--- A call read so many bytes, and the parser has then read these of each stream. If memory is refused, it stops there.
-pub record GoesOnLong {A Answer : Type 0} (rate : ℕ) (bytes : List ℕ) (result : Result Answer Refused) (n : ℕ) (behind : List ℕ → List ℕ)
+-- A call read so many bytes, and the parser has then read these of each stream. If memory is
+-- refused, it stops there.
+pub record GoesOnLong {A Answer : Type 0} (rate : ℕ) (bytes : List ℕ)
+    (result : Result Answer Refused) (n : ℕ) (behind : List ℕ → List ℕ)
     (parser next : LongParser A) : Type 0 where
   pub reads : (stream : List ℕ) → HasReadLong parser stream → HasReadLong next (behind stream)
   -- Of a command that is open then it stores the pieces alone.
@@ -21,43 +23,56 @@ pub record GoesOnLong {A Answer : Type 0} (rate : ℕ) (bytes : List ℕ) (resul
   -- Memory is refused before a byte ..
   pub before : IfErr result (λ refused. refused.read < length bytes)
   -- .. that is a data byte of an open operating system command with fewer than 16 `;`.
-  pub meets : IfErr result (λ refused. (stream : List ℕ) → HasReadLong parser stream → MeetsData (behind stream) (slice_index bytes refused.read))
+  pub meets : IfErr result (λ refused. (stream : List ℕ) → HasReadLong parser stream
+      → MeetsData (behind stream) (slice_index bytes refused.read))
   -- For the data bytes that stand there it has no memory.
   pub lacks : IfErr result (λ refused. LacksMemory next bytes refused.read)
   -- Memory that was there stays ..
   pub memory : memory_of parser ≤ memory_of next
   -- .. and if there was enough for all bytes, none is refused.
-  pub enough : (stream : List ℕ) → HasReadLong parser stream → open_size stream + length bytes ≤ memory_of parser → IsOk result
-  -- Looks and events are few, for the bytes read too if no memory is refused, and no byte is read without a look.
+  pub enough : (stream : List ℕ) → HasReadLong parser stream
+      → open_size stream + length bytes ≤ memory_of parser → IsOk result
+  -- Looks and events are few, for the bytes read too if no memory is refused, and no byte is read
+  -- without a look.
   pub count : looks_long next ≤ looks_long parser + rate * length bytes + 8
   pub paid : IfOk result (λ _. looks_long next ≤ looks_long parser + rate * n + 8)
   pub least : looks_long parser + n ≤ looks_long next
 
--- A call that may stop early has passed these bytes if memory is refused: the performer has what they add, and was terminated at no start up to there.
-pub record PassesLong {V Answer : Type 0} (step : V → Event → V) (is_terminated : V → Bool) (old new : V) (HasReadBefore : List ℕ → Type 0)
+-- A call that may stop early has passed these bytes if memory is refused: the performer has what
+-- they add, and was terminated at no start up to there.
+pub record PassesLong {V Answer : Type 0} (step : V → Event → V) (is_terminated : V → Bool)
+    (old new : V) (HasReadBefore : List ℕ → Type 0)
     (bytes : List ℕ) (result : Result Answer Refused) : Type 0 where
-  pub passes : IfErr result (λ refused. (stream : List ℕ) → HasReadBefore stream → HasPassed step is_terminated old new None stream bytes refused.read)
+  pub passes : IfErr result (λ refused. (stream : List ℕ) → HasReadBefore stream
+      → HasPassed step is_terminated old new None stream bytes refused.read)
   pub not_stopped : IfErr result (λ refused. is_terminated new ≡ false)
 
 -- `advance` and `advance_text` of a `LongParser`
-pub record ReadsBytesLong {V A : Type 0} (step : V → Event → V) (old new : V) (bytes : List ℕ) (result : Result (Unit {0}) Refused)
+pub record ReadsBytesLong {V A : Type 0} (step : V → Event → V) (old new : V) (bytes : List ℕ)
+    (result : Result (Unit {0}) Refused)
     (parser next : LongParser A) : Type 0 where
   -- Whatever the parser has read, the performer takes what the bytes that are read add to it ..
-  pub performs : (stream : List ℕ) → HasReadLong parser stream → new ≡ after step old (added None stream (bytes_read result bytes))
+  pub performs : (stream : List ℕ) → HasReadLong parser stream
+      → new ≡ after step old (added None stream (bytes_read result bytes))
   -- .. and the parser has then read both.
-  pub goes_on : GoesOnLong 5 bytes result (length (bytes_read result bytes)) (λ stream. stream ++ bytes_read result bytes) parser next
+  pub goes_on : GoesOnLong 5 bytes result (length (bytes_read result bytes))
+      (λ stream. stream ++ bytes_read result bytes) parser next
 
 -- `advance_until_terminated` and `advance_text_until_terminated` of a `LongParser`
-pub record ReadsUntilTerminatedLong {V A : Type 0} (step : V → Event → V) (is_terminated : V → Bool) (old new : V) (bytes : List ℕ)
+pub record ReadsUntilTerminatedLong {V A : Type 0} (step : V → Event → V) (is_terminated : V → Bool)
+    (old new : V) (bytes : List ℕ)
     (result : Result ℕ Refused) (parser next : LongParser A) : Type 0 where
   -- Of the bytes so many were read ..
   pub within : read_count result ≤ length bytes
-  -- .. the call ends at the first start where the performer is terminated, with what was told before it ..
-  pub stops : IfOk result (λ read. (stream : List ℕ) → HasReadLong parser stream → StopsExactly step is_terminated old new None stream bytes read)
+  -- .. the call ends at the first start where the performer is terminated, with what was told
+  -- before it ..
+  pub stops : IfOk result (λ read. (stream : List ℕ) → HasReadLong parser stream
+      → StopsExactly step is_terminated old new None stream bytes read)
   -- .. or before it, if memory is refused ..
   pub refuses : PassesLong step is_terminated old new (HasReadLong parser) bytes result
   -- .. and the parser goes on from there.
-  pub goes_on : GoesOnLong 5 bytes result (read_count result) (λ stream. stream_at stream bytes (read_count result)) parser next
+  pub goes_on : GoesOnLong 5 bytes result (read_count result)
+      (λ stream. stream_at stream bytes (read_count result)) parser next
 
 -- What a parser has read after `advance_to_run`: the run too.
 abbrev pub read_to_run : Result Run Refused → List ℕ → List ℕ → List ℕ
@@ -75,11 +90,14 @@ performed_count (Ok run) = run.start
 performed_count (Err refused) = refused.read
 
 -- `advance_to_run` of a `LongParser`
-pub record ReadsToRunLong {V A : Type 0} (step : V → Event → V) (is_terminated : V → Bool) (old new : V) (bytes : List ℕ)
+pub record ReadsToRunLong {V A : Type 0} (step : V → Event → V) (is_terminated : V → Bool)
+    (old new : V) (bytes : List ℕ)
     (result : Result Run Refused) (parser next : LongParser A) : Type 0 where
   pub returns : IfOk result (ReturnsRun step is_terminated old new None (HasReadLong parser) bytes)
   pub refuses : PassesLong step is_terminated old new (HasReadLong parser) bytes result
   -- Characters and data are left to the run.
-  pub others : (stream : List ℕ) → HasReadLong parser stream → TellsOthers None stream bytes (performed_count result)
+  pub others : (stream : List ℕ) → HasReadLong parser stream
+      → TellsOthers None stream bytes (performed_count result)
   -- The parser goes on behind what was read.
-  pub goes_on : GoesOnLong 7 bytes result (run_count result) (λ stream. read_to_run result stream bytes) parser next
+  pub goes_on : GoesOnLong 7 bytes result (run_count result)
+      (λ stream. read_to_run result stream bytes) parser next

@@ -49,10 +49,13 @@ open_size stream = data_left (outcome None stream).left
 
 -- If an operating system command is open, as many bytes are stored as its first 16 pieces have.
 abbrev pub StoresPieces : {A : Type 0} → LongParser A → List ℕ → Type 0
-StoresPieces parser stream = (pieces : List (List ℕ)) (dropped : Bool) → (outcome None stream).left ≡ OpenCommand pieces dropped
+StoresPieces parser stream =
+    (pieces : List (List ℕ)) (dropped : Bool)
+    → (outcome None stream).left ≡ OpenCommand pieces dropped
     → length parser.machine.command.bytes ≡ length (concat pieces)
 
--- The stream ends in an open operating system command with fewer than 16 `;`, and the byte is data of its last piece.
+-- The stream ends in an open operating system command with fewer than 16 `;`, and the byte is data
+-- of its last piece.
 pub record MeetsData (stream : List ℕ) (byte : ℕ) : Type 0 where
   pub pieces : List (List ℕ)
   pub last : List ℕ
@@ -60,4 +63,5 @@ pub record MeetsData (stream : List ℕ) (byte : ℕ) : Type 0 where
   pub few : length pieces < most_pieces
   pub is_open : (outcome None stream).left ≡ OpenCommand (pieces ++ last ∷ []) dropped
   pub is_data : IsCommandData byte
-  pub joins : (outcome None (stream ++ byte ∷ [])).left ≡ OpenCommand (pieces ++ (last ++ byte ∷ []) ∷ []) dropped
+  pub joins : (outcome None (stream ++ byte ∷ [])).left
+      ≡ OpenCommand (pieces ++ (last ++ byte ∷ []) ∷ []) dropped

@@ -5,7 +5,8 @@ use Rattle.vte_core.specs.EarlyStop.{told}
 use Rattle.vte_core.specs.Event.{Event, Print, Put, replacement}
 use Rattle.vte_core.specs.Stream.{open_end}
 
--- Neither a character that is printed, but for U+FFFD, which is told of what is malformed, nor data.
+-- Neither a character that is printed, but for U+FFFD, which is told of what is malformed, nor
+-- data.
 abbrev pub IsOther : Event → Type 0
 IsOther (Print c) = c ≡ replacement
 IsOther (Put byte) = ⊥
@@ -17,7 +18,8 @@ IsWide (Print c) = 0x80 ≤ c
 IsWide (Put byte) = ⊥
 IsWide _ = Unit {0}
 
--- What is told before place n of a call: characters and data are left to runs, unless a character was open.
+-- What is told before place n of a call: characters and data are left to runs, unless a character
+-- was open.
 pub record TellsOthers (limit : Option ℕ) (stream bytes : List ℕ) (n : ℕ) : Type 0 where
   pub others : open_end stream ≡ [] → All IsOther (told limit stream bytes n)
   -- Such a character isn't ASCII.

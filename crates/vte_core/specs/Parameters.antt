@@ -33,13 +33,15 @@ number_of digits = min greatest_number (digits_value 10 digits)
 
 -- Zips the two lists.
 abbrev pub numbers_of : List Bool → List ℕ → List Number
-numbers_of (joined ∷ more) (value ∷ values) = record { joined = joined; value = value } ∷ numbers_of more values
+numbers_of (joined ∷ more) (value ∷ values) =
+    record { joined = joined; value = value } ∷ numbers_of more values
 numbers_of _ _ = []
 
 -- The text is split at each colon and semicolon, so there is at least one number.
 unfoldable pub numbers : List ℕ → List Number
 numbers text =
-    numbers_of (false ∷ map is_colon (filter is_separator text)) (map number_of (slice_split is_separator text))
+    numbers_of (false ∷ map is_colon (filter is_separator text))
+    (map number_of (slice_split is_separator text))
 
 -- A number after a colon joins the last group; any other starts a group.
 abbrev pub with_number : List (List ℕ) → Number → List (List ℕ)
@@ -70,4 +72,5 @@ has_too_many_numbers text = nat_lt most_numbers (length (numbers text))
 
 -- The text of groups: decimal numbers, with `:` inside a group and `;` between groups.
 unfoldable pub shown : List (List ℕ) → List ℕ
-shown groups = join_with_byte semicolon (map (λ group. join_with_byte colon (map decimal group)) groups)
+shown groups =
+    join_with_byte semicolon (map (λ group. join_with_byte colon (map decimal group)) groups)

@@ -5,19 +5,23 @@ use Rattle.vte_core.specs.EarlyStop.{IsStart, told, stream_at}
 use Rattle.vte_core.specs.Event.{Event}
 use Rattle.vte_core.specs.Stream.{added}
 
--- What is reported before a place, and what the unread bytes and more add from there, is together what all bytes add.
+-- What is reported before a place, and what the unread bytes and more add from there, is together
+-- what all bytes add.
 abbrev pub GoesOnFromPlaces : Option ℕ → Type 0
 GoesOnFromPlaces limit = (stream bytes more : List ℕ) (n : ℕ) →
-    added limit stream (bytes ++ more) ≡ told limit stream bytes n ++ added limit (stream_at stream bytes n) (drop n bytes ++ more)
+    added limit stream (bytes ++ more)
+    ≡ told limit stream bytes n ++ added limit (stream_at stream bytes n) (drop n bytes ++ more)
 
 -- These events had been reported at a start before place i.
-pub record AreToldAtStart (limit : Option ℕ) (stream bytes : List ℕ) (i : ℕ) (events : List Event) : Type 0 where
+pub record AreToldAtStart (limit : Option ℕ) (stream bytes : List ℕ) (i : ℕ)
+    (events : List Event) : Type 0 where
   pub start : ℕ
   pub earlier : start < i
   pub starts : IsStart stream bytes start
   pub are : events ≡ told limit stream bytes start
 
--- What is reported before a place is what was reported at an earlier start, if any, and one brief unit.
+-- What is reported before a place is what was reported at an earlier start, if any, and one brief
+-- unit.
 pub record TellsUnit (limit : Option ℕ) (stream bytes : List ℕ) (i : ℕ) : Type 0 where
   pub before : List Event
   pub unit : List Event
@@ -27,4 +31,5 @@ pub record TellsUnit (limit : Option ℕ) (stream bytes : List ℕ) (i : ℕ) : 
 
 -- So a performer that is asked at each start is asked after each unit.
 abbrev pub TellsUnits : Option ℕ → Type 0
-TellsUnits limit = (stream bytes : List ℕ) (i : ℕ) → i ≤ length bytes → TellsUnit limit stream bytes i
+TellsUnits limit = (stream bytes : List ℕ) (i : ℕ) → i ≤ length bytes
+    → TellsUnit limit stream bytes i

@@ -24,7 +24,8 @@ cut_at_escape (b ∷ stream) =
 -- The outcomes in order: the ESC of each body closes what the part before it left open.
 abbrev pub with_bodies : Option ℕ → Outcome → List (List ℕ) → Outcome
 with_bodies limit part [] = part
-with_bodies limit part (body ∷ bodies) = tell (closed part) (with_bodies limit (body_outcome limit body) bodies)
+with_bodies limit part (body ∷ bodies) =
+    tell (closed part) (with_bodies limit (body_outcome limit body) bodies)
 
 -- `limit` is how many data bytes of an operating system command are kept.
 unfoldable pub outcome : Option ℕ → List ℕ → Outcome
@@ -47,6 +48,7 @@ IsFinished limit stream = (more : List ℕ) → added limit stream more ≡ even
 abbrev pub IsUnfinished : Option ℕ → List ℕ → Type 0
 IsUnfinished limit stream = added limit stream (0x30 ∷ []) ≢ Print 0x30 ∷ []
 
--- The bytes of an unfinished character at the end of the stream. They are in text, so no limit affects them.
+-- The bytes of an unfinished character at the end of the stream. They are in text, so no limit
+-- affects them.
 unfoldable pub open_end : List ℕ → List ℕ
 open_end stream = unfinished (outcome None stream).left

@@ -34,7 +34,8 @@ has_room (Some limit) count = nat_lt count limit
 abbrev pub kept_after : Option ℕ → ℕ → List ℕ → List ℕ
 kept_after limit count [] = []
 kept_after limit count (item ∷ items) =
-    if has_room limit count then item ∷ kept_after limit (if is_data_byte item then count + 1 else count) items else []
+    if has_room limit count
+    then item ∷ kept_after limit (if is_data_byte item then count + 1 else count) items else []
 
 -- An item is kept exactly if there is room after the data bytes before it, even if it is a `;`.
 unfoldable pub kept_items : Option ℕ → List ℕ → List ℕ
@@ -46,11 +47,14 @@ items_of bytes = filter (λ b. nat_le 0x20 b) bytes
 
 -- The first 16 pieces of the kept items, split at `;`.
 unfoldable pub pieces_of : Option ℕ → List ℕ → List (List ℕ)
-pieces_of limit items = take most_pieces (slice_split (λ b. b == semicolon) (kept_items limit items))
+pieces_of limit items =
+    take most_pieces (slice_split (λ b. b == semicolon) (kept_items limit items))
 
--- Whether data bytes among the items are in no piece: those for which there is no room, and those behind the 16th piece.
+-- Whether data bytes among the items are in no piece: those for which there is no room, and those
+-- behind the 16th piece.
 unfoldable pub drops_data : Option ℕ → List ℕ → Bool
-drops_data limit items = nat_lt (length (concat (pieces_of limit items))) (length (filter is_data_byte items))
+drops_data limit items =
+    nat_lt (length (concat (pieces_of limit items))) (length (filter is_data_byte items))
 
 -- BEL dispatches the command. CAN and SUB dispatch it and are executed.
 abbrev pub command_end : List (List ℕ) → ℕ → List Event
@@ -67,4 +71,5 @@ system_command_rest pieces dropped (end ∷ text) = tell (command_end pieces end
 unfoldable pub system_command_outcome : Option ℕ → List ℕ → Outcome
 system_command_outcome limit bytes =
     let items = items_of (before ends_command bytes) in
-    system_command_rest (pieces_of limit items) (drops_data limit items) (from_first ends_command bytes)
+    system_command_rest (pieces_of limit items) (drops_data limit items)
+    (from_first ends_command bytes)

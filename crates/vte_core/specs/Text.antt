@@ -41,14 +41,17 @@ malformed_event (b ∷ []) = if is_control_character b then Execute b else Print
 malformed_event _ = Print replacement
 
 unfoldable pub segment_event : List ℕ → Event
-segment_event piece = if is_well_formed piece then character_event (scalar_of piece) else malformed_event piece
+segment_event piece =
+    if is_well_formed piece then character_event (scalar_of piece) else malformed_event piece
 
 -- The events of the pieces in order. A truncated sequence at the end stays open.
 abbrev pub pieces_outcome : List (List ℕ) → Outcome
 pieces_outcome [] = leaves NothingOpen
 pieces_outcome (piece ∷ []) =
-    if is_truncated piece then leaves (OpenCharacter piece) else tell (segment_event piece ∷ []) (leaves NothingOpen)
-pieces_outcome (piece ∷ next ∷ pieces) = tell (segment_event piece ∷ []) (pieces_outcome (next ∷ pieces))
+    if is_truncated piece then leaves (OpenCharacter piece)
+    else tell (segment_event piece ∷ []) (leaves NothingOpen)
+pieces_outcome (piece ∷ next ∷ pieces) =
+    tell (segment_event piece ∷ []) (pieces_outcome (next ∷ pieces))
 
 unfoldable pub text_outcome : List ℕ → Outcome
 text_outcome text = pieces_outcome (segments text)

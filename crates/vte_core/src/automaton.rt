@@ -1,8 +1,8 @@
 //! The automaton of text in runs.
 //!
-//! It is based on shifts: a byte's row in the table holds for each state the one that comes next, in six bits at the place that the
-//! state's number gives. So a step is a load and a shift, without a branch. But the block in which a run ends is read in vain, so
-//! only long runs come here.
+//! It is based on shifts: a byte's row in the table holds for each state the one that comes next,
+//! in six bits at the place that the state's number gives. So a step is a load and a shift, without
+//! a branch. But the block in which a run ends is read in vain, so only long runs come here.
 ghost use Rattle.std.specs.Prelude.{◌≡◌, ◌+◌, ◌*◌, ◌%◌, ◌<◌, ◌≤◌, IsTrue, false, drop, length};
 ghost use Rattle.vte_core.specs.machine.Automaton.{State, Between, code, begun, next, state_after, HasRead, LastEnd};
 ghost use Rattle.vte_core.specs.machine.Words.{Each, IsRun, Scans, is_layout, looked};
@@ -10,8 +10,9 @@ ghost use Rattle.vte_core.specs.machine.Words.{Each, IsRun, Scans, is_layout, lo
 use crate::looks::{Input, Looks};
 use crate::utf8::is_printed_ascii;
 
-// States: between two characters; before one, two or three more bytes 80..BF; after a first byte whose second is bound more closely
-// (Unicode, table 3-7; behind C2, 80..9F are controls); and after a byte that fits nowhere, for good.
+// States: between two characters; before one, two or three more bytes 80..BF; after a first byte
+// whose second is bound more closely (Unicode, table 3-7; behind C2, 80..9F are controls); and
+// after a byte that fits nowhere, for good.
 const BETWEEN: u64 = 0;
 
 const ONE: u64 = 6;
@@ -32,7 +33,8 @@ const AFTER_C2: u64 = 48;
 
 const FAILED: u64 = 54;
 
-// Rows of bytes that fit nowhere and of those that begin a character: these fit between two characters alone, the state at place 0.
+// Rows of bytes that fit nowhere and of those that begin a character: these fit between two
+// characters alone, the state at place 0.
 const FAIL: u64 = FAILED
     | FAILED << ONE
     | FAILED << TWO
@@ -116,8 +118,9 @@ fn step(state: u64, byte: u8) -> u64
 }
 
 impl<B> Looks<B> {
-    /// Skips blocks of a run, and returns where the last character ended. If it `keeps` them, the run may hold HT, LF and CR.
-    /// A block with a byte that fits nowhere, or with a control that isn't kept, is read in vain.
+    /// Skips blocks of a run, and returns where the last character ended. If it `keeps` them, the
+    /// run may hold HT, LF and CR. A block with a byte that fits nowhere, or with a control that
+    /// isn't kept, is read in vain.
     #[inline(never)]
     pub(crate) fn skip_run_blocks(&mut self, input: Input<'_, B>, from: usize, keeps: bool) -> usize
         requires { from ≤ length input.bytes.now }
@@ -159,7 +162,8 @@ impl<B> Looks<B> {
     }
 }
 
-/// The state after 16 bytes. Between two characters they are tested first for printed ASCII, HT, LF and CR.
+/// The state after 16 bytes. Between two characters they are tested first for printed ASCII, HT, LF
+/// and CR.
 #[inline(always)]
 fn state_after_block(state: u64, block: &[u8; 16]) -> u64
     ensures { (s : State) → state ≡ code s → result ≡ code (state_after s block.now) }
@@ -174,7 +178,8 @@ fn state_after_block(state: u64, block: &[u8; 16]) -> u64
     next % 64
 }
 
-/// Returns whether all 16 bytes are printed ASCII, HT, LF or CR. Compilers make vector instructions of the loop.
+/// Returns whether all 16 bytes are printed ASCII, HT, LF or CR. Compilers make vector instructions
+/// of the loop.
 #[inline(always)]
 fn is_ascii_block(block: &[u8; 16]) -> bool
     ensures { IsTrue result → Each (λ byte. begun byte ≡ Between) block.now 0 16 }
@@ -186,7 +191,8 @@ fn is_ascii_block(block: &[u8; 16]) -> bool
     all
 }
 
-/// Returns whether any of 16 bytes is a control of ASCII. Compilers make vector instructions of the loop.
+/// Returns whether any of 16 bytes is a control of ASCII. Compilers make vector instructions of the
+/// loop.
 #[inline(always)]
 fn has_control(block: &[u8; 16]) -> bool
     ensures { result ≡ false → Each (λ byte. 0x20 ≤ byte) block.now 0 16 }

@@ -27,16 +27,21 @@ pub(crate) trait Buffer {
     fn is_full(&self) -> bool
         ensures { result ≡ not (has_room limit (length (held self.now))) };
 
-    /// Takes memory for this many more bytes, and returns whether it is there. Where there is a limit, it always is.
+    /// Takes memory for this many more bytes, and returns whether it is there. Where there is a
+    /// limit, it always is.
     fn reserve(&mut self, more: usize) -> bool
         ensures same { held self.new ≡ held self.old }
-        ensures reserves { Reserves limit (length (held self.new)) more (capacity self.old) (capacity self.new) result };
+        ensures reserves { Reserves limit (length (held self.new)) more (capacity self.old)
+            (capacity self.new) result };
 
     /// Adds the bytes of an input from one place to another, up to the limit.
     fn append<B>(&mut self, looks: &mut Looks<B>, input: Input<'_, B>, from: usize, to: usize)
         requires range { IsRange input.bytes.now from to }
         requires memory { HasMemory limit (capacity self.old) (length (held self.old)) (to - from) }
-        ensures appended { held self.new ≡ held self.old ++ fitting limit (length (held self.old)) (take (to - from) (drop from input.entry.bytes.now)) }
+        ensures appended { held self.new
+            ≡ held self.old
+            ++ fitting limit (length (held self.old))
+            (take (to - from) (drop from input.entry.bytes.now)) }
         ensures memory { capacity self.old ≤ capacity self.new }
         ensures few { TakesFew (to - from) looks.old looks.new };
 }

@@ -51,7 +51,8 @@ pub(crate) fn is_intermediate(byte: u8) -> bool
 /// Returns the value of a digit `0`..`9`.
 pub(crate) fn digit_of(byte: u8) -> Option<u32>
     ensures { MatchOption result (is_separator byte ≡ false → is_parameter (class_of byte) ≡ false)
-        (λ digit. (48 ≤ byte) × (byte < 58) × (digit ≡ byte - 48) × (is_parameter (class_of byte) ≡ true)) }
+        (λ digit. (48 ≤ byte) × (byte < 58) × (digit ≡ byte - 48)
+        × (is_parameter (class_of byte) ≡ true)) }
 {
     let digit = u32::from(byte).wrapping_sub(u32::from(b'0'));
     if digit < 10 { Some(digit) } else { None }
@@ -93,7 +94,8 @@ pub(crate) fn dispatches_escape(byte: u8) -> bool
     byte >= 0x30 && byte < 0x7f
 }
 
-/// Whether a byte begins a string that means nothing after ESC: `X`, `^` and `_` for SOS, PM and APC.
+/// Whether a byte begins a string that means nothing after ESC: `X`, `^` and `_` for SOS, PM and
+/// APC.
 pub(crate) fn begins_ignored_string(byte: u8) -> bool
     ensures { result ≡ begins_ignored_string byte }
 {

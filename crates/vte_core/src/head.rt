@@ -1,4 +1,5 @@
-//! What is collected of an escape sequence, and of the head of a control sequence or a device control string.
+//! What is collected of an escape sequence, and of the head of a control sequence or a device
+//! control string.
 ghost use Rattle.std.specs.Prelude.{◌≡◌, ◌<◌, ◌≤◌, ◌+◌, ◌*◌, ◌-◌, ◌↔◌, ◌⊎◌, min, IsTrue, List, ℕ, true, false, [], ◌∷◌, ◌++◌, length, slice_index, IfSome};
 ghost use Rattle.vte_core.specs.machine.Words.{Counts, Holds, HoldsHead, IsReady, KeepsIntermediates, KeepsNumbers, ReadsHeadUpTo, Settles, StandsInHead, class_of, is_head, is_parameter};
 ghost use Rattle.vte_core.specs.machine.Words.{is_separator, looked, with_number};
@@ -85,7 +86,8 @@ impl Collected {
 
     /// Collects an intermediate or a marker.
     pub(crate) fn collect(&mut self, byte: u8)
-        ensures holds { (intermediates : List ℕ) → Holds self.old intermediates → Holds self.new (intermediates ++ byte ∷ []) }
+        ensures holds { (intermediates : List ℕ) → Holds self.old intermediates
+            → Holds self.new (intermediates ++ byte ∷ []) }
         ensures numbers { KeepsNumbers self.old self.new }
     {
         if self.intermediates.try_push(byte).is_err() {
@@ -96,7 +98,8 @@ impl Collected {
     /// Moves a number that was read into the parameters, or returns true if there are 32 already.
     #[inline(always)]
     fn settle_number(&mut self, number: u16) -> bool
-        ensures settles { (text : List ℕ) → Counts (with_number self.old number) text → Settles self.new result text }
+        ensures settles { (text : List ℕ) → Counts (with_number self.old number) text
+            → Settles self.new result text }
         ensures keeps { KeepsIntermediates self.old self.new }
     {
         if self.params.is_full() {
@@ -106,12 +109,15 @@ impl Collected {
         false
     }
 
-    /// Collects an intermediate or a marker, or finds the head malformed. Returns how far the head has been read then.
+    /// Collects an intermediate or a marker, or finds the head malformed. Returns how far the head
+    /// has been read then.
     #[inline(always)]
     fn collect_head_byte(&mut self, part: HeadPart, byte: u8) -> HeadPart
         requires is { is_head (class_of byte) ≡ true }
-        requires no_number { (part ≡ HeadPart.Entry) ⊎ (part ≡ HeadPart.Parameters) → is_parameter (class_of byte) ≡ false }
-        ensures { (head : List ℕ) → StandsInHead self.old part head → StandsInHead self.new result (head ++ byte ∷ []) }
+        requires no_number { (part ≡ HeadPart.Entry) ⊎ (part ≡ HeadPart.Parameters)
+            → is_parameter (class_of byte) ≡ false }
+        ensures { (head : List ℕ) → StandsInHead self.old part head
+            → StandsInHead self.new result (head ++ byte ∷ []) }
     {
         if let HeadPart::IllShaped = part {
             return HeadPart::IllShaped;
@@ -128,7 +134,8 @@ impl Collected {
         HeadPart::IllShaped
     }
 
-    /// Reads the digits at a place of a head, if any, and the separators too if there may be `several` numbers.
+    /// Reads the digits at a place of a head, if any, and the separators too if there may be
+    /// `several` numbers.
     #[inline(always)]
     pub(crate) fn read_numbers<B>(
         &mut self,
@@ -141,11 +148,14 @@ impl Collected {
         requires in_order { from ≤ length input.bytes.now }
         requires may { reached ≡ HeadPart.Entry ⊎ reached ≡ HeadPart.Parameters }
         ensures reads { ReadsHeadUpTo input.entry.bytes.now from reached result self.old self.new }
-        ensures further { several ≡ true → from < length input.entry.bytes.now → is_parameter (class_of (slice_index input.entry.bytes.now from)) ≡ true
+        ensures further { several ≡ true → from < length input.entry.bytes.now
+            → is_parameter (class_of (slice_index input.entry.bytes.now from)) ≡ true
             → (from < result.position) × (result.part ≡ HeadPart.Parameters) }
-        ensures count { looked looks.new + from ≡ looked looks.old + min (result.position + 1) (length input.entry.bytes.now) }
+        ensures count { looked looks.new + from
+            ≡ looked looks.old + min (result.position + 1) (length input.entry.bytes.now) }
     {
-        // In a local, because a field would be stored at each digit, and as wide as the sum that each digit makes.
+        // In a local, because a field would be stored at each digit, and as wide as the sum that
+        // each digit makes.
         let mut number = u32::from(self.number);
         let mut position = from;
         let mut next = None;
@@ -189,8 +199,11 @@ impl Collected {
         requires { from ≤ length input.bytes.now }
         ensures reads { ReadsHeadUpTo input.entry.bytes.now from reached result self.old self.new }
         ensures other { IfSome result.next (λ byte. is_head (class_of byte) ≡ false) }
-        ensures count { looked looks.new + 3 * from ≤ looked looks.old + 2 * result.position + min (result.position + 1) (length input.entry.bytes.now) }
-        ensures least { looked looks.old + min (result.position + 1) (length input.entry.bytes.now) ≤ looked looks.new + from }
+        ensures count { looked looks.new + 3 * from
+            ≤ looked looks.old + 2 * result.position
+            + min (result.position + 1) (length input.entry.bytes.now) }
+        ensures least { looked looks.old + min (result.position + 1) (length input.entry.bytes.now)
+            ≤ looked looks.new + from }
     {
         let mut part = reached;
         let mut position = from;
@@ -218,10 +231,12 @@ impl Collected {
         }
     }
 
-    /// Moves the last number into the parameters, and returns whether there were too many numbers or intermediates.
+    /// Moves the last number into the parameters, and returns whether there were too many numbers
+    /// or intermediates.
     #[inline(always)]
     pub(crate) fn end_head(&mut self) -> bool
-        ensures { (part : HeadPart) (head : List ℕ) → HoldsHead self.old part head → IsReady self.new result head }
+        ensures { (part : HeadPart) (head : List ℕ) → HoldsHead self.old part head
+            → IsReady self.new result head }
     {
         let too_many_numbers = self.settle_number(self.number);
         self.too_many || too_many_numbers

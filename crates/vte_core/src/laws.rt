@@ -34,7 +34,8 @@ pub fn replay<P: Perform, const OSC_RAW_BUF_SIZE: usize>(performer: &mut P, piec
 /// Parameters come back if their debug text is sent, without its brackets, between `ESC [` and `m`.
 #[tactic(auto, using(crate::proofs::showing::ShownDispatch::shown_dispatched))]
 pub fn debug_dispatch()
-    ensures { (limit : Option ℕ) (groups : List (List ℕ)) → AreParameters groups → DispatchesShown limit groups }
+    ensures { (limit : Option ℕ) (groups : List (List ℕ)) → AreParameters groups
+        → DispatchesShown limit groups }
 {}
 
 /// The events of a prefix are a prefix of the events, whatever the limit.
@@ -49,14 +50,16 @@ pub fn empty_stream()
     ensures { (limit : Option ℕ) → events limit [] ≡ [] }
 {}
 
-/// The arguments of an event are bounded: a printed character is no control, a sequence has at most 32 numbers and two
-/// intermediates, an operating system command at least one piece and at most 16, which fit into the buffer.
+/// The arguments of an event are bounded: a printed character is no control, a sequence has at most
+/// 32 numbers and two intermediates, an operating system command at least one piece and at most 16,
+/// which fit into the buffer.
 #[tactic(auto, using(crate::proofs::streams::StreamSteps::events_are_bounded))]
 pub fn events_are_bounded()
     ensures { (limit : Option ℕ) (stream : List ℕ) → All (IsBounded limit) (events limit stream) }
 {}
 
-/// Without a limit, an operating system command has no more data than its bytes: those of a call, and those that were open before.
+/// Without a limit, an operating system command has no more data than its bytes: those of a call,
+/// and those that were open before.
 pub fn commands_are_counted()
     ensures { (stream bytes : List ℕ) → CountsData stream bytes }
 {}
@@ -64,7 +67,8 @@ pub fn commands_are_counted()
 /// A byte adds at most two events, and the second of them is a character or an executed byte.
 #[tactic(auto, using(crate::proofs::streams::StreamSteps::bytes_are_brief))]
 pub fn bytes_are_brief()
-    ensures { (limit : Option ℕ) (stream : List ℕ) (byte : ℕ) → IsBrief limit (added limit stream (byte ∷ [])) }
+    ensures { (limit : Option ℕ) (stream : List ℕ) (byte : ℕ)
+        → IsBrief limit (added limit stream (byte ∷ [])) }
 {}
 
 /// A byte after which a character is open reports nothing, or U+FFFD if it broke another one.
@@ -73,8 +77,9 @@ pub fn opens_silently()
     ensures { (limit : Option ℕ) → OpensSilently limit }
 {}
 
-/// What a call that stops early has reported, followed by what the unread bytes add from there, is what all bytes add. From one
-/// start to the next it reports at most two events, and the second of them is a character or an executed byte.
+/// What a call that stops early has reported, followed by what the unread bytes add from there, is
+/// what all bytes add. From one start to the next it reports at most two events, and the second of
+/// them is a character or an executed byte.
 #[tactic(auto, using(crate::proofs::stops::Units::goes_on_from, crate::proofs::stops::Units::tells_units))]
 pub fn early_stops()
     ensures goes_on { (limit : Option ℕ) → GoesOnFromPlaces limit }
@@ -86,17 +91,18 @@ pub fn resync()
     ensures { (limit : Option ℕ) → BeginsAnew limit }
 {}
 
-/// A text is divided as Unicode recommends: each piece is the well-formed sequence that starts there, else the longest
-/// truncated one, else one byte. No other division has this property.
+/// A text is divided as Unicode recommends: each piece is the well-formed sequence that starts
+/// there, else the longest truncated one, else one byte. No other division has this property.
 #[tactic(auto, using(crate::proofs::dividing::DivisionLemmas::all_divided, crate::proofs::dividing::MaximalSubparts::are_right_pieces, crate::proofs::dividing::MaximalSubparts::only_division))]
 pub fn maximal_subparts()
     ensures all { (text : List ℕ) → IsAllDivided text }
     ensures right { (text : List ℕ) → AreRightPieces (segments text) }
-    ensures only { (pieces : List (List ℕ)) → AreRightPieces pieces → segments (concat pieces) ≡ pieces }
+    ensures only { (pieces : List (List ℕ)) → AreRightPieces pieces
+        → segments (concat pieces) ≡ pieces }
 {}
 
-/// The rows of UTF-8 agree with the standard library: the well-formed sequences are the encodings of characters, and the
-/// texts that consist of them are those of a `str`.
+/// The rows of UTF-8 agree with the standard library: the well-formed sequences are the encodings
+/// of characters, and the texts that consist of them are those of a `str`.
 #[tactic(auto, using(crate::proofs::dividing::Utf8Agrees::well_formed_is_encoded, crate::proofs::dividing::Utf8Agrees::pieces_of_text, crate::proofs::dividing::Utf8Agrees::text_of_pieces, crate::proofs::bytes::Scalars::well_formed_is_scalar))]
 pub fn utf8_agrees()
     ensures sequence { (bytes : List ℕ) → is_well_formed bytes ≡ true → IsEncoding bytes }

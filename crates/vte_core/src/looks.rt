@@ -1,9 +1,10 @@
 //! The only module that reads input bytes and reports events. It counts both, for contracts alone.
 //!
-//! Nothing else reads a byte of a call or tells a performer an event: an [`Input`] has no other way to its bytes, and a
-//! [`CountedPerform`] takes events with the count alone. Bytes leave it one by one, in blocks, as a copy in a buffer, or as text or data
-//! for a performer. Whoever is generic in the buffer `B` has no count but the one it was lent, for a `Looks<B>` is made for the buffers
-//! of the two parsers alone.
+//! Nothing else reads a byte of a call or tells a performer an event: an [`Input`] has no other way
+//! to its bytes, and a [`CountedPerform`] takes events with the count alone. Bytes leave it one by
+//! one, in blocks, as a copy in a buffer, or as text or data for a performer. Whoever is generic in
+//! the buffer `B` has no count but the one it was lent, for a `Looks<B>` is made for the buffers of
+//! the two parsers alone.
 ghost use Rattle.std.specs.Prelude.{◌≡◌, ◌≢◌, ◌+◌, ◌-◌, ◌<◌, ◌≤◌, ℕ, ◌++◌, length, drop, map, take, slice_index, vec_capacity, MatchOption, IsUtf8};
 ghost use Rattle.vte_core.specs.machine.Words.{AreOfKind, ArePut, FindsEnd, IsCommandData, IsPut, IsRange, IsRun, IsTaken, PrintsRun, Put, after, looked};
 
@@ -30,7 +31,8 @@ enum Trail {
     Then(Snapshot<Trail>, usize),
 }
 
-/// How many looks a parser with the buffer `B` took at input bytes, and how many events it told. It has no bytes at run time.
+/// How many looks a parser with the buffer `B` took at input bytes, and how many events it told. It
+/// has no bytes at run time.
 #[derive(Drop)]
 pub(crate) struct Looks<B> {
     trail: Snapshot<Trail>,
@@ -72,7 +74,8 @@ impl<'a, B> Input<'a, B> {
     pub(crate) fn up_to(self, to: usize) -> Self
         requires { to ≤ length self.bytes.now }
         ensures length { length result.bytes.now ≡ to }
-        ensures same { (k : ℕ) → k < to → slice_index result.bytes.now k ≡ slice_index self.entry.bytes.now k }
+        ensures same { (k : ℕ) → k < to
+            → slice_index result.bytes.now k ≡ slice_index self.entry.bytes.now k }
     {
         Input {
             bytes: &self.bytes[..to],
@@ -103,10 +106,12 @@ impl<'a, B> Input<'a, B> {
     /// Returns the run that stands at a place, whose bytes were looked at.
     pub(crate) fn take_run(self, place: RunPlace) -> Run<'a>
         requires range { IsRange self.bytes.now place.start place.end }
-        requires kind { AreOfKind place.kind (take (place.end - place.start) (drop place.start self.bytes.now)) }
+        requires kind { AreOfKind place.kind
+            (take (place.end - place.start) (drop place.start self.bytes.now)) }
         ensures start { result.start ≡ place.start }
         ensures end { result.end ≡ place.end }
-        ensures taken { IsTaken place.kind (take (place.end - place.start) (drop place.start self.entry.bytes.now)) result.taken }
+        ensures taken { IsTaken place.kind
+            (take (place.end - place.start) (drop place.start self.entry.bytes.now)) result.taken }
     {
         let taken = match place.kind {
             RunKind::OfText => Taken::Text(self.text(place.start, place.end)),
@@ -167,8 +172,8 @@ impl<B> Looks<B> {
         input.bytes[index]
     }
 
-    /// Where the data bytes of an operating system command that stand at a place end: at `;`, at a control or with the
-    /// bytes. It looks at each byte up to there.
+    /// Where the data bytes of an operating system command that stand at a place end: at `;`, at a
+    /// control or with the bytes. It looks at each byte up to there.
     pub(crate) fn find_data_end(&mut self, input: Input<'_, B>, from: usize) -> usize
         requires { from ≤ length input.bytes.now }
         ensures { FindsEnd IsCommandData input.entry.bytes.now from result self.old self.new }
@@ -181,8 +186,8 @@ impl<B> Looks<B> {
         end
     }
 
-    /// Where the data of a device control string that stand at a place end: at a byte that isn't put or with the bytes. It looks at
-    /// each byte up to there.
+    /// Where the data of a device control string that stand at a place end: at a byte that isn't
+    /// put or with the bytes. It looks at each byte up to there.
     pub(crate) fn find_put_end(&mut self, input: Input<'_, B>, from: usize) -> usize
         requires { from ≤ length input.bytes.now }
         ensures { FindsEnd IsPut input.entry.bytes.now from result self.old self.new }
@@ -198,7 +203,8 @@ impl<B> Looks<B> {
     /// Returns the place of the first ESC from a place on, or the length if there is none.
     pub(crate) fn find_escape(&mut self, input: Input<'_, B>, from: usize) -> usize
         requires { from ≤ length input.bytes.now }
-        ensures { FindsEnd (λ byte. byte ≢ 0x1b) input.entry.bytes.now from result self.old self.new }
+        ensures { FindsEnd
+            (λ byte. byte ≢ 0x1b) input.entry.bytes.now from result self.old self.new }
     {
         let rest = &input.bytes[from..];
         match memchr(ESCAPE, rest) {
@@ -216,8 +222,11 @@ impl<B> Looks<B> {
     /// Returns the byte at an index, or `None` past the end.
     #[inline(always)]
     pub(crate) fn get(&mut self, input: Input<'_, B>, index: usize) -> Option<u8>
-        ensures { MatchOption result ((length input.entry.bytes.now ≤ index) × (looked self.new ≡ looked self.old)) (λ byte.
-            (index < length input.entry.bytes.now) × (byte ≡ slice_index input.entry.bytes.now index) × (looked self.new ≡ looked self.old + 1)) }
+        ensures { MatchOption result
+            ((length input.entry.bytes.now ≤ index) × (looked self.new ≡ looked self.old)) (λ byte.
+            (index < length input.entry.bytes.now)
+            × (byte ≡ slice_index input.entry.bytes.now index)
+            × (looked self.new ≡ looked self.old + 1)) }
     {
         let byte = *input.bytes.get(index)?;
         self.add(1);
@@ -232,8 +241,10 @@ impl<B> Looks<B> {
         from: usize,
     ) -> Option<[u8; N]>
         requires { from ≤ length input.bytes.now }
-        ensures { MatchOption result (looked self.new ≡ looked self.old) (λ block. (from + N ≤ length input.entry.bytes.now)
-            × (block ≡ take N (drop from input.entry.bytes.now)) × (looked self.new ≡ looked self.old + N)) }
+        ensures { MatchOption result (looked self.new ≡ looked self.old)
+            (λ block. (from + N ≤ length input.entry.bytes.now)
+            × (block ≡ take N (drop from input.entry.bytes.now))
+            × (looked self.new ≡ looked self.old + N)) }
     {
         let block = *input.bytes[from..].first_chunk::<N>()?;
         self.add(N);
@@ -252,7 +263,8 @@ impl<B> Looks<B> {
         requires some { from < to }
         requires within { to ≤ length input.bytes.now }
         requires run { IsRun P.keeps input.bytes.now from to }
-        ensures printed { PrintsRun P.keeps P.step (P.value_of performer.old) (P.value_of performer.new) input.entry.bytes.now from to }
+        ensures printed { PrintsRun P.keeps P.step (P.value_of performer.old)
+            (P.value_of performer.new) input.entry.bytes.now from to }
         ensures count { looked self.new + from ≡ looked self.old + to }
     {
         performer.print_text(self, input.text(from, to));
@@ -270,7 +282,9 @@ impl<B> Looks<B> {
         requires some { from < to }
         requires within { to ≤ length input.bytes.now }
         requires put { ArePut input.bytes.now from to }
-        ensures put { P.value_of performer.new ≡ after P.step (P.value_of performer.old) (map Put (take (to - from) (drop from input.entry.bytes.now))) }
+        ensures put { P.value_of performer.new
+            ≡ after P.step (P.value_of performer.old)
+            (map Put (take (to - from) (drop from input.entry.bytes.now))) }
         ensures count { looked self.new + from ≡ looked self.old + to }
     {
         performer.put_slice(self, input.data(from, to));
@@ -286,7 +300,8 @@ impl<B> Looks<B> {
     ) -> Result<(), CapacityError>
         requires range { IsRange input.bytes.now from to }
         requires room { length array.old.items + (to - from) ≤ N }
-        ensures appended { array.new.items ≡ array.old.items ++ take (to - from) (drop from input.entry.bytes.now) }
+        ensures appended { array.new.items
+            ≡ array.old.items ++ take (to - from) (drop from input.entry.bytes.now) }
         ensures count { looked self.new + from ≡ looked self.old + to }
     {
         self.add(to - from);
@@ -303,7 +318,8 @@ impl<B> Looks<B> {
     ) -> Result<(), AllocError>
         requires range { IsRange input.bytes.now from to }
         requires room { length vec.old.items + (to - from) ≤ vec_capacity vec.old }
-        ensures appended { vec.new.items ≡ vec.old.items ++ take (to - from) (drop from input.entry.bytes.now) }
+        ensures appended { vec.new.items
+            ≡ vec.old.items ++ take (to - from) (drop from input.entry.bytes.now) }
         ensures memory { vec_capacity vec.old ≤ vec_capacity vec.new }
         ensures count { looked self.new + from ≡ looked self.old + to }
     {

@@ -93,7 +93,8 @@ impl Params {
 
     /// Returns the parameters with these parts, or none if the lengths don't cover all numbers.
     pub(crate) fn from_parts(lengths: ArrayVec<u8, 32>, numbers: ArrayVec<u16, 32>) -> Self
-        ensures { (groups : List (List ℕ)) → AreParts lengths.items numbers.items groups → result ≡ groups }
+        ensures { (groups : List (List ℕ)) → AreParts lengths.items numbers.items groups
+            → result ≡ groups }
     {
         if are_lengths(lengths.as_slice(), numbers.as_slice()) {
             Params { numbers, lengths }

@@ -33,7 +33,8 @@ use machine::Machine;
 pub use refused::Refused;
 pub use saved::Saved;
 
-/// How many data bytes of an operating system command are kept, unless a parser is given another number.
+/// How many data bytes of an operating system command are kept, unless a parser is given another
+/// number.
 pub(crate) const MAX_OSC_RAW: usize = 1024;
 
 /// Where in a text or a body the parser stands.
@@ -59,7 +60,8 @@ pub(crate) enum State {
 
 /// A parser of the bytes that programs send to a terminal.
 ///
-/// It reads a stream in pieces of any length, and calls a [`Perform`](crate::Perform) for each event.
+/// It reads a stream in pieces of any length, and calls a [`Perform`](crate::Perform) for each
+/// event.
 ///
 /// ```
 /// let mut parser = Parser::new();
@@ -67,8 +69,8 @@ pub(crate) enum State {
 /// parser.advance(&mut performer, b"m"); // one `csi_dispatch`, of the two pieces together
 /// ```
 ///
-/// It keeps up to `OSC_RAW_BUF_SIZE` data bytes of an operating system command, and drops the rest. In the crate for cargo it
-/// keeps all of them with the feature `std`.
+/// It keeps up to `OSC_RAW_BUF_SIZE` data bytes of an operating system command, and drops the rest.
+/// In the crate for cargo it keeps all of them with the feature `std`.
 #[derive(Drop)]
 pub struct Parser<const OSC_RAW_BUF_SIZE: usize> {
     machine: Machine<ArrayVec<u8, OSC_RAW_BUF_SIZE>>,
@@ -76,7 +78,8 @@ pub struct Parser<const OSC_RAW_BUF_SIZE: usize> {
 }
 
 impl Parser<MAX_OSC_RAW> {
-    /// Creates a parser that has read nothing, with room for 1,024 data bytes of an operating system command.
+    /// Creates a parser that has read nothing, with room for 1,024 data bytes of an operating
+    /// system command.
     pub fn new() -> Self
         ensures { HasRead result [] }
     {
@@ -93,8 +96,8 @@ impl<const OSC_RAW_BUF_SIZE: usize> Default for Parser<OSC_RAW_BUF_SIZE> {
 }
 
 impl<const OSC_RAW_BUF_SIZE: usize> Parser<OSC_RAW_BUF_SIZE> {
-    /// Creates a parser that has read nothing, with room for `OSC_RAW_BUF_SIZE` data bytes of an operating system command,
-    /// which may be 0.
+    /// Creates a parser that has read nothing, with room for `OSC_RAW_BUF_SIZE` data bytes of an
+    /// operating system command, which may be 0.
     pub fn new_with_size() -> Self
         ensures { HasRead result [] }
     {
@@ -106,41 +109,48 @@ impl<const OSC_RAW_BUF_SIZE: usize> Parser<OSC_RAW_BUF_SIZE> {
 
     /// Reads the next bytes of the stream, and performs the events that they add to it.
     ///
-    /// However calls split the stream, the events are the same. An unfinished character or sequence at the end waits for more
-    /// bytes.
+    /// However calls split the stream, the events are the same. An unfinished character or sequence
+    /// at the end waits for more bytes.
     pub fn advance<P: Perform>(&mut self, performer: &mut P, bytes: &[u8])
-        ensures { ReadsBytes P.step (P.value_of performer.old) (P.value_of performer.new) bytes.now self.old self.new }
+        ensures { ReadsBytes P.step (P.value_of performer.old)
+            (P.value_of performer.new) bytes.now self.old self.new }
     {
         self.drive::<P, Singly, false>(performer, bytes);
     }
 
-    /// Reads the next bytes of the stream as [`advance`](Self::advance) does, and passes characters to print in
-    /// [runs](crate::PerformText), and the data of device control strings in [slices](crate::PerformText::put_slice).
+    /// Reads the next bytes of the stream as [`advance`](Self::advance) does, and passes characters
+    /// to print in [runs](crate::PerformText), and the data of device control strings in
+    /// [slices](crate::PerformText::put_slice).
     pub fn advance_text<P: PerformText>(&mut self, performer: &mut P, bytes: &[u8])
-        ensures { ReadsBytes P.step (P.value_of performer.old) (P.value_of performer.new) bytes.now self.old self.new }
+        ensures { ReadsBytes P.step (P.value_of performer.old)
+            (P.value_of performer.new) bytes.now self.old self.new }
     {
         self.drive::<P, InRuns, false>(performer, bytes);
     }
 
     /// Reads bytes until the performer is terminated, and returns how many were read.
     ///
-    /// The performer is asked before each character, malformed sequence and byte that starts in this call. A character that
-    /// an earlier call began is finished first. An unfinished one at the end of the bytes counts as read.
+    /// The performer is asked before each character, malformed sequence and byte that starts in
+    /// this call. A character that an earlier call began is finished first. An unfinished one at
+    /// the end of the bytes counts as read.
     pub fn advance_until_terminated<P: Perform>(&mut self, performer: &mut P, bytes: &[u8]) -> usize
-        ensures { ReadsUntilTerminated P.step P.is_terminated (P.value_of performer.old) (P.value_of performer.new) bytes.now result self.old self.new }
+        ensures { ReadsUntilTerminated P.step P.is_terminated (P.value_of performer.old)
+            (P.value_of performer.new) bytes.now result self.old self.new }
     {
         self.drive::<P, Singly, true>(performer, bytes)
     }
 
-    /// Reads bytes as [`advance_until_terminated`](Self::advance_until_terminated) does, and passes characters to print in
-    /// [runs](crate::PerformText). Only for performers that nothing in a run terminates: they aren't asked there.
+    /// Reads bytes as [`advance_until_terminated`](Self::advance_until_terminated) does, and passes
+    /// characters to print in [runs](crate::PerformText). Only for performers that nothing in a run
+    /// terminates: they aren't asked there.
     pub fn advance_text_until_terminated<P: PerformText>(
         &mut self,
         performer: &mut P,
         bytes: &[u8],
     ) -> usize
         requires no_stop { NoCharacterStops P.keeps P.step P.is_terminated }
-        ensures { ReadsUntilTerminated P.step P.is_terminated (P.value_of performer.old) (P.value_of performer.new) bytes.now result self.old self.new }
+        ensures { ReadsUntilTerminated P.step P.is_terminated (P.value_of performer.old)
+            (P.value_of performer.new) bytes.now result self.old self.new }
     {
         self.drive::<P, InRuns, true>(performer, bytes)
     }
@@ -168,15 +178,21 @@ impl<const OSC_RAW_BUF_SIZE: usize> Parser<OSC_RAW_BUF_SIZE> {
         self.machine.command_lost_data()
     }
 
-    /// Reads the bytes of a call, all of them or, if it `ASKS`, until the performer is terminated, and returns how many were read.
+    /// Reads the bytes of a call, all of them or, if it `ASKS`, until the performer is terminated,
+    /// and returns how many were read.
     fn drive<P: CountedPerform<ArrayVec<u8, OSC_RAW_BUF_SIZE>, G>, G: Grain, const ASKS: bool>(
         &mut self,
         performer: &mut P,
         bytes: &[u8],
     ) -> usize
-        requires no_stop { G.IN_RUNS ≡ true → ASKS ≡ true → NoCharacterStops P.keeps P.step P.is_terminated }
-        ensures all { ASKS ≡ false → ReadsBytes P.step (P.value_of performer.old) (P.value_of performer.new) bytes.now self.old self.new }
-        ensures stops { ASKS ≡ true → ReadsUntilTerminated P.step P.is_terminated (P.value_of performer.old) (P.value_of performer.new) bytes.now result self.old self.new }
+        requires no_stop { G.IN_RUNS ≡ true → ASKS ≡ true
+            → NoCharacterStops P.keeps P.step P.is_terminated }
+        ensures all { ASKS ≡ false
+            → ReadsBytes P.step (P.value_of performer.old)
+            (P.value_of performer.new) bytes.now self.old self.new }
+        ensures stops { ASKS ≡ true
+            → ReadsUntilTerminated P.step P.is_terminated (P.value_of performer.old)
+            (P.value_of performer.new) bytes.now result self.old self.new }
     {
         match self
             .machine

@@ -21,7 +21,8 @@ pub trait Perform {
     /// For which values `advance_until_terminated` stops.
     ghost is_terminated: { Value → Bool };
 
-    /// A character to print, which is never a control: neither U+0000 to U+001F nor U+0080 to U+009F.
+    /// A character to print, which is never a control: neither U+0000 to U+001F nor U+0080 to
+    /// U+009F.
     fn print(&mut self, c: char)
         ensures { value_of self.new ≡ step (value_of self.old) (Print c) };
 
@@ -31,10 +32,11 @@ pub trait Perform {
 
     /// The start of a device control string with the final byte `action`.
     ///
-    /// There are at most two intermediates, a private marker `<` to `?` among them. `ignore` says that there were more, or more
-    /// than 32 numbers.
+    /// There are at most two intermediates, a private marker `<` to `?` among them. `ignore` says
+    /// that there were more, or more than 32 numbers.
     fn hook(&mut self, params: &Params, intermediates: &[u8], ignore: bool, action: char)
-        ensures { value_of self.new ≡ step (value_of self.old) (Hook params.now intermediates.now ignore action) };
+        ensures { value_of self.new
+            ≡ step (value_of self.old) (Hook params.now intermediates.now ignore action) };
 
     /// A data byte of the device control string.
     fn put(&mut self, byte: u8)
@@ -50,12 +52,14 @@ pub trait Perform {
             ≡ step (value_of self.old)
             (OscDispatch (map (λ piece. piece.now) params.now) bell_terminated) };
 
-    /// A control sequence with the final byte `action`. `intermediates` and `ignore` are as in [`hook`](Self::hook).
+    /// A control sequence with the final byte `action`. `intermediates` and `ignore` are as in
+    /// [`hook`](Self::hook).
     fn csi_dispatch(&mut self, params: &Params, intermediates: &[u8], ignore: bool, action: char)
         ensures { value_of self.new
             ≡ step (value_of self.old) (CsiDispatch params.now intermediates.now ignore action) };
 
-    /// An escape sequence with the final byte `byte`. There are at most two intermediates; `ignore` says that there were more.
+    /// An escape sequence with the final byte `byte`. There are at most two intermediates; `ignore`
+    /// says that there were more.
     fn esc_dispatch(&mut self, intermediates: &[u8], ignore: bool, byte: u8)
         ensures { value_of self.new
             ≡ step (value_of self.old) (EscDispatch intermediates.now ignore byte) };
@@ -65,26 +69,29 @@ pub trait Perform {
         ensures { result ≡ is_terminated (value_of self.now) };
 }
 
-/// Takes text in runs, from `advance_text`: there [`print`](Perform::print) and [`put`](Perform::put) aren't called.
+/// Takes text in runs, from `advance_text`: there [`print`](Perform::print) and
+/// [`put`](Perform::put) aren't called.
 ///
 /// How text and data are cut into runs may change from version to version.
 pub trait PerformText: Perform {
     ghost keeps: { Bool };
 
-    /// Returns whether HT (09), LF (0A) and CR (0D) come by `print_text` instead of [`execute`](Perform::execute), always the same
-    /// answer. A filter, which keeps these three as they are, is faster with longer runs.
+    /// Returns whether HT (09), LF (0A) and CR (0D) come by `print_text` instead of
+    /// [`execute`](Perform::execute), always the same answer. A filter, which keeps these three as
+    /// they are, is faster with longer runs.
     fn keeps_layout(&self) -> bool
         ensures { result ≡ keeps };
 
-    /// Characters to print, at least one, in order. None is a control, except HT, LF and CR if the performer
-    /// [keeps](Self::keeps_layout) these.
+    /// Characters to print, at least one, in order. None is a control, except HT, LF and CR if the
+    /// performer [keeps](Self::keeps_layout) these.
     fn print_text(&mut self, text: &str)
         requires some { 0 < length text.now }
         requires plain { IsRunText keeps text.now }
         ensures { Self.value_of self.new
             ≡ after Self.step (Self.value_of self.old) (map (run_event keeps) (chars text.now)) };
 
-    /// Data bytes of the device control string, at least one, in order. By default each comes by [`put`](Perform::put).
+    /// Data bytes of the device control string, at least one, in order. By default each comes by
+    /// [`put`](Perform::put).
     ///
     /// ```
     /// impl PerformText for Image {
@@ -97,7 +104,8 @@ pub trait PerformText: Perform {
     /// ```
     fn put_slice(&mut self, bytes: &[u8])
         requires some { 0 < length bytes.now }
-        ensures { Self.value_of self.new ≡ after Self.step (Self.value_of self.old) (map Put bytes.now) }
+        ensures { Self.value_of self.new
+            ≡ after Self.step (Self.value_of self.old) (map Put bytes.now) }
     {
         for byte in bytes {
             self.put(*byte);

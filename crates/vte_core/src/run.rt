@@ -1,7 +1,7 @@
 //! Where a run of printed text ends.
 //!
-//! A word is eight bytes and counts eight looks. So printed ASCII begins with bytes that are read one by one, and only then takes
-//! words: they pay for the bytes that the word has after its end.
+//! A word is eight bytes and counts eight looks. So printed ASCII begins with bytes that are read
+//! one by one, and only then takes words: they pay for the bytes that the word has after its end.
 ghost use Rattle.std.specs.Prelude.{◌≡◌, ◌+◌, ◌*◌, ◌<◌, ◌≤◌, ◌↔◌, true, false, None, MatchOption, IfSome, IsTrue, length, slice_index};
 ghost use Rattle.vte_core.specs.machine.Words.{ArePrinted, EndsRun, IsPrinted, IsRange, IsRun, Scans, TakesFew, is_in, looked, to};
 
@@ -9,16 +9,20 @@ use crate::automaton::is_layout;
 use crate::looks::{CountedPerform, Grain, Input, Looks};
 use crate::utf8::{is_continuation, is_lead, is_printed_ascii, may_begin_four, may_begin_three};
 
-/// After how many bytes a run is left to the automaton. So many have saved the looks for a block that is read in vain.
+/// After how many bytes a run is left to the automaton. So many have saved the looks for a block
+/// that is read in vain.
 const LONG: usize = 48;
 
 impl<B> Looks<B> {
-    /// Returns whether printed ASCII begins a run at a place: four bytes of it, of which the first was looked at, and `next` too.
+    /// Returns whether printed ASCII begins a run at a place: four bytes of it, of which the first
+    /// was looked at, and `next` too.
     #[inline(always)]
     pub(crate) fn begins_ascii(&mut self, input: Input<'_, B>, at: usize, next: Option<u8>) -> bool
         requires within { at < length input.bytes.now }
         requires printed { IsPrinted (slice_index input.bytes.now at) }
-        requires next { IfSome next (λ byte. (at + 1 < length input.bytes.now) × (byte ≡ slice_index input.bytes.now (at + 1))) }
+        requires next { IfSome next
+            (λ byte. (at + 1 < length input.bytes.now)
+            × (byte ≡ slice_index input.bytes.now (at + 1))) }
         ensures within { result ≡ true → at + 4 ≤ length input.entry.bytes.now }
         ensures printed { result ≡ true → ArePrinted input.entry.bytes.now at (at + 4) }
         ensures few { TakesFew 2 self.old self.new }
@@ -48,11 +52,12 @@ impl<B> Looks<B> {
         self.find_rest_end(input, end, performer.keeps_layout())
     }
 
-    /// Finds where the run ends that begins at a place with a character of two or three bytes, whose first was looked at; at that
-    /// place if none does.
+    /// Finds where the run ends that begins at a place with a character of two or three bytes,
+    /// whose first was looked at; at that place if none does.
     ///
-    /// Two bytes are tested before anything else, because malformed text seldom has them: after a first byte of two, the second and
-    /// that another character follows; after one of three, the second and the third.
+    /// Two bytes are tested before anything else, because malformed text seldom has them: after a
+    /// first byte of two, the second and that another character follows; after one of three, the
+    /// second and the third.
     #[inline(always)]
     pub(crate) fn find_longer_run_end<P: CountedPerform<B, G>, G: Grain>(
         &mut self,
@@ -67,7 +72,8 @@ impl<B> Looks<B> {
         ensures range { IsRange input.entry.bytes.now from result }
         ensures run { from < result → IsRun P.keeps input.entry.bytes.now from result }
         ensures few { result ≡ from → looked self.new ≤ looked self.old + 2 }
-        ensures count { from < result → looked self.new + 4 * from + 1 ≤ looked self.old + 4 * result }
+        ensures count { from < result
+            → looked self.new + 4 * from + 1 ≤ looked self.old + 4 * result }
         ensures grows { looked self.old ≤ looked self.new }
     {
         match self.get(input, from + 1) {
@@ -104,7 +110,8 @@ impl<B> Looks<B> {
         self.find_rest_end(input, from, performer.keeps_layout())
     }
 
-    /// Finds where the run ends that has come to a place. If it `keeps` them, HT, LF and CR don't end it.
+    /// Finds where the run ends that has come to a place. If it `keeps` them, HT, LF and CR don't
+    /// end it.
     #[inline(always)]
     pub(crate) fn find_rest_end(&mut self, input: Input<'_, B>, from: usize, keeps: bool) -> usize
         requires { from ≤ length input.bytes.now }
@@ -129,7 +136,8 @@ impl<B> Looks<B> {
         ensures ended { result < to → EndsRun keeps input.entry.bytes.now result }
         // A look less in three bytes than a run may take: they pay for the automaton.
         ensures count { 3 * looked self.new + 11 * from ≤ 3 * looked self.old + 11 * result + 12 }
-        ensures saved { to ≤ result → 3 * looked self.new + 11 * from ≤ 3 * looked self.old + 11 * result }
+        ensures saved { to ≤ result
+            → 3 * looked self.new + 11 * from ≤ 3 * looked self.old + 11 * result }
     {
         let mut end = from;
         while end < to {
@@ -158,7 +166,8 @@ impl<B> Looks<B> {
         self.find_end_before(input, end, input.len(), keeps)
     }
 
-    /// Finds where the character ends that stands at a place and is no printed ASCII, whose byte was looked at, if a run may hold it.
+    /// Finds where the character ends that stands at a place and is no printed ASCII, whose byte
+    /// was looked at, if a run may hold it.
     #[inline(always)]
     fn find_other_end(
         &mut self,
@@ -201,7 +210,8 @@ impl<B> Looks<B> {
         None
     }
 
-    /// Finds where the printed ASCII ends that has come to a place by a byte. Two more are read alone, then words are taken.
+    /// Finds where the printed ASCII ends that has come to a place by a byte. Two more are read
+    /// alone, then words are taken.
     #[inline(always)]
     fn find_ascii_end(&mut self, input: Input<'_, B>, from: usize) -> usize
         requires { from ≤ length input.bytes.now }
@@ -217,7 +227,8 @@ impl<B> Looks<B> {
         }
     }
 
-    /// Finds the first byte from a place on that is no printed ASCII, or where fewer than eight bytes are left.
+    /// Finds the first byte from a place on that is no printed ASCII, or where fewer than eight
+    /// bytes are left.
     #[inline(always)]
     fn find_end_by_words(&mut self, input: Input<'_, B>, from: usize) -> usize
         requires { from ≤ length input.bytes.now }
@@ -238,10 +249,11 @@ impl<B> Looks<B> {
 /// Returns the place of the first of eight bytes that is no printed ASCII, or of a space before it.
 #[inline(always)]
 fn first_unprinted(word: &[u8; 8]) -> Option<usize>
-    ensures { MatchOption result (ArePrinted word.now 0 8) (λ place. (place < 8) × ArePrinted word.now 0 place) }
+    ensures { MatchOption result (ArePrinted word.now 0 8)
+        (λ place. (place < 8) × ArePrinted word.now 0 place) }
 {
-    // Bit 7 of each eight marks a byte: from 80 on it is set, and below 20 it is after a subtraction of 20. What that borrows from the
-    // next byte may mark a space there.
+    // Bit 7 of each eight marks a byte: from 80 on it is set, and below 20 it is after a
+    // subtraction of 20. What that borrows from the next byte may mark a space there.
     let digits = u64::from_le_bytes(*word);
     let marks = (digits.wrapping_sub(0x2020_2020_2020_2020) | digits) & 0x8080_8080_8080_8080;
     if marks == 0 {
@@ -250,10 +262,12 @@ fn first_unprinted(word: &[u8; 8]) -> Option<usize>
     Some(marks.trailing_zeros() as usize / 8)
 }
 
-/// Returns whether two bytes are a character that is no control, if the first begins one of two bytes.
+/// Returns whether two bytes are a character that is no control, if the first begins one of two
+/// bytes.
 #[inline(always)]
 fn is_printed_pair(first: u8, second: u8) -> bool
-    ensures { IsTrue result ↔ (is_in (to 0x80 0xbf) second ≡ true) × (first ≡ 0xc2 → 0xa0 ≤ second) }
+    ensures { IsTrue result ↔ (is_in (to 0x80 0xbf) second ≡ true)
+        × (first ≡ 0xc2 → 0xa0 ≤ second) }
 {
     // U+0080 to U+009F are controls.
     is_continuation(second) && (first != 0xc2 || second >= 0xa0)

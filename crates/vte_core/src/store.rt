@@ -67,25 +67,29 @@ impl<B: Buffer> Store<B> {
     /// Takes memory for this many more data bytes, and returns whether it is there.
     pub(crate) fn reserve(&mut self, more: usize) -> bool
         ensures same { SameItems self.old self.new }
-        ensures reserves { Reserves B.limit (length self.new.bytes) more self.old.capacity self.new.capacity result }
+        ensures reserves { Reserves B.limit
+            (length self.new.bytes) more self.old.capacity self.new.capacity result }
     {
         self.bytes.reserve(more)
     }
 
-    /// Takes memory for this many more data bytes, unless they are dropped because 16 pieces have ended. Returns whether it is
-    /// there.
+    /// Takes memory for this many more data bytes, unless they are dropped because 16 pieces have
+    /// ended. Returns whether it is there.
     pub(crate) fn make_room(&mut self, more: usize) -> bool
         ensures same { SameItems self.old self.new }
         ensures memory { self.old.capacity ≤ self.new.capacity }
         ensures few { result ≡ false → length self.new.ends < most_pieces }
-        ensures reserves { length self.new.ends < most_pieces → Reserves B.limit (length self.new.bytes) more self.old.capacity self.new.capacity result }
+        ensures reserves { length self.new.ends < most_pieces
+            → Reserves B.limit
+            (length self.new.bytes) more self.old.capacity self.new.capacity result }
     {
         self.ends.is_full() || self.reserve(more)
     }
 
     /// Ends a piece at a `;`, if there is room.
     pub(crate) fn end_piece(&mut self)
-        ensures keeps { (items : List ℕ) → Keeps B.limit self.old items → Keeps B.limit self.new (items ++ 0x3b ∷ []) }
+        ensures keeps { (items : List ℕ) → Keeps B.limit self.old items
+            → Keeps B.limit self.new (items ++ 0x3b ∷ []) }
         ensures memory { self.new.capacity ≡ self.old.capacity }
     {
         if !self.ends.is_full() && !self.bytes.is_full() {
@@ -93,7 +97,8 @@ impl<B: Buffer> Store<B> {
         }
     }
 
-    /// Adds the data bytes of an input from one place to another, as many as there is room for; none after 16 pieces.
+    /// Adds the data bytes of an input from one place to another, as many as there is room for;
+    /// none after 16 pieces.
     pub(crate) fn push_data(
         &mut self,
         looks: &mut Looks<B>,
@@ -103,8 +108,10 @@ impl<B: Buffer> Store<B> {
     )
         requires range { IsRange input.bytes.now from to }
         requires data { All (λ b. b ≢ 0x3b) (take (to - from) (drop from input.bytes.now)) }
-        requires memory { length self.old.ends < most_pieces → HasMemory B.limit self.old.capacity (length self.old.bytes) (to - from) }
-        ensures keeps { (items : List ℕ) → Keeps B.limit self.old items → Keeps B.limit self.new (items ++ take (to - from) (drop from input.entry.bytes.now)) }
+        requires memory { length self.old.ends < most_pieces
+            → HasMemory B.limit self.old.capacity (length self.old.bytes) (to - from) }
+        ensures keeps { (items : List ℕ) → Keeps B.limit self.old items
+            → Keeps B.limit self.new (items ++ take (to - from) (drop from input.entry.bytes.now)) }
         ensures memory { self.old.capacity ≤ self.new.capacity }
         ensures few { TakesFew (to - from) looks.old looks.new }
     {
@@ -153,7 +160,8 @@ impl<B: Buffer> Store<B> {
 }
 
 impl<const N: usize> Store<ArrayVec<u8, N>> {
-    /// Returns the data bytes, the ends of the first 16 pieces in them, and whether data bytes were dropped.
+    /// Returns the data bytes, the ends of the first 16 pieces in them, and whether data bytes were
+    /// dropped.
     pub(crate) fn parts(&self) -> (&[u8], &[usize], bool)
         ensures bytes { result.0.now ≡ self.now.bytes }
         ensures fit { length result.0.now ≤ N }
@@ -207,7 +215,8 @@ impl<A: Allocator> Store<Vec<u8, A>> {
     }
 }
 
-/// Whether pieces with this many bytes in all can end at these places, of which there are at most 16.
+/// Whether pieces with this many bytes in all can end at these places, of which there are at most
+/// 16.
 fn are_piece_ends(ends: &[usize], count: usize) -> bool
     ensures { IsTrue result ↔ (IsNonDecreasing ends.now × All (λ end. end ≤ count) ends.now) }
 {

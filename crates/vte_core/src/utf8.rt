@@ -71,7 +71,8 @@ fn may_be_second(first: u8, byte: u8) -> bool
     }
 }
 
-/// Whether a sequence of three bytes may begin with these two: with a number that is no overlong form's and no surrogate's.
+/// Whether a sequence of three bytes may begin with these two: with a number that is no overlong
+/// form's and no surrogate's.
 #[inline(always)]
 #[tactic(auto, unfolding(crate::specs::machine::Unfinished::second_range))]
 pub(crate) fn may_begin_three(first: u8, second: u8) -> bool
@@ -82,8 +83,8 @@ pub(crate) fn may_begin_three(first: u8, second: u8) -> bool
     is_continuation(second) && number >= 0x800 && number / 0x800 != 0xd800 / 0x800
 }
 
-/// Whether a sequence of four bytes may begin with these two: with a number that is no overlong form's, and not past the last
-/// character's.
+/// Whether a sequence of four bytes may begin with these two: with a number that is no overlong
+/// form's, and not past the last character's.
 #[inline(always)]
 #[tactic(auto, unfolding(crate::specs::machine::Unfinished::second_range))]
 pub(crate) fn may_begin_four(first: u8, second: u8) -> bool
@@ -117,8 +118,8 @@ pub(crate) fn is_continuation(byte: u8) -> bool
     matches!(byte, 0x80..=0xbf)
 }
 
-// A remainder takes off the bits that only mark a byte as the first or a further one; what is left are the digits of the
-// character's number, six bits a further byte.
+// A remainder takes off the bits that only mark a byte as the first or a further one; what is left
+// are the digits of the character's number, six bits a further byte.
 
 fn number_of_two(first: u8, second: u8) -> u32
     ensures { result ≡ first % 32 * 0x40 + second % 64 }
@@ -189,7 +190,8 @@ impl<B> Looks<B> {
     #[inline(always)]
     #[tactic(auto, unfolding(crate::specs::Text::character_event))]
     pub(crate) fn tell_character<P: CountedPerform<B, G>, G>(&mut self, performer: &mut P, c: char)
-        ensures { Tells P.step (P.value_of performer.old) (P.value_of performer.new) (character_event c) self.old self.new }
+        ensures { Tells P.step (P.value_of performer.old) (P.value_of performer.new)
+            (character_event c) self.old self.new }
     {
         match c {
             '\u{0}'..='\u{1f}' | '\u{80}'..='\u{9f}' => performer.execute_control(self, c as u8),
@@ -197,13 +199,17 @@ impl<B> Looks<B> {
         }
     }
 
-    /// Tells a byte that is neither printed nor a lead byte: a control, or a malformed sequence alone.
+    /// Tells a byte that is neither printed nor a lead byte: a control, or a malformed sequence
+    /// alone.
     #[inline(always)]
     #[tactic(auto, unfolding(crate::specs::Text::character_event, crate::specs::Text::malformed_event))]
     pub(crate) fn tell_single<P: CountedPerform<B, G>, G>(&mut self, performer: &mut P, byte: u8)
         requires { is_in (to 0x20 0x7f) byte ≡ false }
-        ensures control { byte < 0x80 → P.value_of performer.new ≡ P.step (P.value_of performer.old) (character_event byte) }
-        ensures malformed { 0x80 ≤ byte → P.value_of performer.new ≡ P.step (P.value_of performer.old) (malformed_event (byte ∷ [])) }
+        ensures control { byte < 0x80
+            → P.value_of performer.new ≡ P.step (P.value_of performer.old) (character_event byte) }
+        ensures malformed { 0x80 ≤ byte
+            → P.value_of performer.new
+            ≡ P.step (P.value_of performer.old) (malformed_event (byte ∷ [])) }
         ensures count { looked self.new ≡ looked self.old + 1 }
     {
         match byte {

@@ -69,7 +69,8 @@ given (code.SetScrollingRegion top bottom) = call.SetScrollingRegion top bottom
 given (code.SetActiveCharset index) = call.SetActiveCharset index
 given (code.ConfigureCharset index charset) = call.ConfigureCharset index charset
 given (code.SetColor index color) = call.SetColor index color
-given (code.DynamicColorSequence prefix index terminator) = call.DynamicColorSequence prefix.now index terminator.now
+given (code.DynamicColorSequence prefix index terminator) =
+    call.DynamicColorSequence prefix.now index terminator.now
 given (code.ClipboardStore clipboard bytes) = call.ClipboardStore clipboard bytes.now
 given (code.ClipboardLoad clipboard terminator) = call.ClipboardLoad clipboard terminator.now
 given (code.SetHyperlink link) = call.SetHyperlink (option_map link_of link)

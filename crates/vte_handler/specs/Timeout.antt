@@ -1,7 +1,8 @@
 -- What a timeout means, and when it is kept.
 use Rattle.std.specs.Prelude.{◌≡◌, ℕ, Bool, true, false}
 
--- The value after it is set for this many nanoseconds and after it is cleared, and the answers that a value allows.
+-- The value after it is set for this many nanoseconds and after it is cleared, and the answers that
+-- a value allows.
 pub record TimeoutMeaning (W : Type 0) : Type 1 where
   pub set : W → ℕ → W
   pub clear : W → W
@@ -9,7 +10,8 @@ pub record TimeoutMeaning (W : Type 0) : Type 1 where
 
 -- The value allows only this answer.
 abbrev pub AllowsAlone : {W : Type 0} → TimeoutMeaning W → W → Bool → Type 0
-AllowsAlone m value answer = m.allows value answer × ((other : Bool) → m.allows value other → other ≡ answer)
+AllowsAlone m value answer =
+    m.allows value answer × ((other : Bool) → m.allows value other → other ≡ answer)
 
 -- A kept timeout is pending from when it is set until it is cleared, no matter what a clock shows.
 pub record IsKept {W : Type 0} (m : TimeoutMeaning W) : Type 0 where

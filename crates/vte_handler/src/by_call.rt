@@ -122,12 +122,13 @@ pub trait TakeCall {
 
 /// Takes characters to show in runs, and the other calls of a handler as values.
 pub trait TakeText: TakeCall {
-    /// Takes characters to show, one after another: the same as [`HandlerCall::Input`] for each. The text is never empty and has
-    /// no control: neither U+0000..U+001F nor U+0080..U+009F.
+    /// Takes characters to show, one after another: the same as [`HandlerCall::Input`] for each.
+    /// The text is never empty and has no control: neither U+0000..U+001F nor U+0080..U+009F.
     fn take_text(&mut self, text: &str)
         requires some { 0 < length text.now }
         requires plain { AreShown text.now }
-        ensures { Self.value_of self.new ≡ after Self.step (Self.value_of self.old) (map call.Input (chars text.now)) }
+        ensures { Self.value_of self.new
+            ≡ after Self.step (Self.value_of self.old) (map call.Input (chars text.now)) }
     {
         for c in text.chars() {
             self.take(HandlerCall::Input(c));
@@ -135,7 +136,8 @@ pub trait TakeText: TakeCall {
     }
 }
 
-/// A [`Handler`] that passes each call on as a value. It takes text in runs if the inner value is [`TakeText`].
+/// A [`Handler`] that passes each call on as a value. It takes text in runs if the inner value is
+/// [`TakeText`].
 #[derive(Drop)]
 pub struct ByCall<T: Drop>(pub T);
 

@@ -16,10 +16,11 @@ use vte_types::{
 
 /// Receives the calls of a processor, in order.
 ///
-/// A number that a sequence omits or gives as 0 arrives as 1 if it is a count, and as 0 if it selects something. No number
-/// exceeds 65,535.
+/// A number that a sequence omits or gives as 0 arrives as 1 if it is a count, and as 0 if it
+/// selects something. No number exceeds 65,535.
 ///
-/// The standards: ECMA-48, fifth edition; DEC's VT510 manual; xterm's control sequences; kitty's keyboard protocol.
+/// The standards: ECMA-48, fifth edition; DEC's VT510 manual; xterm's control sequences; kitty's
+/// keyboard protocol.
 pub trait Handler {
     /// The values that handlers stand for.
     ghost Value: { Type 0 };
@@ -31,8 +32,8 @@ pub trait Handler {
 
     // ---- Characters and format effectors
 
-    /// A character to show: neither U+0000..U+001F nor U+0080..U+009F. REP, `CSI b`, repeats the last one (ECMA-48
-    /// 8.3.103).
+    /// A character to show: neither U+0000..U+001F nor U+0080..U+009F. REP, `CSI b`, repeats the
+    /// last one (ECMA-48 8.3.103).
     fn input(&mut self, c: char)
         ensures { value_of self.new ≡ step (value_of self.old) (call.Input c) };
 
@@ -48,8 +49,9 @@ pub trait Handler {
     fn put_tab(&mut self, count: u16)
         ensures { value_of self.new ≡ step (value_of self.old) (call.PutTab count) };
 
-    /// LF, VT and FF, 0A to 0C, and IND, `ESC D`: one line down, and at the bottom of the scrolling region the text scrolls
-    /// up (ECMA-48 8.3.74; DEC VT510, IND). With `NamedMode::LineFeedNewLine` set it goes to the first column too.
+    /// LF, VT and FF, 0A to 0C, and IND, `ESC D`: one line down, and at the bottom of the scrolling
+    /// region the text scrolls up (ECMA-48 8.3.74; DEC VT510, IND). With
+    /// `NamedMode::LineFeedNewLine` set it goes to the first column too.
     fn linefeed(&mut self)
         ensures { value_of self.new ≡ step (value_of self.old) call.Linefeed };
 
@@ -57,17 +59,20 @@ pub trait Handler {
     fn carriage_return(&mut self)
         ensures { value_of self.new ≡ step (value_of self.old) call.CarriageReturn };
 
-    /// A line feed and a carriage return in one. No sequence calls it: NEL calls `linefeed` and `carriage_return`.
+    /// A line feed and a carriage return in one. No sequence calls it: NEL calls `linefeed` and
+    /// `carriage_return`.
     fn newline(&mut self)
         ensures { value_of self.new ≡ step (value_of self.old) call.Newline };
 
-    /// SUB, 1A: a character that was lost. It also cancels the sequence that it interrupts (ECMA-48 8.3.148).
+    /// SUB, 1A: a character that was lost. It also cancels the sequence that it interrupts (ECMA-48
+    /// 8.3.148).
     fn substitute(&mut self)
         ensures { value_of self.new ≡ step (value_of self.old) call.Substitute };
 
     // ---- Cursor position
 
-    /// CUP, `CSI H`, and HVP, `CSI f`: to a line and a column, both counted from 0, up to 65,534 (ECMA-48 8.3.21, 8.3.63).
+    /// CUP, `CSI H`, and HVP, `CSI f`: to a line and a column, both counted from 0, up to 65,534
+    /// (ECMA-48 8.3.21, 8.3.63).
     fn goto(&mut self, line: i32, column: usize)
         ensures { value_of self.new ≡ step (value_of self.old) (call.Goto line column) };
 
@@ -75,7 +80,8 @@ pub trait Handler {
     fn goto_line(&mut self, line: i32)
         ensures { value_of self.new ≡ step (value_of self.old) (call.GotoLine line) };
 
-    /// CHA, `CSI G`, and HPA, `` CSI ` ``: to a column of the line, counted from 0, up to 65,534 (ECMA-48 8.3.9, 8.3.57).
+    /// CHA, `CSI G`, and HPA, `` CSI ` ``: to a column of the line, counted from 0, up to 65,534
+    /// (ECMA-48 8.3.9, 8.3.57).
     fn goto_col(&mut self, column: usize)
         ensures { value_of self.new ≡ step (value_of self.old) (call.GotoCol column) };
 
@@ -87,7 +93,8 @@ pub trait Handler {
     fn move_down(&mut self, count: usize)
         ensures { value_of self.new ≡ step (value_of self.old) (call.MoveDown count) };
 
-    /// CUF, `CSI C`, and HPR, `CSI a`: `count` columns to the right, 1 to 65,535 (ECMA-48 8.3.20, 8.3.59).
+    /// CUF, `CSI C`, and HPR, `CSI a`: `count` columns to the right, 1 to 65,535 (ECMA-48 8.3.20,
+    /// 8.3.59).
     fn move_forward(&mut self, count: usize)
         ensures { value_of self.new ≡ step (value_of self.old) (call.MoveForward count) };
 
@@ -103,7 +110,8 @@ pub trait Handler {
     fn move_up_and_cr(&mut self, count: usize)
         ensures { value_of self.new ≡ step (value_of self.old) (call.MoveUpAndCr count) };
 
-    /// DECSC, `ESC 7`, and SCOSC, `CSI s`: save the cursor's position, rendition and character sets (DEC VT510; xterm).
+    /// DECSC, `ESC 7`, and SCOSC, `CSI s`: save the cursor's position, rendition and character sets
+    /// (DEC VT510; xterm).
     fn save_cursor_position(&mut self)
         ensures { value_of self.new ≡ step (value_of self.old) call.SaveCursorPosition };
 
@@ -113,22 +121,26 @@ pub trait Handler {
 
     // ---- Scrolling
 
-    /// RI, `ESC M`: one line up, and at the top of the scrolling region the text scrolls down (ECMA-48 8.3.104).
+    /// RI, `ESC M`: one line up, and at the top of the scrolling region the text scrolls down
+    /// (ECMA-48 8.3.104).
     fn reverse_index(&mut self)
         ensures { value_of self.new ≡ step (value_of self.old) call.ReverseIndex };
 
-    /// SU, `CSI S`: the text of the scrolling region moves up `count` lines, 1 to 65,535 (ECMA-48 8.3.147).
+    /// SU, `CSI S`: the text of the scrolling region moves up `count` lines, 1 to 65,535 (ECMA-48
+    /// 8.3.147).
     fn scroll_up(&mut self, count: usize)
         ensures { value_of self.new ≡ step (value_of self.old) (call.ScrollUp count) };
 
-    /// SD, `CSI T`: the text of the scrolling region moves down `count` lines, 1 to 65,535 (ECMA-48 8.3.113).
+    /// SD, `CSI T`: the text of the scrolling region moves down `count` lines, 1 to 65,535 (ECMA-48
+    /// 8.3.113).
     fn scroll_down(&mut self, count: usize)
         ensures { value_of self.new ≡ step (value_of self.old) (call.ScrollDown count) };
 
-    /// DECSTBM, `CSI Pt ; Pb r`: the lines that scroll, counted from 1, up to 65,535 (DEC VT510). Without a bottom they
-    /// reach to the last. The bottom may be above the top.
+    /// DECSTBM, `CSI Pt ; Pb r`: the lines that scroll, counted from 1, up to 65,535 (DEC VT510).
+    /// Without a bottom they reach to the last. The bottom may be above the top.
     fn set_scrolling_region(&mut self, top: usize, bottom: Option<usize>)
-        ensures { value_of self.new ≡ step (value_of self.old) (call.SetScrollingRegion top bottom) };
+        ensures { value_of self.new
+            ≡ step (value_of self.old) (call.SetScrollingRegion top bottom) };
 
     // ---- Tab stops
 
@@ -154,23 +166,28 @@ pub trait Handler {
 
     // ---- Editing
 
-    /// ICH, `CSI @`: `count` blanks at the cursor, 1 to 65,535; the rest of the line moves right (ECMA-48 8.3.64).
+    /// ICH, `CSI @`: `count` blanks at the cursor, 1 to 65,535; the rest of the line moves right
+    /// (ECMA-48 8.3.64).
     fn insert_blank(&mut self, count: usize)
         ensures { value_of self.new ≡ step (value_of self.old) (call.InsertBlank count) };
 
-    /// IL, `CSI L`: `count` blank lines at the cursor's line, 1 to 65,535; those below move down (ECMA-48 8.3.67).
+    /// IL, `CSI L`: `count` blank lines at the cursor's line, 1 to 65,535; those below move down
+    /// (ECMA-48 8.3.67).
     fn insert_blank_lines(&mut self, count: usize)
         ensures { value_of self.new ≡ step (value_of self.old) (call.InsertBlankLines count) };
 
-    /// DCH, `CSI P`: `count` characters from the cursor on are deleted, 1 to 65,535; the rest moves left (ECMA-48 8.3.26).
+    /// DCH, `CSI P`: `count` characters from the cursor on are deleted, 1 to 65,535; the rest moves
+    /// left (ECMA-48 8.3.26).
     fn delete_chars(&mut self, count: usize)
         ensures { value_of self.new ≡ step (value_of self.old) (call.DeleteChars count) };
 
-    /// DL, `CSI M`: `count` lines from the cursor's on are deleted, 1 to 65,535; those below move up (ECMA-48 8.3.32).
+    /// DL, `CSI M`: `count` lines from the cursor's on are deleted, 1 to 65,535; those below move
+    /// up (ECMA-48 8.3.32).
     fn delete_lines(&mut self, count: usize)
         ensures { value_of self.new ≡ step (value_of self.old) (call.DeleteLines count) };
 
-    /// ECH, `CSI X`: `count` characters from the cursor on become blank, 1 to 65,535; none moves (ECMA-48 8.3.38).
+    /// ECH, `CSI X`: `count` characters from the cursor on become blank, 1 to 65,535; none moves
+    /// (ECMA-48 8.3.38).
     fn erase_chars(&mut self, count: usize)
         ensures { value_of self.new ≡ step (value_of self.old) (call.EraseChars count) };
 
@@ -178,7 +195,8 @@ pub trait Handler {
     fn clear_line(&mut self, part: LineClearMode)
         ensures { value_of self.new ≡ step (value_of self.old) (call.ClearLine part) };
 
-    /// ED, `CSI J`: a part of the screen becomes blank, or the scrollback is cleared (ECMA-48 8.3.39; xterm).
+    /// ED, `CSI J`: a part of the screen becomes blank, or the scrollback is cleared (ECMA-48
+    /// 8.3.39; xterm).
     fn clear_screen(&mut self, part: ClearMode)
         ensures { value_of self.new ≡ step (value_of self.old) (call.ClearScreen part) };
 
@@ -188,31 +206,37 @@ pub trait Handler {
 
     // ---- Appearance
 
-    /// SGR, `CSI m`: one attribute of the characters that follow; one call per attribute (ECMA-48 8.3.117; xterm).
+    /// SGR, `CSI m`: one attribute of the characters that follow; one call per attribute (ECMA-48
+    /// 8.3.117; xterm).
     fn terminal_attribute(&mut self, attribute: Attr)
         ensures { value_of self.new ≡ step (value_of self.old) (call.TerminalAttribute attribute) };
 
-    /// OSC 4, 10, 11, 12: the colour of an index (xterm). 0 to 255 are the palette, 256 the foreground, 257 the background,
-    /// 258 the cursor.
+    /// OSC 4, 10, 11, 12: the colour of an index (xterm). 0 to 255 are the palette, 256 the
+    /// foreground, 257 the background, 258 the cursor.
     fn set_color(&mut self, index: usize, color: Rgb)
         ensures { value_of self.new ≡ step (value_of self.old) (call.SetColor index color) };
 
-    /// OSC 104, 110, 111, 112: the colour of an index is reset to its first value (xterm). 0 to 255 are the palette, 256 the
-    /// foreground, 257 the background, 258 the cursor.
+    /// OSC 104, 110, 111, 112: the colour of an index is reset to its first value (xterm). 0 to 255
+    /// are the palette, 256 the foreground, 257 the background, 258 the cursor.
     fn reset_color(&mut self, index: usize)
         ensures { value_of self.new ≡ step (value_of self.old) (call.ResetColor index) };
 
-    /// OSC 4, 10, 11, 12 with `?`: report the colour of an index, 0 to 258 as those of `set_color` (xterm). The answer is
-    /// `ESC ]`, the prefix, `;`, the colour and the terminator: `4;7` or `11`, and BEL or `ESC \\` as the question ended.
+    /// OSC 4, 10, 11, 12 with `?`: report the colour of an index, 0 to 258 as those of `set_color`
+    /// (xterm). The answer is `ESC ]`, the prefix, `;`, the colour and the terminator: `4;7` or
+    /// `11`, and BEL or `ESC \\` as the question ended.
     fn dynamic_color_sequence(&mut self, prefix: &str, index: usize, terminator: &str)
-        ensures { value_of self.new ≡ step (value_of self.old) (call.DynamicColorSequence prefix.now index terminator.now) };
+        ensures { value_of self.new
+            ≡ step (value_of self.old)
+            (call.DynamicColorSequence prefix.now index terminator.now) };
 
-    /// OSC 8: the characters that follow are a link; `None` ends it (the hyperlinks proposal of VTE and iTerm2).
+    /// OSC 8: the characters that follow are a link; `None` ends it (the hyperlinks proposal of VTE
+    /// and iTerm2).
     fn set_hyperlink(&mut self, link: Option<Hyperlink<'_>>)
-        ensures { value_of self.new ≡ step (value_of self.old) (call.SetHyperlink (option_map link_of link.entry)) };
+        ensures { value_of self.new
+            ≡ step (value_of self.old) (call.SetHyperlink (option_map link_of link.entry)) };
 
-    /// DECSCUSR, `CSI Ps SP q`: the cursor's shape, and whether it blinks (DEC VT510; xterm). `None`, for 0, is the
-    /// terminal's own style.
+    /// DECSCUSR, `CSI Ps SP q`: the cursor's shape, and whether it blinks (DEC VT510; xterm).
+    /// `None`, for 0, is the terminal's own style.
     fn set_cursor_style(&mut self, style: Option<CursorStyle>)
         ensures { value_of self.new ≡ step (value_of self.old) (call.SetCursorStyle style) };
 
@@ -230,11 +254,14 @@ pub trait Handler {
     fn set_active_charset(&mut self, index: CharsetIndex)
         ensures { value_of self.new ≡ step (value_of self.old) (call.SetActiveCharset index) };
 
-    /// SCS, `ESC (`, `)`, `*` or `+` and then `B` or `0`: what the set G0, G1, G2 or G3 is (ECMA-35; DEC VT510).
+    /// SCS, `ESC (`, `)`, `*` or `+` and then `B` or `0`: what the set G0, G1, G2 or G3 is
+    /// (ECMA-35; DEC VT510).
     fn configure_charset(&mut self, index: CharsetIndex, charset: StandardCharset)
-        ensures { value_of self.new ≡ step (value_of self.old) (call.ConfigureCharset index charset) };
+        ensures { value_of self.new
+            ≡ step (value_of self.old) (call.ConfigureCharset index charset) };
 
-    /// SCP, `CSI Ps1 ; Ps2 SP k`: the direction of characters, and how what is shown follows it (ECMA-48 8.3.111).
+    /// SCP, `CSI Ps1 ; Ps2 SP k`: the direction of characters, and how what is shown follows it
+    /// (ECMA-48 8.3.111).
     fn set_scp(&mut self, path: ScpCharPath, update: ScpUpdateMode)
         ensures { value_of self.new ≡ step (value_of self.old) (call.SetScp path update) };
 
@@ -264,7 +291,8 @@ pub trait Handler {
     fn report_private_mode(&mut self, mode: PrivateMode)
         ensures { value_of self.new ≡ step (value_of self.old) (call.ReportPrivateMode mode) };
 
-    /// RIS, `ESC c`: reset everything to its state when the terminal was switched on (ECMA-48 8.3.105).
+    /// RIS, `ESC c`: reset everything to its state when the terminal was switched on (ECMA-48
+    /// 8.3.105).
     fn reset_state(&mut self)
         ensures { value_of self.new ≡ step (value_of self.old) call.ResetState };
 
@@ -278,19 +306,21 @@ pub trait Handler {
     fn unset_keypad_application_mode(&mut self)
         ensures { value_of self.new ≡ step (value_of self.old) call.UnsetKeypadApplicationMode };
 
-    /// `CSI > u`: push these keyboard modes onto their stack, and set them (kitty's keyboard protocol). All 32 values are
-    /// possible.
+    /// `CSI > u`: push these keyboard modes onto their stack, and set them (kitty's keyboard
+    /// protocol). All 32 values are possible.
     fn push_keyboard_mode(&mut self, mode: KeyboardModes)
         ensures { value_of self.new ≡ step (value_of self.old) (call.PushKeyboardMode mode) };
 
-    /// `CSI < u`: pop this many keyboard modes off their stack, 1 to 65,535 (kitty's keyboard protocol).
+    /// `CSI < u`: pop this many keyboard modes off their stack, 1 to 65,535 (kitty's keyboard
+    /// protocol).
     fn pop_keyboard_modes(&mut self, count: u16)
         ensures { value_of self.new ≡ step (value_of self.old) (call.PopKeyboardModes count) };
 
-    /// `CSI = u`: replace the keyboard modes, add to them, or remove some (kitty's keyboard protocol). All 32 values are
-    /// possible.
+    /// `CSI = u`: replace the keyboard modes, add to them, or remove some (kitty's keyboard
+    /// protocol). All 32 values are possible.
     fn set_keyboard_mode(&mut self, mode: KeyboardModes, behavior: KeyboardModesApplyBehavior)
-        ensures { value_of self.new ≡ step (value_of self.old) (call.SetKeyboardMode mode behavior) };
+        ensures { value_of self.new
+            ≡ step (value_of self.old) (call.SetKeyboardMode mode behavior) };
 
     /// `CSI ? u`: report the keyboard modes that are set (kitty's keyboard protocol).
     fn report_keyboard_mode(&mut self)
@@ -306,10 +336,13 @@ pub trait Handler {
 
     // ---- Titles, clipboards and reports
 
-    /// OSC 0 and 2: the window's title (xterm). It has at most 1,023 bytes, not counting its `;`, and may be empty. White
-    /// space at both ends is trimmed. `None`, the terminal's own title, never arrives.
+    /// OSC 0 and 2: the window's title (xterm). It has at most 1,023 bytes, not counting its `;`,
+    /// and may be empty. White space at both ends is trimmed. `None`, the terminal's own title,
+    /// never arrives.
     fn set_title(&mut self, title: Option<&str>)
-        ensures { value_of self.new ≡ step (value_of self.old) (call.SetTitle (option_map (λ text. text.now) title.entry)) };
+        ensures { value_of self.new
+            ≡ step (value_of self.old)
+            (call.SetTitle (option_map (λ text. text.now) title.entry)) };
 
     /// XTWINOPS 22, `CSI 22 t`: push the title onto a stack (xterm).
     fn push_title(&mut self)
@@ -319,25 +352,30 @@ pub trait Handler {
     fn pop_title(&mut self)
         ensures { value_of self.new ≡ step (value_of self.old) call.PopTitle };
 
-    /// OSC 52: store data in a clipboard (xterm). Its letter is the first byte of the selection, or `c` if that is empty.
-    /// The data are passed on as they came, at most 1,022 bytes: they should be base64, and may be anything.
+    /// OSC 52: store data in a clipboard (xterm). Its letter is the first byte of the selection, or
+    /// `c` if that is empty. The data are passed on as they came, at most 1,022 bytes: they should
+    /// be base64, and may be anything.
     fn clipboard_store(&mut self, clipboard: u8, bytes: &[u8])
-        ensures { value_of self.new ≡ step (value_of self.old) (call.ClipboardStore clipboard bytes.now) };
+        ensures { value_of self.new
+            ≡ step (value_of self.old) (call.ClipboardStore clipboard bytes.now) };
 
-    /// OSC 52 with `?`: report what a clipboard holds, by its letter as in `clipboard_store` (xterm). The answer ends with
-    /// the terminator, BEL or `ESC \\` as the question did.
+    /// OSC 52 with `?`: report what a clipboard holds, by its letter as in `clipboard_store`
+    /// (xterm). The answer ends with the terminator, BEL or `ESC \\` as the question did.
     fn clipboard_load(&mut self, clipboard: u8, terminator: &str)
-        ensures { value_of self.new ≡ step (value_of self.old) (call.ClipboardLoad clipboard terminator.now) };
+        ensures { value_of self.new
+            ≡ step (value_of self.old) (call.ClipboardLoad clipboard terminator.now) };
 
-    /// DSR, `CSI n`: a report by its number, up to 65,535. 5 asks for the status, 6 for the cursor's position (ECMA-48
-    /// 8.3.35).
+    /// DSR, `CSI n`: a report by its number, up to 65,535. 5 asks for the status, 6 for the
+    /// cursor's position (ECMA-48 8.3.35).
     fn device_status(&mut self, kind: usize)
         ensures { value_of self.new ≡ step (value_of self.old) (call.DeviceStatus kind) };
 
-    /// DA, `CSI c` and `ESC Z`: report what terminal this is, by the intermediate: `None` for the primary, `Some('>')` for
-    /// the secondary, `Some('=')` for the tertiary attributes (ECMA-48 8.3.24; DEC VT510; xterm).
+    /// DA, `CSI c` and `ESC Z`: report what terminal this is, by the intermediate: `None` for the
+    /// primary, `Some('>')` for the secondary, `Some('=')` for the tertiary attributes (ECMA-48
+    /// 8.3.24; DEC VT510; xterm).
     fn identify_terminal(&mut self, intermediate: Option<char>)
-        ensures { value_of self.new ≡ step (value_of self.old) (call.IdentifyTerminal intermediate) };
+        ensures { value_of self.new
+            ≡ step (value_of self.old) (call.IdentifyTerminal intermediate) };
 
     /// XTWINOPS 14, `CSI 14 t`: report the text area's size in pixels (xterm).
     fn text_area_size_pixels(&mut self)
@@ -348,13 +386,16 @@ pub trait Handler {
         ensures { value_of self.new ≡ step (value_of self.old) call.TextAreaSizeChars };
 }
 
-/// Receives text in runs, from a processor's `advance_text` and `stop_sync_text`: there [`input`](Handler::input) isn't called.
+/// Receives text in runs, from a processor's `advance_text` and `stop_sync_text`: there
+/// [`input`](Handler::input) isn't called.
 ///
 /// How a text is cut into runs may change from version to version.
 pub trait HandlerText: Handler {
-    /// Characters to show, at least one, in order. None is a control: neither U+0000..U+001F nor U+0080..U+009F.
+    /// Characters to show, at least one, in order. None is a control: neither U+0000..U+001F nor
+    /// U+0080..U+009F.
     fn input_text(&mut self, text: &str)
         requires some { 0 < length text.now }
         requires plain { AreShown text.now }
-        ensures { Self.value_of self.new ≡ after Self.step (Self.value_of self.old) (map call.Input (chars text.now)) };
+        ensures { Self.value_of self.new
+            ≡ after Self.step (Self.value_of self.old) (map call.Input (chars text.now)) };
 }

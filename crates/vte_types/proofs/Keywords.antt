@@ -39,7 +39,8 @@ are_below (b ∷ bytes) e (suc i) = are_below bytes (second_and (nat_lt b 128) (
 ascii_is_utf8 : (bytes : List ℕ) → are_ascii bytes ≡ true → is_utf8 bytes ≡ true
 ascii_is_utf8 bytes e = is_utf8-from_IsUtf8 bytes (IsUtf8-from_ascii bytes (are_below bytes e))
 
-other_bytes : {A : Type 0} (rows : List (List ℕ × A)) (text : List ℕ) → have_ascii_words rows ≡ true → is_utf8 text ≡ false → beside_word rows text ≡ None
+other_bytes : {A : Type 0} (rows : List (List ℕ × A)) (text : List ℕ) → have_ascii_words rows ≡ true
+    → is_utf8 text ≡ false → beside_word rows text ≡ None
 other_bytes [] text are not = refl
 other_bytes (row ∷ rows) text are not =
     row_by row.1 (beside_word rows text) (is_word text row.0)

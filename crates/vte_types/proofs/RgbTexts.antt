@@ -25,5 +25,6 @@ byte_back byte h =
     rw (glyph_value (byte / 16) (omega (arith, h)), glyph_value (byte % 16) (omega (arith, h)))
     (by_values (byte / 16) (byte % 16) byte (omega (arith, h)) (omega (arith, h)) (omega (arith, h)))
 
-pub color_back : (color : Rgb) → color.r < 256 → color.g < 256 → color.b < 256 → hex_color_of (shown_color color) ≡ Some color
+pub color_back : (color : Rgb) → color.r < 256 → color.g < 256 → color.b < 256
+    → hex_color_of (shown_color color) ≡ Some color
 color_back color r g b = rw (byte_back color.r r, byte_back color.g g, byte_back color.b b) refl

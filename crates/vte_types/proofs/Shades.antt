@@ -37,9 +37,13 @@ dim_back color other = refl
 
 -- the colour that has a number
 color_rows : List (Row NamedColor)
-color_rows = (0, Black) ∷ (1, Red) ∷ (2, Green) ∷ (3, Yellow) ∷ (4, Blue) ∷ (5, Magenta) ∷ (6, Cyan) ∷ (7, White) ∷ (8, BrightBlack) ∷
-    (9, BrightRed) ∷ (10, BrightGreen) ∷ (11, BrightYellow) ∷ (12, BrightBlue) ∷ (13, BrightMagenta) ∷ (14, BrightCyan) ∷ (15, BrightWhite) ∷
-    (256, Foreground) ∷ (257, Background) ∷ (258, Cursor) ∷ (259, DimBlack) ∷ (260, DimRed) ∷ (261, DimGreen) ∷ (262, DimYellow) ∷ (263, DimBlue) ∷
+color_rows =
+    (0, Black) ∷ (1, Red) ∷ (2, Green) ∷ (3, Yellow) ∷ (4, Blue) ∷ (5, Magenta) ∷ (6, Cyan) ∷ (7, White)
+    ∷ (8, BrightBlack) ∷
+    (9, BrightRed) ∷ (10, BrightGreen) ∷ (11, BrightYellow) ∷ (12, BrightBlue) ∷ (13, BrightMagenta) ∷ (14, BrightCyan)
+    ∷ (15, BrightWhite) ∷
+    (256, Foreground) ∷ (257, Background) ∷ (258, Cursor) ∷ (259, DimBlack) ∷ (260, DimRed) ∷ (261, DimGreen)
+    ∷ (262, DimYellow) ∷ (263, DimBlue) ∷
     (264, DimMagenta) ∷ (265, DimCyan) ∷ (266, DimWhite) ∷ (267, BrightForeground) ∷ (268, DimForeground) ∷ []
 
 row_of : (color : NamedColor) → beside color_rows (number_of_color color) ≡ Some color

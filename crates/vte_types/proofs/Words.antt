@@ -8,7 +8,8 @@ use Rattle.vte_types.specs.Words.{is_word, behind_word, beside_word}
 
 same_by : (a b : ℕ) (text word : List ℕ) (rest : is_word text word ≡ true → text ≡ word) (t : Bool) → eqb a b ≡ t
     → cond t (is_word text word) false ≡ true → (a ∷ text) ≡ (b ∷ word)
-same_by a b text word rest true same e = let first : a ≡ b = grind (arith, nat_tests) in let more : text ≡ word = rest e in cc
+same_by a b text word rest true same e =
+    let first : a ≡ b = grind (arith, nat_tests) in let more : text ≡ word = rest e in cc
 same_by a b text word rest false same e = cc
 
 same_word : (text word : List ℕ) → is_word text word ≡ true → text ≡ word
@@ -30,7 +31,8 @@ short_word text word h = other_word text word (λ e. let k = ap length e in omeg
 pub long_word : (text word : List ℕ) → length word < length text → is_word text word ≡ false
 long_word text word h = other_word text word (λ e. let k = ap length e in omega arith)
 
-same_first : (a : ℕ) (word text : List ℕ) (t : Bool) → eqb a a ≡ t → cond t (behind_word word text) None ≡ behind_word word text
+same_first : (a : ℕ) (word text : List ℕ) (t : Bool) → eqb a a ≡ t
+    → cond t (behind_word word text) None ≡ behind_word word text
 same_first a word text true e = refl
 same_first a word text false e = absurd (grind (arith, nat_tests))
 
@@ -38,9 +40,11 @@ pub word_front : (word rest : List ℕ) → behind_word word (word ++ rest) ≡ 
 word_front [] rest = refl
 word_front (a ∷ word) rest = same_first a word (word ++ rest) (eqb a a) refl ∙ word_front word rest
 
-other_first : (a b : ℕ) (word text : List ℕ) (more : ((rest : List ℕ) → text ≢ word ++ rest) → behind_word word text ≡ None) (t : Bool) → eqb a b ≡ t
+other_first : (a b : ℕ) (word text : List ℕ) (more : ((rest : List ℕ) → text ≢ word ++ rest)
+    → behind_word word text ≡ None) (t : Bool) → eqb a b ≡ t
     → ((rest : List ℕ) → (b ∷ text) ≢ (a ∷ word) ++ rest) → cond t (behind_word word text) None ≡ None
-other_first a b word text more true e h = more (λ rest same. h rest (let first : a ≡ b = grind (arith, nat_tests) in cc))
+other_first a b word text more true e h =
+    more (λ rest same. h rest (let first : a ≡ b = grind (arith, nat_tests) in cc))
 other_first a b word text more false e h = refl
 
 pub other_front : (word text : List ℕ) → ((rest : List ℕ) → text ≢ word ++ rest) → behind_word word text ≡ None
@@ -48,7 +52,8 @@ other_front [] text h = absurd (h text refl)
 other_front (a ∷ word) [] h = refl
 other_front (a ∷ word) (b ∷ text) h = other_first a b word text (other_front word text) (eqb a b) refl h
 
-pub behind_is : (word text : List ℕ) (r : Option (Bor (List ℕ))) → MatchOption r ((rest : List ℕ) → text ≢ word ++ rest) (λ x. text ≡ word ++ x.now)
+pub behind_is : (word text : List ℕ) (r : Option (Bor (List ℕ)))
+    → MatchOption r ((rest : List ℕ) → text ≢ word ++ rest) (λ x. text ≡ word ++ x.now)
     → option_map (λ rest. rest.now) r ≡ behind_word word text
 behind_is word text None h = sym (other_front word text h)
 behind_is word text (Some x) h = sym (ap (behind_word word) h ∙ word_front word x.now)
@@ -71,9 +76,13 @@ abbrev pub rows_of : {A : Type 0} → List (Bor (List ℕ) × A) → List (List 
 rows_of rows = map (λ row. (row.0.now, row.1)) rows
 
 -- from a row on, a text is beside that row or among those behind it
-pub from_row : {A : Type 0} (rows : List (Bor (List ℕ) × A)) (i : ℕ) (d : Bor (List ℕ) × A) (text : List ℕ) (t : Bool) → i < length rows → t ≡ bytes_eq text (get_or rows i d).0.now
-    → beside_word (rows_of (drop i rows)) text ≡ cond t (Some (get_or rows i d).1) (beside_word (rows_of (drop (i + 1) rows)) text)
+pub from_row : {A : Type 0} (rows : List (Bor (List ℕ) × A)) (i : ℕ) (d : Bor (List ℕ) × A) (text : List ℕ) (t : Bool)
+    → i < length rows → t ≡ bytes_eq text (get_or rows i d).0.now
+    → beside_word (rows_of (drop i rows)) text
+    ≡ cond t (Some (get_or rows i d).1) (beside_word (rows_of (drop (i + 1) rows)) text)
 from_row rows i d text t within told =
     let next : suc i ≡ i + 1 = omega arith in
-    ap (λ rows. beside_word (rows_of rows) text) (drop-cons rows i d within ∙ ap (λ n. get_or rows i d ∷ drop n rows) next)
-    ∙ ap (λ t. cond t (Some (get_or rows i d).1) (beside_word (rows_of (drop (i + 1) rows)) text)) (sym (told ∙ tests_agree text (get_or rows i d).0.now))
+    ap (λ rows. beside_word (rows_of rows) text)
+    (drop-cons rows i d within ∙ ap (λ n. get_or rows i d ∷ drop n rows) next)
+    ∙ ap (λ t. cond t (Some (get_or rows i d).1) (beside_word (rows_of (drop (i + 1) rows)) text))
+    (sym (told ∙ tests_agree text (get_or rows i d).0.now))

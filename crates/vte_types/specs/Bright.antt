@@ -31,13 +31,15 @@ is_color a b = number_of_color a == number_of_color b
 abbrev pub brighter : List Shades → NamedColor → NamedColor
 brighter [] color = color
 brighter (row ∷ rows) color =
-    if is_color color row.0 then row.1 else if is_color color row.1 then row.2 else brighter rows color
+    if is_color color row.0 then row.1 else if is_color color row.1 then row.2
+    else brighter rows color
 
 -- One shade dimmer; the dimmest stays as it is.
 abbrev pub dimmer : List Shades → NamedColor → NamedColor
 dimmer [] color = color
 dimmer (row ∷ rows) color =
-    if is_color color row.2 then row.1 else if is_color color row.1 then row.0 else dimmer rows color
+    if is_color color row.2 then row.1 else if is_color color row.1 then row.0
+    else dimmer rows color
 
 abbrev pub bright_of : NamedColor → NamedColor
 bright_of color = brighter shades color

@@ -5,7 +5,8 @@ use Rattle.std.specs.Char.{digit_value}
 -- `number` with more hex digits after it, or none if a byte isn't a hex digit.
 abbrev pub hex_behind : ℕ → List ℕ → Option ℕ
 hex_behind number [] = Some number
-hex_behind number (byte ∷ bytes) = if nat_lt (digit_value byte) 16 then hex_behind (16 * number + digit_value byte) bytes else None
+hex_behind number (byte ∷ bytes) =
+    if nat_lt (digit_value byte) 16 then hex_behind (16 * number + digit_value byte) bytes else None
 
 -- The number that the hex digits write.
 abbrev pub hex_number : List ℕ → Option ℕ

@@ -43,8 +43,10 @@ named_modes = map (λ named. (number_of_named named, named)) (Insert ∷ LineFee
 -- The named private modes by number.
 abbrev pub named_private_modes : List (Row NamedPrivateMode)
 named_private_modes = map (λ named. (number_of_private_named named, named))
-    (CursorKeys ∷ ColumnMode ∷ Origin ∷ LineWrap ∷ BlinkingCursor ∷ ShowCursor ∷ ReportMouseClicks ∷ ReportCellMouseMotion ∷
-    ReportAllMouseMotion ∷ ReportFocusInOut ∷ Utf8Mouse ∷ SgrMouse ∷ AlternateScroll ∷ UrgencyHints ∷ SwapScreenAndSetRestoreCursor ∷
+    (CursorKeys ∷ ColumnMode ∷ Origin ∷ LineWrap ∷ BlinkingCursor ∷ ShowCursor ∷ ReportMouseClicks
+    ∷ ReportCellMouseMotion ∷
+    ReportAllMouseMotion ∷ ReportFocusInOut ∷ Utf8Mouse ∷ SgrMouse ∷ AlternateScroll ∷ UrgencyHints
+    ∷ SwapScreenAndSetRestoreCursor ∷
     BracketedPaste ∷ SyncUpdate ∷ [])
 
 -- The named mode with this number, or an unknown one.

@@ -12,7 +12,8 @@ color_by _ _ _ = None
 
 -- The colour of six hex digits, or none if the bytes aren't six hex digits.
 abbrev pub color_of_six : List ℕ → Option Rgb
-color_of_six (r ∷ s ∷ g ∷ h ∷ b ∷ c ∷ []) = color_by (hex_number (r ∷ s ∷ [])) (hex_number (g ∷ h ∷ [])) (hex_number (b ∷ c ∷ []))
+color_of_six (r ∷ s ∷ g ∷ h ∷ b ∷ c ∷ []) =
+    color_by (hex_number (r ∷ s ∷ [])) (hex_number (g ∷ h ∷ [])) (hex_number (b ∷ c ∷ []))
 color_of_six _ = None
 
 -- The prefixes of a colour, and what reads the rest.

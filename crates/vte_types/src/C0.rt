@@ -1,4 +1,5 @@
-//! The controls of the set C0, one byte each (ECMA-48, section 8.2; ISO 646), by the names of ASCII; and DEL.
+//! The controls of the set C0, one byte each (ECMA-48, section 8.2; ISO 646), by the names of
+//! ASCII; and DEL.
 
 /// Null.
 pub const NUL: u8 = 0x00;

@@ -2,8 +2,8 @@
 ghost use Rattle.std.specs.Prelude.{◌≡◌};
 ghost use Rattle.vte_types.specs.Charset.{drawn};
 
-/// One of the four character sets that a terminal keeps ready (ECMA-35). `ESC (` to `ESC +` designate them; SI and SO invoke
-/// the first two.
+/// One of the four character sets that a terminal keeps ready (ECMA-35). `ESC (` to `ESC +`
+/// designate them; SI and SO invoke the first two.
 #[derive(Clone, Copy, Debug, Default, Eq, PartialEq)]
 pub enum CharsetIndex {
     /// The set that is invoked initially.
@@ -33,7 +33,8 @@ pub enum StandardCharset {
 impl StandardCharset {
     /// Returns the character that is shown for `c` while this set is invoked.
     ///
-    /// ASCII shows `c` itself. DEC Special Graphics replaces each of `_` to `~`, and shows any other character as it is.
+    /// ASCII shows `c` itself. DEC Special Graphics replaces each of `_` to `~`, and shows any
+    /// other character as it is.
     pub fn map(self, c: char) -> char
         ensures { result ≡ drawn self c }
     {

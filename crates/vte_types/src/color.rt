@@ -16,8 +16,8 @@ use std::ops::{Add, Sub};
 
 /// A colour of red, green and blue. The default is black.
 ///
-/// It is displayed as `#` and two lowercase hex digits per part, and parsed from `#` or `0x` and six hex digits of either
-/// case.
+/// It is displayed as `#` and two lowercase hex digits per part, and parsed from `#` or `0x` and
+/// six hex digits of either case.
 ///
 /// ```
 /// let color: Rgb = "0x80FF00".parse().unwrap();
@@ -61,7 +61,8 @@ impl Sub<Rgb> for Rgb {
     }
 }
 
-/// A named colour. `as usize` gives its number: its index in a palette, or 256 and up for a colour that isn't in it.
+/// A named colour. `as usize` gives its number: its index in a palette, or 256 and up for a colour
+/// that isn't in it.
 #[derive(Debug, Copy, Clone, Serialize, Deserialize)]
 pub enum NamedColor {
     /// SGR 30 to 37 and 40 to 47 select this colour and the next seven (ECMA-48).
@@ -146,7 +147,8 @@ impl PartialOrd for NamedColor {
 }
 
 impl NamedColor {
-    /// Returns the colour one shade brighter: a plain colour's bright form, a dim colour's plain form, any other itself.
+    /// Returns the colour one shade brighter: a plain colour's bright form, a dim colour's plain
+    /// form, any other itself.
     #[tactic(auto, unfolding(crate::specs::NamedColor::number_of_color))]
     pub fn to_bright(self) -> Self
         ensures { result ≡ bright_of self }
@@ -174,7 +176,8 @@ impl NamedColor {
         }
     }
 
-    /// Returns the colour one shade dimmer: a plain colour's dim form, a bright colour's plain form, any other itself.
+    /// Returns the colour one shade dimmer: a plain colour's dim form, a bright colour's plain
+    /// form, any other itself.
     #[tactic(auto, unfolding(crate::specs::NamedColor::number_of_color))]
     pub fn to_dim(self) -> Self
         ensures { result ≡ dim_of self }
@@ -214,7 +217,8 @@ pub enum Color {
     Indexed(u8),
 }
 
-/// An attribute of the characters that follow (ECMA-48, SGR; kitty for the styles and colours of underlines).
+/// An attribute of the characters that follow (ECMA-48, SGR; kitty for the styles and colours of
+/// underlines).
 #[derive(Debug, Eq, PartialEq, Drop)]
 pub enum Attr {
     /// SGR 0.

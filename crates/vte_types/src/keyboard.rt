@@ -5,7 +5,8 @@ ghost use Rattle.vte_types.specs.Keyboard.{all_bits, bits_of, keyboard_flags, mo
 
 use bitflags::{Flag, Flags};
 
-/// What a program asks the keyboard to report: the flags of the kitty keyboard protocol, one bit per flag.
+/// What a program asks the keyboard to report: the flags of the kitty keyboard protocol, one bit
+/// per flag.
 ///
 /// ```
 /// let mut modes = KeyboardModes::DISAMBIGUATE_ESC_CODES;
@@ -20,7 +21,8 @@ impl KeyboardModes {
     /// No flag.
     pub const NO_MODE: KeyboardModes = KeyboardModes(0);
 
-    /// Keys that would send a control or something like an escape sequence send an unambiguous sequence.
+    /// Keys that would send a control or something like an escape sequence send an unambiguous
+    /// sequence.
     pub const DISAMBIGUATE_ESC_CODES: KeyboardModes = KeyboardModes(1);
 
     /// Key repeats and releases are reported too.
@@ -217,7 +219,9 @@ impl KeyboardModes {
 
     /// Sets the bits of `other` if `value` is true, and clears them otherwise.
     pub fn set(&mut self, other: Self, value: bool)
-        ensures { self.new ≡ modes_of_bits (if value then bit_or (bits_of self.old) (bits_of other) else without (bits_of self.old) (bits_of other)) }
+        ensures { self.new
+            ≡ modes_of_bits (if value then bit_or (bits_of self.old) (bits_of other)
+            else without (bits_of self.old) (bits_of other)) }
     {
         Flags::set(self, other, value);
     }

@@ -17,14 +17,17 @@ use std::hash::{Hash, Hasher};
 
 /// A colour that is shown as text is read back from it.
 pub fn shown_colors_are_read_back()
-    ensures { (color : Rgb) → color.r < 256 → color.g < 256 → color.b < 256 → hex_color_of (shown_color color) ≡ Some color }
+    ensures { (color : Rgb) → color.r < 256 → color.g < 256 → color.b < 256
+        → hex_color_of (shown_color color) ≡ Some color }
 {}
 
-/// `to_bright` and then `to_dim` gives the colour back unless it is bright, which has no brighter form; the other way round,
-/// unless it is dim.
+/// `to_bright` and then `to_dim` gives the colour back unless it is bright, which has no brighter
+/// form; the other way round, unless it is dim.
 pub fn shades_undo_each_other()
-    ensures dim_of_bright { (color : NamedColor) → is_bright color ≡ false → dim_of (bright_of color) ≡ color }
-    ensures bright_of_dim { (color : NamedColor) → is_dim color ≡ false → bright_of (dim_of color) ≡ color }
+    ensures dim_of_bright { (color : NamedColor) → is_bright color ≡ false
+        → dim_of (bright_of color) ≡ color }
+    ensures bright_of_dim { (color : NamedColor) → is_dim color ≡ false
+        → bright_of (dim_of color) ≡ color }
 {}
 
 /// No two named colours have the same number, so their order agrees with equality.
@@ -41,7 +44,8 @@ pub fn modes_keep_their_numbers()
 /// What follows a word at the start of a text, and that nothing does if the text starts otherwise.
 pub fn words_stand_in_front()
     ensures front { (word rest : List ℕ) → behind_word word (word ++ rest) ≡ Some rest }
-    ensures other { (word text : List ℕ) → ((rest : List ℕ) → text ≢ word ++ rest) → behind_word word text ≡ None }
+    ensures other { (word text : List ℕ) → ((rest : List ℕ) → text ≢ word ++ rest)
+        → behind_word word text ≡ None }
 {}
 
 /// No text but the word itself is a word, and so none that is shorter or longer.
@@ -56,8 +60,9 @@ pub fn keywords_are_text()
     ensures { (text : List ℕ) → is_utf8 text ≡ false → icon_of text ≡ None }
 {}
 
-/// Equal values hash equally, in every hasher and in every state of it. The types here are `CursorIcon`, `CursorShape`,
-/// `CursorStyle`, `KeyboardModes`, `ModifyOtherKeys`, `ScpCharPath` and `ScpUpdateMode`.
+/// Equal values hash equally, in every hasher and in every state of it. The types here are
+/// `CursorIcon`, `CursorShape`, `CursorStyle`, `KeyboardModes`, `ModifyOtherKeys`, `ScpCharPath`
+/// and `ScpUpdateMode`.
 pub fn equal_values_hash_equally<T: Hash, H: Hasher>()
     ensures { (state : H) (a b : T) → IsTrue (T.eq a b)
         → fold H.write state (T.hash_input a) ≡ fold H.write state (T.hash_input b) }

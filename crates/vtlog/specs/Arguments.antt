@@ -7,7 +7,8 @@ use Rattle.vtlog.specs.declared.TheConstants.{HELP, VERSION}
 -- The help or the version, if the only argument asks for it.
 abbrev pub page_of : List (List ℕ) → Option (List ℕ)
 page_of [] = None
-page_of (word ∷ []) = if bytes_eq word (codes "-h") || bytes_eq word (codes "--help") then Some HELP.now
+page_of (word ∷ []) =
+    if bytes_eq word (codes "-h") || bytes_eq word (codes "--help") then Some HELP.now
     else if bytes_eq word (codes "--version") then Some VERSION.now else None
 page_of (word ∷ next ∷ words) = None
 

@@ -24,7 +24,8 @@ abbrev pub meaning_of : Mode → (List ℕ → List ℕ)
 meaning_of Lines = log_of
 meaning_of Text = text_in
 
--- What was known of the bytes of the reader and the writer when the program began, and what is at the end.
+-- What was known of the bytes of the reader and the writer when the program began, and what is at
+-- the end.
 pub record Streams : Type 0 where
   pub input : Option (List ℕ)
   pub held : Option (List ℕ)
@@ -34,7 +35,8 @@ pub record Streams : Type 0 where
   pub writer_failed : Bool
 
 -- Nothing was read. The page was written, unless the writer has failed.
-pub record Prints (page : List ℕ) (streams : Streams) (outcome : Result (Unit {0}) Fault) : Type 0 where
+pub record Prints (page : List ℕ) (streams : Streams)
+    (outcome : Result (Unit {0}) Fault) : Type 0 where
   pub unread : streams.to_come ≡ streams.input
   pub written : OnOk outcome (Appends streams.held streams.taken page)
   pub fails : is_err outcome ≡ streams.writer_failed
@@ -43,7 +45,8 @@ pub record Prints (page : List ℕ) (streams : Streams) (outcome : Result (Unit 
 -- The meaning of the input was written, unless a stream has failed.
 pub record Runs (mode : Mode) (streams : Streams) (outcome : Result (Unit {0}) Fault) : Type 0 where
   pub written : (input held : List ℕ) → streams.input ≡ Some input → streams.held ≡ Some held
-      → WritesExactly (meaning_of mode) outcome input held streams.to_come streams.taken streams.reader_failed
+      → WritesExactly
+      (meaning_of mode) outcome input held streams.to_come streams.taken streams.reader_failed
   pub read_to_the_end : OnOk outcome (streams.reader_failed ≡ false)
   pub write_failed : outcome ≡ Err Write → streams.writer_failed ≡ true
 
@@ -55,7 +58,8 @@ pub record Refuses (streams : Streams) (status : ℕ) (words : List ℕ) : Type 
   pub unwritten : streams.taken ≡ streams.held
 
 -- The status and the words are those of an outcome that this is true of.
-pub record EndsBy (IsOutcome : Result (Unit {0}) Fault → Type 0) (status : ℕ) (words : List ℕ) : Type 0 where
+pub record EndsBy (IsOutcome : Result (Unit {0}) Fault → Type 0) (status : ℕ)
+    (words : List ℕ) : Type 0 where
   pub outcome : Result (Unit {0}) Fault
   pub status_is : status ≡ status_of outcome
   pub words_are : words ≡ words_of outcome

@@ -1,4 +1,5 @@
-//! `vtlog` reads what is sent to a terminal, and prints one line per event, or with the argument `text` only the text.
+//! `vtlog` reads what is sent to a terminal, and prints one line per event, or with the argument
+//! `text` only the text.
 #![tactic(auto)]
 
 mod output;
@@ -48,7 +49,8 @@ fn main(rt: HostRuntime) -> ExitCode {
     ExitCode::from(status)
 }
 
-/// Does what the arguments ask for, over the standard streams. Returns the exit status and the message for standard error.
+/// Does what the arguments ask for, over the standard streams. Returns the exit status and the
+/// message for standard error.
 ///
 /// # Errors
 ///
@@ -62,7 +64,8 @@ fn log_streams(rt: &HostRuntime) -> io::Result<(u8, &'static str)> {
     Ok(if output.is_closed() { (141, "") } else { end })
 }
 
-/// Does what the arguments ask for. Returns the exit status and the message for standard error, which is empty if there is none.
+/// Does what the arguments ask for. Returns the exit status and the message for standard error,
+/// which is empty if there is none.
 fn log<R: Source, W: Sink>(args: &[&str], reader: &mut R, writer: &mut W) -> (u8, &'static str)
     ensures { Ends (map (λ arg. arg.now) args.now) (record {
       input = R.to_come reader.old;

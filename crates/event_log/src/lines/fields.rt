@@ -75,7 +75,8 @@ impl Lines {
         ignore: bool,
         action: char,
     )
-        ensures { Extends self.old (sequence_fields params.now intermediates.now ignore action) self.new }
+        ensures { Extends self.old
+            (sequence_fields params.now intermediates.now ignore action) self.new }
     {
         self.push_groups(params);
         self.push_hex_field(intermediates);

@@ -18,7 +18,8 @@ const HEX_PAIRS: &[u8; 512] = b"\
     e0e1e2e3e4e5e6e7e8e9eaebecedeeeff0f1f2f3f4f5f6f7f8f9fafbfcfdfeff";
 
 impl Lines {
-    /// Appends the line of a character. Most lines of a log are these, so the length of each copy is a constant.
+    /// Appends the line of a character. Most lines of a log are these, so the length of each copy
+    /// is a constant.
     #[inline(always)]
     pub(crate) fn append_print(&mut self, c: char)
         ensures { held_in self.new ≡ with_text (held_in self.old) (line_of (Print c)) }

@@ -4,7 +4,8 @@ use Rattle.vte.proofs.Common.{events_grow, Call, after, calls_added, added_calls
 use Rattle.vte.proofs.Common.{nat_lt, arith, nat_tests, TimeoutMeaning, set_times, update_nanos, Meaning, Lent, first_number, is_update_group, update_groups, with_private_mode, with_private_modes}
 use Rattle.std.specs.Bool.{if◌then◌else◌}
 
-pub after-append : {V : Type 0} (step : V → Call → V) (value : V) (xs ys : List Call) → after step value (xs ++ ys) ≡ after step (after step value xs) ys
+pub after-append : {V : Type 0} (step : V → Call → V) (value : V) (xs ys : List Call)
+    → after step value (xs ++ ys) ≡ after step (after step value xs) ys
 after-append step value [] ys = refl
 after-append step value (x ∷ xs) ys = after-append step (step value x) xs ys
 
@@ -20,27 +21,43 @@ pub last-append : (last : Option ℕ) (xs ys : List Event)
 last-append last [] ys = refl
 last-append last (x ∷ xs) ys = last-append (last_behind last x) xs ys
 
-added_calls-append : (before more : List Event) → added_calls before (before ++ more) ≡ calls_behind (last_printed before) more
+added_calls-append : (before more : List Event)
+    → added_calls before (before ++ more) ≡ calls_behind (last_printed before) more
 added_calls-append before more = rw (calls-append None before more) (drop-append_seam (calls before) _)
 
-pub calls_added-events : (limit : Option ℕ) (p u : List ℕ) → calls_added limit p u ≡ calls_behind (last_printed (events limit p)) (added limit p u)
-calls_added-events limit p u = ap (added_calls (events limit p)) (events_grow limit p u) ∙ added_calls-append (events limit p) (added limit p u)
+pub calls_added-events : (limit : Option ℕ) (p u : List ℕ)
+    → calls_added limit p u ≡ calls_behind (last_printed (events limit p)) (added limit p u)
+calls_added-events limit p u =
+    ap (added_calls (events limit p)) (events_grow limit p u) ∙ added_calls-append (events limit p) (added limit p u)
 
 pub calls_added-nothing : (limit : Option ℕ) (p : List ℕ) → calls_added limit p [] ≡ []
 calls_added-nothing limit p = rw (calls_added-events limit p [], added-nothing limit p)
 
-pub calls_added-append : (limit : Option ℕ) (p u w : List ℕ) → calls_added limit p (u ++ w) ≡ calls_added limit p u ++ calls_added limit (p ++ u) w
+pub calls_added-append : (limit : Option ℕ) (p u w : List ℕ)
+    → calls_added limit p (u ++ w) ≡ calls_added limit p u ++ calls_added limit (p ++ u) w
 calls_added-append limit p u w =
-    let last : last_printed (events limit (p ++ u)) ≡ last_printed_behind (last_printed (events limit p)) (added limit p u) =
+    let last : last_printed (events limit (p ++ u))
+    ≡ last_printed_behind (last_printed (events limit p)) (added limit p u) =
     ap last_printed (events_grow limit p u) ∙ last-append None (events limit p) (added limit p u) in
-    rw (calls_added-events limit p (u ++ w), calls_added-events limit p u, calls_added-events limit (p ++ u) w, last, added_both limit p u w)
+    rw (
+      calls_added-events limit p (u ++ w),
+      calls_added-events limit p u,
+      calls_added-events limit
+          (p ++ u) w,
+      last,
+      added_both limit p u w,
+    )
     (calls-append (last_printed (events limit p)) (added limit p u) (added limit (p ++ u) w))
 
-pub calls_whole : (limit : Option ℕ) (p u : List ℕ) → calls (events limit (p ++ u)) ≡ calls (events limit p) ++ calls_added limit p u
-calls_whole limit p u = ap calls (events_grow limit p u) ∙ rw (calls_added-events limit p u) (calls-append None (events limit p) (added limit p u))
+pub calls_whole : (limit : Option ℕ) (p u : List ℕ)
+    → calls (events limit (p ++ u)) ≡ calls (events limit p) ++ calls_added limit p u
+calls_whole limit p u =
+    ap calls (events_grow limit p u)
+    ∙ rw (calls_added-events limit p u) (calls-append None (events limit p) (added limit p u))
 
 -- a timeout that is set several times
-pub set_times-add : {W : Type 0} (m : TimeoutMeaning W) (value : W) (n k : ℕ) → set_times m (n + k) value ≡ set_times m k (set_times m n value)
+pub set_times-add : {W : Type 0} (m : TimeoutMeaning W) (value : W) (n k : ℕ)
+    → set_times m (n + k) value ≡ set_times m k (set_times m n value)
 set_times-add m value zero k = rw zero-add
 set_times-add m value (suc n) k = rw suc-add (set_times-add m (m.set value update_nanos) n k)
 

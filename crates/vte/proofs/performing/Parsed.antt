@@ -25,7 +25,8 @@ with_events m lent events = record {
   handler_name = lent.handler_name;
 }
 
-performed-events : {H W : Type 0} (m : Meaning H W) (lent : Lent H W) (events : List Event) → All (FitsText lent.room) events
+performed-events : {H W : Type 0} (m : Meaning H W) (lent : Lent H W) (events : List Event)
+    → All (FitsText lent.room) events
     → performed (with_event m.step m.timeout) lent events ≡ with_events m lent events
 performed-events m lent [] fit = rw or-false
 performed-events m lent (event ∷ events) fit =
@@ -39,8 +40,10 @@ performed-events m lent (event ∷ events) fit =
 
 -- ---- the performer gives back what it was lent
 
-module _ {H J T V W : Type 0} (handler_of : H → V) (timeout_of : T → W) (room_of : J → ℕ) (m : Meaning V W) (s : State V W) (f : List ℕ)
-    (old : Lent V W) (new : Performer H T J G) {state : ProcessorState T J} (fit : All (FitsText old.room) (added m.limit s.parsed f))
+module _ {H J T V W : Type 0} (handler_of : H → V) (timeout_of : T → W) (room_of : J → ℕ) (m : Meaning V W)
+    (s : State V W) (f : List ℕ)
+    (old : Lent V W) (new : Performer H T J G) {state : ProcessorState T J}
+    (fit : All (FitsText old.room) (added m.limit s.parsed f))
     (made : lent_of handler_of timeout_of room_of new
     ≡ performed (with_event m.step m.timeout) old (added m.limit s.parsed f))
     (back_state : old.state_name ≡ new.state.ghost_name → state ≡ new.state.now) where
@@ -56,7 +59,8 @@ module _ {H J T V W : Type 0} (handler_of : H → V) (timeout_of : T → W) (roo
 
   pub given_back : {P : Type 0} {reading : Reading P} {parser next : P} {lent : ProcessorState T J} {value : V}
       {handler : H} → IsParsed (parts m.limit reading room_of timeout_of) parser lent value s
-      → old.last ≡ lent.preceding_char → old.timeout ≡ timeout_of lent.timeout → old.handler ≡ value → old.room ≡ room_of lent.text
+      → old.last ≡ lent.preceding_char → old.timeout ≡ timeout_of lent.timeout → old.handler ≡ value
+      → old.room ≡ room_of lent.text
       → reading.has_read next (s.parsed ++ f)
       → (old.handler_name ≡ new.handler.ghost_name → handler ≡ new.handler.now)
       → ((size : ℕ) → KeepsRoom reading.has_room parser size next size)
@@ -74,7 +78,8 @@ module _ {H J T V W : Type 0} (handler_of : H → V) (timeout_of : T → W) (roo
             last = rw (is_state, events_grow m.limit s.parsed f, last-append, ← last) (ap (λ lent. lent.last) all);
             timeout_is = rw (is_state, ← timeout) (ap (λ lent. lent.timeout) all);
           };
-          handler_is = rw (is_handler, calls_added-events m.limit s.parsed f, ← last, ← handler) (ap (λ lent. lent.handler) all);
+          handler_is =
+              rw (is_handler, calls_added-events m.limit s.parsed f, ← last, ← handler) (ap (λ lent. lent.handler) all);
         };
         memory = rw (room_back, at_room) (keeps (room_of lent.text));
       }
@@ -111,7 +116,9 @@ module _ {V W : Type 0} (m : Meaning V W) {old new : Lent V W} (goes_on : old.te
       let f = front in
       let k = length (begin_front m.limit p r) in
       let within : k < length r = omega (arith, stop.comes.within) in
-      let goes_on = rw (terminated_at k) at (stop.comes.earlier k less (starts-between p r k within (closed_at m.limit p r k f within))) in
+      let goes_on =
+      rw (terminated_at k) at (stop.comes.earlier k less
+      (starts-between p r k within (closed_at m.limit p r k f within))) in
       grind (arith, nat_tests, f.begins within)
 
   pub stops_at_front : n ≡ length (begin_front m.limit p r)
@@ -124,10 +131,18 @@ module _ {V W : Type 0} (m : Meaning V W) {old new : Lent V W} (goes_on : old.te
   ]
 
   pub stop_performs : new ≡ performed (with_event m.step m.timeout) old (added m.limit p (begin_front m.limit p r))
-  stop_performs = let f = front in rw (f.is, ← stops_at_front, ← told-between m.limit p r n (rw stops_at_front (whole_at m.limit p r _ f))) stop.comes.performed
+  stop_performs =
+      let f =
+      front in
+      rw (f.is, ← stops_at_front, ← told-between m.limit p r n (rw stops_at_front (whole_at m.limit p r _ f)))
+      stop.comes.performed
 
   pub stop_terminated : new.terminated ≡ nat_lt 0 (begin_count (added m.limit p (begin_front m.limit p r)))
-  stop_terminated = ap (λ lent. lent.terminated) stop_performs ∙ terminated_by m old (added m.limit p (begin_front m.limit p r)) ∙ rw goes_on
+  stop_terminated =
+      ap (λ lent. lent.terminated) stop_performs
+      ∙ terminated_by m old (added m.limit p (begin_front m.limit p r)) ∙ rw goes_on
 
   pub stop_stream : stream_at p r n ≡ p ++ begin_front m.limit p r
-  stop_stream = let f = front in rw (f.is, ← stops_at_front) (stream_at-between p r n (rw stops_at_front (whole_at m.limit p r _ f)))
+  stop_stream =
+      let f =
+      front in rw (f.is, ← stops_at_front) (stream_at-between p r n (rw stops_at_front (whole_at m.limit p r _ f)))

@@ -13,37 +13,54 @@ use Rattle.vte_core.specs.AdvanceUntilTerminated.{ReadsUntilTerminated}
 
 -- ---- a text with room for the data and 16 separators holds what is joined of a command
 
-pieces_fit : (size n : ℕ) (pieces : List (List ℕ)) → n + 16 ≤ size → length pieces ≤ 16 → length (concat pieces) ≤ n → fits_room size pieces ≡ true
+pieces_fit : (size n : ℕ) (pieces : List (List ℕ)) → n + 16 ≤ size → length pieces ≤ 16 → length (concat pieces) ≤ n
+    → fits_room size pieces ≡ true
 pieces_fit size n pieces room few small = grind (arith, nat_tests)
 
 event_fits : (size n : ℕ) (event : Event) → n + 16 ≤ size → IsBounded (Some n) event → FitsText size event
 event_fits size n (OscDispatch pieces bell) room h = λ last. rw (pieces_fit size n pieces room h.0 h.1) refl
 event_fits size n event room h = λ last. grind arith
 
-events_fit : (size n : ℕ) (events : List Event) → n + 16 ≤ size → All (IsBounded (Some n)) events → All (FitsText size) events
+events_fit : (size n : ℕ) (events : List Event) → n + 16 ≤ size → All (IsBounded (Some n)) events
+    → All (FitsText size) events
 events_fit size n [] room are = All-nil (FitsText size)
 events_fit size n (event ∷ events) room are =
-    All-cons (FitsText size) event events (event_fits size n event room (All-head (IsBounded (Some n)) event events are))
+    All-cons (FitsText size) event events
+    (event_fits size n event room (All-head (IsBounded (Some n)) event events are))
     (events_fit size n events room (All-tail (IsBounded (Some n)) event events are))
 
 -- what fits of all bytes fits of a front
-pub front_fits : (size : ℕ) (limit : Option ℕ) (p front rest : List ℕ) → All (FitsText size) (added limit p (front ++ rest)) → All (FitsText size) (added limit p front)
+pub front_fits : (size : ℕ) (limit : Option ℕ) (p front rest : List ℕ)
+    → All (FitsText size) (added limit p (front ++ rest)) → All (FitsText size) (added limit p front)
 front_fits size limit p front rest all =
-    let parts : All (FitsText size) (added limit p front ++ added limit (p ++ front) rest) = rw (added_both limit p front rest) at all in
-    let first = All-take (FitsText size) (length (added limit p front)) (added limit p front ++ added limit (p ++ front) rest) parts in
+    let parts : All (FitsText size) (added limit p front ++ added limit (p ++ front) rest) =
+    rw (added_both limit p front rest) at all in
+    let first =
+    All-take (FitsText size) (length (added limit p front))
+    (added limit p front ++ added limit (p ++ front) rest) parts in
     rw (take-append_seam (added limit p front) (added limit (p ++ front) rest)) at first
 
 -- ---- the parser that keeps 1,024 bytes
 
-pub short_fits : (size : ℕ) (stream bytes : List ℕ) → TEXT_ROOM ≤ size → All (FitsText size) (added (Some 1024) stream bytes)
+pub short_fits : (size : ℕ) (stream bytes : List ℕ) → TEXT_ROOM ≤ size
+    → All (FitsText size) (added (Some 1024) stream bytes)
 short_fits size stream bytes room =
     events_fit size 1024 (added (Some 1024) stream bytes) (omega (arith, room))
-    (All-drop (IsBounded (Some 1024)) (length (events (Some 1024) stream)) (events (Some 1024) (stream ++ bytes)) (events_are_bounded (Some 1024) (stream ++ bytes)))
+    (All-drop (IsBounded (Some 1024)) (length (events (Some 1024) stream)) (events (Some 1024) (stream ++ bytes))
+    (events_are_bounded (Some 1024) (stream ++ bytes)))
 
-module _ {V W : Type 0} {step : Lent V W → Event → Lent V W} {old new : Lent V W} {bytes : List ℕ} {parser next : Parser 1024} where
-  pub short_parses : ReadsBytes step old new bytes parser next → ParsesLent short_reading (Some 1024) step parser next old new bytes
+module _ {V W : Type 0} {step : Lent V W → Event → Lent V W} {old new : Lent V W} {bytes : List ℕ}
+    {parser next : Parser 1024} where
+  pub short_parses : ReadsBytes step old new bytes parser next
+      → ParsesLent short_reading (Some 1024) step parser next old new bytes
   short_parses r = record {
-    parses = λ stream n read room. record { performs = r.performs stream read; fits = short_fits old.room stream bytes room; reads = r.reads stream read; room = room };
+    parses =
+        λ stream n read room. record {
+          performs = r.performs stream read;
+          fits = short_fits old.room stream bytes room;
+          reads = r.reads stream read;
+          room = room;
+        };
     memory = λ size stream count had. had;
   }
 
@@ -51,31 +68,51 @@ module _ {V W : Type 0} {step : Lent V W → Event → Lent V W} {old new : Lent
       → StopsLent short_reading (Some 1024) step parser next old new bytes read
   short_stops r = record {
     within = r.within;
-    stops = λ stream n reads room. record { stops = r.stops stream reads; fits = short_fits old.room stream bytes room; reads = r.reads stream reads };
+    stops =
+        λ stream n reads room. record {
+          stops = r.stops stream reads;
+          fits = short_fits old.room stream bytes room;
+          reads = r.reads stream reads;
+        };
     memory = λ size stream count had. had;
   }
 
 -- ---- the parser without a limit
 
 -- memory that is there stays
-pub keeps_room : {A : Type 0} {parser next : LongParser A} {size room : ℕ} → memory_of parser ≤ memory_of next → size ≤ room → KeepsRoom HasLongRoom parser size next room
-keeps_room more larger = λ stream count had. record { kept = omega (arith, had.kept, more); joined = omega (arith, had.joined, larger); counted = had.counted }
+pub keeps_room : {A : Type 0} {parser next : LongParser A} {size room : ℕ} → memory_of parser ≤ memory_of next
+    → size ≤ room → KeepsRoom HasLongRoom parser size next room
+keeps_room more larger =
+    λ stream count had. record {
+      kept = omega (arith, had.kept, more);
+      joined = omega (arith, had.joined, larger);
+      counted = had.counted;
+    }
 
-module _ {A : Type 0} {parser : LongParser A} {size : ℕ} (stream bytes : List ℕ) (n : ℕ) (room : HasLongRoom parser size stream (length bytes + n)) where
+module _ {A : Type 0} {parser : LongParser A} {size : ℕ} (stream bytes : List ℕ) (n : ℕ)
+    (room : HasLongRoom parser size stream (length bytes + n)) where
   enough : open_size stream + length bytes ≤ memory_of parser
   enough = omega (arith, room.kept)
 
   long_fits : All (FitsText size) (added None stream bytes)
-  long_fits = events_fit size (open_size stream + length bytes) (added None stream bytes) (omega (arith, room.joined)) (let counts = counts_data stream bytes in counts.told)
+  long_fits =
+      events_fit size (open_size stream + length bytes) (added None stream bytes) (omega (arith, room.joined))
+      (let counts = counts_data stream bytes in counts.told)
 
   room_left : (next : LongParser A) → memory_of parser ≤ memory_of next → HasLongRoom next size (stream ++ bytes) n
   room_left next kept =
       let counts = counts_data stream bytes in
-      record { kept = omega (arith, room.kept, counts.left, kept); joined = omega (arith, room.joined, counts.left); counted = omega (arith, room.counted, counts.left) }
+      record {
+        kept = omega (arith, room.kept, counts.left, kept);
+        joined = omega (arith, room.joined, counts.left);
+        counted = omega (arith, room.counted, counts.left);
+      }
 
 -- a call for which there is memory is refused none
-module _ {A V W : Type 0} {step : Lent V W → Event → Lent V W} {old new : Lent V W} {bytes : List ℕ} {parser next : LongParser A} where
-  pub long_parses : (result : Result (Unit {0}) Refused) → ReadsBytesLong step old new bytes result parser next → ParsesLent long_reading None step parser next old new bytes
+module _ {A V W : Type 0} {step : Lent V W → Event → Lent V W} {old new : Lent V W} {bytes : List ℕ}
+    {parser next : LongParser A} where
+  pub long_parses : (result : Result (Unit {0}) Refused) → ReadsBytesLong step old new bytes result parser next
+      → ParsesLent long_reading None step parser next old new bytes
   long_parses (Ok _) r = record {
     parses = λ stream n read room. record {
       performs = r.performs stream read;
@@ -90,11 +127,17 @@ module _ {A V W : Type 0} {step : Lent V W → Event → Lent V W} {old new : Le
     memory = λ size. keeps_room r.goes_on.memory (omega arith);
   }
 
-  pub long_stops : (result : Result ℕ Refused) → ReadsUntilTerminatedLong step (λ lent. lent.terminated) old new bytes result parser next
+  pub long_stops : (result : Result ℕ Refused)
+      → ReadsUntilTerminatedLong step (λ lent. lent.terminated) old new bytes result parser next
       → StopsLent long_reading None step parser next old new bytes (read_count result)
   long_stops (Ok read) r = record {
     within = r.within;
-    stops = λ stream n reads room. record { stops = r.stops stream reads; fits = long_fits stream bytes n room; reads = r.goes_on.reads stream reads };
+    stops =
+        λ stream n reads room. record {
+          stops = r.stops stream reads;
+          fits = long_fits stream bytes n room;
+          reads = r.goes_on.reads stream reads;
+        };
     memory = λ size. keeps_room r.goes_on.memory (omega arith);
   }
   long_stops (Err refused) r = record {

@@ -40,21 +40,27 @@ seam front c =
     (omega (arith, length-append front (encode c)), λ _ high. rw first (begins c (rw first at high)))
 
 -- The last character of a text comes off its end.
-chars_before_last : (front : List ℕ) (c : ℕ) → IsUtf8 (front ++ encode c) → chars (front ++ encode c) ≡ chars front ++ c ∷ []
+chars_before_last : (front : List ℕ) (c : ℕ) → IsUtf8 (front ++ encode c)
+    → chars (front ++ encode c) ≡ chars front ++ c ∷ []
 chars_before_last front c is =
-    let before : IsUtf8 front = rw take-append_seam at (IsUtf8-take (front ++ encode c) (length front) is (seam front c)) in
-    let last : IsUtf8 (encode c) = rw drop-append_seam at (IsUtf8-drop (front ++ encode c) (length front) is (seam front c)) in
-    chars-append front (encode c) before ∙ rw (chars_past_char (encode c) [] c last (sym (append-nil (encode c))), chars-nil)
+    let before : IsUtf8 front =
+    rw take-append_seam at (IsUtf8-take (front ++ encode c) (length front) is (seam front c)) in
+    let last : IsUtf8 (encode c) =
+    rw drop-append_seam at (IsUtf8-drop (front ++ encode c) (length front) is (seam front c)) in
+    chars-append front (encode c) before
+    ∙ rw (chars_past_char (encode c) [] c last (sym (append-nil (encode c))), chars-nil)
 
 pub chars_encode : (c : ℕ) → IsScalar c → chars (encode c) ≡ c ∷ []
-chars_encode c is = chars_past_char (encode c) [] c (IsUtf8-encode c is) (sym (append-nil (encode c))) ∙ ap (λ cs. c ∷ cs) chars-nil
+chars_encode c is =
+    chars_past_char (encode c) [] c (IsUtf8-encode c is) (sym (append-nil (encode c))) ∙ ap (λ cs. c ∷ cs) chars-nil
 
 no_characters : (text : List ℕ) → length text ≡ 0 → chars text ≡ []
 no_characters [] none = chars-nil
 no_characters (b ∷ text) none = absurd (omega arith)
 
 -- What comes off the end of a text is its last character, and nothing comes off an empty one.
-pub last_of_text : (text : List ℕ) (s t : _) (taken last : Option ℕ) → IsUtf8 text → chars_rest s ≡ text → chars_steps_back s taken t
+pub last_of_text : (text : List ℕ) (s t : _) (taken last : Option ℕ) → IsUtf8 text → chars_rest s ≡ text
+    → chars_steps_back s taken t
     → option_or taken last ≡ last_printed_behind last (map Print (chars text))
 last_of_text text s t None last is same none = rw (no_characters text (ap length (sym same) ∙ none.0))
 last_of_text text s t (Some c) last is same some =

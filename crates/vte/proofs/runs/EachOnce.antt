@@ -5,20 +5,32 @@ use Rattle.vte.proofs.Common.{cases_Bool, nat_tests, append-nil, opened, parse, 
 use Rattle.std.proofs.lemmas.List.{nil_from_length}
 use Rattle.vte.proofs.turns.Fronts.{is_front}
 
-pub front_rest : (limit : Option ℕ) (p r : List ℕ) → begin_front limit p r ++ drop (length (begin_front limit p r)) r ≡ r
-front_rest limit p r = let k = length (begin_front limit p r) in ap (λ x. x ++ drop k r) (is_front limit p r).is ∙ take-append-drop k r
+pub front_rest : (limit : Option ℕ) (p r : List ℕ)
+    → begin_front limit p r ++ drop (length (begin_front limit p r)) r ≡ r
+front_rest limit p r =
+    let k = length (begin_front limit p r) in ap (λ x. x ++ drop k r) (is_front limit p r).is ∙ take-append-drop k r
 
--- A state has parsed what another had, and more of the bytes that were held there or given since. The others are held, or left.
+-- A state has parsed what another had, and more of the bytes that were held there or given since.
+-- The others are held, or left.
 pub record Grows {V W : Type 0} (s t : State V W) (bytes left : List ℕ) : Type 0 where
   pub more : List ℕ
   pub parsed_is : t.parsed ≡ s.parsed ++ more
   pub each_once : s.held ++ bytes ≡ more ++ (t.held ++ left)
 
-pub grown_bytes : {V W : Type 0} {s t : State V W} {bytes left : List ℕ} → Grows s t bytes left → all_bytes t ++ left ≡ all_bytes s ++ bytes
+pub grown_bytes : {V W : Type 0} {s t : State V W} {bytes left : List ℕ} → Grows s t bytes left
+    → all_bytes t ++ left ≡ all_bytes s ++ bytes
 grown_bytes {s = s} {t = t} {bytes = bytes} {left = left} g =
-    cc (g.parsed_is, g.each_once, append_assoc t.parsed t.held left, append_assoc s.parsed g.more (t.held ++ left), append_assoc s.parsed s.held bytes)
+    cc (
+      g.parsed_is,
+      g.each_once,
+      append_assoc t.parsed t.held left,
+      append_assoc s.parsed g.more
+          (t.held ++ left),
+      append_assoc s.parsed s.held bytes,
+    )
 
-pub grows_on : {V W : Type 0} {s t u : State V W} {bytes rest left : List ℕ} → Grows s t bytes rest → Grows t u rest left → Grows s u bytes left
+pub grows_on : {V W : Type 0} {s t u : State V W} {bytes rest left : List ℕ} → Grows s t bytes rest
+    → Grows t u rest left → Grows s u bytes left
 grows_on {s = s} {u = u} {left = left} a b = record {
   more = a.more ++ b.more;
   parsed_is = cc (a.parsed_is, b.parsed_is, append_assoc s.parsed a.more b.more);
@@ -43,33 +55,50 @@ module _ {V W : Type 0} (m : Meaning V W) where
   ]
 
   pub opened_grows : (answer : Bool) (s : State V W) (bytes : List ℕ) → Grows s (opened m answer s) bytes bytes
-  opened_grows answer s bytes = elim (cases_Bool (is_stopped answer s)) [ inl stopped ↦ rw stopped (stop_grows s bytes) | inr none ↦ rw none (same s bytes) ]
+  opened_grows answer s bytes =
+      elim (cases_Bool (is_stopped answer s)) [
+        | inl stopped ↦ rw stopped (stop_grows s bytes)
+        | inr none ↦ rw none (same s bytes)
+      ]
 
-  pub parse_grows : (s : State V W) (front left bytes : List ℕ) → s.held ≡ [] → front ++ left ≡ bytes → Grows s (parse m s front) bytes left
+  pub parse_grows : (s : State V W) (front left bytes : List ℕ) → s.held ≡ [] → front ++ left ≡ bytes
+      → Grows s (parse m s front) bytes left
   parse_grows s front left bytes none is = record { more = front; parsed_is = refl; each_once = rw none (sym is) }
 
   keep_grows : (s : State V W) (kept : List ℕ) → Grows s (keep m s kept) [] []
   keep_grows s [] = stop_grows s []
-  keep_grows s (b ∷ kept) = record { more = take (length s.held - suc (length kept)) s.held; parsed_is = refl; each_once = simp (append-nil, take-append-drop) }
+  keep_grows s (b ∷ kept) =
+      record {
+        more = take (length s.held - suc (length kept)) s.held;
+        parsed_is = refl;
+        each_once = simp (append-nil, take-append-drop);
+      }
 
   hold_grows : (s : State V W) (r : List ℕ) → Grows s (hold_turn m s r) r []
   hold_grows s r =
-      let held : Grows s (extend m s r) r [] = record { more = []; parsed_is = sym (append-nil s.parsed); each_once = sym (append-nil (s.held ++ r)) } in
+      let held : Grows s (extend m s r) r [] =
+      record { more = []; parsed_is = sym (append-nil s.parsed); each_once = sym (append-nil (s.held ++ r)) } in
       grows_on held (keep_grows (extend m s r) (kept_of (s.held ++ r)))
 
-  turn_grows : (answer : Bool) (s : State V W) (r : List ℕ) → Grows s (turn m answer s r).state r (turn m answer s r).rest
+  turn_grows : (answer : Bool) (s : State V W) (r : List ℕ)
+      → Grows s (turn m answer s r).state r (turn m answer s r).rest
   turn_grows answer s r = elim (cases_Bool (is_held answer s r)) [
     | inl held ↦ rw held (hold_grows s r)
-    | inr parses ↦ rw parses (grows_on (opened_grows answer s r) (parse_grows (opened m answer s) _ _ r (opened_none answer s) (front_rest m.limit (opened m answer s).parsed r)))
+    | inr parses ↦
+        rw parses
+        (grows_on (opened_grows answer s r)
+        (parse_grows (opened m answer s) _ _ r (opened_none answer s) (front_rest m.limit (opened m answer s).parsed r)))
   ]
 
   pub turns_grow : (s t : State V W) (bytes left : List ℕ) → TakesTurns m s bytes t left → Grows s t bytes left
   turns_grow s t bytes left done = same s bytes
-  turns_grow s t (b ∷ bytes) left (turns answer allowed more) = grows_on (turn_grows answer s (b ∷ bytes)) (turns_grow _ t _ left more)
+  turns_grow s t (b ∷ bytes) left (turns answer allowed more) =
+      grows_on (turn_grows answer s (b ∷ bytes)) (turns_grow _ t _ left more)
 
   pub run_bytes : (s t : State V W) (steps : List Step) → Run m s steps t → all_bytes t ≡ all_bytes s ++ bytes_of steps
   run_bytes s t [] e = rw (e, append-nil)
   run_bytes s t (Advance bytes ∷ steps) (next, (a, r)) =
-      let read : all_bytes next ≡ all_bytes s ++ bytes.now = sym (append-nil (all_bytes next)) ∙ grown_bytes (turns_grow s next bytes.now [] a) in
+      let read : all_bytes next ≡ all_bytes s ++ bytes.now =
+      sym (append-nil (all_bytes next)) ∙ grown_bytes (turns_grow s next bytes.now [] a) in
       run_bytes next t steps r ∙ rw (read, append_assoc)
   run_bytes s t (StopSync ∷ steps) r = run_bytes (stop m s) t steps r ∙ rw stop_bytes

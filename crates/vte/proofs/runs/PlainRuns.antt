@@ -15,15 +15,21 @@ record IsPlain {V W : Type 0} (t : State V W) (stops : List ℕ) : Type 0 where
   pub no_stop : stops ≡ []
 
 module _ {V W : Type 0} (m : Meaning V W) (never : IsNeverPending m.timeout.allows) where
-  plain_advances : (s t : State V W) (r : List ℕ) (a : TakesAllTurns m s r t) → s.held ≡ [] → IsPlain t (stops_of_advance m s t r a)
+  plain_advances : (s t : State V W) (r : List ℕ) (a : TakesAllTurns m s r t) → s.held ≡ []
+      → IsPlain t (stops_of_advance m s t r a)
   plain_advances s t [] done none = record { none_held = none; no_stop = refl }
-  plain_advances s t (b ∷ r) (turns true allowed more) none = absurd (let e : true ≡ false = never s.timeout true allowed in cc)
+  plain_advances s t (b ∷ r) (turns true allowed more) none =
+      absurd (let e : true ≡ false = never s.timeout true allowed in cc)
   plain_advances s t (b ∷ r) (turns false allowed more) none =
       let rest = plain_advances _ t _ more (opened_none m false s) in
       let no_stop : stops_of_turn false s (b ∷ r) ≡ [] = rw none refl in
-      record { none_held = rest.none_held; no_stop = ap (λ stops. stops ++ stops_of_advance m _ t _ more) no_stop ∙ rest.no_stop }
+      record {
+        none_held = rest.none_held;
+        no_stop = ap (λ stops. stops ++ stops_of_advance m _ t _ more) no_stop ∙ rest.no_stop;
+      }
 
-  plain_run : (s t : State V W) (steps : List Step) (r : Run m s steps t) → AreAdvances steps → s.held ≡ [] → IsPlain t (stops_of m s t steps r)
+  plain_run : (s t : State V W) (steps : List Step) (r : Run m s steps t) → AreAdvances steps → s.held ≡ []
+      → IsPlain t (stops_of m s t steps r)
   plain_run s t [] same only none = record { none_held = rw (← same) none; no_stop = refl }
   plain_run s t (Advance bytes ∷ steps) (next, (a, r)) only none =
       let first = plain_advances s next bytes.now a none in
@@ -33,14 +39,16 @@ module _ {V W : Type 0} (m : Meaning V W) (never : IsNeverPending m.timeout.allo
 
 -- ---- from the beginning of the stream on
 
-module _ {P J T A V W : Type 0} {w : Parts P J T W} {old : Turns P J T A} (before : V) {stream : List ℕ} (all : HaveParsedAll w old stream) where
+module _ {P J T A V W : Type 0} {w : Parts P J T W} {old : Turns P J T A} (before : V) {stream : List ℕ}
+    (all : HaveParsedAll w old stream) where
   abbrev here : State V W
   here = record { parsed = stream; held = []; timeout = all.timeout; handler = before }
 
   is_here : AreAt w old before here
   is_here = record { stands = all.stands; handler_is = refl }
 
-  module _ (m : Meaning V W) (never : IsNeverPending m.timeout.allows) {new : Turns P J T A} {next : V} (steps : List Step) (only : AreAdvances steps)
+  module _ (m : Meaning V W) (never : IsNeverPending m.timeout.allows) {new : Turns P J T A} {next : V}
+      (steps : List Step) (only : AreAdvances steps)
       (told : IsTold m here steps next (AreAt w new next)) where
     plain : IsPlain told.replayed.next (stops_of m here told.replayed.next steps told.replayed.run)
     plain = plain_run m never here told.replayed.next steps told.replayed.run only refl
@@ -53,22 +61,30 @@ module _ {P J T A V W : Type 0} {w : Parts P J T W} {old : Turns P J T A} (befor
     plain_follows start was =
         told.is_told
         ∙ ap (λ stops. after m.step before (calls_with_stops m.limit stream told.more stops)) plain.no_stop
-        ∙ rw (more_is, was) (sym (after-append m.step start (calls (events m.limit stream)) (calls_added m.limit stream (bytes_of steps))))
+        ∙ rw (more_is, was)
+        (sym (after-append m.step start (calls (events m.limit stream)) (calls_added m.limit stream (bytes_of steps))))
         ∙ ap (after m.step start) (sym (calls_whole m.limit stream (bytes_of steps)))
 
     plain_parses : HaveParsedAll w new (stream ++ bytes_of steps)
     plain_parses =
-        let parsed : told.replayed.next.parsed ≡ stream ++ bytes_of steps = told.parsed_is ∙ ap (λ more. stream ++ more) more_is in
-        record { timeout = told.replayed.next.timeout; stands = rw (parsed, plain.none_held) at told.replayed.is_at.stands }
+        let parsed : told.replayed.next.parsed ≡ stream ++ bytes_of steps =
+        told.parsed_is ∙ ap (λ more. stream ++ more) more_is in
+        record {
+          timeout = told.replayed.next.timeout;
+          stands = rw (parsed, plain.none_held) at told.replayed.is_at.stands;
+        }
 
     -- of a new stream
     plain_tells : stream ≡ [] → next ≡ after m.step before (calls (events m.limit (bytes_of steps)))
-    plain_tells new = rw new at (plain_follows before (rw new (sym (ap (λ es. after m.step before (calls es)) (events-empty m.limit)))))
+    plain_tells new =
+        rw new at (plain_follows before
+        (rw new (sym (ap (λ es. after m.step before (calls es)) (events-empty m.limit)))))
 
 -- ---- what calls ensure then
 
 module _ {P J T A V W : Type 0} {w : Parts P J T W} (m : Meaning V W) {old new : Turns P J T A} {before value : V} where
-  plain_calls : (steps : List Step) → ((s : State V W) → AreAt w old before s → IsTold m s steps value (AreAt w new value)) → AreAdvances steps
+  plain_calls : (steps : List Step)
+      → ((s : State V W) → AreAt w old before s → IsTold m s steps value (AreAt w new value)) → AreAdvances steps
       → ParsesAll w m old new before value (bytes_of steps)
   plain_calls steps told only = record {
     follows = λ never start stream all. plain_follows before all m never steps only (told _ (is_here before all)) start;
@@ -76,11 +92,17 @@ module _ {P J T A V W : Type 0} {w : Parts P J T W} (m : Meaning V W) {old new :
     parses_all = λ never stream all. plain_parses before all m never steps only (told _ (is_here before all));
   }
 
-  pub replays_all : (steps : List Step) → ((s : State V W) → AreAt w old before s → Replayed m s steps (AreAt w new value)) → ReplaysAll w m old new before value steps
+  pub replays_all : (steps : List Step)
+      → ((s : State V W) → AreAt w old before s → Replayed m s steps (AreAt w new value))
+      → ReplaysAll w m old new before value steps
   replays_all steps replays =
-      let told : (s : State V W) → AreAt w old before s → IsTold m s steps value (AreAt w new value) = λ s at. told_run m s value (λ t there. there.handler_is) steps (replays s at) in
+      let told : (s : State V W) → AreAt w old before s → IsTold m s steps value (AreAt w new value) =
+      λ s at. told_run m s value (λ t there. there.handler_is) steps (replays s at) in
       record { told = told; plain = plain_calls steps told }
 
   -- a call is a run of one step
-  pub plain_call : (bytes : Bor (List ℕ)) → ((s : State V W) → AreAt w old before s → Advanced m s bytes.now (AreAt w new value)) → ParsesAll w m old new before value bytes.now
-  plain_call bytes advances = rw append-nil at ((replays_all (Advance bytes ∷ []) (λ s at. advance_runs m s bytes (advances s at))).plain tt)
+  pub plain_call : (bytes : Bor (List ℕ))
+      → ((s : State V W) → AreAt w old before s → Advanced m s bytes.now (AreAt w new value))
+      → ParsesAll w m old new before value bytes.now
+  plain_call bytes advances =
+      rw append-nil at ((replays_all (Advance bytes ∷ []) (λ s at. advance_runs m s bytes (advances s at))).plain tt)

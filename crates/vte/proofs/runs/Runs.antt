@@ -6,20 +6,23 @@ use Rattle.vte.proofs.runs.EachOnce.{run_bytes}
 use Rattle.vte.proofs.turns.HoldFacts.{stop_well, taken_well, turn_well}
 
 -- the refused step is the first of those that are left
-pub first_lacks : {i : ℕ} {bytes : Bor (List ℕ)} (lacks : ℕ → Type 0) (steps : List Step) (d : Step) (read : ℕ) → i < length steps → get_or steps i d ≡ Advance bytes
+pub first_lacks : {i : ℕ} {bytes : Bor (List ℕ)} (lacks : ℕ → Type 0) (steps : List Step) (d : Step) (read : ℕ)
+    → i < length steps → get_or steps i d ≡ Advance bytes
     → lacks (length bytes.now - read) → lacks (left_of_first (drop i steps) read)
 first_lacks {i = i} lacks steps d read inside is lacking = rw (drop_more steps i d inside, is) lacking
 
 -- ---- for a timeout that is kept, a run is a function of the calls
 
 module _ {V W : Type 0} (m : Meaning V W) (kept : IsKept m.timeout) where
-  answers_alone : (s : State V W) (a b : Bool) → HoldsWellAt m s → m.timeout.allows s.timeout a → m.timeout.allows s.timeout b → a ≡ b
+  answers_alone : (s : State V W) (a b : Bool) → HoldsWellAt m s → m.timeout.allows s.timeout a
+      → m.timeout.allows s.timeout b → a ≡ b
   answers_alone s a b h first second = elim (h.kept kept) [
     | inl out ↦ out.not_pending.1 a first ∙ sym (out.not_pending.1 b second)
     | inr i ↦ i.pending.1 a first ∙ sym (i.pending.1 b second)
   ]
 
-  advances_alone : (s t u : State V W) (r : List ℕ) → HoldsWellAt m s → TakesAllTurns m s r t → TakesAllTurns m s r u → u ≡ t
+  advances_alone : (s t u : State V W) (r : List ℕ) → HoldsWellAt m s → TakesAllTurns m s r t
+      → TakesAllTurns m s r u → u ≡ t
   advances_alone s t u [] h done done = refl
   advances_alone s t u (b ∷ r) h (turns answer allowed more) (turns other allowed_too further) =
       advances_alone _ t u _ (turn_well m answer s (b ∷ r) allowed h) more
@@ -28,7 +31,8 @@ module _ {V W : Type 0} (m : Meaning V W) (kept : IsKept m.timeout) where
   run_alone : (s t u : State V W) (steps : List Step) → HoldsWellAt m s → Run m s steps t → Run m s steps u → u ≡ t
   run_alone s t u [] h first other = sym other ∙ first
   run_alone s t u (Advance bytes ∷ steps) h (next, (a, r)) (other, (b, q)) =
-      run_alone next t u steps (taken_well m s next bytes.now [] a h) r (rw (advances_alone s next other bytes.now h a b) at q)
+      run_alone next t u steps (taken_well m s next bytes.now [] a h) r
+      (rw (advances_alone s next other bytes.now h a b) at q)
   run_alone s t u (StopSync ∷ steps) h r q = run_alone (stop m s) t u steps (stop_well m s) r q
 
 -- ---- calls one by one
@@ -45,7 +49,8 @@ module _ {V W : Type 0} (m : Meaning V W) where
   run_on s t u (Advance bytes ∷ steps) more (next, (a, q)) r = (next, (a, run_on next t u steps more q r))
   run_on s t u (StopSync ∷ steps) more q r = run_on (stop m s) t u steps more q r
 
-  pub replayed : (s t : State V W) (steps : List Step) {there : State V W → Type 0} → Run m s steps t → there t → Replayed m s steps there
+  pub replayed : (s t : State V W) (steps : List Step) {there : State V W → Type 0} → Run m s steps t → there t
+      → Replayed m s steps there
   replayed s t steps run at = record {
     next = t;
     run = run;
@@ -56,22 +61,28 @@ module _ {V W : Type 0} (m : Meaning V W) where
   }
 
   -- a call of `advance` is a run
-  pub advance_runs : (s : State V W) (bytes : Bor (List ℕ)) {there : State V W → Type 0} → Advanced m s bytes.now there → Replayed m s (Advance bytes ∷ []) there
+  pub advance_runs : (s : State V W) (bytes : Bor (List ℕ)) {there : State V W → Type 0} → Advanced m s bytes.now there
+      → Replayed m s (Advance bytes ∷ []) there
   advance_runs s bytes a = replayed s a.next (Advance bytes ∷ []) (a.next, (a.advances, refl)) a.is_at
 
   module _ (s : State V W) (steps : List Step) {i : ℕ} (d : Step) {old : State V W → Type 0} (new : State V W → Type 0)
       (inside : i < length steps) (r : Replayed m s (take i steps) old) where
     step_taken : Replayed m r.next (get_or steps i d ∷ []) new → Replayed m s (take (i + 1) steps) new
     step_taken q =
-        replayed s q.next (take (i + 1) steps) (rw (take_more steps i d inside) (run_on s r.next q.next (take i steps) (get_or steps i d ∷ []) r.run q.run)) q.is_at
+        replayed s q.next (take (i + 1) steps)
+        (rw (take_more steps i d inside)
+        (run_on s r.next q.next (take i steps) (get_or steps i d ∷ []) r.run q.run)) q.is_at
 
     -- the next step is taken, or refused
-    pub advance_taken : {bytes : Bor (List ℕ)} → get_or steps i d ≡ Advance bytes → Advanced m r.next bytes.now new → Replayed m s (take (i + 1) steps) new
+    pub advance_taken : {bytes : Bor (List ℕ)} → get_or steps i d ≡ Advance bytes → Advanced m r.next bytes.now new
+        → Replayed m s (take (i + 1) steps) new
     advance_taken {bytes} is a = step_taken (rw is (advance_runs r.next bytes a))
 
     pub stop_taken : get_or steps i d ≡ StopSync → new (stop m r.next) → Replayed m s (take (i + 1) steps) new
     stop_taken is at = step_taken (rw is (replayed r.next (stop m r.next) (StopSync ∷ []) refl at))
 
-    pub advance_refused : {bytes : Bor (List ℕ)} {read : ℕ} → get_or steps i d ≡ Advance bytes → read < length bytes.now → HasTaken m r.next bytes.now read new
+    pub advance_refused : {bytes : Bor (List ℕ)} {read : ℕ} → get_or steps i d ≡ Advance bytes → read < length bytes.now
+        → HasTaken m r.next bytes.now read new
         → Replayed m s (take i steps) (λ next. IsFirstRefused m next (drop i steps) read new)
-    advance_refused is less taken = replayed s r.next (take i steps) r.run (rw (drop_more steps i d inside, is) (less, taken))
+    advance_refused is less taken =
+        replayed s r.next (take i steps) r.run (rw (drop_more steps i d inside, is) (less, taken))

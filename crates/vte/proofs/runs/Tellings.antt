@@ -1,4 +1,5 @@
--- What a handler is told in a run, from a state on: first by what is done there, then by the rest of the run.
+-- What a handler is told in a run, from a state on: first by what is done there, then by the rest
+-- of the run.
 use Rattle.vte.proofs.Common.{◌≡◌, ◌≤◌, ℕ, ◌+◌, ◌-◌, inl, inr, Bool, Option, List, [], ◌∷◌, ◌++◌, length, take, sym, ◌∙◌, arith}
 use Rattle.vte.proofs.Common.{append_assoc, length-append, cases_Bool, append-nil, append_cancel_left, drop-append-add, take-append-add, after, Step, Advance, StopSync, calls_added, Meaning}
 use Rattle.vte.proofs.Common.{Run, Replayed, bytes_of, kept_of, IsTold, calls_with_stops, place_of_stop, stops_in_hold, stops_of}
@@ -22,7 +23,14 @@ stops-later limit p f more [] from = calls_added-append limit p f more
 stops-later limit p f more (place ∷ places) from =
     let k = place - length (p ++ f) in
     let count : place - length p ≡ length f + k = omega (arith, from, length-append p f) in
-    rw (count, take-append-add f more k, drop-append-add f more k, calls_added-append limit p f (take k more), ← append_assoc p f (take k more))
+    rw (
+      count,
+      take-append-add f more k,
+      drop-append-add f more k,
+      calls_added-append limit p f
+          (take k more),
+      ← append_assoc p f (take k more),
+    )
     (append_assoc (calls_added limit p f) (calls_added limit (p ++ f) (take k more)) _)
 
 -- ---- from a state to the end of a run
@@ -41,7 +49,8 @@ module _ {V W : Type 0} (m : Meaning V W) (u : State V W) where
   tells-nothing : TellsAt u []
   tells-nothing = record { more = []; parsed_is = sym (append-nil u.parsed); from = tt; told = rw calls_added-nothing }
 
-  tells-parse : (p f : List ℕ) (value : V) (stops : List ℕ) → Tells (p ++ f) (after m.step value (calls_added m.limit p f)) stops → Tells p value stops
+  tells-parse : (p f : List ℕ) (value : V) (stops : List ℕ)
+      → Tells (p ++ f) (after m.step value (calls_added m.limit p f)) stops → Tells p value stops
   tells-parse p f value stops e = record {
     more = f ++ e.more;
     parsed_is = e.parsed_is ∙ append_assoc p f e.more;
@@ -63,11 +72,13 @@ module _ {V W : Type 0} (m : Meaning V W) (u : State V W) where
   tells-open : (t : State V W) (r stops : List ℕ) → TellsAt (open_turn m t r).state stops → TellsAt t stops
   tells-open t r = tells-parse t.parsed (begin_front m.limit t.parsed r) t.handler
 
-  tells-keep : (t : State V W) (r kept stops : List ℕ) → TellsAt (keep m (extend m t r) kept) stops → TellsAt t (stops_in_hold t r kept ++ stops)
+  tells-keep : (t : State V W) (r kept stops : List ℕ) → TellsAt (keep m (extend m t r) kept) stops
+      → TellsAt t (stops_in_hold t r kept ++ stops)
   tells-keep t r [] stops e = rw append_assoc (tells-stop (extend m t r) stops e)
   tells-keep t r (b ∷ kept) stops e = tells-parse t.parsed _ t.handler stops e
 
-  tells-turn : (answer : Bool) (t : State V W) (r stops : List ℕ) → TellsAt (turn m answer t r).state stops → TellsAt t (stops_of_turn answer t r ++ stops)
+  tells-turn : (answer : Bool) (t : State V W) (r stops : List ℕ) → TellsAt (turn m answer t r).state stops
+      → TellsAt t (stops_of_turn answer t r ++ stops)
   tells-turn answer t r stops = elim (cases_Bool (is_held answer t r)) [
     | inl held ↦ rw held (λ e. tells-keep t r (kept_of (t.held ++ r)) stops e)
     | inr parses ↦ rw parses (elim (cases_Bool (is_stopped answer t)) [
@@ -76,17 +87,21 @@ module _ {V W : Type 0} (m : Meaning V W) (u : State V W) where
     ])
   ]
 
-  tells-advances : (t v : State V W) (r stops : List ℕ) (a : TakesAllTurns m t r v) → TellsAt v stops → TellsAt t (stops_of_advance m t v r a ++ stops)
+  tells-advances : (t v : State V W) (r stops : List ℕ) (a : TakesAllTurns m t r v) → TellsAt v stops
+      → TellsAt t (stops_of_advance m t v r a ++ stops)
   tells-advances t v [] stops done e = e
   tells-advances t v (b ∷ r) stops (turns answer allowed more) e =
-      rw append_assoc (tells-turn answer t (b ∷ r) (stops_of_advance m _ v _ more ++ stops) (tells-advances _ v _ stops more e))
+      rw append_assoc
+      (tells-turn answer t (b ∷ r) (stops_of_advance m _ v _ more ++ stops) (tells-advances _ v _ stops more e))
 
   tells-run : (t : State V W) (steps : List Step) (r : Run m t steps u) → TellsAt t (stops_of m t u steps r)
   tells-run t [] same = rw same tells-nothing
-  tells-run t (Advance bytes ∷ steps) (next, (a, r)) = tells-advances t next bytes.now (stops_of m next u steps r) a (tells-run next steps r)
+  tells-run t (Advance bytes ∷ steps) (next, (a, r)) =
+      tells-advances t next bytes.now (stops_of m next u steps r) a (tells-run next steps r)
   tells-run t (StopSync ∷ steps) r = tells-stop t (stops_of m (stop m t) u steps r) (tells-run (stop m t) steps r)
 
-pub told_run : {V W : Type 0} (m : Meaning V W) (s : State V W) (value : V) {there : State V W → Type 0} → ((t : State V W) → there t → value ≡ t.handler)
+pub told_run : {V W : Type 0} (m : Meaning V W) (s : State V W) (value : V) {there : State V W → Type 0}
+    → ((t : State V W) → there t → value ≡ t.handler)
     → (steps : List Step) → Replayed m s steps there → IsTold m s steps value there
 told_run m s value is steps r =
     let e = tells-run m r.next s steps r.run in
@@ -95,6 +110,11 @@ told_run m s value is steps r =
       more = e.more;
       parsed_is = e.parsed_is;
       each_once = append_cancel_left s.parsed (s.held ++ bytes_of steps) (e.more ++ r.next.held)
-          (rw (← append_assoc s.parsed s.held (bytes_of steps), ← append_assoc s.parsed e.more r.next.held, ← e.parsed_is) (sym r.each_once));
+          (rw (
+            ← append_assoc s.parsed s.held
+                (bytes_of steps),
+            ← append_assoc s.parsed e.more r.next.held,
+            ← e.parsed_is,
+          ) (sym r.each_once));
       is_told = is r.next r.is_at ∙ e.told;
     }

@@ -12,13 +12,21 @@ begin_count-append (e ∷ xs) ys = omega (arith, begin_count-append xs ys)
 pub none_begin : (limit : Option ℕ) (p : List ℕ) → begin_count (added limit p []) ≡ 0
 none_begin limit p = ap begin_count (added-nothing limit p)
 
-pub begins_in : (limit : Option ℕ) (p a r : List ℕ) → begin_count (added limit p (a ++ r)) ≡ begin_count (added limit p a) + begin_count (added limit (p ++ a) r)
-begins_in limit p a r = ap begin_count (added_both limit p a r) ∙ begin_count-append (added limit p a) (added limit (p ++ a) r)
+pub begins_in : (limit : Option ℕ) (p a r : List ℕ)
+    → begin_count (added limit p (a ++ r)) ≡ begin_count (added limit p a) + begin_count (added limit (p ++ a) r)
+begins_in limit p a r =
+    ap begin_count (added_both limit p a r) ∙ begin_count-append (added limit p a) (added limit (p ++ a) r)
 
 -- a broken character begins no update
-pub told_count : (limit : Option ℕ) (p r : List ℕ) (i : ℕ) → begin_count (told limit p r i) ≡ begin_count (added limit p (take i r))
+pub told_count : (limit : Option ℕ) (p r : List ℕ) (i : ℕ)
+    → begin_count (told limit p r i) ≡ begin_count (added limit p (take i r))
 told_count limit p r i = elim (cases_Bool (breaks_at p r i)) [
-  | inl broken ↦ rw (told-broken limit p r i broken, begin_count-append (added limit p (take i r)) (Print replacement ∷ [])) (omega arith)
+  | inl broken ↦
+      rw (
+        told-broken limit p r i broken,
+        begin_count-append (added limit p (take i r))
+            (Print replacement ∷ []),
+      ) (omega arith)
   | inr whole ↦ rw (told-between limit p r i whole)
 ]
 
@@ -31,10 +39,12 @@ pub record IsFront (limit : Option ℕ) (p r : List ℕ) (k : ℕ) : Type 0 wher
   pub begins : k < length r → 0 < begin_count (added limit p (take k r))
   pub ends : 0 < begin_count (added limit p (take k r)) → EndsInBegin limit (p ++ take k r)
 
-none_before : (limit : Option ℕ) (p rest : List ℕ) (b k i : ℕ) → begin_count (added limit p (b ∷ [])) ≡ 0 → IsFront limit (p ++ b ∷ []) rest k → i < suc k
+none_before : (limit : Option ℕ) (p rest : List ℕ) (b k i : ℕ) → begin_count (added limit p (b ∷ [])) ≡ 0
+    → IsFront limit (p ++ b ∷ []) rest k → i < suc k
     → begin_count (added limit p (take i (b ∷ rest))) ≡ 0
 none_before limit p rest b k zero none f l = none_begin limit p
-none_before limit p rest b k (suc i) none f l = omega (arith, begins_in limit p (b ∷ []) (take i rest), none, f.before i (omega arith))
+none_before limit p rest b k (suc i) none f l =
+    omega (arith, begins_in limit p (b ∷ []) (take i rest), none, f.before i (omega arith))
 
 pub is_front : (limit : Option ℕ) (p r : List ℕ) → IsFront limit p r (length (begin_front limit p r))
 is_front limit p [] = record {
@@ -56,14 +66,17 @@ is_front limit p (b ∷ rest) = elim (cases_Bool (nat_lt 0 (begin_count (added l
       let none : begin_count (added limit p (b ∷ [])) ≡ 0 = grind (arith, nat_tests) in
       let front = begin_front limit (p ++ b ∷ []) rest in
       let f : IsFront limit (p ++ b ∷ []) rest (length front) = is_front limit (p ++ b ∷ []) rest in
-      let same : begin_count (added limit p (b ∷ take (length front) rest)) ≡ begin_count (added limit (p ++ b ∷ []) (take (length front) rest)) =
+      let same : begin_count (added limit p (b ∷ take (length front) rest))
+      ≡ begin_count (added limit (p ++ b ∷ []) (take (length front) rest)) =
       omega (arith, begins_in limit p (b ∷ []) (take (length front) rest), none) in
       rw no_begin (record {
         within = omega (arith, f.within);
         is = rw no_begin (ap (λ x. b ∷ x) f.is);
         before = λ i l. none_before limit p rest b (length front) i none f l;
         begins = λ l. rw same (f.begins (omega arith));
-        ends = λ some. subst (EndsInBegin limit) (append_assoc p (b ∷ []) (take (length front) rest)) (f.ends (rw same at some));
+        ends =
+            λ some. subst (EndsInBegin limit) (append_assoc p (b ∷ []) (take (length front) rest))
+            (f.ends (rw same at some));
       })
 ]
 
@@ -77,7 +90,8 @@ closed limit p e = elim (opens_silently limit e.before e.byte) [
   ])
 ]
 
-pub closed_at : (limit : Option ℕ) (p r : List ℕ) (k : ℕ) → IsFront limit p r k → k < length r → open_end (p ++ take k r) ≡ []
+pub closed_at : (limit : Option ℕ) (p r : List ℕ) (k : ℕ) → IsFront limit p r k → k < length r
+    → open_end (p ++ take k r) ≡ []
 closed_at limit p r k f more = closed limit (p ++ take k r) (f.ends (f.begins more))
 
 -- no character is broken after the front
@@ -88,11 +102,13 @@ whole_at limit p r k f = elim (cases_lt k (length r)) [
 ]
 
 -- the front behind bytes in which no update begins, and of bytes that begin one, whatever follows
-pub none_begin_in : (limit : Option ℕ) (p a r : List ℕ) → begin_count (added limit p a) ≡ 0 → begin_count (added limit (p ++ a) r) ≡ 0
+pub none_begin_in : (limit : Option ℕ) (p a r : List ℕ) → begin_count (added limit p a) ≡ 0
+    → begin_count (added limit (p ++ a) r) ≡ 0
     → begin_count (added limit p (a ++ r)) ≡ 0
 none_begin_in limit p a r first second = omega (arith, begins_in limit p a r, first, second)
 
-pub front_behind : (limit : Option ℕ) (p a r : List ℕ) → begin_count (added limit p a) ≡ 0 → begin_front limit p (a ++ r) ≡ a ++ begin_front limit (p ++ a) r
+pub front_behind : (limit : Option ℕ) (p a r : List ℕ) → begin_count (added limit p a) ≡ 0
+    → begin_front limit p (a ++ r) ≡ a ++ begin_front limit (p ++ a) r
 front_behind limit p [] r none = rw append-nil
 front_behind limit p (b ∷ a) r none =
     let all = begins_in limit p (b ∷ []) a in
@@ -100,7 +116,8 @@ front_behind limit p (b ∷ a) r none =
     let later : begin_count (added limit (p ++ b ∷ []) a) ≡ 0 = omega (arith, all, none) in
     rw first (ap (λ front. b ∷ front) (front_behind limit (p ++ b ∷ []) a r later ∙ rw append_assoc))
 
-pub front_of_more : (limit : Option ℕ) (p r more : List ℕ) → 0 < begin_count (added limit p (begin_front limit p r)) → begin_front limit p (r ++ more) ≡ begin_front limit p r
+pub front_of_more : (limit : Option ℕ) (p r more : List ℕ) → 0 < begin_count (added limit p (begin_front limit p r))
+    → begin_front limit p (r ++ more) ≡ begin_front limit p r
 front_of_more limit p [] more some = absurd (omega (arith, none_begin limit p, some))
 front_of_more limit p (b ∷ r) more some = elim (cases_Bool (nat_lt 0 (begin_count (added limit p (b ∷ []))))) [
   | inl begins ↦ rw begins refl
@@ -112,7 +129,8 @@ front_of_more limit p (b ∷ r) more some = elim (cases_Bool (nat_lt 0 (begin_co
 ]
 
 -- bytes in which no update begins are their own front
-pub front_is_all : (limit : Option ℕ) (p r : List ℕ) → begin_count (added limit p (begin_front limit p r)) ≡ 0 → begin_front limit p r ≡ r
+pub front_is_all : (limit : Option ℕ) (p r : List ℕ) → begin_count (added limit p (begin_front limit p r)) ≡ 0
+    → begin_front limit p r ≡ r
 front_is_all limit p r none =
     let f = is_front limit p r in
     f.is ∙ take_all (length (begin_front limit p r)) r (elim (cases_lt (length (begin_front limit p r)) (length r)) [

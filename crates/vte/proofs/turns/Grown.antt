@@ -1,4 +1,5 @@
--- A call adds to what is parsed, and a processor that had memory for all its bytes isn't refused any.
+-- A call adds to what is parsed, and a processor that had memory for all its bytes isn't refused
+-- any.
 use Rattle.vte.proofs.Common.{◌≡◌, ℕ, ◌+◌, ◌-◌, ◌<◌, inl, inr, List, ◌++◌, length, Result, Ok, Err, refl, ap, arith, length-append, Refused, LongParser, counts_data}
 use Rattle.vte.proofs.Common.{Turns, unlimited, Meaning, AreAt, HasTaken, LacksSome, ReadsSome, HasLongRoom, State, drop, length-drop}
 use Rattle.vte.specs.LongProcessor.{AdvancesLong}
@@ -6,9 +7,11 @@ use Rattle.vte.specs.declared.ansi.growing_text.GrowingText.{GrowingText}
 use Rattle.vte.specs.declared.ansi.long_processor.LongProcessor.{LongProcessor}
 use Rattle.vte.proofs.turns.Slices.{some_grow}
 
-module _ {T A V W : Type 0} {timeout_of : T → W} {m : Meaning V W} {new : Turns (LongParser A) (GrowingText A) T A} {value : V} {s : State V W} {bytes : List ℕ} where
+module _ {T A V W : Type 0} {timeout_of : T → W} {m : Meaning V W} {new : Turns (LongParser A) (GrowingText A) T A}
+    {value : V} {s : State V W} {bytes : List ℕ} where
   had_memory : (read : ℕ) → read < length bytes → HasTaken m s bytes read (AreAt (unlimited timeout_of) new value)
-      → LacksSome (unlimited timeout_of) new (length bytes - read) → HasLongRoom new.parser new.state.text.size s.parsed (length s.held + length bytes) → ⊥
+      → LacksSome (unlimited timeout_of) new (length bytes - read)
+      → HasLongRoom new.parser new.state.text.size s.parsed (length s.held + length bytes) → ⊥
   had_memory read less taken lacks room =
       let t = taken.next in
       let l = lacks t.parsed taken.is_at.stands.has_parsed.has_read in
@@ -16,7 +19,16 @@ module _ {T A V W : Type 0} {timeout_of : T → W} {m : Meaning V W} {new : Turn
       let counts = counts_data s.parsed g.more in
       let left = rw (← g.parsed_is) at counts.left in
       let sum : length g.more + length t.held ≡ length s.held + read =
-      omega (arith, less, ap length g.each_once, length-append s.held bytes, length-append g.more (t.held ++ drop read bytes), length-append t.held (drop read bytes), length-drop read bytes) in
+      omega (
+        arith,
+        less,
+        ap length g.each_once,
+        length-append s.held bytes,
+        length-append g.more
+            (t.held ++ drop read bytes),
+        length-append t.held (drop read bytes),
+        length-drop read bytes,
+      ) in
       let held = ap length taken.is_at.stands.holds in
       elim l.is_lacking [
         | inl kept ↦ omega (arith, left, kept, room.kept, l.within, less, sum, held)
@@ -26,7 +38,14 @@ module _ {T A V W : Type 0} {timeout_of : T → W} {m : Meaning V W} {new : Turn
         ]
       ]
 
-pub advances_long : {T A V W : Type 0} {timeout_of : T → W} {m : Meaning V W} {old new : LongProcessor T A} {before value : V} {bytes : List ℕ} (result : Result (Unit {0}) Refused)
-    → ReadsSome (unlimited timeout_of) m old.turns new.turns before value bytes result → AdvancesLong timeout_of m old new before value bytes result
+pub advances_long : {T A V W : Type 0} {timeout_of : T → W} {m : Meaning V W} {old new : LongProcessor T A}
+    {before value : V} {bytes : List ℕ} (result : Result (Unit {0}) Refused)
+    → ReadsSome (unlimited timeout_of) m old.turns new.turns before value bytes result
+    → AdvancesLong timeout_of m old new before value bytes result
 advances_long (Ok all) r = record { reads = r; enough = λ s at room. refl }
-advances_long (Err refused) r = record { reads = r; enough = λ s at room. absurd (had_memory refused.read r.within (r.takes s at) (r.lacks s at) (r.memory s at _ _ room)) }
+advances_long (Err refused) r =
+    record {
+      reads = r;
+      enough =
+          λ s at room. absurd (had_memory refused.read r.within (r.takes s at) (r.lacks s at) (r.memory s at _ _ room));
+    }

@@ -30,14 +30,19 @@ module _ {V W : Type 0} (m : Meaning V W) where
 
   -- ---- an open turn
 
-  open_well : (s : State V W) (r : List ℕ) → s.held ≡ [] → (IsKept m.timeout → IsOutsideUpdate m.timeout s.held s.timeout) → HoldsWellAt m (open_turn m s r).state
+  open_well : (s : State V W) (r : List ℕ) → s.held ≡ []
+      → (IsKept m.timeout → IsOutsideUpdate m.timeout s.held s.timeout) → HoldsWellAt m (open_turn m s r).state
   open_well s r nothing outside =
       let f = is_front m.limit s.parsed r in
       record {
         no_end = rw nothing refl;
         fits = rw nothing (omega arith);
         kept = λ k. elim (cases_lt 0 (begin_count (added m.limit s.parsed (begin_front m.limit s.parsed r)))) [
-          | inl some ↦ inr (record { pending = pending m.timeout k _ s.timeout some; begun = inl (rw f.is (f.ends (rw f.is at some))) })
+          | inl some ↦
+              inr (record {
+                pending = pending m.timeout k _ s.timeout some;
+                begun = inl (rw f.is (f.ends (rw f.is at some)));
+              })
           | inr none ↦
               let zero : begin_count (added m.limit s.parsed (begin_front m.limit s.parsed r)) ≡ 0 = omega arith in
               inl (record { not_pending = rw zero (outside k).not_pending; none_held = nothing })
@@ -46,41 +51,50 @@ module _ {V W : Type 0} (m : Meaning V W) where
 
   -- ---- a turn that holds
 
-  keep_well : (t : State V W) (kept : List ℕ) → StaysHeld t.held kept → drop (length t.held - length kept) t.held ≡ kept → length t.held ≤ most_held
+  keep_well : (t : State V W) (kept : List ℕ) → StaysHeld t.held kept → drop (length t.held - length kept) t.held ≡ kept
+      → length t.held ≤ most_held
       → (IsKept m.timeout → IsInsideUpdate m.limit m.timeout t.parsed t.held t.timeout) → HoldsWellAt m (keep m t kept)
   keep_well t [] is place fits inside = stop_well t
   keep_well t (b ∷ kept) is place fits inside = record {
     no_end = rw place is.no_end;
     fits = rw length-drop (omega arith);
     kept = λ k. inr (record {
-      pending = still_pending m.timeout k (begin_count (added m.limit t.parsed (take (length t.held - suc (length kept)) t.held))) t.timeout (inside k).pending;
+      pending =
+          still_pending m.timeout k
+          (begin_count (added m.limit t.parsed (take (length t.held - suc (length kept)) t.held))) t.timeout
+          (inside k).pending;
       begun = elim is.begins [
-        | inl all ↦ let none : length t.held - suc (length kept) ≡ 0 = omega (arith, ap length all) in rw (none, append-nil) (inside k).begun
+        | inl all ↦ let none : length t.held - suc (length kept) ≡ 0 =
+            omega (arith, ap length all) in rw (none, append-nil) (inside k).begun
         | inr begins ↦ inr (rw place (begins (omega arith)))
       ];
     });
   }
 
-  inside_of : (s : State V W) → HoldsWellAt m s → m.timeout.allows s.timeout true → IsKept m.timeout → IsInsideUpdate m.limit m.timeout s.parsed s.held s.timeout
+  inside_of : (s : State V W) → HoldsWellAt m s → m.timeout.allows s.timeout true → IsKept m.timeout
+      → IsInsideUpdate m.limit m.timeout s.parsed s.held s.timeout
   inside_of s h allowed k = elim (h.kept k) [
     | inl out ↦ absurd (false≢true (sym (out.not_pending.1 true allowed)))
     | inr i ↦ i
   ]
 
-  outside_of : (s : State V W) → HoldsWellAt m s → m.timeout.allows s.timeout false → IsKept m.timeout → IsOutsideUpdate m.timeout s.held s.timeout
+  outside_of : (s : State V W) → HoldsWellAt m s → m.timeout.allows s.timeout false → IsKept m.timeout
+      → IsOutsideUpdate m.timeout s.held s.timeout
   outside_of s h allowed k = elim (h.kept k) [
     | inl out ↦ out
     | inr i ↦ absurd (false≢true (i.pending.1 false allowed))
   ]
 
-  pub opened_outside : (answer : Bool) (s : State V W) → m.timeout.allows s.timeout answer → HoldsWellAt m s → IsKept m.timeout
+  pub opened_outside : (answer : Bool) (s : State V W) → m.timeout.allows s.timeout answer → HoldsWellAt m s
+      → IsKept m.timeout
       → IsOutsideUpdate m.timeout (opened m answer s).held (opened m answer s).timeout
   opened_outside answer s allowed h k = elim (cases_Bool (is_stopped answer s)) [
     | inl stopped ↦ rw stopped (stop_outside s k)
     | inr none ↦ let no : answer ≡ false = grind (arith, nat_tests) in rw none (outside_of s h (rw no at allowed) k)
   ]
 
-  hold_well : (s : State V W) (r : List ℕ) → HoldsWellAt m s → m.timeout.allows s.timeout true → length (s.held ++ r) ≤ most_held → HoldsWellAt m (hold_turn m s r)
+  hold_well : (s : State V W) (r : List ℕ) → HoldsWellAt m s → m.timeout.allows s.timeout true
+      → length (s.held ++ r) ≤ most_held → HoldsWellAt m (hold_turn m s r)
   hold_well s r h allowed fits =
       keep_well (extend m s r) (kept_of (s.held ++ r)) (stays_held (s.held ++ r)) (stays-is (s.held ++ r)) fits
       (λ k. (let i = inside_of s h allowed k in record {
@@ -90,12 +104,17 @@ module _ {V W : Type 0} (m : Meaning V W) where
 
   -- ---- a turn, and turns of a call
 
-  pub turn_well : (answer : Bool) (s : State V W) (r : List ℕ) → m.timeout.allows s.timeout answer → HoldsWellAt m s → HoldsWellAt m (turn m answer s r).state
+  pub turn_well : (answer : Bool) (s : State V W) (r : List ℕ) → m.timeout.allows s.timeout answer → HoldsWellAt m s
+      → HoldsWellAt m (turn m answer s r).state
   turn_well answer s r allowed h = elim (cases_Bool (is_held answer s r)) [
-    | inl held ↦ let yes : answer ≡ true = grind (arith, nat_tests) in rw held (hold_well s r h (rw yes at allowed) (grind (arith, nat_tests)))
-    | inr parses ↦ rw parses (open_well (opened m answer s) r (opened_none m answer s) (opened_outside answer s allowed h))
+    | inl held ↦ let yes : answer ≡ true =
+        grind (arith, nat_tests) in rw held (hold_well s r h (rw yes at allowed) (grind (arith, nat_tests)))
+    | inr parses ↦
+        rw parses (open_well (opened m answer s) r (opened_none m answer s) (opened_outside answer s allowed h))
   ]
 
-  pub taken_well : (s t : State V W) (bytes left : List ℕ) → TakesTurns m s bytes t left → HoldsWellAt m s → HoldsWellAt m t
+  pub taken_well : (s t : State V W) (bytes left : List ℕ) → TakesTurns m s bytes t left → HoldsWellAt m s
+      → HoldsWellAt m t
   taken_well s t bytes left done h = h
-  taken_well s t (b ∷ bytes) left (turns answer allowed more) h = taken_well _ t _ left more (turn_well answer s (b ∷ bytes) allowed h)
+  taken_well s t (b ∷ bytes) left (turns answer allowed more) h =
+      taken_well _ t _ left more (turn_well answer s (b ∷ bytes) allowed h)

@@ -1,4 +1,5 @@
--- A hold turn by its parts: bytes are added to the hold, the timeout is set, and what the hold releases is parsed.
+-- A hold turn by its parts: bytes are added to the hold, the timeout is set, and what the hold
+-- releases is parsed.
 use Rattle.vte.proofs.Common.{◌≡◌, ℕ, ◌+◌, ◌-◌, ◌<◌, List, [], ◌∷◌, ◌++◌, length, length-append, length-take, take, refl, sym, ◌∙◌, arith, take_all, Turns, IsAdded}
 use Rattle.vte.proofs.Common.{held_of, released_of, kept_of, Meaning, set_times, AreAt, Parts, AreNextAt, IsParsed, IsParsedOn, IsReady, State, cut_at, extend, hold_turn, keep}
 use Rattle.vte.proofs.Common.{parse, stop}
@@ -6,13 +7,16 @@ use Rattle.std.proofs.lemmas.List.{nil_from_length}
 use Rattle.vte.proofs.updates.Sequences.{stays_held, stays-is, suffix-length}
 use Rattle.vte.specs.declared.ansi.hold.SyncState.{SyncState}
 
-keeps_some : {V W : Type 0} (m : Meaning V W) (t : State V W) (kept : List ℕ) → 0 < length kept → keep m t kept ≡ cut_at m t (length t.held - length kept)
+keeps_some : {V W : Type 0} (m : Meaning V W) (t : State V W) (kept : List ℕ) → 0 < length kept
+    → keep m t kept ≡ cut_at m t (length t.held - length kept)
 keeps_some m t [] some = absurd (omega arith)
 keeps_some m t (b ∷ kept) some = refl
 
 -- the hold has the new bytes, and the timeout was set as often as they begin updates
-module _ {P J T A V W : Type 0} {w : Parts P J T W} (m : Meaning V W) {s : State V W} {more : List ℕ} {old : Turns P J T A} {hold : SyncState A} {timeout : T} {begins : ℕ} {value : V}
-    (at : AreAt w old value s) (added : IsAdded s.held more hold begins) (is_set : w.timeout_of timeout ≡ set_times m.timeout begins (w.timeout_of old.state.timeout))
+module _ {P J T A V W : Type 0} {w : Parts P J T W} (m : Meaning V W) {s : State V W} {more : List ℕ}
+    {old : Turns P J T A} {hold : SyncState A} {timeout : T} {begins : ℕ} {value : V}
+    (at : AreAt w old value s) (added : IsAdded s.held more hold begins)
+    (is_set : w.timeout_of timeout ≡ set_times m.timeout begins (w.timeout_of old.state.timeout))
     (room : w.reading.has_room old.parser (w.room_of old.state.text) s.parsed (length s.held + length more)) where
   abbrev set : Turns P J T A
   set = record old { hold = hold; state = record old.state { timeout = timeout } }
@@ -30,7 +34,8 @@ module _ {P J T A V W : Type 0} {w : Parts P J T W} (m : Meaning V W) {s : State
   -- the released bytes are parsed, and the others stay held, with memory to parse them
   pub turned_cut : {last : Turns P J T A} {next : V} → 0 < length (held_of hold)
       → ((t : State V W) (n : ℕ) → IsParsed w set.parser set.state value t
-      → (0 < length (released_of hold) → w.reading.has_room set.parser (w.room_of set.state.text) t.parsed (length (released_of hold) + n))
+      → (0 < length (released_of hold)
+      → w.reading.has_room set.parser (w.room_of set.state.text) t.parsed (length (released_of hold) + n))
       → IsParsedOn w set.parser set.state last.parser last.state next (parse m t (released_of hold)))
       → ((t : State V W) (n : ℕ) → IsReady w set.parser set.state value t (length (released_of hold) + n)
       → w.reading.has_room last.parser (w.room_of last.state.text) (t.parsed ++ released_of hold) n)
@@ -40,16 +45,28 @@ module _ {P J T A V W : Type 0} {w : Parts P J T W} (m : Meaning V W) {s : State
       let all = s.held ++ more in
       let rest = length (held_of hold) in
       let sum : length (released_of hold) + rest ≡ length s.held + length more = rw (added.released_is, added.held_is) (
-      omega (arith, length-take (length all - length (kept_of all)) all, suffix-length (stays_held all).suffix, length-append s.held more)) in
-      let ready : w.reading.has_room set.parser (w.room_of set.state.text) s.parsed (length (released_of hold) + rest) = rw sum room in
+      omega (
+        arith,
+        length-take (length all - length (kept_of all)) all,
+        suffix-length
+            (stays_held all).suffix,
+        length-append s.held more,
+      )) in
+      let ready : w.reading.has_room set.parser (w.room_of set.state.text) s.parsed (length (released_of hold) + rest) =
+      rw sum room in
       let there = parses t rest extended (λ some. ready) in
-      let parsed : IsParsed w last.parser last.state next (parse m t (take (length all - length (kept_of all)) all)) = rw added.released_is at there.is_parsed in
+      let parsed : IsParsed w last.parser last.state next (parse m t (take (length all - length (kept_of all)) all)) =
+      rw added.released_is at there.is_parsed in
       rw (keeps_some m t (kept_of all) (rw added.held_is at some)) (record {
         are_at = record {
           stands = record {
             has_parsed = parsed.has_parsed;
             holds = rw kept (added.held_is ∙ sym (stays-is all));
-            has_room = λ some. rw stays-is (rw (added.released_is, added.held_is) at (leaves t rest (record { is_parsed = extended; room = ready })));
+            has_room =
+                λ some.
+                rw stays-is
+                (rw (added.released_is, added.held_is) at (leaves t rest
+                (record { is_parsed = extended; room = ready })));
           };
           handler_is = parsed.handler_is;
         };
@@ -58,14 +75,18 @@ module _ {P J T A V W : Type 0} {w : Parts P J T W} (m : Meaning V W) {s : State
 
   -- the update is stopped
   pub turned_stop : {last : Turns P J T A} {next : V} → length (held_of hold) ≡ 0
-      → ((t : State V W) (n : ℕ) → IsParsed w set.parser set.state value t → released_of hold ≡ t.held → held_of hold ≡ []
-      → (0 < length t.held → w.reading.has_room set.parser (w.room_of set.state.text) t.parsed (length t.held + n)) → AreNextAt w set last next (stop m t))
+      → ((t : State V W) (n : ℕ) → IsParsed w set.parser set.state value t → released_of hold ≡ t.held
+      → held_of hold ≡ []
+      → (0 < length t.held → w.reading.has_room set.parser (w.room_of set.state.text) t.parsed (length t.held + n))
+      → AreNextAt w set last next (stop m t))
       → AreNextAt w old last next (hold_turn m s more)
   turned_stop {last} {next} is stops =
       let all = s.held ++ more in
       let none : held_of hold ≡ [] = nil_from_length (held_of hold) is in
       let nothing : kept_of all ≡ [] = sym added.held_is ∙ none in
-      let whole : released_of hold ≡ all = added.released_is ∙ rw nothing (take_all (length all - 0) all (omega arith)) in
+      let whole : released_of hold ≡ all =
+      added.released_is ∙ rw nothing (take_all (length all - 0) all (omega arith)) in
       let sum : length all + 0 ≡ length s.held + length more = omega (arith, length-append s.held more) in
-      let there : AreNextAt w set last next (stop m (extend m s more)) = stops (extend m s more) 0 extended whole none (λ some. rw sum room) in
+      let there : AreNextAt w set last next (stop m (extend m s more)) =
+      stops (extend m s more) 0 extended whole none (λ some. rw sum room) in
       rw nothing (record { are_at = there.are_at; memory = there.memory })

@@ -10,8 +10,10 @@ use Rattle.vte.proofs.turns.HoldFacts.{opened_outside, taken_well}
 
 -- ---- the slices of an open turn
 
-pub slice_size : (bytes : List ℕ) (read count : ℕ) → read ≤ length bytes → count ≤ length bytes - read → length (take (read + count - read) (drop read bytes)) ≡ count
-slice_size bytes read count inside few = length-take-le (read + count - read) (drop read bytes) (rw length-drop (omega arith)) ∙ omega arith
+pub slice_size : (bytes : List ℕ) (read count : ℕ) → read ≤ length bytes → count ≤ length bytes - read
+    → length (take (read + count - read) (drop read bytes)) ≡ count
+slice_size bytes read count inside few =
+    length-take-le (read + count - read) (drop read bytes) (rw length-drop (omega arith)) ∙ omega arith
 
 module _ {V W : Type 0} (m : Meaning V W) where
   pub parse-nothing : (s : State V W) → parse m s [] ≡ s
@@ -21,7 +23,8 @@ module _ {V W : Type 0} (m : Meaning V W) where
   parse-append s a b =
       rw (
         begins_in m.limit s.parsed a b,
-        set_times-add m.timeout s.timeout (begin_count (added m.limit s.parsed a)) (begin_count (added m.limit (s.parsed ++ a) b)),
+        set_times-add m.timeout s.timeout (begin_count (added m.limit s.parsed a))
+            (begin_count (added m.limit (s.parsed ++ a) b)),
         calls_added-append m.limit s.parsed a b,
         after-append m.step s.handler,
         append_assoc s.parsed a b,
@@ -30,13 +33,22 @@ module _ {V W : Type 0} (m : Meaning V W) where
   open_on : (s t : State V W) (bytes left : List ℕ) → Halts m s bytes t left → open_turn m t left ≡ open_turn m s bytes
   open_on s t bytes left h =
       let front = begin_front m.limit (s.parsed ++ h.front) left in
-      rw (h.state_is, ← h.bytes_are, front_behind m.limit s.parsed h.front left h.none_begin, length-append, drop-append-add h.front left (length front))
+      rw (
+        h.state_is,
+        ← h.bytes_are,
+        front_behind m.limit s.parsed h.front left h.none_begin,
+        length-append,
+        drop-append-add h.front left (length front),
+      )
       (ap (λ t. record { state = t; rest = drop (length front) left }) (parse-append s h.front front))
 
 -- where no update begins in bytes, they are their own front
-module _ {V W : Type 0} {m : Meaning V W} {s : State V W} {bytes : List ℕ} {n : ℕ} {b : Bool} {there : State V W → Type 0} (at : IsAtBegin m s bytes n b there) (whole : b ≡ false) where
+module _ {V W : Type 0} {m : Meaning V W} {s : State V W} {bytes : List ℕ} {n : ℕ} {b : Bool} {there : State V W
+    → Type 0} (at : IsAtBegin m s bytes n b there) (whole : b ≡ false) where
   none_begins : begin_count (added m.limit s.parsed (begin_front m.limit s.parsed bytes)) ≡ 0
-  none_begins = let test : nat_lt 0 (begin_count (added m.limit s.parsed (begin_front m.limit s.parsed bytes))) ≡ false = sym at.begins_is ∙ whole in grind (arith, nat_tests)
+  none_begins =
+      let test : nat_lt 0 (begin_count (added m.limit s.parsed (begin_front m.limit s.parsed bytes))) ≡ false =
+      sym at.begins_is ∙ whole in grind (arith, nat_tests)
 
   front_whole : begin_front m.limit s.parsed bytes ≡ bytes
   front_whole = front_is_all m.limit s.parsed bytes none_begins
@@ -48,12 +60,14 @@ module _ {V W : Type 0} (m : Meaning V W) (s : State V W) (bytes : List ℕ) whe
   pub open-nothing : {there : State V W → Type 0} → there s → IsOpenAt m s bytes 0 there
   open-nothing at = record { none_begin = none_begin m.limit s.parsed; is_at = rw (parse-nothing m s) at }
 
-  pub open-all : {read : ℕ} {there : State V W → Type 0} → IsOpenAt m s bytes read there → length bytes ≤ read → Opened m s bytes read there
+  pub open-all : {read : ℕ} {there : State V W → Type 0} → IsOpenAt m s bytes read there → length bytes ≤ read
+      → Opened m s bytes read there
   open-all {read} o all =
       let whole = take_all read bytes all in
       let none : begin_count (added m.limit s.parsed bytes) ≡ 0 = rw whole at o.none_begin in
       let is : begin_front m.limit s.parsed bytes ≡ bytes =
-      ap (begin_front m.limit s.parsed) (sym (append-nil bytes)) ∙ front_behind m.limit s.parsed bytes [] none ∙ append-nil bytes in
+      ap (begin_front m.limit s.parsed) (sym (append-nil bytes)) ∙ front_behind m.limit s.parsed bytes [] none
+      ∙ append-nil bytes in
       record {
         progress = λ some. omega (arith, all);
         rest = rw is (drop_all (length bytes) bytes (omega arith) ∙ sym (drop_all read bytes all));
@@ -61,40 +75,53 @@ module _ {V W : Type 0} (m : Meaning V W) (s : State V W) (bytes : List ℕ) whe
       }
 
   -- a slice in which no update begins is parsed whole
-  pub open-more : {slice : List ℕ} {read n : ℕ} {b : Bool} {old new : State V W → Type 0} (k : ℕ) → IsOpenAt m s bytes read old → slice ≡ take k (drop read bytes)
+  pub open-more : {slice : List ℕ} {read n : ℕ} {b : Bool} {old new : State V W → Type 0} (k : ℕ)
+      → IsOpenAt m s bytes read old → slice ≡ take k (drop read bytes)
       → IsAtBegin m (parse m s (take read bytes)) slice n b new → b ≡ false → IsOpenAt m s bytes (read + n) new
   open-more {slice} {read} {n} k o is at uncut =
       let all = front_whole at uncut in
-      let zero : begin_count (added m.limit (s.parsed ++ take read bytes) slice) ≡ 0 = rw all at (none_begins at uncut) in
-      let parts : drop read bytes ≡ slice ++ drop k (drop read bytes) = rw is (sym (take-append-drop k (drop read bytes))) in
+      let zero : begin_count (added m.limit (s.parsed ++ take read bytes) slice) ≡ 0 =
+      rw all at (none_begins at uncut) in
+      let parts : drop read bytes ≡ slice ++ drop k (drop read bytes) =
+      rw is (sym (take-append-drop k (drop read bytes))) in
       let more : take (read + n) bytes ≡ take read bytes ++ slice =
-      take-add read n bytes ∙ ap (λ x. take read bytes ++ x) (ap (take n) parts ∙ take_at slice (drop k (drop read bytes)) n (sym (begin-whole at uncut))) in
+      take-add read n bytes
+      ∙ ap (λ x. take read bytes ++ x)
+      (ap (take n) parts ∙ take_at slice (drop k (drop read bytes)) n (sym (begin-whole at uncut))) in
       record {
         none_begin = rw more (none_begin_in m.limit s.parsed (take read bytes) slice o.none_begin zero);
         is_at = rw (more, ← parse-append m s (take read bytes) slice) (rw all at at.is_at);
       }
 
   -- an update begins in the slice
-  pub open-ends : {slice : List ℕ} {read n : ℕ} {b : Bool} {old new : State V W → Type 0} (k : ℕ) → IsOpenAt m s bytes read old → read ≤ length bytes
-      → slice ≡ take k (drop read bytes) → IsAtBegin m (parse m s (take read bytes)) slice n b new → b ≡ true → Opened m s bytes (read + n) new
+  pub open-ends : {slice : List ℕ} {read n : ℕ} {b : Bool} {old new : State V W → Type 0} (k : ℕ)
+      → IsOpenAt m s bytes read old → read ≤ length bytes
+      → slice ≡ take k (drop read bytes) → IsAtBegin m (parse m s (take read bytes)) slice n b new → b ≡ true
+      → Opened m s bytes (read + n) new
   open-ends {slice} {read} {n} k o inside is at begun =
       let front = begin_front m.limit (s.parsed ++ take read bytes) slice in
-      let test : nat_lt 0 (begin_count (added m.limit (s.parsed ++ take read bytes) front)) ≡ true = sym at.begins_is ∙ begun in
+      let test : nat_lt 0 (begin_count (added m.limit (s.parsed ++ take read bytes) front)) ≡ true =
+      sym at.begins_is ∙ begun in
       let some : 0 < begin_count (added m.limit (s.parsed ++ take read bytes) front) = grind (arith, nat_tests) in
-      let parts : drop read bytes ≡ slice ++ drop k (drop read bytes) = rw is (sym (take-append-drop k (drop read bytes))) in
-      let whole : bytes ≡ take read bytes ++ (slice ++ drop k (drop read bytes)) = sym (take-append-drop read bytes) ∙ ap (λ rest. take read bytes ++ rest) parts in
+      let parts : drop read bytes ≡ slice ++ drop k (drop read bytes) =
+      rw is (sym (take-append-drop k (drop read bytes))) in
+      let whole : bytes ≡ take read bytes ++ (slice ++ drop k (drop read bytes)) =
+      sym (take-append-drop read bytes) ∙ ap (λ rest. take read bytes ++ rest) parts in
       let all : begin_front m.limit s.parsed bytes ≡ take read bytes ++ front =
       ap (begin_front m.limit s.parsed) whole ∙ front_behind m.limit s.parsed (take read bytes) _ o.none_begin
-      ∙ ap (λ x. take read bytes ++ x) (front_of_more m.limit (s.parsed ++ take read bytes) slice (drop k (drop read bytes)) some) in
+      ∙ ap (λ x. take read bytes ++ x)
+      (front_of_more m.limit (s.parsed ++ take read bytes) slice (drop k (drop read bytes)) some) in
       let size : length (begin_front m.limit s.parsed bytes) ≡ read + n =
-      ap length all ∙ length-append (take read bytes) front ∙ omega (arith, length-take-le read bytes inside, at.count) in
+      ap length all ∙ length-append (take read bytes) front
+      ∙ omega (arith, length-take-le read bytes inside, at.count) in
       record {
         progress = λ some. omega (arith, front_some m.limit s.parsed bytes some, size);
         rest = rw size;
         is_at = rw (all, ← parse-append m s (take read bytes) front) at.is_at;
       }
 
-  pub halts : {read : ℕ} {there : State V W → Type 0} → IsOpenAt m s bytes read there → read < length bytes → Halts m s bytes (parse m s (take read bytes)) (drop read bytes)
+  pub halts : {read : ℕ} {there : State V W → Type 0} → IsOpenAt m s bytes read there → read < length bytes
+      → Halts m s bytes (parse m s (take read bytes)) (drop read bytes)
   halts {read} o less = record {
     front = take read bytes;
     bytes_are = take-append-drop read bytes;
@@ -105,25 +132,31 @@ module _ {V W : Type 0} (m : Meaning V W) (s : State V W) (bytes : List ℕ) whe
 
 -- ---- a turn that is refused memory
 
-pub halted_nothing : {V W : Type 0} (m : Meaning V W) {s : State V W} {bytes : List ℕ} {there : State V W → Type 0} → there s → Halted m s bytes 0 there
+pub halted_nothing : {V W : Type 0} (m : Meaning V W) {s : State V W} {bytes : List ℕ} {there : State V W → Type 0}
+    → there s → Halted m s bytes 0 there
 halted_nothing m {s} at = record { next = s; takes = between done; is_at = at }
 
 -- ---- turns of a call, with such a turn behind them
 
 module _ {V W : Type 0} (m : Meaning V W) where
-  pub one_taken : {s : State V W} {bytes : List ℕ} (answer : Bool) → 0 < length bytes → m.timeout.allows s.timeout answer
+  pub one_taken : {s : State V W} {bytes : List ℕ} (answer : Bool) → 0 < length bytes
+      → m.timeout.allows s.timeout answer
       → TakesTurns m s bytes (turn m answer s bytes).state (turn m answer s bytes).rest
   one_taken {bytes = []} answer some allowed = absurd (omega arith)
   one_taken {bytes = b ∷ bytes} answer some allowed = turns answer allowed done
 
   -- turns go on with those of the rest
-  pub taken_on : (s t u : State V W) (bytes left rest : List ℕ) → TakesTurns m s bytes t left → TakesTurns m t left u rest → TakesTurns m s bytes u rest
+  pub taken_on : (s t u : State V W) (bytes left rest : List ℕ) → TakesTurns m s bytes t left
+      → TakesTurns m t left u rest → TakesTurns m s bytes u rest
   taken_on s t u bytes left rest done more = more
-  taken_on s t u (b ∷ bytes) left rest (turns answer allowed first) more = turns answer allowed (taken_on _ t u _ left rest first more)
+  taken_on s t u (b ∷ bytes) left rest (turns answer allowed first) more =
+      turns answer allowed (taken_on _ t u _ left rest first more)
 
-  pub some_on : (s t u : State V W) (bytes left rest : List ℕ) → TakesTurns m s bytes t left → TakesSome m t left u rest → TakesSome m s bytes u rest
+  pub some_on : (s t u : State V W) (bytes left rest : List ℕ) → TakesTurns m s bytes t left → TakesSome m t left u rest
+      → TakesSome m s bytes u rest
   some_on s t u bytes left rest first (between more) = between (taken_on s t u bytes left rest first more)
-  some_on s t u bytes left rest first (within more answer allowed halts) = within (taken_on s t _ bytes left _ first more) answer allowed halts
+  some_on s t u bytes left rest first (within more answer allowed halts) =
+      within (taken_on s t _ bytes left _ first more) answer allowed halts
 
   -- where nothing is left, no turn was refused memory
   pub all_taken : (s t : State V W) (bytes : List ℕ) → TakesSome m s bytes t [] → TakesTurns m s bytes t []
@@ -132,48 +165,64 @@ module _ {V W : Type 0} (m : Meaning V W) where
 
   -- ---- what is parsed and held then
 
-  turn_halts_grow : (answer : Bool) (s t : State V W) (bytes left : List ℕ) → TurnHalts m answer s bytes t left → Grows s t bytes left
+  turn_halts_grow : (answer : Bool) (s t : State V W) (bytes left : List ℕ) → TurnHalts m answer s bytes t left
+      → Grows s t bytes left
   turn_halts_grow answer s t bytes left (parses, h) =
-      rw h.state_is (grows_on (opened_grows m answer s bytes) (parse_grows m (opened m answer s) h.front left bytes (opened_none m answer s) h.bytes_are))
+      rw h.state_is
+      (grows_on (opened_grows m answer s bytes)
+      (parse_grows m (opened m answer s) h.front left bytes (opened_none m answer s) h.bytes_are))
 
   pub some_grow : (s t : State V W) (bytes left : List ℕ) → TakesSome m s bytes t left → Grows s t bytes left
   some_grow s t bytes left (between taken) = turns_grow m s t bytes left taken
-  some_grow s t bytes left (within {u} {rest} taken answer allowed halts) = grows_on (turns_grow m s u bytes rest taken) (turn_halts_grow answer u t rest left halts)
+  some_grow s t bytes left (within {u} {rest} taken answer allowed halts) =
+      grows_on (turns_grow m s u bytes rest taken) (turn_halts_grow answer u t rest left halts)
 
   -- outside an update, and with nothing held
-  turn_halts_outside : (answer : Bool) (s t : State V W) (bytes left : List ℕ) → IsKept m.timeout → HoldsWellAt m s → m.timeout.allows s.timeout answer
+  turn_halts_outside : (answer : Bool) (s t : State V W) (bytes left : List ℕ) → IsKept m.timeout → HoldsWellAt m s
+      → m.timeout.allows s.timeout answer
       → TurnHalts m answer s bytes t left → IsOutsideUpdate m.timeout t.held t.timeout
-  turn_halts_outside answer s t bytes left kept well allowed (parses, h) = rw (h.state_is, h.none_begin) (opened_outside m answer s allowed well kept)
+  turn_halts_outside answer s t bytes left kept well allowed (parses, h) =
+      rw (h.state_is, h.none_begin) (opened_outside m answer s allowed well kept)
 
-  turn_halts_held : (answer : Bool) (s t : State V W) (bytes left : List ℕ) → TurnHalts m answer s bytes t left → t.held ≡ []
+  turn_halts_held : (answer : Bool) (s t : State V W) (bytes left : List ℕ)
+      → TurnHalts m answer s bytes t left → t.held ≡ []
   turn_halts_held answer s t bytes left (parses, h) = ap (λ t. t.held) h.state_is ∙ opened_none m answer s
 
-  pub some_well : (s t : State V W) (bytes left : List ℕ) → TakesSome m s bytes t left → HoldsWellAt m s → HoldsWellAt m t
+  pub some_well : (s t : State V W) (bytes left : List ℕ) → TakesSome m s bytes t left → HoldsWellAt m s
+      → HoldsWellAt m t
   some_well s t bytes left (between taken) well = taken_well m s t bytes left taken well
   some_well s t bytes left (within {u} {rest} taken answer allowed halts) well =
       let nothing = turn_halts_held answer u t rest left halts in
       record {
         no_end = rw nothing refl;
         fits = rw nothing (omega arith);
-        kept = λ kept. inl (turn_halts_outside answer u t rest left kept (taken_well m s u bytes rest taken well) allowed halts);
+        kept =
+            λ kept.
+            inl (turn_halts_outside answer u t rest left kept (taken_well m s u bytes rest taken well) allowed halts);
       }
 
   -- ---- the unread bytes in a further call
 
-  turn_goes_on : (answer : Bool) (s t : State V W) (bytes left : List ℕ) → TurnHalts m answer s bytes t left → turn m false t left ≡ turn m answer s bytes
+  turn_goes_on : (answer : Bool) (s t : State V W) (bytes left : List ℕ) → TurnHalts m answer s bytes t left
+      → turn m false t left ≡ turn m answer s bytes
   turn_goes_on answer s t bytes left (parses, h) =
       let none : is_stopped false t ≡ false = rw (turn_halts_held answer s t bytes left (parses, h)) refl in
       rw (none, parses) (open_on m (opened m answer s) t bytes left h)
 
-  halted_goes_on : (answer : Bool) (s t end : State V W) (bytes left : List ℕ) → m.timeout.allows s.timeout answer → TurnHalts m answer s bytes t left
+  halted_goes_on : (answer : Bool) (s t end : State V W) (bytes left : List ℕ) → m.timeout.allows s.timeout answer
+      → TurnHalts m answer s bytes t left
       → IsOutsideUpdate m.timeout t.held t.timeout → TakesTurns m t left end [] → TakesTurns m s bytes end []
   halted_goes_on answer s t end bytes left allowed h out done = absurd (omega (arith, h.1.some_left))
   halted_goes_on answer s t end bytes (b ∷ left) allowed h out (turns other allows more) =
-      let same : turn m other t (b ∷ left) ≡ turn m answer s bytes = rw (out.not_pending.1 other allows) (turn_goes_on answer s t bytes (b ∷ left) h) in
-      let some : 0 < length bytes = omega (arith, h.1.some_left, ap length h.1.bytes_are, length-append h.1.front (b ∷ left)) in
-      taken_on s _ end bytes _ [] (one_taken answer some allowed) (subst (λ x. TakesTurns m x.state x.rest end []) same more)
+      let same : turn m other t (b ∷ left) ≡ turn m answer s bytes =
+      rw (out.not_pending.1 other allows) (turn_goes_on answer s t bytes (b ∷ left) h) in
+      let some : 0 < length bytes =
+      omega (arith, h.1.some_left, ap length h.1.bytes_are, length-append h.1.front (b ∷ left)) in
+      taken_on s _ end bytes _ [] (one_taken answer some allowed)
+      (subst (λ x. TakesTurns m x.state x.rest end []) same more)
 
-  pub goes_on : (s t end : State V W) (bytes left : List ℕ) → IsKept m.timeout → HoldsWellAt m s → TakesSome m s bytes t left → TakesAllTurns m t left end → TakesAllTurns m s bytes end
+  pub goes_on : (s t end : State V W) (bytes left : List ℕ) → IsKept m.timeout → HoldsWellAt m s
+      → TakesSome m s bytes t left → TakesAllTurns m t left end → TakesAllTurns m s bytes end
   goes_on s t end bytes left kept well (between taken) more = taken_on s t end bytes left [] taken more
   goes_on s t end bytes left kept well (within {u} {rest} taken answer allowed halts) more =
       let out = turn_halts_outside answer u t rest left kept (taken_well m s u bytes rest taken well) allowed halts in

@@ -15,9 +15,15 @@ module _ {P J T A V W : Type 0} {w : Parts P J T W} {turns : Turns P J T A} {val
   parts-at at = record { has_parsed = at.stands.has_parsed; handler_is = at.handler_is }
 
   -- if they hold nothing
-  pub at-parts : IsParsed w turns.parser turns.state value s → held_of turns.hold ≡ s.held → s.held ≡ [] → AreAt w turns value s
+  pub at-parts : IsParsed w turns.parser turns.state value s → held_of turns.hold ≡ s.held → s.held ≡ []
+      → AreAt w turns value s
   at-parts parsed holds none = record {
-    stands = record { has_parsed = parsed.has_parsed; holds = holds; has_room = λ some. absurd (omega (arith, some, ap length none)) };
+    stands =
+        record {
+          has_parsed = parsed.has_parsed;
+          holds = holds;
+          has_room = λ some. absurd (omega (arith, some, ap length none));
+        };
     handler_is = parsed.handler_is;
   }
 
@@ -26,39 +32,50 @@ module _ {P J T A V W : Type 0} {w : Parts P J T W} {value : V} {s : State V W} 
   pub next-at : {turns : Turns P J T A} → AreAt w turns value s → AreNextAt w turns turns value s
   next-at at = record { are_at = at; memory = λ stream count had. had }
 
-  pub behind-next : {old mid new : Turns P J T A} → KeepsMemory w old mid → AreNextAt w mid new value s → AreNextAt w old new value s
-  behind-next keeps next = record { are_at = next.are_at; memory = λ stream count had. next.memory stream count (keeps stream count had) }
+  pub behind-next : {old mid new : Turns P J T A} → KeepsMemory w old mid → AreNextAt w mid new value s
+      → AreNextAt w old new value s
+  behind-next keeps next =
+      record { are_at = next.are_at; memory = λ stream count had. next.memory stream count (keeps stream count had) }
 
   -- they stand where they stood, and the handler is the same
-  pub kept-next : {old mid new : Turns P J T A} {more : ℕ} {result : Bool} → ReservesRoom w mid new more result → AreNextAt w old mid value s → AreNextAt w old new value s
+  pub kept-next : {old mid new : Turns P J T A} {more : ℕ} {result : Bool} → ReservesRoom w mid new more result
+      → AreNextAt w old mid value s → AreNextAt w old new value s
   kept-next r at = record {
     are_at = record { stands = r.same s.parsed s.held s.timeout at.are_at.stands; handler_is = at.are_at.handler_is };
     memory = λ stream count had. r.memory stream count (at.memory stream count had);
   }
 
 -- a slice is parsed with the memory that was taken for it
-module _ {P J T A V W : Type 0} {w : Parts P J T W} {m : Meaning V W} {s : State V W} {bytes slice : List ℕ} {read count n : ℕ} {b : Bool}
+module _ {P J T A V W : Type 0} {w : Parts P J T W} {m : Meaning V W} {s : State V W} {bytes slice : List ℕ}
+    {read count n : ℕ} {b : Bool}
     {first old taken : Turns P J T A} {parser : P} {state : ProcessorState T J} {before value : V} where
-  pub slice_parsed : IsOpenAt m s bytes read (AreNextAt w first old before) → ReservesRoom w old taken count true → length slice ≡ count → s.held ≡ []
+  pub slice_parsed : IsOpenAt m s bytes read (AreNextAt w first old before) → ReservesRoom w old taken count true
+      → length slice ≡ count → s.held ≡ []
       → ((t : State V W) (k : ℕ) → IsReady w taken.parser taken.state before t (length slice + k)
       → IsAtBegin m t slice n b (IsParsedOn w taken.parser taken.state parser state value))
-      → IsAtBegin m (parse m s (take read bytes)) slice n b (AreNextAt w first (record taken { parser = parser; state = state }) value)
+      → IsAtBegin m (parse m s (take read bytes)) slice n b
+      (AreNextAt w first (record taken { parser = parser; state = state }) value)
   slice_parsed o reserved size none parses =
       let here : AreNextAt w first taken before (parse m s (take read bytes)) = kept-next reserved o.is_at in
       let all : length slice + 0 ≡ length s.held + count = omega (arith, size, ap length none) in
-      let p = parses (parse m s (take read bytes)) 0 (record { is_parsed = parts-at here.are_at; room = rw all (reserved.room refl _ _ _ here.are_at.stands) }) in
+      let p =
+      parses (parse m s (take read bytes)) 0
+      (record { is_parsed = parts-at here.are_at; room = rw all (reserved.room refl _ _ _ here.are_at.stands) }) in
       record {
         count = p.count;
         begins_is = p.begins_is;
         is_at = record {
-          are_at = at-parts {turns = record taken { parser = parser; state = state }} p.is_at.is_parsed here.are_at.stands.holds none;
+          are_at = at-parts
+              {turns = record taken { parser = parser; state = state }} p.is_at.is_parsed here.are_at.stands.holds none;
           memory = λ stream more had. p.is_at.memory stream more (here.memory stream more had);
         };
       }
 
 -- behind a stop
-pub stops_update : {P J T A V W : Type 0} {w : Parts P J T W} {m : Meaning V W} {old mid new : Turns P J T A} {before value : V} → KeepsMemory w old mid
-    → ((s : State V W) → AreAt w old before s → AreNextAt w mid new value (stop m s)) → StopsUpdate w m old new before value
+pub stops_update : {P J T A V W : Type 0} {w : Parts P J T W} {m : Meaning V W} {old mid new : Turns P J T A}
+    {before value : V} → KeepsMemory w old mid
+    → ((s : State V W) → AreAt w old before s → AreNextAt w mid new value (stop m s))
+    → StopsUpdate w m old new before value
 stops_update {m = m} keeps ends = record {
   stops = λ s at. (ends s at).are_at;
   each_once = stop_bytes m;
@@ -66,17 +83,28 @@ stops_update {m = m} keeps ends = record {
   memory = λ s at stream count had. (ends s at).memory stream count (keeps stream count had);
 }
 
-pub stops-next : {P J T A V W : Type 0} {w : Parts P J T W} {m : Meaning V W} {old new : Turns P J T A} {before value : V} {s : State V W} → StopsUpdate w m old new before value
+pub stops-next : {P J T A V W : Type 0} {w : Parts P J T W} {m : Meaning V W} {old new : Turns P J T A}
+    {before value : V} {s : State V W} → StopsUpdate w m old new before value
     → AreAt w old before s → AreNextAt w old new value (stop m s)
 stops-next stopped at = record { are_at = stopped.stops _ at; memory = stopped.memory _ at }
 
 -- a turn that parses bytes, after a stop if need be
-pub ends_turn : {P J T A V W : Type 0} {w : Parts P J T W} {m : Meaning V W} {old mid new : Turns P J T A} {value : V} {s : State V W} {bytes : List ℕ} (answer : Bool)
-    → m.timeout.allows s.timeout answer → is_held answer s bytes ≡ false → KeepsMemory w old mid → (result : Result ℕ Refused)
+pub ends_turn : {P J T A V W : Type 0} {w : Parts P J T W} {m : Meaning V W} {old mid new : Turns P J T A} {value : V}
+    {s : State V W} {bytes : List ℕ} (answer : Bool)
+    → m.timeout.allows s.timeout answer → is_held answer s bytes ≡ false → KeepsMemory w old mid
+    → (result : Result ℕ Refused)
     → MatchResult result (λ read. read ≤ length bytes) (λ refused. refused.read < length bytes)
-    → EndsOpen m (opened m answer s) bytes result (AreNextAt w mid new value) → EndsTurn m s bytes result (AreNextAt w old new value)
+    → EndsOpen m (opened m answer s) bytes result (AreNextAt w mid new value)
+    → EndsTurn m s bytes result (AreNextAt w old new value)
 ends_turn answer allowed parses keeps (Ok read) less e = record {
-  turned = record { answer = answer; allowed = allowed; progress = e.opened.progress; rest = rw parses e.opened.rest; is_at = rw parses (behind-next keeps e.opened.is_at) };
+  turned =
+      record {
+        answer = answer;
+        allowed = allowed;
+        progress = e.opened.progress;
+        rest = rw parses e.opened.rest;
+        is_at = rw parses (behind-next keeps e.opened.is_at);
+      };
   halted = tt;
 }
 ends_turn {m = m} {s = s} {bytes = bytes} answer allowed parses keeps (Err refused) less e = record {
@@ -91,17 +119,26 @@ ends_turn {m = m} {s = s} {bytes = bytes} answer allowed parses keeps (Err refus
 -- ---- one turn
 
 module _ {V W : Type 0} (m : Meaning V W) {s : State V W} {bytes : List ℕ} {n : ℕ} {there : State V W → Type 0} where
-  pub turned_hold : {answer : Bool} → m.timeout.allows s.timeout answer → is_held answer s bytes ≡ true → n ≡ length bytes → there (hold_turn m s bytes) → Turned m s bytes n there
+  pub turned_hold : {answer : Bool} → m.timeout.allows s.timeout answer → is_held answer s bytes ≡ true
+      → n ≡ length bytes → there (hold_turn m s bytes) → Turned m s bytes n there
   turned_hold {answer} allowed held all at =
-      record { answer = answer; allowed = allowed; progress = λ some. omega arith; rest = rw held (sym (drop_all n bytes (omega arith))); is_at = rw held at }
+      record {
+        answer = answer;
+        allowed = allowed;
+        progress = λ some. omega arith;
+        rest = rw held (sym (drop_all n bytes (omega arith)));
+        is_at = rw held at;
+      }
 
 -- ---- the turns of a call
 
-rest_is : (bytes : List ℕ) (read : ℕ) → read ≤ length bytes → take (length bytes - read) (drop read bytes) ≡ drop read bytes
+rest_is : (bytes : List ℕ) (read : ℕ) → read ≤ length bytes
+    → take (length bytes - read) (drop read bytes) ≡ drop read bytes
 rest_is bytes read inside = take_all (length bytes - read) (drop read bytes) (rw length-drop (omega arith))
 
 -- how many bytes are left
-pub rest_size : (bytes : List ℕ) (read : ℕ) → read ≤ length bytes → length (take (length bytes - read) (drop read bytes)) ≡ length bytes - read
+pub rest_size : (bytes : List ℕ) (read : ℕ) → read ≤ length bytes
+    → length (take (length bytes - read) (drop read bytes)) ≡ length bytes - read
 rest_size bytes read inside = rw (rest_is bytes read inside, length-drop)
 
 module _ {V W : Type 0} (m : Meaning V W) (s : State V W) (bytes : List ℕ) where
@@ -115,14 +152,17 @@ module _ {V W : Type 0} (m : Meaning V W) (s : State V W) (bytes : List ℕ) whe
   pub reaches-nothing : {there : State V W → Type 0} → there s → HasReached 0 0 there
   reaches-nothing at = record { here = s; enough = omega arith; takes = done; is_at = at }
 
-  pub reaches-more : {P J T A : Type 0} {w : Parts P J T W} {first mid new : Turns P J T A} {before value : V} {count read n : ℕ}
+  pub reaches-more : {P J T A : Type 0} {w : Parts P J T W} {first mid new : Turns P J T A} {before value : V}
+      {count read n : ℕ}
       → (r : HasReached count read (AreNextAt w first mid before)) → read < length bytes
-      → Turned m r.here (take (length bytes - read) (drop read bytes)) n (AreNextAt w mid new value) → HasReached (count + 1) (read + n) (AreNextAt w first new value)
+      → Turned m r.here (take (length bytes - read) (drop read bytes)) n (AreNextAt w mid new value)
+      → HasReached (count + 1) (read + n) (AreNextAt w first new value)
   reaches-more {count = count} {read = read} {n = n} r some u =
       let slice = take (length bytes - read) (drop read bytes) in
       let is : slice ≡ drop read bytes = rest_is bytes read (omega arith) in
       let left : 0 < length slice = rw (is, length-drop read bytes) (omega arith) in
-      let rest : (turn m u.answer r.here slice).rest ≡ drop (read + n) bytes = u.rest ∙ rw (is, drop-drop n read bytes) in
+      let rest : (turn m u.answer r.here slice).rest ≡ drop (read + n) bytes =
+      u.rest ∙ rw (is, drop-drop n read bytes) in
       record {
         here = (turn m u.answer r.here slice).state;
         enough = omega (arith, r.enough, u.progress left);
@@ -130,32 +170,39 @@ module _ {V W : Type 0} (m : Meaning V W) (s : State V W) (bytes : List ℕ) whe
         is_at = behind-next r.is_at.memory u.is_at;
       }
 
-  taken : {read : ℕ} {there : State V W → Type 0} (t : State V W) → TakesSome m s bytes t (drop read bytes) → there t → HasTaken m s bytes read there
+  taken : {read : ℕ} {there : State V W → Type 0} (t : State V W) → TakesSome m s bytes t (drop read bytes) → there t
+      → HasTaken m s bytes read there
   taken {read = read} t takes at = record {
     next = t;
     takes = takes;
     each_once = append_cancel_right _ _ (drop read bytes)
-        (grown_bytes (some_grow m s t bytes (drop read bytes) takes) ∙ ap (λ x. all_bytes s ++ x) (sym (take-append-drop read bytes))
+        (grown_bytes (some_grow m s t bytes (drop read bytes) takes)
+        ∙ ap (λ x. all_bytes s ++ x) (sym (take-append-drop read bytes))
         ∙ sym (append_assoc (all_bytes s) (take read bytes) (drop read bytes)));
     holds_well = some_well m s t bytes (drop read bytes) takes;
     is_at = at;
   }
 
-  pub has_taken : {count read : ℕ} {there : State V W → Type 0} → HasReached count read there → HasTaken m s bytes read there
+  pub has_taken : {count read : ℕ} {there : State V W → Type 0} → HasReached count read there
+      → HasTaken m s bytes read there
   has_taken r = taken r.here (between r.takes) r.is_at
 
   -- a turn was refused memory
-  pub has_halted : {P J T A : Type 0} {w : Parts P J T W} {first mid new : Turns P J T A} {before value : V} {count read n : ℕ}
+  pub has_halted : {P J T A : Type 0} {w : Parts P J T W} {first mid new : Turns P J T A} {before value : V}
+      {count read n : ℕ}
       → (r : HasReached count read (AreNextAt w first mid before)) → read ≤ length bytes
-      → Halted m r.here (take (length bytes - read) (drop read bytes)) n (AreNextAt w mid new value) → HasTaken m s bytes (read + n) (AreNextAt w first new value)
+      → Halted m r.here (take (length bytes - read) (drop read bytes)) n (AreNextAt w mid new value)
+      → HasTaken m s bytes (read + n) (AreNextAt w first new value)
   has_halted {read = read} {n = n} r inside h =
       let slice = take (length bytes - read) (drop read bytes) in
       let is : slice ≡ drop read bytes = rest_is bytes read inside in
       let left : drop n slice ≡ drop (read + n) bytes = rw (is, drop-drop n read bytes) in
-      taken h.next (rw left at (some_on m s r.here h.next bytes slice (drop n slice) (rw is r.takes) h.takes)) (behind-next r.is_at.memory h.is_at)
+      taken h.next (rw left at (some_on m s r.here h.next bytes slice (drop n slice) (rw is r.takes) h.takes))
+      (behind-next r.is_at.memory h.is_at)
 
   -- a call that has read all its bytes
-  pub has_advanced : {read : ℕ} {there : State V W → Type 0} → HasTaken m s bytes read there → length bytes ≤ read → Advanced m s bytes there
+  pub has_advanced : {read : ℕ} {there : State V W → Type 0} → HasTaken m s bytes read there → length bytes ≤ read
+      → Advanced m s bytes there
   has_advanced {read} h all = record {
     next = h.next;
     advances = all_taken m s h.next bytes (rw (drop_all read bytes all) at h.takes);
@@ -165,32 +212,59 @@ module _ {V W : Type 0} (m : Meaning V W) (s : State V W) (bytes : List ℕ) whe
   }
 
 -- what is true where a call is, of which more is known
-pub taken-at : {P J T A V W : Type 0} {w : Parts P J T W} {m : Meaning V W} {s : State V W} {bytes : List ℕ} {read : ℕ} {old new : Turns P J T A} {value : V}
+pub taken-at : {P J T A V W : Type 0} {w : Parts P J T W} {m : Meaning V W} {s : State V W} {bytes : List ℕ} {read : ℕ}
+    {old new : Turns P J T A} {value : V}
     → HasTaken m s bytes read (AreNextAt w old new value) → HasTaken m s bytes read (AreAt w new value)
-taken-at h = record { next = h.next; takes = h.takes; each_once = h.each_once; holds_well = h.holds_well; is_at = h.is_at.are_at }
+taken-at h =
+    record {
+      next = h.next;
+      takes = h.takes;
+      each_once = h.each_once;
+      holds_well = h.holds_well;
+      is_at = h.is_at.are_at;
+    }
 
 -- what a call ensures by its turns
-module _ {P J T A V W : Type 0} {w : Parts P J T W} {m : Meaning V W} {old new : Turns P J T A} {before value : V} (bytes : Bor (List ℕ)) where
-  pub reads_all : ((s : State V W) → AreAt w old before s → Advanced m s bytes.now (AreAt w new value)) → ReadsAll w m old new before value bytes.now
+module _ {P J T A V W : Type 0} {w : Parts P J T W} {m : Meaning V W} {old new : Turns P J T A} {before value : V}
+    (bytes : Bor (List ℕ)) where
+  pub reads_all : ((s : State V W) → AreAt w old before s → Advanced m s bytes.now (AreAt w new value))
+      → ReadsAll w m old new before value bytes.now
   reads_all advances = record { advances = advances; plain = plain_call m bytes advances }
 
   pub never_refused : (result : Result (Unit {0}) Refused) → ReadsSome w m old new before value bytes.now result
-      → ((stream : List ℕ) (count : ℕ) → w.reading.lacks_room new.parser (w.room_of new.state.text) stream count → ⊥) → ReadsAll w m old new before value bytes.now
+      → ((stream : List ℕ) (count : ℕ) → w.reading.lacks_room new.parser (w.room_of new.state.text) stream count → ⊥)
+      → ReadsAll w m old new before value bytes.now
   never_refused (Ok all) r never = r.all
   never_refused (Err refused) r never =
-      reads_all (λ s at. absurd (let t = r.takes s at in never t.next.parsed _ (r.lacks s at t.next.parsed t.is_at.stands.has_parsed.has_read).is_lacking))
+      reads_all
+      (λ s at.
+      absurd (let t = r.takes s at in
+      never t.next.parsed _ (r.lacks s at t.next.parsed t.is_at.stands.has_parsed.has_read).is_lacking))
 
-  pub all_read : {count read : ℕ} → ((s : State V W) → AreAt w old before s → HasReached m s bytes.now count read (AreNextAt w old new value))
-      → ((s : State V W) → AreAt w old before s → read ≡ length bytes.now) → ReadsSome w m old new before value bytes.now (Ok tt)
+  pub all_read : {count read : ℕ}
+      → ((s : State V W) → AreAt w old before s → HasReached m s bytes.now count read (AreNextAt w old new value))
+      → ((s : State V W) → AreAt w old before s → read ≡ length bytes.now)
+      → ReadsSome w m old new before value bytes.now (Ok tt)
   all_read reaches is = record {
-    all = reads_all (λ s at. has_advanced m s bytes.now (taken-at (has_taken m s bytes.now (reaches s at))) (omega (arith, is s at)));
+    all =
+        reads_all
+        (λ s at. has_advanced m s bytes.now (taken-at (has_taken m s bytes.now (reaches s at)))
+        (omega (arith, is s at)));
     takes = λ s at. rw (is s at) at (taken-at (has_taken m s bytes.now (reaches s at)));
     within = tt;
     lacks = tt;
     memory = λ s at. (reaches s at).is_at.memory;
   }
 
-  pub read_until : {refused : Refused} → ((s : State V W) → AreAt w old before s → HasTaken m s bytes.now refused.read (AreNextAt w old new value))
-      → refused.read < length bytes.now → LacksSome w new (length bytes.now - refused.read) → ReadsSome w m old new before value bytes.now (Err refused)
+  pub read_until : {refused : Refused}
+      → ((s : State V W) → AreAt w old before s → HasTaken m s bytes.now refused.read (AreNextAt w old new value))
+      → refused.read < length bytes.now → LacksSome w new (length bytes.now - refused.read)
+      → ReadsSome w m old new before value bytes.now (Err refused)
   read_until taken less lacks =
-      record { all = tt; takes = λ s at. taken-at (taken s at); within = less; lacks = λ s at. lacks; memory = λ s at. (taken s at).is_at.memory }
+      record {
+        all = tt;
+        takes = λ s at. taken-at (taken s at);
+        within = less;
+        lacks = λ s at. lacks;
+        memory = λ s at. (taken s at).is_at.memory;
+      }

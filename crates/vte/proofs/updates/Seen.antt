@@ -12,8 +12,12 @@ record IsNeither (text : List ℕ) (place : ℕ) : Type 0 where
   pub no_end : begins_with end_update (drop place text) ≡ false
 
 -- without ESC, or with fewer than eight bytes
-neither_plain : (text : List ℕ) (place : ℕ) → place < length text → eqb (get_or text place 0) 0x1b ≡ false → IsNeither text place
-neither_plain text place l e = let d = drop_more text place 0 l in record { no_begin = rw d (grind (arith, nat_tests)); no_end = rw d (grind (arith, nat_tests)) }
+neither_plain : (text : List ℕ) (place : ℕ) → place < length text → eqb (get_or text place 0) 0x1b ≡ false
+    → IsNeither text place
+neither_plain text place l e =
+    let d =
+    drop_more text place 0 l in
+    record { no_begin = rw d (grind (arith, nat_tests)); no_end = rw d (grind (arith, nat_tests)) }
 
 too_short : (sequence text : List ℕ) → length text < length sequence → begins_with sequence text ≡ false
 too_short sequence text short = elim (cases_Bool (begins_with sequence text)) [
@@ -24,29 +28,45 @@ too_short sequence text short = elim (cases_Bool (begins_with sequence text)) [
 neither_short : (text : List ℕ) (place : ℕ) → length text < place + 8 → IsNeither text place
 neither_short text place short =
     let few : length (drop place text) < 8 = rw length-drop (omega arith) in
-    record { no_begin = too_short begin_update (drop place text) few; no_end = too_short end_update (drop place text) few }
+    record {
+      no_begin = too_short begin_update (drop place text) few;
+      no_end = too_short end_update (drop place text) few;
+    }
 
 -- with ESC among the seven bytes that follow
 abbrev HasNoEscape : List ℕ → Type 0
 HasNoEscape [] = Unit {0}
 HasNoEscape (b ∷ bytes) = (eqb b 0x1b ≡ false) × HasNoEscape bytes
 
-no_escape : (sequence text : List ℕ) (i : ℕ) → HasNoEscape sequence → i < length sequence → eqb (get_or text i 0) 0x1b ≡ true
+no_escape : (sequence text : List ℕ) (i : ℕ) → HasNoEscape sequence → i < length sequence
+    → eqb (get_or text i 0) 0x1b ≡ true
     → begins_with sequence text ≡ false
 no_escape [] text i plain inside here = absurd (omega arith)
 no_escape (a ∷ sequence) [] i plain inside here = refl
 no_escape (a ∷ sequence) (b ∷ text) zero plain inside here = let first = plain.0 in grind (arith, nat_tests)
-no_escape (a ∷ sequence) (b ∷ text) (suc i) plain inside here = rw (no_escape sequence text i plain.1 (omega arith) here) (and-false _)
+no_escape (a ∷ sequence) (b ∷ text) (suc i) plain inside here =
+    rw (no_escape sequence text i plain.1 (omega arith) here) (and-false _)
 
-neither_before : (text : List ℕ) (place escape : ℕ) → place < escape → escape < place + 8 → escape < length text → eqb (get_or text escape 0) 0x1b ≡ true → IsNeither text place
+neither_before : (text : List ℕ) (place escape : ℕ) → place < escape → escape < place + 8 → escape < length text
+    → eqb (get_or text escape 0) 0x1b ≡ true → IsNeither text place
 neither_before text place escape before near inside here =
     let d = drop_more text place 0 (omega arith) in
     let i = escape - (place + 1) in
     let n : place + 1 + i ≡ escape = omega arith in
     let there : eqb (get_or (drop (place + 1) text) i 0) 0x1b ≡ true = rw (get_or-drop, n) here in
     record {
-      no_begin = rw (d, no_escape (drop 1 begin_update) (drop (place + 1) text) i (refl, (refl, (refl, (refl, (refl, (refl, (refl, tt))))))) (omega arith) there) (and-false _);
-      no_end = rw (d, no_escape (drop 1 end_update) (drop (place + 1) text) i (refl, (refl, (refl, (refl, (refl, (refl, (refl, tt))))))) (omega arith) there) (and-false _);
+      no_begin =
+          rw (
+            d,
+            no_escape (drop 1 begin_update) (drop (place + 1) text) i
+                (refl, (refl, (refl, (refl, (refl, (refl, (refl, tt))))))) (omega arith) there,
+          ) (and-false _);
+      no_end =
+          rw (
+            d,
+            no_escape (drop 1 end_update) (drop (place + 1) text) i
+                (refl, (refl, (refl, (refl, (refl, (refl, (refl, tt))))))) (omega arith) there,
+          ) (and-false _);
     }
 
 begins_one : (text : List ℕ) → begins_with begin_update text ≡ true → begins_with end_update text ≡ false
@@ -60,12 +80,14 @@ pub record HasSeen (text : List ℕ) (new unread begin begins : ℕ) : Type 0 wh
 
 -- ---- one place more
 
-module _ (text : List ℕ) (new place begin begins : ℕ) (l : place < length text) (seen : HasSeen text new (place + 1) begin begins) where
+module _ (text : List ℕ) (new place begin begins : ℕ) (l : place < length text)
+    (seen : HasSeen text new (place + 1) begin begins) where
   seen_other : IsNeither text place → HasSeen text new place begin begins
   seen_other n = let d = drop_more text place 0 l in let e = n.no_begin in let other = n.no_end in grind (arith, d)
 
   -- with at most seven older bytes from there on, it ends among the new ones
-  seen_begin : length text ≤ place + 7 + new → begins_with begin_update (drop place text) ≡ true → HasSeen text new place place (begins + 1)
+  seen_begin : length text ≤ place + 7 + new → begins_with begin_update (drop place text) ≡ true
+      → HasSeen text new place place (begins + 1)
   seen_begin few e =
       let d = drop_more text place 0 l in
       let long = begins_long begin_update (drop place text) e in
@@ -79,12 +101,16 @@ module _ (text : List ℕ) (new place begin begins : ℕ) (l : place < length te
         begins_are = rw (d, here, near) (omega (arith, seen.begins_are));
       }
 
-  pub seen_end : begins_with end_update (drop place text) ≡ true → Adds text new (record { begins = begins; released = begin })
+  pub seen_end : begins_with end_update (drop place text) ≡ true
+      → Adds text new (record { begins = begins; released = begin })
   seen_end e =
       let d = drop_more text place 0 l in
       let skipped = end_skipped new (get_or text place 0) (drop (place + 1) text) (rw d at e) in
       let last : behind_last_end text ≡ Some (drop 7 (drop (place + 1) text)) = last_of place text _ (grind arith) in
-      record { begins = rw last (seen.begins_are ∙ skipped.1); released = rw last (seen.begin_is ∙ ap (λ part. length text - length part) skipped.0) }
+      record {
+        begins = rw last (seen.begins_are ∙ skipped.1);
+        released = rw last (seen.begin_is ∙ ap (λ part. length text - length part) skipped.0);
+      }
     where
       last_of : (n : ℕ) (h behind : List ℕ) → behind_last_end (drop n h) ≡ Some behind → behind_last_end h ≡ Some behind
       last_of zero h behind e = e
@@ -93,20 +119,24 @@ module _ (text : List ℕ) (new place begin begins : ℕ) (l : place < length te
 
 -- ---- many places more
 
-seen_further : (text : List ℕ) (new n place begin begins : ℕ) → place + n ≤ length text → ((k : ℕ) → place ≤ k → k < place + n → IsNeither text k)
+seen_further : (text : List ℕ) (new n place begin begins : ℕ) → place + n ≤ length text
+    → ((k : ℕ) → place ≤ k → k < place + n → IsNeither text k)
     → HasSeen text new (place + n) begin begins → HasSeen text new place begin begins
 seen_further text new zero place begin begins within neither seen = rw add-zero at seen
 seen_further text new (suc n) place begin begins within neither seen =
     let e : place + suc n ≡ place + n + 1 = omega arith in
     seen_further text new n place begin begins (omega arith) (λ k low high. neither k low (omega arith))
-    (seen_other text new (place + n) begin begins (omega arith) (rw e at seen) (neither (place + n) (omega arith) (omega arith)))
+    (seen_other text new (place + n) begin begins (omega arith) (rw e at seen)
+    (neither (place + n) (omega arith) (omega arith)))
 
 -- if no sequence begins in between
-seen_down : (text : List ℕ) (new place unread begin begins : ℕ) → place ≤ unread → unread ≤ length text → ((k : ℕ) → place ≤ k → k < unread → IsNeither text k)
+seen_down : (text : List ℕ) (new place unread begin begins : ℕ) → place ≤ unread → unread ≤ length text
+    → ((k : ℕ) → place ≤ k → k < unread → IsNeither text k)
     → HasSeen text new unread begin begins → HasSeen text new place begin begins
 seen_down text new place unread begin begins l within neither seen =
     let e : unread ≡ place + (unread - place) = omega arith in
-    seen_further text new (unread - place) place begin begins (omega arith) (λ k low high. neither k low (omega arith)) (rw e at seen)
+    seen_further text new (unread - place) place begin begins (omega arith) (λ k low high. neither k low (omega arith))
+    (rw e at seen)
 
 -- ---- the end of a hold
 
@@ -117,17 +147,23 @@ pub record IsLastEscape (all : List ℕ) (new place unread begin begins : ℕ) :
   pub here : eqb (get_or all place 0) 0x1b ≡ true
   pub seen : HasSeen all new (place + 1) begin begins
 
-module _ {all : List ℕ} {new place unread begin begins : ℕ} (e : IsLastEscape all new place unread begin begins) (at : ℕ) (low : at ≤ place) (near : place ≤ at + 7) where
+module _ {all : List ℕ} {new place unread begin begins : ℕ} (e : IsLastEscape all new place unread begin begins)
+    (at : ℕ) (low : at ≤ place) (near : place ≤ at + 7) where
   further : (first count : ℕ) → HasSeen all new place first count → HasSeen all new at first count
   further first count seen =
       let inside = e.inside in
-      seen_down all new at place first count low (omega arith) (λ k low high. neither_before all k place high (omega arith) inside e.here) seen
+      seen_down all new at place first count low (omega arith)
+      (λ k low high. neither_before all k place high (omega arith) inside e.here) seen
 
-  pub seen_begin_before : length all ≤ place + 7 + new → begins_with begin_update (drop place all) ≡ true → HasSeen all new at place (begins + 1)
+  pub seen_begin_before : length all ≤ place + 7 + new → begins_with begin_update (drop place all) ≡ true
+      → HasSeen all new at place (begins + 1)
   seen_begin_before few b = further place (begins + 1) (seen_begin all new place begin begins e.inside e.seen few b)
 
-  pub seen_other_before : begins_with begin_update (drop place all) ≡ false → begins_with end_update (drop place all) ≡ false → HasSeen all new at begin begins
-  seen_other_before b other = further begin begins (seen_other all new place begin begins e.inside e.seen (record { no_begin = b; no_end = other }))
+  pub seen_other_before : begins_with begin_update (drop place all) ≡ false
+      → begins_with end_update (drop place all) ≡ false → HasSeen all new at begin begins
+  seen_other_before b other =
+      further begin begins
+      (seen_other all new place begin begins e.inside e.seen (record { no_begin = b; no_end = other }))
 
 module _ {held more text : List ℕ} {start : ℕ} (e : IsEnd held more text start) where
   abbrev all : List ℕ
@@ -137,27 +173,35 @@ module _ {held more text : List ℕ} {start : ℕ} (e : IsEnd held more text sta
   whole_size = let from = e.start_is in omega (arith, ap length e.is, length-drop start all, length-append held more)
 
   pub sequence_at : (place : ℕ) → take (length text - place) (drop place text) ≡ drop (start + place) all
-  sequence_at place = take_all (length text - place) (drop place text) (rw length-drop (omega arith)) ∙ ap (drop place) e.is ∙ drop-drop place start all
+  sequence_at place =
+      take_all (length text - place) (drop place text) (rw length-drop (omega arith)) ∙ ap (drop place) e.is
+      ∙ drop-drop place start all
 
   byte_at : (unread k : ℕ) → k < unread → get_or (take unread text) k 0 ≡ get_or all (start + k) 0
   byte_at unread k inside = get_or-take unread text k 0 inside ∙ ap (λ bytes. get_or bytes k 0) e.is ∙ rw get_or-drop
 
-  neither_between : (from low unread : ℕ) → start + from ≡ low → unread ≤ length text → Nowhere (Passes (is_byte 0x1b) (take unread text)) from (length (take unread text))
+  neither_between : (from low unread : ℕ) → start + from ≡ low → unread ≤ length text
+      → Nowhere (Passes (is_byte 0x1b) (take unread text)) from (length (take unread text))
       → (k : ℕ) → low ≤ k → k < start + unread → IsNeither all k
   neither_between from low unread is within nowhere k above high =
       let i = k - start in
       let place : start + i ≡ k = omega arith in
       let here : get_or (take unread text) i 0 ≡ get_or all k 0 = byte_at unread i (omega arith) ∙ rw place in
-      neither_plain all k (omega (arith, whole_size)) (grind (arith, nowhere i (omega arith) (rw length-take-le (omega arith))))
+      neither_plain all k (omega (arith, whole_size))
+      (grind (arith, nowhere i (omega arith) (rw length-take-le (omega arith))))
 
   -- there is no room for a sequence in the last seven bytes
-  pub seen_nothing : (unread : ℕ) → unread ≡ length text - 7 → HasSeen all (length more) (start + unread) (start + length text) 0
+  pub seen_nothing : (unread : ℕ) → unread ≡ length text - 7
+      → HasSeen all (length more) (start + unread) (start + length text) 0
   seen_nothing unread is =
       let none = drop_all (length all) all (omega arith) in
-      seen_down all (length more) (start + unread) (length all) (start + length text) 0 (omega (arith, whole_size)) (omega arith)
-      (λ k low high. neither_short all k (omega (arith, whole_size))) (record { no_end = rw none; begin_is = rw none (omega (arith, whole_size)); begins_are = rw none })
+      seen_down all (length more) (start + unread) (length all) (start + length text) 0
+      (omega (arith, whole_size)) (omega arith)
+      (λ k low high. neither_short all k (omega (arith, whole_size)))
+      (record { no_end = rw none; begin_is = rw none (omega (arith, whole_size)); begins_are = rw none })
 
-  pub last_escape : (place unread begin begins : ℕ) → unread ≤ length text → NoneAfter (Passes (is_byte 0x1b) (take unread text)) 0 (length (take unread text)) place
+  pub last_escape : (place unread begin begins : ℕ) → unread ≤ length text
+      → NoneAfter (Passes (is_byte 0x1b) (take unread text)) 0 (length (take unread text)) place
       → Passes (is_byte 0x1b) (take unread text) place → HasSeen all (length more) (start + unread) begin begins
       → IsLastEscape all (length more) (start + place) (start + unread) begin begins
   last_escape place unread begin begins within last escape seen =
@@ -166,16 +210,24 @@ module _ {held more text : List ℕ} {start : ℕ} (e : IsEnd held more text sta
         earlier = omega arith;
         inside = omega (arith, whole_size);
         here = rw (byte_at unread place earlier) at escape;
-        seen = seen_down all (length more) (start + place + 1) (start + unread) begin begins (omega arith) (omega (arith, whole_size))
+        seen =
+            seen_down all (length more) (start + place + 1) (start + unread) begin begins (omega arith)
+            (omega (arith, whole_size))
             (neither_between (place + 1) _ unread (omega arith) within last.after) seen;
       }
 
   -- if no ESC is left, there is no end-update, as there is none in the older bytes
-  pub seen_all : (unread begin begins : ℕ) → behind_last_end held ≡ None → unread ≤ length text → Nowhere (Passes (is_byte 0x1b) (take unread text)) 0 (length (take unread text))
-      → HasSeen all (length more) (start + unread) begin begins → Adds all (length more) (record { begins = begins; released = 0 })
+  pub seen_all : (unread begin begins : ℕ) → behind_last_end held ≡ None → unread ≤ length text
+      → Nowhere (Passes (is_byte 0x1b) (take unread text)) 0 (length (take unread text))
+      → HasSeen all (length more) (start + unread) begin begins
+      → Adds all (length more) (record { begins = begins; released = 0 })
   seen_all unread begin begins none within nowhere seen =
-      let rest = seen_down all (length more) start (start + unread) begin begins (omega arith) (omega (arith, whole_size))
+      let rest =
+      seen_down all (length more) start (start + unread) begin begins (omega arith) (omega (arith, whole_size))
       (neither_between 0 start unread (omega arith) within nowhere) seen in
       let tail : drop start all ≡ drop (length held - 7) all = rw e.start_is in
       let no_end : behind_last_end all ≡ None = cc (tail, behind_last_end-tail held more none, rest.no_end) in
-      record { begins = rw no_end (cc (tail, rest.begins_are, begins_among-tail (length more) held more refl)); released = rw no_end (omega arith) }
+      record {
+        begins = rw no_end (cc (tail, rest.begins_are, begins_among-tail (length more) held more refl));
+        released = rw no_end (omega arith);
+      }

@@ -12,7 +12,8 @@ cases_Option (Some x) = inr (x, refl)
 -- ---- a sequence at the front
 
 -- the text is the sequence and what follows it
-pub begins_is : (sequence text : List ℕ) → begins_with sequence text ≡ true → text ≡ sequence ++ drop (length sequence) text
+pub begins_is : (sequence text : List ℕ) → begins_with sequence text ≡ true
+    → text ≡ sequence ++ drop (length sequence) text
 begins_is [] text e = refl
 begins_is (a ∷ sequence) [] e = cc
 begins_is (a ∷ sequence) (b ∷ text) e = grind (arith, nat_tests, begins_is sequence text)
@@ -23,12 +24,14 @@ begins_long (a ∷ sequence) [] e = cc
 begins_long (a ∷ sequence) (b ∷ text) e = grind (arith, nat_tests, begins_long sequence text)
 
 -- more bytes don't matter if there are enough
-begins_with-more : (sequence text more : List ℕ) → length sequence ≤ length text → begins_with sequence (text ++ more) ≡ begins_with sequence text
+begins_with-more : (sequence text more : List ℕ) → length sequence ≤ length text
+    → begins_with sequence (text ++ more) ≡ begins_with sequence text
 begins_with-more [] text more l = refl
 begins_with-more (a ∷ sequence) [] more l = absurd (omega arith)
 begins_with-more (a ∷ sequence) (b ∷ text) more l = grind (arith, begins_with-more sequence text more)
 
-pub begins_with-append : (sequence text more : List ℕ) → begins_with sequence text ≡ true → begins_with sequence (text ++ more) ≡ true
+pub begins_with-append : (sequence text more : List ℕ) → begins_with sequence text ≡ true
+    → begins_with sequence (text ++ more) ≡ true
 begins_with-append sequence text more e = grind (arith, begins_long sequence text, begins_with-more sequence text more)
 
 -- no update begins inside an end-update
@@ -87,9 +90,11 @@ pub record StartsAtBegin (kept text : List ℕ) : Type 0 where
   pub begins : 0 < length kept → begins_with begin_update kept ≡ true
 
 starts_at_begin : (text : List ℕ) → StartsAtBegin (from_begin text) text
-starts_at_begin [] = record { suffix = record { front = 0; within = omega arith; is = refl }; begins = λ some. absurd (omega arith) }
+starts_at_begin [] =
+    record { suffix = record { front = 0; within = omega arith; is = refl }; begins = λ some. absurd (omega arith) }
 starts_at_begin (b ∷ text) = elim (cases_Bool (begins_with begin_update (b ∷ text))) [
-  | inl here ↦ rw here (record { suffix = record { front = 0; within = omega arith; is = refl }; begins = λ some. here })
+  | inl here ↦
+      rw here (record { suffix = record { front = 0; within = omega arith; is = refl }; begins = λ some. here })
   | inr later ↦ rw later (let l = starts_at_begin text in record { suffix = suffix-more b l.suffix; begins = l.begins })
 ]
 
@@ -101,7 +106,9 @@ pub record StaysHeld (held kept : List ℕ) : Type 0 where
 
 pub stays_held : (held : List ℕ) → StaysHeld held (kept_of held)
 stays_held held = elim (cases_Option (behind_last_end held)) [
-  | inl none ↦ rw none (record { suffix = record { front = 0; within = omega arith; is = refl }; no_end = none; begins = inl refl })
+  | inl none ↦
+      rw none
+      (record { suffix = record { front = 0; within = omega arith; is = refl }; no_end = none; begins = inl refl })
   | inr some ↦
       let last = follows_last_end held some.0 some.1 in
       let first = starts_at_begin some.0 in
@@ -121,10 +128,12 @@ stays-is held =
 -- ---- the last seven of the older bytes suffice, if no end-update is in them
 
 -- an end-update that begins eight bytes before the end of the older ones would be in them
-no_end_here : (b : ℕ) (old more : List ℕ) → 7 ≤ length old → behind_last_end (b ∷ old) ≡ None → begins_with end_update (b ∷ (old ++ more)) ≡ false
+no_end_here : (b : ℕ) (old more : List ℕ) → 7 ≤ length old → behind_last_end (b ∷ old) ≡ None
+    → begins_with end_update (b ∷ (old ++ more)) ≡ false
 no_end_here b old more long none = grind (arith, begins_with-more end_update (b ∷ old) more (omega arith))
 
-pub behind_last_end-tail : (old more : List ℕ) → behind_last_end old ≡ None → behind_last_end (old ++ more) ≡ behind_last_end (drop (length old - 7) (old ++ more))
+pub behind_last_end-tail : (old more : List ℕ) → behind_last_end old ≡ None
+    → behind_last_end (old ++ more) ≡ behind_last_end (drop (length old - 7) (old ++ more))
 behind_last_end-tail [] more none = refl
 behind_last_end-tail (b ∷ old) more none = elim (cases_lt (length old) 7) [
   | inl few ↦ let e : suc (length old) - 7 ≡ 0 = omega arith in rw e
@@ -133,13 +142,16 @@ behind_last_end-tail (b ∷ old) more none = elim (cases_lt (length old) 7) [
       rw e (grind (arith, no_end_here b old more many none, behind_last_end-tail old more))
 ]
 
--- A begin-update ends among the last n bytes only if it begins among these and the seven before them.
-pub begins_among-tail : (n : ℕ) (old more : List ℕ) → length more ≡ n → begins_among n (old ++ more) ≡ begins_among n (drop (length old - 7) (old ++ more))
+-- A begin-update ends among the last n bytes only if it begins among these and the seven before
+-- them.
+pub begins_among-tail : (n : ℕ) (old more : List ℕ) → length more ≡ n
+    → begins_among n (old ++ more) ≡ begins_among n (drop (length old - 7) (old ++ more))
 begins_among-tail n [] more is = refl
 begins_among-tail n (b ∷ old) more is = elim (cases_lt (length old) 7) [
   | inl few ↦ let e : suc (length old) - 7 ≡ 0 = omega arith in rw e
   | inr many ↦
       let e : suc (length old) - 7 ≡ suc (length old - 7) = omega arith in
-      let far : nat_lt (length (drop 7 (old ++ more))) n ≡ false = rw (length-drop, length-append) (grind (arith, nat_tests)) in
+      let far : nat_lt (length (drop 7 (old ++ more))) n ≡ false =
+      rw (length-drop, length-append) (grind (arith, nat_tests)) in
       rw (e, far, and-false, zero-add) (begins_among-tail n old more is)
 ]

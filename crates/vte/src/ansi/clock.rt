@@ -6,7 +6,8 @@ use std::time::Duration;
 
 /// Gives the time, as the duration since a moment that the clock chooses.
 ///
-/// Its ghost members are a value, and a relation that says which times, in nanoseconds, the value allows.
+/// Its ghost members are a value, and a relation that says which times, in nanoseconds, the value
+/// allows.
 pub trait Clock {
     ghost Value: { Type 0 };
 

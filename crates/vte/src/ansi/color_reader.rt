@@ -17,7 +17,8 @@ fn next_part<I: NumberIterator>(numbers: &mut I) -> Option<u8>
 #[tactic(auto, using(crate::proofs::ColorReadings::no_red, crate::proofs::ColorReadings::behind_red, crate::proofs::ColorReadings::behind_green, crate::proofs::ColorReadings::behind_blue))]
 pub(crate) fn read_color<I: NumberIterator>(kind: u16, numbers: &mut I) -> Option<Color>
     ensures color { result ≡ (kind_reading kind (map I.number (I.left numbers.old))).color }
-    ensures rest { I.left numbers.new ≡ drop (kind_reading kind (map I.number (I.left numbers.old))).used (I.left numbers.old) }
+    ensures rest { I.left numbers.new
+        ≡ drop (kind_reading kind (map I.number (I.left numbers.old))).used (I.left numbers.old) }
 {
     match kind {
         2 => {

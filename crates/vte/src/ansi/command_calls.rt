@@ -29,7 +29,8 @@ pub(crate) fn perform_system_command<H: Handler, J: TextBuffer>(
 )
     requires { FitsRoom (J.room text.old) (map (λ piece. piece.now) pieces.now) }
     ensures told { H.value_of handler.new
-        ≡ after H.step (H.value_of handler.old) (system_command_calls (map (λ piece. piece.now) pieces.now) bell_terminated) }
+        ≡ after H.step (H.value_of handler.old)
+        (system_command_calls (map (λ piece. piece.now) pieces.now) bell_terminated) }
     ensures same { J.room text.new ≡ J.room text.old }
 {
     laws::words_differ_from_other_texts();
@@ -64,7 +65,9 @@ fn is_question(text: &[u8]) -> bool
 
 /// Sets a colour, or asks for it.
 fn set_color<H: Handler>(handler: &mut H, prefix: &str, index: usize, terminator: &str, text: &[u8])
-    ensures { H.value_of handler.new ≡ after H.step (H.value_of handler.old) (color_calls prefix.now index terminator.now text.now) }
+    ensures { H.value_of handler.new
+        ≡ after H.step (H.value_of handler.old)
+        (color_calls prefix.now index terminator.now text.now) }
 {
     if is_question(text) {
         handler.dynamic_color_sequence(prefix, index, terminator);
@@ -76,7 +79,9 @@ fn set_color<H: Handler>(handler: &mut H, prefix: &str, index: usize, terminator
 /// Sets a colour of the palette, or asks for it.
 #[tactic(auto, using(crate::proofs::Joining::few_digits))]
 fn set_pair<H: Handler>(handler: &mut H, index: &[u8], color: &[u8], terminator: &str)
-    ensures { H.value_of handler.new ≡ after H.step (H.value_of handler.old) (pair_calls terminator.now (decimal_number index.now) color.now) }
+    ensures { H.value_of handler.new
+        ≡ after H.step (H.value_of handler.old)
+        (pair_calls terminator.now (decimal_number index.now) color.now) }
 {
     if let Some(index) = parse_number(index) {
         let mut prefix = ArrayString::<5>::new();
@@ -95,7 +100,8 @@ fn set_pair<H: Handler>(handler: &mut H, index: &[u8], color: &[u8], terminator:
 #[tactic(auto, using(crate::proofs::Calling::pair_made))]
 fn set_colors<H: Handler>(handler: &mut H, texts: &[&[u8]], terminator: &str)
     ensures { H.value_of handler.new
-        ≡ after H.step (H.value_of handler.old) (palette_calls terminator.now (map (λ piece. piece.now) texts.now)) }
+        ≡ after H.step (H.value_of handler.old)
+        (palette_calls terminator.now (map (λ piece. piece.now) texts.now)) }
 {
     if texts.len() % 2 != 0 {
         return;
@@ -111,7 +117,8 @@ fn set_colors<H: Handler>(handler: &mut H, texts: &[&[u8]], terminator: &str)
 #[tactic(auto, using(crate::proofs::Joining::one_text))]
 fn set_link<H: Handler, J: TextBuffer>(handler: &mut H, text: &mut J, texts: &[&[u8]])
     requires { FitsRoom (J.room text.old) (map (λ piece. piece.now) texts.now) }
-    ensures told { H.value_of handler.new ≡ after H.step (H.value_of handler.old) (link_calls (map (λ piece. piece.now) texts.now)) }
+    ensures told { H.value_of handler.new
+        ≡ after H.step (H.value_of handler.old) (link_calls (map (λ piece. piece.now) texts.now)) }
     ensures same { J.room text.new ≡ J.room text.old }
 {
     match texts {
@@ -127,7 +134,8 @@ fn set_link<H: Handler, J: TextBuffer>(handler: &mut H, text: &mut J, texts: &[&
 /// Begins a link to a URI, or ends one if it is empty.
 #[tactic(auto, using(crate::proofs::Calling::some_link))]
 fn set_link_to<H: Handler>(handler: &mut H, parameters: &[u8], uri: &str)
-    ensures { H.value_of handler.new ≡ H.step (H.value_of handler.old) (SetHyperlink (link_to parameters.now uri.now)) }
+    ensures { H.value_of handler.new
+        ≡ H.step (H.value_of handler.old) (SetHyperlink (link_to parameters.now uri.now)) }
 {
     if uri.is_empty() {
         handler.set_hyperlink(None);
@@ -153,7 +161,8 @@ fn set_dynamic_color<H: Handler>(handler: &mut H, code: usize, terminator: &str,
 fn set_dynamic_colors<H: Handler>(handler: &mut H, first: usize, texts: &[&[u8]], terminator: &str)
     requires { first ≤ 12 }
     ensures { H.value_of handler.new
-        ≡ after H.step (H.value_of handler.old) (dynamic_calls first terminator.now (map (λ piece. piece.now) texts.now)) }
+        ≡ after H.step (H.value_of handler.old)
+        (dynamic_calls first terminator.now (map (λ piece. piece.now) texts.now)) }
 {
     let mut code = first;
     for text in texts {
@@ -163,7 +172,9 @@ fn set_dynamic_colors<H: Handler>(handler: &mut H, first: usize, texts: &[&[u8]]
 }
 
 fn set_pointer<H: Handler>(handler: &mut H, texts: &[&[u8]])
-    ensures { H.value_of handler.new ≡ after H.step (H.value_of handler.old) (pointer_calls (map (λ piece. piece.now) texts.now)) }
+    ensures { H.value_of handler.new
+        ≡ after H.step (H.value_of handler.old)
+        (pointer_calls (map (λ piece. piece.now) texts.now)) }
 {
     if let [name] = texts {
         if let Some(icon) = icon_named(name) {
@@ -181,7 +192,8 @@ fn icon_named(name: &[u8]) -> Option<CursorIcon>
 }
 
 fn set_shape<H: Handler>(handler: &mut H, texts: &[&[u8]])
-    ensures { H.value_of handler.new ≡ after H.step (H.value_of handler.old) (shape_calls (map (λ piece. piece.now) texts.now)) }
+    ensures { H.value_of handler.new
+        ≡ after H.step (H.value_of handler.old) (shape_calls (map (λ piece. piece.now) texts.now)) }
 {
     if let [text, ..] = texts {
         match behind(text, b"CursorShape=") {
@@ -194,7 +206,9 @@ fn set_shape<H: Handler>(handler: &mut H, texts: &[&[u8]])
 }
 
 fn use_clipboard<H: Handler>(handler: &mut H, texts: &[&[u8]], terminator: &str)
-    ensures { H.value_of handler.new ≡ after H.step (H.value_of handler.old) (clipboard_calls terminator.now (map (λ piece. piece.now) texts.now)) }
+    ensures { H.value_of handler.new
+        ≡ after H.step (H.value_of handler.old)
+        (clipboard_calls terminator.now (map (λ piece. piece.now) texts.now)) }
 {
     if let [name, data, ..] = texts {
         let clipboard = name.first().copied().unwrap_or(b'c');
@@ -216,7 +230,8 @@ fn reset_all<H: Handler>(handler: &mut H)
 }
 
 fn reset_colors<H: Handler>(handler: &mut H, texts: &[&[u8]])
-    ensures { H.value_of handler.new ≡ after H.step (H.value_of handler.old) (reset_calls (map (λ piece. piece.now) texts.now)) }
+    ensures { H.value_of handler.new
+        ≡ after H.step (H.value_of handler.old) (reset_calls (map (λ piece. piece.now) texts.now)) }
 {
     match texts {
         [] | [[], ..] => reset_all(handler),

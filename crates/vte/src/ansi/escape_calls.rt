@@ -26,7 +26,8 @@ pub(crate) fn perform_execute<H: Handler>(handler: &mut H, byte: u8)
 
 /// Makes the calls of an escape sequence.
 pub(crate) fn perform_escape<H: Handler>(handler: &mut H, intermediates: &[u8], byte: u8)
-    ensures { H.value_of handler.new ≡ after H.step (H.value_of handler.old) (escape_calls intermediates.now byte) }
+    ensures { H.value_of handler.new
+        ≡ after H.step (H.value_of handler.old) (escape_calls intermediates.now byte) }
 {
     match (byte, intermediates) {
         (b'B', [index]) => configure(handler, *index, StandardCharset::Ascii),
@@ -57,7 +58,9 @@ pub(crate) fn perform_escape<H: Handler>(handler: &mut H, intermediates: &[u8], 
 
 /// Configures the index that an intermediate designates.
 fn configure<H: Handler>(handler: &mut H, intermediate: u8, charset: StandardCharset)
-    ensures { H.value_of handler.new ≡ after H.step (H.value_of handler.old) (configured (beside charset_rows intermediate) (Some charset)) }
+    ensures { H.value_of handler.new
+        ≡ after H.step (H.value_of handler.old)
+        (configured (beside charset_rows intermediate) (Some charset)) }
 {
     match intermediate {
         b'(' => handler.configure_charset(CharsetIndex::G0, charset),

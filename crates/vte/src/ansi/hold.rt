@@ -52,8 +52,8 @@ impl<A: Allocator> SyncState<A> {
         &self.bytes.as_slice()[..self.released]
     }
 
-    /// Adds bytes. If an update ends among all bytes, releases those that no longer need to be held. Returns how many updates
-    /// begin among the added bytes, after the last one that ends.
+    /// Adds bytes. If an update ends among all bytes, releases those that no longer need to be
+    /// held. Returns how many updates begin among the added bytes, after the last one that ends.
     pub(crate) fn add(&mut self, more: &[u8]) -> usize
         requires { length (held_of self.old) + length more.now ≤ most_held }
         ensures { IsAdded (held_of self.old) more.now self.new result }

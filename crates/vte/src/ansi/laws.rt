@@ -36,13 +36,19 @@ pub fn worked_examples()
     ensures expired { expired_example }
 {}
 
-/// Where the rest of a refused call of a [`LongProcessor`](crate::ansi::LongProcessor) leads to, the whole call leads to: where it was
-/// refused between turns, and with a kept timeout within a turn too, although the timeout is asked once more.
+/// Where the rest of a refused call of a [`LongProcessor`](crate::ansi::LongProcessor) leads to,
+/// the whole call leads to: where it was refused between turns, and with a kept timeout within a
+/// turn too, although the timeout is asked once more.
 #[tactic(auto, using(crate::proofs::turns::Slices::taken_on))]
 pub fn refused_calls_go_on<H: Handler, T: Timeout>()
-    ensures between { (s t end : State H.Value T.Value) (bytes rest : List ℕ) → TakesTurns (meaning None H.step T.set T.clear T.allows) s bytes t rest →
-        TakesAllTurns (meaning None H.step T.set T.clear T.allows) t rest end → TakesAllTurns (meaning None H.step T.set T.clear T.allows) s bytes end }
-    ensures within { (s t end : State H.Value T.Value) (bytes rest : List ℕ) → IsKept (timeout_meaning T.set T.clear T.allows) →
-        HoldsWellAt (meaning None H.step T.set T.clear T.allows) s → TakesSome (meaning None H.step T.set T.clear T.allows) s bytes t rest →
-        TakesAllTurns (meaning None H.step T.set T.clear T.allows) t rest end → TakesAllTurns (meaning None H.step T.set T.clear T.allows) s bytes end }
+    ensures between { (s t end : State H.Value T.Value) (bytes rest : List ℕ)
+        → TakesTurns (meaning None H.step T.set T.clear T.allows) s bytes t rest →
+        TakesAllTurns (meaning None H.step T.set T.clear T.allows) t rest end
+        → TakesAllTurns (meaning None H.step T.set T.clear T.allows) s bytes end }
+    ensures within { (s t end : State H.Value T.Value) (bytes rest : List ℕ)
+        → IsKept (timeout_meaning T.set T.clear T.allows) →
+        HoldsWellAt (meaning None H.step T.set T.clear T.allows) s
+        → TakesSome (meaning None H.step T.set T.clear T.allows) s bytes t rest →
+        TakesAllTurns (meaning None H.step T.set T.clear T.allows) t rest end
+        → TakesAllTurns (meaning None H.step T.set T.clear T.allows) s bytes end }
 {}

@@ -1,4 +1,5 @@
-//! The parser of a processor without a limit. It takes memory before it reads, so that none is refused on the way.
+//! The parser of a processor without a limit. It takes memory before it reads, so that none is
+//! refused on the way.
 ghost use Rattle.std.specs.Prelude.{◌≡◌, ◌+◌, ◌≤◌, ◌^◌, IfSome, None};
 ghost use Rattle.vte.specs.Rooms.{long_reading};
 ghost use Rattle.vte.specs.declared.ansi.titles.TheConstants.{SEPARATORS};

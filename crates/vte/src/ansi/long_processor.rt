@@ -14,11 +14,13 @@ use std::alloc::Allocator;
 use vte_core::{LongParser, Refused};
 use vte_handler::{Handler, HandlerText, Timeout};
 
-/// A [`Processor`](crate::ansi::Processor) that keeps commands, titles and links whatever their length.
+/// A [`Processor`](crate::ansi::Processor) that keeps commands, titles and links whatever their
+/// length.
 ///
-/// A call takes memory before it parses each 65,536 bytes: for them and an open command, and for a text that is joined
-/// from these. Bytes that are held back take theirs whole. If memory is refused, the call stops there. Nothing is lost
-/// or done twice, and the rest can be passed in again:
+/// A call takes memory before it parses each 65,536 bytes: for them and an open command, and for a
+/// text that is joined from these. Bytes that are held back take theirs whole. If memory is
+/// refused, the call stops there. Nothing is lost or done twice, and the rest can be passed in
+/// again:
 ///
 /// ```
 /// if let Err(refused) = processor.advance(&mut handler, bytes) {
@@ -32,13 +34,17 @@ pub struct LongProcessor<T: Timeout + Drop, A: Allocator> {
 }
 
 impl<T: Timeout + Drop, A: Allocator + Copy> LongProcessor<T, A> {
-    /// Creates a processor that has read nothing, and allocates the 2,097,152 bytes for updates that are held back.
+    /// Creates a processor that has read nothing, and allocates the 2,097,152 bytes for updates
+    /// that are held back.
     ///
     /// Returns the timeout if memory runs out.
     pub fn new(alloc: A, timeout: T) -> Result<Self, T>
-        ensures stands { MatchResult result (λ processor. StandsLong T.value_of processor [] [] (T.value_of timeout)) (λ back. back ≡ timeout) }
+        ensures stands { MatchResult result
+            (λ processor. StandsLong T.value_of processor [] [] (T.value_of timeout))
+            (λ back. back ≡ timeout) }
         ensures holds_well { let m = timeout_meaning T.set T.clear T.allows in
-            (IsKept m → AllowsAlone m (T.value_of timeout) false) → HoldsWell None m [] [] (T.value_of timeout) }
+            (IsKept m → AllowsAlone m (T.value_of timeout) false)
+            → HoldsWell None m [] [] (T.value_of timeout) }
         ensures timeout { IfOk result (λ processor. timeout_long processor ≡ timeout) }
         ensures parses_all { IfOk result (λ processor. HasParsedAllLong T.value_of processor []) }
     {
@@ -64,20 +70,24 @@ impl<T: Timeout + Drop, A: Allocator> LongProcessor<T, A> {
         self.turns.hold.len()
     }
 
-    /// Takes memory for the bytes that are held back and for this many more, and returns whether it is there. Calls with no more bytes
-    /// than that are then never refused memory.
+    /// Takes memory for the bytes that are held back and for this many more, and returns whether it
+    /// is there. Calls with no more bytes than that are then never refused memory.
     pub fn reserve(&mut self, more: usize) -> bool
         ensures { ReservesLong T.value_of self.old self.new more result }
     {
         self.turns.reserve(more)
     }
 
-    /// Gives back the memory that an open operating system command doesn't need, unless bytes are held back. The 2,097,152 bytes for
-    /// updates stay.
+    /// Gives back the memory that an open operating system command doesn't need, unless bytes are
+    /// held back. The 2,097,152 bytes for updates stay.
     pub fn shrink(&mut self)
-        ensures same { (parsed held : List ℕ) (timeout : T.Value) → StandsLong T.value_of self.old parsed held timeout → StandsLong T.value_of self.new parsed held timeout }
+        ensures same { (parsed held : List ℕ) (timeout : T.Value)
+            → StandsLong T.value_of self.old parsed held timeout
+            → StandsLong T.value_of self.new parsed held timeout }
         // It keeps none if no command is open.
-        ensures frees { (parsed : List ℕ) (timeout : T.Value) → StandsLong T.value_of self.old parsed [] timeout → open_size parsed ≡ 0 → HasNoMemory self.new }
+        ensures frees { (parsed : List ℕ) (timeout : T.Value)
+            → StandsLong T.value_of self.old parsed [] timeout → open_size parsed ≡ 0
+            → HasNoMemory self.new }
     {
         if self.turns.hold.len() == 0 {
             self.turns.parser.shrink();
@@ -85,27 +95,34 @@ impl<T: Timeout + Drop, A: Allocator> LongProcessor<T, A> {
         }
     }
 
-    /// Stops an update: parses the bytes that are held back, tells the handler that the update has ended, and clears the
-    /// timeout. It needs no memory: what is held back has taken it.
+    /// Stops an update: parses the bytes that are held back, tells the handler that the update has
+    /// ended, and clears the timeout. It needs no memory: what is held back has taken it.
     pub fn stop_sync<H: Handler>(&mut self, handler: &mut H)
-        ensures { StopsSyncLong T.value_of (meaning None H.step T.set T.clear T.allows) self.old self.new (H.value_of handler.old) (H.value_of handler.new) }
+        ensures { StopsSyncLong T.value_of
+            (meaning None H.step T.set T.clear T.allows) self.old self.new (H.value_of handler.old)
+            (H.value_of handler.new) }
     {
         self.turns.stop::<H, Singly>(handler);
     }
 
     /// Stops an update as [`stop_sync`](Self::stop_sync) does. The handler receives text in runs.
     pub fn stop_sync_text<H: HandlerText>(&mut self, handler: &mut H)
-        ensures { StopsSyncLong T.value_of (meaning None H.step T.set T.clear T.allows) self.old self.new (H.value_of handler.old) (H.value_of handler.new) }
+        ensures { StopsSyncLong T.value_of
+            (meaning None H.step T.set T.clear T.allows) self.old self.new (H.value_of handler.old)
+            (H.value_of handler.new) }
     {
         self.turns.stop::<H, InRuns>(handler);
     }
 
-    /// Reads bytes, and parses them or holds them back: all of them, or as many as there is memory for.
+    /// Reads bytes, and parses them or holds them back: all of them, or as many as there is memory
+    /// for.
     ///
-    /// If the timeout is never pending and no memory is refused, all bytes are parsed: the handler of a new processor receives
-    /// the calls of the whole stream, however it is split.
+    /// If the timeout is never pending and no memory is refused, all bytes are parsed: the handler
+    /// of a new processor receives the calls of the whole stream, however it is split.
     pub fn advance<H: Handler>(&mut self, handler: &mut H, bytes: &[u8]) -> Result<(), Refused>
-        ensures { AdvancesLong T.value_of (meaning None H.step T.set T.clear T.allows) self.old self.new (H.value_of handler.old) (H.value_of handler.new) bytes.now result }
+        ensures { AdvancesLong T.value_of
+            (meaning None H.step T.set T.clear T.allows) self.old self.new (H.value_of handler.old)
+            (H.value_of handler.new) bytes.now result }
     {
         self.turns.read::<H, Singly>(handler, bytes)
     }
@@ -116,7 +133,9 @@ impl<T: Timeout + Drop, A: Allocator> LongProcessor<T, A> {
         handler: &mut H,
         bytes: &[u8],
     ) -> Result<(), Refused>
-        ensures { AdvancesLong T.value_of (meaning None H.step T.set T.clear T.allows) self.old self.new (H.value_of handler.old) (H.value_of handler.new) bytes.now result }
+        ensures { AdvancesLong T.value_of
+            (meaning None H.step T.set T.clear T.allows) self.old self.new (H.value_of handler.old)
+            (H.value_of handler.new) bytes.now result }
     {
         self.turns.read::<H, InRuns>(handler, bytes)
     }

@@ -1,5 +1,5 @@
-//! The parser, together with what a processor lends it. The references are separate parameters, not fields of one struct, so
-//! that the performer can borrow each.
+//! The parser, together with what a processor lends it. The references are separate parameters, not
+//! fields of one struct, so that the performer can borrow each.
 ghost use Rattle.std.specs.Prelude.{◌≡◌, ◌≤◌, ◌+◌, ◌++◌, ℕ, List, Option, Some, true, false, length};
 ghost use Rattle.vte.specs.Lent.{ParsesLent, StopsLent, lent_of};
 ghost use Rattle.vte.specs.Meaning.{meaning, timeout_meaning};
@@ -31,12 +31,17 @@ pub(crate) trait EventParser {
     /// Which streams it has read, and for which bytes it has memory.
     ghost reading: { Reading Self };
 
-    /// Takes memory for held bytes and for more, and for the texts that are joined from them. Returns whether it is there.
+    /// Takes memory for held bytes and for more, and for the texts that are joined from them.
+    /// Returns whether it is there.
     fn reserve<J: TextBuffer>(&mut self, text: &mut J, held: usize, more: usize) -> bool
-        ensures reads { (stream : List ℕ) → reading.has_read self.old stream → reading.has_read self.new stream }
-        ensures room { result ≡ true → (stream : List ℕ) → reading.has_read self.new stream → reading.has_room self.new (J.room text.new) stream (held + more) }
-        ensures memory { KeepsRoom reading.has_room self.old (J.room text.old) self.new (J.room text.new) }
-        ensures lacks { result ≡ false → (stream : List ℕ) → reading.has_read self.new stream → reading.lacks_room self.new (J.room text.new) stream (held + more) };
+        ensures reads { (stream : List ℕ) → reading.has_read self.old stream
+            → reading.has_read self.new stream }
+        ensures room { result ≡ true → (stream : List ℕ) → reading.has_read self.new stream
+            → reading.has_room self.new (J.room text.new) stream (held + more) }
+        ensures memory { KeepsRoom reading.has_room self.old (J.room text.old) self.new
+            (J.room text.new) }
+        ensures lacks { result ≡ false → (stream : List ℕ) → reading.has_read self.new stream
+            → reading.lacks_room self.new (J.room text.new) stream (held + more) };
 }
 
 impl EventParser for ProcessorParser {
@@ -132,9 +137,13 @@ pub(crate) fn parse_all<
     B: EventParser,
     G: Grain<H, T, B>,
 >(parser: &mut B, state: &mut ProcessorState<T, J>, handler: &mut H, bytes: &[u8])
-    ensures parsed { (s : State H.Value T.Value) (n : ℕ) → IsReady (parts B.limit B.reading J.room T.value_of) parser.old state.old (H.value_of handler.old) s (length bytes.now + n) →
+    ensures parsed { (s : State H.Value T.Value) (n : ℕ)
+        → IsReady (parts B.limit B.reading J.room T.value_of) parser.old state.old
+        (H.value_of handler.old) s (length bytes.now + n) →
         IsParsedOn (parts B.limit B.reading J.room T.value_of) parser.old state.old parser.new state.new (H.value_of handler.new) (parse (meaning B.limit H.step T.set T.clear T.allows) s bytes.now) }
-    ensures room { (s : State H.Value T.Value) (n : ℕ) → IsReady (parts B.limit B.reading J.room T.value_of) parser.old state.old (H.value_of handler.old) s (length bytes.now + n) →
+    ensures room { (s : State H.Value T.Value) (n : ℕ)
+        → IsReady (parts B.limit B.reading J.room T.value_of) parser.old state.old
+        (H.value_of handler.old) s (length bytes.now + n) →
         B.reading.has_room parser.new (J.room state.new.text) (s.parsed ++ bytes.now) n }
 {
     let mut performer = Performer {
@@ -146,7 +155,8 @@ pub(crate) fn parse_all<
     G::advance(parser, &mut performer, bytes);
 }
 
-/// Parses the bytes up to the one that begins an update. Returns how many it parsed, and whether an update begins.
+/// Parses the bytes up to the one that begins an update. Returns how many it parsed, and whether an
+/// update begins.
 pub(crate) fn parse_until_begin<
     H: Handler,
     J: TextBuffer + Drop,
@@ -155,7 +165,9 @@ pub(crate) fn parse_until_begin<
     G: Grain<H, T, B>,
 >(parser: &mut B, state: &mut ProcessorState<T, J>, handler: &mut H, bytes: &[u8]) -> (usize, bool)
     ensures within { result.0 ≤ length bytes.now }
-    ensures stops { (s : State H.Value T.Value) (n : ℕ) → IsReady (parts B.limit B.reading J.room T.value_of) parser.old state.old (H.value_of handler.old) s (length bytes.now + n) →
+    ensures stops { (s : State H.Value T.Value) (n : ℕ)
+        → IsReady (parts B.limit B.reading J.room T.value_of) parser.old state.old
+        (H.value_of handler.old) s (length bytes.now + n) →
         IsAtBegin (meaning B.limit H.step T.set T.clear T.allows) s bytes.now result.0 result.1
         (IsParsedOn (parts B.limit B.reading J.room T.value_of) parser.old state.old parser.new state.new (H.value_of handler.new)) }
 {

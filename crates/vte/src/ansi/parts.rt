@@ -5,7 +5,8 @@ ghost use Rattle.vte_types.specs.Words.{behind_word};
 
 use vte_types::laws;
 
-/// Returns what follows a word at the start of the text, or `None` if the text doesn't start with it.
+/// Returns what follows a word at the start of the text, or `None` if the text doesn't start with
+/// it.
 pub(crate) fn behind<'a>(text: &'a [u8], word: &[u8]) -> Option<&'a [u8]>
     ensures { option_map (λ rest. rest.now) result ≡ behind_word word.now text.now }
 {
@@ -13,7 +14,8 @@ pub(crate) fn behind<'a>(text: &'a [u8], word: &[u8]) -> Option<&'a [u8]>
     text.strip_prefix(word)
 }
 
-/// Splits a text at its first separator: returns the part before it, and what follows it if there is one.
+/// Splits a text at its first separator: returns the part before it, and what follows it if there
+/// is one.
 pub(crate) fn cut(text: &[u8], separator: u8) -> (&[u8], Option<&[u8]>)
     ensures parts { parts_of separator text.now ≡ result.0.now ∷ parts_left separator result.1 }
     ensures shorter { IfSome result.1 (λ rest. length rest.now < length text.now) }
@@ -26,7 +28,8 @@ pub(crate) fn cut(text: &[u8], separator: u8) -> (&[u8], Option<&[u8]>)
 
 /// Returns what follows `id=` in the first part that starts with it.
 pub(crate) fn id_in(parameters: &[u8]) -> Option<&[u8]>
-    ensures { option_map (λ rest. rest.now) result ≡ first_behind (codes "id=") (parts_of 0x3a parameters.now) }
+    ensures { option_map (λ rest. rest.now) result
+        ≡ first_behind (codes "id=") (parts_of 0x3a parameters.now) }
 {
     let mut left = Some(parameters);
     while let Some(text) = left {

@@ -12,10 +12,12 @@ use crate::ansi::turns::Turns;
 use std::alloc::Allocator;
 use vte_handler::{Handler, HandlerText, Timeout};
 
-/// Parses the bytes that programs send to a terminal, and calls a [`Handler`] for what they ask of it.
+/// Parses the bytes that programs send to a terminal, and calls a [`Handler`] for what they ask of
+/// it.
 ///
-/// The bytes of a synchronized update are held back, so that the handler receives the update in one piece when it ends. The
-/// [`Timeout`] decides how long, and [`stop_sync`](Processor::stop_sync) stops an update that has expired.
+/// The bytes of a synchronized update are held back, so that the handler receives the update in one
+/// piece when it ends. The [`Timeout`] decides how long, and [`stop_sync`](Processor::stop_sync)
+/// stops an update that has expired.
 ///
 /// ```
 /// struct Last(char);
@@ -43,14 +45,17 @@ pub struct Processor<T: Timeout + Drop, A: Allocator> {
 }
 
 impl<T: Timeout + Drop, A: Allocator> Processor<T, A> {
-    /// Creates a processor that has read nothing, and allocates the 2,097,152 bytes for updates that are held back. No later
-    /// call allocates memory.
+    /// Creates a processor that has read nothing, and allocates the 2,097,152 bytes for updates
+    /// that are held back. No later call allocates memory.
     ///
     /// Returns the timeout if memory runs out.
     pub fn new(alloc: A, timeout: T) -> Result<Self, T>
-        ensures stands { MatchResult result (λ processor. Stands T.value_of processor [] [] (T.value_of timeout)) (λ back. back ≡ timeout) }
+        ensures stands { MatchResult result
+            (λ processor. Stands T.value_of processor [] [] (T.value_of timeout))
+            (λ back. back ≡ timeout) }
         ensures holds_well { let m = timeout_meaning T.set T.clear T.allows in
-            (IsKept m → AllowsAlone m (T.value_of timeout) false) → HoldsWell (Some 1024) m [] [] (T.value_of timeout) }
+            (IsKept m → AllowsAlone m (T.value_of timeout) false)
+            → HoldsWell (Some 1024) m [] [] (T.value_of timeout) }
         ensures timeout { IfOk result (λ processor. timeout_in processor ≡ timeout) }
         ensures parses_all { IfOk result (λ processor. HasParsedAll T.value_of processor []) }
     {
@@ -72,28 +77,34 @@ impl<T: Timeout + Drop, A: Allocator> Processor<T, A> {
         self.turns.hold.len()
     }
 
-    /// Stops an update: parses the bytes that are held back, tells the handler that the update has ended, and clears the
-    /// timeout.
+    /// Stops an update: parses the bytes that are held back, tells the handler that the update has
+    /// ended, and clears the timeout.
     pub fn stop_sync<H: Handler>(&mut self, handler: &mut H)
-        ensures { StopsSync T.value_of (meaning (Some 1024) H.step T.set T.clear T.allows) self.old self.new (H.value_of handler.old) (H.value_of handler.new) }
+        ensures { StopsSync T.value_of
+            (meaning (Some 1024) H.step T.set T.clear T.allows) self.old self.new
+            (H.value_of handler.old) (H.value_of handler.new) }
     {
         self.turns.stop::<H, Singly>(handler);
     }
 
     /// Stops an update as [`stop_sync`](Self::stop_sync) does. The handler receives text in runs.
     pub fn stop_sync_text<H: HandlerText>(&mut self, handler: &mut H)
-        ensures { StopsSync T.value_of (meaning (Some 1024) H.step T.set T.clear T.allows) self.old self.new (H.value_of handler.old) (H.value_of handler.new) }
+        ensures { StopsSync T.value_of
+            (meaning (Some 1024) H.step T.set T.clear T.allows) self.old self.new
+            (H.value_of handler.old) (H.value_of handler.new) }
     {
         self.turns.stop::<H, InRuns>(handler);
     }
 
     /// Reads bytes, and parses them or holds them back.
     ///
-    /// If the timeout is never pending, all bytes are parsed: the handler of a new processor receives the calls of the whole
-    /// stream, however it is split.
+    /// If the timeout is never pending, all bytes are parsed: the handler of a new processor
+    /// receives the calls of the whole stream, however it is split.
     #[tactic(auto, using(crate::proofs::turns::Turns::never_refused))]
     pub fn advance<H: Handler>(&mut self, handler: &mut H, bytes: &[u8])
-        ensures { ReadsInTurns T.value_of (meaning (Some 1024) H.step T.set T.clear T.allows) self.old self.new (H.value_of handler.old) (H.value_of handler.new) bytes.now }
+        ensures { ReadsInTurns T.value_of
+            (meaning (Some 1024) H.step T.set T.clear T.allows) self.old self.new
+            (H.value_of handler.old) (H.value_of handler.new) bytes.now }
     {
         // The memory is there, so all bytes are read.
         let _ = self.turns.read::<H, Singly>(handler, bytes);
@@ -102,7 +113,9 @@ impl<T: Timeout + Drop, A: Allocator> Processor<T, A> {
     /// Reads bytes as [`advance`](Self::advance) does. The handler receives text in runs.
     #[tactic(auto, using(crate::proofs::turns::Turns::never_refused))]
     pub fn advance_text<H: HandlerText>(&mut self, handler: &mut H, bytes: &[u8])
-        ensures { ReadsInTurns T.value_of (meaning (Some 1024) H.step T.set T.clear T.allows) self.old self.new (H.value_of handler.old) (H.value_of handler.new) bytes.now }
+        ensures { ReadsInTurns T.value_of
+            (meaning (Some 1024) H.step T.set T.clear T.allows) self.old self.new
+            (H.value_of handler.old) (H.value_of handler.new) bytes.now }
     {
         // The memory is there, so all bytes are read.
         let _ = self.turns.read::<H, InRuns>(handler, bytes);

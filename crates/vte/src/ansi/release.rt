@@ -13,19 +13,23 @@ const ESCAPE: u8 = 0x1b;
 pub(crate) struct Added {
     /// How many updates begin among the added bytes, after the last one that ends.
     pub(crate) begins: usize,
-    /// How many bytes are released: none if no update ends, otherwise those before the next update, or all.
+    /// How many bytes are released: none if no update ends, otherwise those before the next update,
+    /// or all.
     pub(crate) released: usize,
 }
 
-/// Finds what a hold releases, given its end, from a place on: the new bytes, and at most seven before them. No update ends among
-/// the older bytes, so it is enough to search these, backward, down to the last end-update.
+/// Finds what a hold releases, given its end, from a place on: the new bytes, and at most seven
+/// before them. No update ends among the older bytes, so it is enough to search these, backward,
+/// down to the last end-update.
 pub(crate) fn find_release(text: &[u8], start: usize) -> Added
     requires { start + length text.now < 2 ^ 64 }
-    ensures { (held more : List ℕ) → IsEnd held more text.now start → behind_last_end held ≡ None → Adds (held ++ more) (length more) result }
+    ensures { (held more : List ℕ) → IsEnd held more text.now start → behind_last_end held ≡ None
+        → Adds (held ++ more) (length more) result }
 {
     let mut begin = start + text.len();
     let mut begins = 0;
-    // A sequence has eight bytes, and only the first is ESC: none begins among the last seven bytes, or the seven before an ESC.
+    // A sequence has eight bytes, and only the first is ESC: none begins among the last seven
+    // bytes, or the seven before an ESC.
     let mut unread = text.len().saturating_sub(7);
     while let Some(place) = memrchr(ESCAPE, &text[..unread]) {
         unread = place.saturating_sub(7);

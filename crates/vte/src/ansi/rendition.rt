@@ -13,7 +13,8 @@ use vte_types::{Attr, Color, NamedColor};
 /// Calls the handler for each attribute of the groups.
 #[tactic(auto, using(crate::proofs::Calling::attributes_behind))]
 pub(crate) fn perform_attributes<H: Handler>(handler: &mut H, params: &Params)
-    ensures { H.value_of handler.new ≡ after H.step (H.value_of handler.old) (attribute_calls params.now) }
+    ensures { H.value_of handler.new
+        ≡ after H.step (H.value_of handler.old) (attribute_calls params.now) }
 {
     let mut groups = params.iter();
     while let Some(group) = groups.next() {

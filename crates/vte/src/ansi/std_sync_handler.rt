@@ -54,7 +54,8 @@ impl<C: Clock + Drop> Timeout for StdSyncHandler<C> {
     /// Lets the update expire this long after the clock's time, at most at the greatest `Duration`.
     fn set_timeout(&mut self, duration: Duration)
         ensures value { is_pending self.new ≡ true }
-        ensures expiry { IsSomeAnd (expiry_in self.new) (ExpiresAfter C.tells (C.value_of (clock_in self.old)) (as_nanos duration)) }
+        ensures expiry { IsSomeAnd (expiry_in self.new)
+            (ExpiresAfter C.tells (C.value_of (clock_in self.old)) (as_nanos duration)) }
         ensures clock { clock_in self.new ≡ clock_in self.old }
     {
         self.expiry = Some(self.clock.now().saturating_add(duration));

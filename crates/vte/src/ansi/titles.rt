@@ -29,10 +29,12 @@ pub(crate) fn parse_number(digits: &[u8]) -> Option<u8>
     Some(number)
 }
 
-/// Joins pieces with `;` between them. One that isn't UTF-8 counts as empty if all are kept, and is left out otherwise.
+/// Joins pieces with `;` between them. One that isn't UTF-8 counts as empty if all are kept, and is
+/// left out otherwise.
 pub(crate) fn join_texts<J: TextBuffer>(text: &mut J, pieces: &[&[u8]], keeps_all: bool)
     requires { FitsRoom (J.room text.old) (map (λ piece. piece.now) pieces.now) }
-    ensures joined { J.held text.new ≡ joined_texts keeps_all (map (λ piece. piece.now) pieces.now) }
+    ensures joined { J.held text.new
+        ≡ joined_texts keeps_all (map (λ piece. piece.now) pieces.now) }
     ensures same { J.room text.new ≡ J.room text.old }
 {
     text.clear();
@@ -89,7 +91,8 @@ pub(crate) fn perform_title<H: Handler, J: TextBuffer>(
     texts: &[&[u8]],
 )
     requires { FitsRoom (J.room text.old) (map (λ piece. piece.now) texts.now) }
-    ensures told { H.value_of handler.new ≡ after H.step (H.value_of handler.old) (title_calls (map (λ piece. piece.now) texts.now)) }
+    ensures told { H.value_of handler.new
+        ≡ after H.step (H.value_of handler.old) (title_calls (map (λ piece. piece.now) texts.now)) }
     ensures same { J.room text.new ≡ J.room text.old }
 {
     match texts {

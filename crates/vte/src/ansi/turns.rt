@@ -21,7 +21,8 @@ use vte_types::{NamedPrivateMode, PrivateMode};
 /// For how many bytes an open turn takes memory at once.
 const SLICE: usize = 65_536;
 
-/// What takes the turns of a processor: a parser, the bytes that are held back, and what is kept between events.
+/// What takes the turns of a processor: a parser, the bytes that are held back, and what is kept
+/// between events.
 #[derive(Drop)]
 pub(crate) struct Turns<B: Drop, J: Drop, T: Drop, A: Allocator> {
     pub(crate) parser: B,
@@ -35,12 +36,16 @@ impl<B: EventParser + Drop, J: TextBuffer + Drop, T: Timeout + Drop, A: Allocato
     T,
     A,
 > {
-    /// Creates turns of a parser that has read nothing, with the memory for a hold. Returns the timeout if memory runs out.
+    /// Creates turns of a parser that has read nothing, with the memory for a hold. Returns the
+    /// timeout if memory runs out.
     pub(crate) fn new(alloc: A, parser: B, text: J, timeout: T) -> Result<Self, T>
         requires reads { B.reading.has_read parser [] }
-        ensures stands { MatchResult result (λ turns. HaveTaken (parts B.limit B.reading J.room T.value_of) turns [] [] (T.value_of timeout)) (λ back. back ≡ timeout) }
+        ensures stands { MatchResult result
+            (λ turns. HaveTaken (parts B.limit B.reading J.room T.value_of) turns [] []
+            (T.value_of timeout)) (λ back. back ≡ timeout) }
         ensures timeout { IfOk result (λ turns. turns.state.timeout ≡ timeout) }
-        ensures parses_all { IfOk result (λ turns. HaveParsedAll (parts B.limit B.reading J.room T.value_of) turns []) }
+        ensures parses_all { IfOk result
+            (λ turns. HaveParsedAll (parts B.limit B.reading J.room T.value_of) turns []) }
     {
         laws::empty_stream();
         match SyncState::new(alloc) {
@@ -57,14 +62,15 @@ impl<B: EventParser + Drop, J: TextBuffer + Drop, T: Timeout + Drop, A: Allocato
         }
     }
 
-    /// Reads bytes, and parses them or holds them back: all of them, or as many as there is memory for. The grain decides how
-    /// the handler receives text.
+    /// Reads bytes, and parses them or holds them back: all of them, or as many as there is memory
+    /// for. The grain decides how the handler receives text.
     pub(crate) fn read<H: Handler, G: Grain<H, T, B>>(
         &mut self,
         handler: &mut H,
         bytes: &[u8],
     ) -> Result<(), Refused>
-        ensures { ReadsSome (parts B.limit B.reading J.room T.value_of) (meaning B.limit H.step T.set T.clear T.allows)
+        ensures { ReadsSome (parts B.limit B.reading J.room T.value_of)
+            (meaning B.limit H.step T.set T.clear T.allows)
             self.old self.new (H.value_of handler.old) (H.value_of handler.new) bytes.now result }
     {
         let mut read = 0;
@@ -86,17 +92,25 @@ impl<B: EventParser + Drop, J: TextBuffer + Drop, T: Timeout + Drop, A: Allocato
 
     /// Stops the update, whatever is held: there is memory to parse it.
     pub(crate) fn stop<H: Handler, G: Grain<H, T, B>>(&mut self, handler: &mut H)
-        ensures stopped { StopsUpdate (parts B.limit B.reading J.room T.value_of) (meaning B.limit H.step T.set T.clear T.allows) self.old self.new (H.value_of handler.old) (H.value_of handler.new) }
+        ensures stopped { StopsUpdate (parts B.limit B.reading J.room T.value_of)
+            (meaning B.limit H.step T.set T.clear T.allows) self.old self.new
+            (H.value_of handler.old) (H.value_of handler.new) }
         ensures none { held_of self.new.hold ≡ [] }
     {
         self.hold.release_all();
         self.end_update::<H, G>(handler);
     }
 
-    /// Parses the released bytes, after which nothing is held, and tells the handler that the update has ended.
+    /// Parses the released bytes, after which nothing is held, and tells the handler that the
+    /// update has ended.
     fn end_update<H: Handler, G: Grain<H, T, B>>(&mut self, handler: &mut H)
-        ensures stops { (s : State H.Value T.Value) (n : ℕ) → IsParsed (parts B.limit B.reading J.room T.value_of) self.old.parser self.old.state (H.value_of handler.old) s →
-            released_of self.old.hold ≡ s.held → held_of self.old.hold ≡ [] → (0 < length s.held → B.reading.has_room self.old.parser (J.room self.old.state.text) s.parsed (length s.held + n)) →
+        ensures stops { (s : State H.Value T.Value) (n : ℕ)
+            → IsParsed (parts B.limit B.reading J.room T.value_of) self.old.parser self.old.state
+            (H.value_of handler.old) s →
+            released_of self.old.hold ≡ s.held → held_of self.old.hold ≡ []
+            → (0 < length s.held
+            → B.reading.has_room self.old.parser (J.room self.old.state.text) s.parsed
+            (length s.held + n)) →
             AreNextAt (parts B.limit B.reading J.room T.value_of) self.old self.new (H.value_of handler.new) (stop (meaning B.limit H.step T.set T.clear T.allows) s) }
         ensures hold { self.new.hold ≡ self.old.hold }
     {
@@ -107,12 +121,17 @@ impl<B: EventParser + Drop, J: TextBuffer + Drop, T: Timeout + Drop, A: Allocato
 
     /// Parses the released bytes.
     fn parse_released<H: Handler, G: Grain<H, T, B>>(&mut self, handler: &mut H)
-        ensures parsed { (s : State H.Value T.Value) (n : ℕ) → IsParsed (parts B.limit B.reading J.room T.value_of) self.old.parser self.old.state (H.value_of handler.old) s →
-            (0 < length (released_of self.old.hold) → B.reading.has_room self.old.parser (J.room self.old.state.text) s.parsed (length (released_of self.old.hold) + n)) →
+        ensures parsed { (s : State H.Value T.Value) (n : ℕ)
+            → IsParsed (parts B.limit B.reading J.room T.value_of) self.old.parser self.old.state
+            (H.value_of handler.old) s →
+            (0 < length (released_of self.old.hold)
+            → B.reading.has_room self.old.parser (J.room self.old.state.text) s.parsed
+            (length (released_of self.old.hold) + n)) →
             IsParsedOn (parts B.limit B.reading J.room T.value_of) self.old.parser self.old.state self.new.parser self.new.state (H.value_of handler.new)
             (parse (meaning B.limit H.step T.set T.clear T.allows) s (released_of self.old.hold)) }
         ensures room { (s : State H.Value T.Value) (n : ℕ) →
-            IsReady (parts B.limit B.reading J.room T.value_of) self.old.parser self.old.state (H.value_of handler.old) s (length (released_of self.old.hold) + n) →
+            IsReady (parts B.limit B.reading J.room T.value_of) self.old.parser self.old.state
+            (H.value_of handler.old) s (length (released_of self.old.hold) + n) →
             B.reading.has_room self.new.parser (J.room self.new.state.text) (s.parsed ++ released_of self.old.hold) n }
         ensures hold { self.new.hold ≡ self.old.hold }
     {
@@ -123,18 +142,23 @@ impl<B: EventParser + Drop, J: TextBuffer + Drop, T: Timeout + Drop, A: Allocato
         parse_all::<H, J, T, B, G>(&mut self.parser, &mut self.state, handler, released);
     }
 
-    /// Takes one turn, and returns how many bytes it read, or how many until memory was refused. It asks the timeout
-    /// once: while an update is pending, the bytes are held, or the update is stopped if there is no room for them.
+    /// Takes one turn, and returns how many bytes it read, or how many until memory was refused. It
+    /// asks the timeout once: while an update is pending, the bytes are held, or the update is
+    /// stopped if there is no room for them.
     fn turn<H: Handler, G: Grain<H, T, B>>(
         &mut self,
         handler: &mut H,
         bytes: &[u8],
     ) -> Result<usize, Refused>
         requires some { 0 < length bytes.now }
-        ensures within { MatchResult result (λ read. read ≤ length bytes.now) (λ refused. refused.read < length bytes.now) }
-        ensures turned { LeadOn (parts B.limit B.reading J.room T.value_of) self.old self.new (H.value_of handler.old) (H.value_of handler.new)
+        ensures within { MatchResult result (λ read. read ≤ length bytes.now)
+            (λ refused. refused.read < length bytes.now) }
+        ensures turned { LeadOn (parts B.limit B.reading J.room T.value_of) self.old self.new
+            (H.value_of handler.old) (H.value_of handler.new)
             (λ s. EndsTurn (meaning B.limit H.step T.set T.clear T.allows) s bytes.now result) }
-        ensures lacks { IfErr result (λ refused. LacksSome (parts B.limit B.reading J.room T.value_of) self.new (length bytes.now - refused.read)) }
+        ensures lacks { IfErr result
+            (λ refused. LacksSome (parts B.limit B.reading J.room T.value_of) self.new
+            (length bytes.now - refused.read)) }
     {
         let pending = self.state.timeout.pending_timeout();
         if pending && self.has_room(bytes.len()) {
@@ -158,17 +182,22 @@ impl<B: EventParser + Drop, J: TextBuffer + Drop, T: Timeout + Drop, A: Allocato
         count <= MOST_HELD && self.hold.len() <= MOST_HELD - count
     }
 
-    /// Parses bytes up to the one that begins an update, a slice at a time, and returns how many. Memory is taken before each slice.
+    /// Parses bytes up to the one that begins an update, a slice at a time, and returns how many.
+    /// Memory is taken before each slice.
     fn open<H: Handler, G: Grain<H, T, B>>(
         &mut self,
         handler: &mut H,
         bytes: &[u8],
     ) -> Result<usize, Refused>
         requires none { held_of self.old.hold ≡ [] }
-        ensures within { MatchResult result (λ read. read ≤ length bytes.now) (λ refused. refused.read < length bytes.now) }
-        ensures opened { LeadOn (parts B.limit B.reading J.room T.value_of) self.old self.new (H.value_of handler.old) (H.value_of handler.new)
+        ensures within { MatchResult result (λ read. read ≤ length bytes.now)
+            (λ refused. refused.read < length bytes.now) }
+        ensures opened { LeadOn (parts B.limit B.reading J.room T.value_of) self.old self.new
+            (H.value_of handler.old) (H.value_of handler.new)
             (λ s. EndsOpen (meaning B.limit H.step T.set T.clear T.allows) s bytes.now result) }
-        ensures lacks { IfErr result (λ refused. LacksSome (parts B.limit B.reading J.room T.value_of) self.new (length bytes.now - refused.read)) }
+        ensures lacks { IfErr result
+            (λ refused. LacksSome (parts B.limit B.reading J.room T.value_of) self.new
+            (length bytes.now - refused.read)) }
     {
         let mut read = 0;
         // Each slice has at least one byte.
@@ -194,7 +223,8 @@ impl<B: EventParser + Drop, J: TextBuffer + Drop, T: Timeout + Drop, A: Allocato
 
     /// Takes memory for the held bytes and for this many more, and returns whether it is there.
     pub(crate) fn reserve(&mut self, more: usize) -> bool
-        ensures reserved { ReservesRoom (parts B.limit B.reading J.room T.value_of) self.old self.new more result }
+        ensures reserved { ReservesRoom
+            (parts B.limit B.reading J.room T.value_of) self.old self.new more result }
         ensures hold { self.new.hold ≡ self.old.hold }
     {
         self.parser
@@ -205,8 +235,10 @@ impl<B: EventParser + Drop, J: TextBuffer + Drop, T: Timeout + Drop, A: Allocato
     fn hold_bytes<H: Handler, G: Grain<H, T, B>>(&mut self, handler: &mut H, bytes: &[u8])
         requires some { 0 < length bytes.now }
         requires room { length (held_of self.old.hold) + length bytes.now ≤ most_held }
-        ensures { LeadOn (parts B.limit B.reading J.room T.value_of) self.old self.new (H.value_of handler.old) (H.value_of handler.new)
-            (λ s there. B.reading.has_room self.old.parser (J.room self.old.state.text) s.parsed (length s.held + length bytes.now) →
+        ensures { LeadOn (parts B.limit B.reading J.room T.value_of) self.old self.new
+            (H.value_of handler.old) (H.value_of handler.new)
+            (λ s there. B.reading.has_room self.old.parser (J.room self.old.state.text) s.parsed
+            (length s.held + length bytes.now) →
             there (hold_turn (meaning B.limit H.step T.set T.clear T.allows) s bytes.now)) }
     {
         let begins = self.hold.add(bytes);
@@ -221,7 +253,8 @@ impl<B: EventParser + Drop, J: TextBuffer + Drop, T: Timeout + Drop, A: Allocato
 
 /// Sets the timeout this many times.
 fn set_timeout<T: Timeout>(timeout: &mut T, count: usize)
-    ensures { T.value_of timeout.new ≡ set_times (timeout_meaning T.set T.clear T.allows) count (T.value_of timeout.old) }
+    ensures { T.value_of timeout.new
+        ≡ set_times (timeout_meaning T.set T.clear T.allows) count (T.value_of timeout.old) }
 {
     for _time in 0..count {
         timeout.set_timeout(Duration::from_millis(UPDATE_TIMEOUT_MILLIS));

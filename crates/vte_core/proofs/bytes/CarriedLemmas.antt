@@ -25,12 +25,15 @@ pub record Spells (p : List ℕ) (number : ℕ) : Type 0 where
   pub is_whole : is_well_formed p ≡ true
   pub same : number ≡ scalar_of p
 
-pub spells_two : (a b : ℕ) → 0xc2 ≤ a → a < 0xe0 → is_in continuation b ≡ true → Spells (a ∷ b ∷ []) (a % 32 * 0x40 + b % 64)
+pub spells_two : (a b : ℕ) → 0xc2 ≤ a → a < 0xe0 → is_in continuation b ≡ true
+    → Spells (a ∷ b ∷ []) (a % 32 * 0x40 + b % 64)
 spells_two a b low high second =
     let bounds : (0x80 ≤ b) × (b ≤ 0xbf) = continuation-bounds b second in
-    let plain : second_range a ≡ continuation = second_plain a (omega arith) (omega arith) (omega arith) (omega arith) in
+    let plain : second_range a ≡ continuation =
+    second_plain a (omega arith) (omega arith) (omega arith) (omega arith) in
     record {
-      is_whole = (tests_two a low high (b ∷ [])).is_whole ∙ and_from _ _ (ap (λ range. is_in range b) plain ∙ second) refl;
+      is_whole =
+          (tests_two a low high (b ∷ [])).is_whole ∙ and_from _ _ (ap (λ range. is_in range b) plain ∙ second) refl;
       same = omega arith;
     }
 
@@ -44,14 +47,17 @@ spells_three a b c low high second third =
       same = omega arith;
     }
 
-pub spells_four : (a b c d : ℕ) → 0xf0 ≤ a → a < 0xf5 → is_in (second_range a) b ≡ true → is_in continuation c ≡ true → is_in continuation d ≡ true
+pub spells_four : (a b c d : ℕ) → 0xf0 ≤ a → a < 0xf5 → is_in (second_range a) b ≡ true → is_in continuation c ≡ true
+    → is_in continuation d ≡ true
     → Spells (a ∷ b ∷ c ∷ d ∷ []) (((a % 8 * 0x40 + b % 64) * 0x40 + c % 64) * 0x40 + d % 64)
 spells_four a b c d low high second third fourth =
     let bytes : SecondByte a b = second_byte a b second in
     let third_bounds : (0x80 ≤ c) × (c ≤ 0xbf) = continuation-bounds c third in
     let fourth_bounds : (0x80 ≤ d) × (d ≤ 0xbf) = continuation-bounds d fourth in
     record {
-      is_whole = (tests_four a low high (b ∷ c ∷ d ∷ [])).is_whole ∙ and_from _ _ second (and_from _ _ third (and_from _ _ fourth refl));
+      is_whole =
+          (tests_four a low high (b ∷ c ∷ d ∷ [])).is_whole
+          ∙ and_from _ _ second (and_from _ _ third (and_from _ _ fourth refl));
       same = omega arith;
     }
 
@@ -63,13 +69,17 @@ pub spells-same : {p : List ℕ} {number other : ℕ} → Spells p number → ot
 spells-same spells same = record { is_whole = spells.is_whole; same = same ∙ spells.same }
 
 -- what is made of a well-formed sequence's number
-whole_by : (u : List ℕ) (b number : ℕ) (r : Carried) → Spells (u ++ b ∷ []) number → (InScalarRange number → r ≡ Whole number) → Carries u b r
+whole_by : (u : List ℕ) (b number : ℕ) (r : Carried) → Spells (u ++ b ∷ []) number
+    → (InScalarRange number → r ≡ Whole number) → Carries u b r
 whole_by u b number r spells makes =
-    subst (λ (r : Carried). Carries u b r) (sym (makes (subst InScalarRange (sym spells.same) (scalar_of-in_range (u ++ b ∷ []) spells.is_whole)))) (spells.is_whole, spells.same)
+    subst (λ (r : Carried). Carries u b r)
+    (sym (makes (subst InScalarRange (sym spells.same) (scalar_of-in_range (u ++ b ∷ []) spells.is_whole))))
+    (spells.is_whole, spells.same)
 
 -- ---- one byte
 
-pub second_broken : (a b : ℕ) → is_truncated (a ∷ []) ≡ true → is_in (second_range a) b ≡ false → Carries (a ∷ []) b Broken
+pub second_broken : (a b : ℕ) → is_truncated (a ∷ []) ≡ true → is_in (second_range a) b ≡ false
+    → Carries (a ∷ []) b Broken
 unfolding is_well_formed is_truncated utf8_rows second_range
 second_broken a b more misfits = (grind (arith, nat_tests), grind (arith, nat_tests))
 
@@ -78,12 +88,15 @@ pub second_lone : (a b : ℕ) → is_in continuation b ≡ false → is_in (seco
 unfolding second_range
 second_lone a b misfits = grind (arith, nat_tests)
 
-pub second_whole : (a b number : ℕ) (r : Carried) → is_truncated (a ∷ []) ≡ true → is_in (second_range a) b ≡ true → a < 0xe0
+pub second_whole : (a b number : ℕ) (r : Carried) → is_truncated (a ∷ []) ≡ true
+    → is_in (second_range a) b ≡ true → a < 0xe0
     → number ≡ a % 32 * 0x40 + b % 64 → (InScalarRange number → r ≡ Whole number) → Carries (a ∷ []) b r
 second_whole a b number r more second below same makes =
     let low : 0xc2 ≤ a = (truncated_first a [] more).0 in
-    let plain : second_range a ≡ continuation = second_plain a (omega arith) (omega arith) (omega arith) (omega arith) in
-    whole_by (a ∷ []) b number r (spells-same (spells_two a b low below (ap (λ range. is_in range b) (sym plain) ∙ second)) same) makes
+    let plain : second_range a ≡ continuation =
+    second_plain a (omega arith) (omega arith) (omega arith) (omega arith) in
+    whole_by (a ∷ []) b number r
+    (spells-same (spells_two a b low below (ap (λ range. is_in range b) (sym plain) ∙ second)) same) makes
 
 pub second_open : (a b : ℕ) → is_truncated (a ∷ []) ≡ true → is_in (second_range a) b ≡ true → 0xe0 ≤ a
     → Carries (a ∷ []) b (Unfinished (Two a b))
@@ -97,11 +110,14 @@ pub third_broken : (a b c : ℕ) → is_truncated (a ∷ b ∷ []) ≡ true → 
 unfolding is_well_formed is_truncated utf8_rows
 third_broken a b c more misfits = (grind (arith, nat_tests), grind (arith, nat_tests))
 
-pub third_whole : (a b c number : ℕ) (r : Carried) → is_truncated (a ∷ b ∷ []) ≡ true → is_in continuation c ≡ true → a < 0xf0
-    → number ≡ (a % 16 * 0x40 + b % 64) * 0x40 + c % 64 → (InScalarRange number → r ≡ Whole number) → Carries (a ∷ b ∷ []) c r
+pub third_whole : (a b c number : ℕ) (r : Carried) → is_truncated (a ∷ b ∷ []) ≡ true
+    → is_in continuation c ≡ true → a < 0xf0
+    → number ≡ (a % 16 * 0x40 + b % 64) * 0x40 + c % 64 → (InScalarRange number → r ≡ Whole number)
+    → Carries (a ∷ b ∷ []) c r
 third_whole a b c number r more third below same makes =
     let open_two : TruncatedTwo a b = truncated_two a b more in
-    whole_by (a ∷ b ∷ []) c number r (spells-same (spells_three a b c open_two.low below open_two.second third) same) makes
+    whole_by (a ∷ b ∷ []) c number r
+    (spells-same (spells_three a b c open_two.low below open_two.second third) same) makes
 
 pub third_open : (a b c : ℕ) → is_truncated (a ∷ b ∷ []) ≡ true → is_in continuation c ≡ true → 0xf0 ≤ a
     → Carries (a ∷ b ∷ []) c (Unfinished (Three a b c))
@@ -115,8 +131,12 @@ pub fourth_broken : (a b c d : ℕ) → is_truncated (a ∷ b ∷ c ∷ []) ≡ 
 unfolding is_well_formed is_truncated utf8_rows
 fourth_broken a b c d more misfits = (grind (arith, nat_tests), grind (arith, nat_tests))
 
-pub fourth_whole : (a b c d number : ℕ) (r : Carried) → is_truncated (a ∷ b ∷ c ∷ []) ≡ true → is_in continuation d ≡ true
-    → number ≡ ((a % 8 * 0x40 + b % 64) * 0x40 + c % 64) * 0x40 + d % 64 → (InScalarRange number → r ≡ Whole number) → Carries (a ∷ b ∷ c ∷ []) d r
+pub fourth_whole : (a b c d number : ℕ) (r : Carried) → is_truncated (a ∷ b ∷ c ∷ []) ≡ true
+    → is_in continuation d ≡ true
+    → number ≡ ((a % 8 * 0x40 + b % 64) * 0x40 + c % 64) * 0x40 + d % 64 → (InScalarRange number → r ≡ Whole number)
+    → Carries (a ∷ b ∷ c ∷ []) d r
 fourth_whole a b c d number r more fourth same makes =
     let open_three : TruncatedThree a b c = truncated_three a b c more in
-    whole_by (a ∷ b ∷ c ∷ []) d number r (spells-same (spells_four a b c d open_three.low open_three.high open_three.second open_three.third fourth) same) makes
+    whole_by (a ∷ b ∷ c ∷ []) d number r
+    (spells-same
+    (spells_four a b c d open_three.low open_three.high open_three.second open_three.third fourth) same) makes

@@ -63,18 +63,21 @@ left_dispatches Marker h i = refl
 left_dispatches _ h i = cc
 
 -- after 20..7E, CAN, SUB, ESC and C0: DEL and 80..FF
-pub left_is_dropped : (k : Class) → is_head k ≡ false → is_final k ≡ false → ends_all k ≡ false → is_control k ≡ false → is_dropped k ≡ true
+pub left_is_dropped : (k : Class) → is_head k ≡ false → is_final k ≡ false → ends_all k ≡ false → is_control k ≡ false
+    → is_dropped k ≡ true
 left_is_dropped Delete h f e c = refl
 left_is_dropped High h f e c = refl
 left_is_dropped _ h f e c = cc
 
-pub left_of_intermediates : (k : Class) → is_intermediate k ≡ false → dispatches_escape k ≡ false → ends_all k ≡ false → is_control k ≡ false → is_dropped k ≡ true
+pub left_of_intermediates : (k : Class) → is_intermediate k ≡ false → dispatches_escape k ≡ false → ends_all k ≡ false
+    → is_control k ≡ false → is_dropped k ≡ true
 left_of_intermediates Delete i d e c = refl
 left_of_intermediates High i d e c = refl
 left_of_intermediates _ i d e c = cc
 
 -- the same with C0
-pub left_in_head : (k : Class) → is_head k ≡ false → is_final k ≡ false → ends_all k ≡ false → is_dropped_in_head k ≡ true
+pub left_in_head : (k : Class) → is_head k ≡ false → is_final k ≡ false → ends_all k ≡ false
+    → is_dropped_in_head k ≡ true
 left_in_head Control h f e = refl
 left_in_head Delete h f e = refl
 left_in_head High h f e = refl
@@ -91,6 +94,7 @@ unfolding class_of
 terminator_is_high is = rw is refl
 
 -- what is left of an operating system command
-pub left_is_control : (b : ℕ) → ends_all (class_of b) ≡ false → (IsCommandData b → ⊥) → (b ≡ 0x3b → ⊥) → class_of b ≡ Control
+pub left_is_control : (b : ℕ) → ends_all (class_of b) ≡ false → (IsCommandData b → ⊥) → (b ≡ 0x3b → ⊥)
+    → class_of b ≡ Control
 unfolding class_of
 left_is_control b e d n = grind (arith, nat_tests)

@@ -7,9 +7,11 @@ use Rattle.vte_core.proofs.bytes.FirstBytes.{behind_lone, behind_none, continuat
 -- The bytes from a place on are each in its range.
 abbrev pub AreIn : List Range → List ℕ → ℕ → Type 0
 AreIn [] bytes i = Unit {0}
-AreIn (range ∷ ranges) bytes i = (i < length bytes) × (is_in range (slice_index bytes i) ≡ true) × AreIn ranges bytes (i + 1)
+AreIn (range ∷ ranges) bytes i =
+    (i < length bytes) × (is_in range (slice_index bytes i) ≡ true) × AreIn ranges bytes (i + 1)
 
-fits-in : (ranges : List Range) (bytes : List ℕ) (i m : ℕ) → fits ranges (take m (drop i bytes)) ≡ true → AreIn ranges bytes i
+fits-in : (ranges : List Range) (bytes : List ℕ) (i m : ℕ) → fits ranges (take m (drop i bytes)) ≡ true
+    → AreIn ranges bytes i
 fits-in [] bytes i m fit = tt
 fits-in (range ∷ ranges) bytes i zero fit = absurd (let e : false ≡ true = fit in false≢true e)
 fits-in (range ∷ ranges) bytes i (suc m) fit = elim (cases_lt i (length bytes)) [
@@ -29,18 +31,21 @@ record OneIn (range : Range) (bytes : List ℕ) (i m : ℕ) : Type 0 where
   is : is_in range (slice_index bytes i) ≡ true
   same : take m (drop i bytes) ≡ slice_index bytes i ∷ []
 
-fits-one : (range : Range) (bytes : List ℕ) (i m : ℕ) → fits (range ∷ []) (take m (drop i bytes)) ≡ true → OneIn range bytes i m
+fits-one : (range : Range) (bytes : List ℕ) (i m : ℕ) → fits (range ∷ []) (take m (drop i bytes)) ≡ true
+    → OneIn range bytes i m
 fits-one range bytes i m fit =
     let in_range = fits-in (range ∷ []) bytes i m fit in
     record { within = in_range.0; is = in_range.1; same = one range bytes i m in_range.0 fit }
   where
-    one : (range : Range) (bytes : List ℕ) (i m : ℕ) → i < length bytes → fits (range ∷ []) (take m (drop i bytes)) ≡ true → take m (drop i bytes) ≡ slice_index bytes i ∷ []
+    one : (range : Range) (bytes : List ℕ) (i m : ℕ) → i < length bytes
+        → fits (range ∷ []) (take m (drop i bytes)) ≡ true → take m (drop i bytes) ≡ slice_index bytes i ∷ []
     one range bytes i zero within fit = absurd (let e : false ≡ true = fit in false≢true e)
     one range bytes i (suc m) within fit =
         let cut = drop_more bytes i 0 within in
         ap (take (suc m)) cut ∙ ap (λ x. slice_index bytes i ∷ x) (fits-none _ (and_parts _ _ (rw cut at fit)).1)
 
-module _ (keeps : Bool) (bytes : List ℕ) (from a : ℕ) (within : from < length bytes) (is : a ≡ slice_index bytes from) where
+module _ (keeps : Bool) (bytes : List ℕ) (from a : ℕ) (within : from < length bytes)
+    (is : a ≡ slice_index bytes from) where
   abbrev behind : ℕ → List ℕ
   behind m = take m (drop (from + 1) bytes)
 
@@ -54,7 +59,8 @@ module _ (keeps : Bool) (bytes : List ℕ) (from a : ℕ) (within : from < lengt
   unfolding is_well_formed utf8_rows
   begins zero whole = absurd (let e : false ≡ true = whole in false≢true e)
   begins (suc m) whole =
-      let parts : take (suc m) (drop from bytes) ≡ a ∷ behind m = ap (take (suc m)) (drop_more bytes from 0 within) ∙ ap (λ x. x ∷ behind m) (sym is) in
+      let parts : take (suc m) (drop from bytes) ≡ a ∷ behind m =
+      ap (take (suc m)) (drop_more bytes from 0 within) ∙ ap (λ x. x ∷ behind m) (sym is) in
       record { m = m; parts = parts; well = subst (λ (x : List ℕ). is_well_formed x ≡ true) parts whole }
 
   left_out : (c : ℕ) → is_control_character c ≡ true → (keeps ≡ true → is_layout c ≡ false) → is_left_out keeps c ≡ true
@@ -65,7 +71,8 @@ module _ (keeps : Bool) (bytes : List ℕ) (from a : ℕ) (within : from < lengt
       by_test false other = control
 
   -- a byte that is neither printed nor kept, and begins no longer sequence
-  pub ends-single : is_in (to 0x20 0x7f) a ≡ false → is_in (to 0xc2 0xf4) a ≡ false → (keeps ≡ true → is_layout a ≡ false) → EndsRun keeps bytes from
+  pub ends-single : is_in (to 0x20 0x7f) a ≡ false → is_in (to 0xc2 0xf4) a ≡ false
+      → (keeps ≡ true → is_layout a ≡ false) → EndsRun keeps bytes from
   ends-single other lone plain n far whole =
       let p = begins n whole in
       elim (cases_lt a 0x80) [
@@ -74,7 +81,9 @@ module _ (keeps : Bool) (bytes : List ℕ) (from a : ℕ) (within : from < lengt
             let control : is_control_character a ≡ true = grind (arith, nat_tests) in
             rw (p.parts, none) (left_out a control plain)
         | inr high ↦ elim (cases_lt a 0xc2) [
-          | inl below ↦ absurd (false≢true (sym (tests_none a (behind_lone a (omega (arith, high)) below) (behind p.m)).is_whole ∙ p.well))
+          | inl below ↦
+              absurd
+              (false≢true (sym (tests_none a (behind_lone a (omega (arith, high)) below) (behind p.m)).is_whole ∙ p.well))
           | inr above ↦
               let past : 0xf5 ≤ a = grind (arith, nat_tests) in
               absurd (false≢true (sym (tests_none a (behind_none a past) (behind p.m)).is_whole ∙ p.well))
@@ -83,12 +92,16 @@ module _ (keeps : Bool) (bytes : List ℕ) (from a : ℕ) (within : from < lengt
 
   -- a sequence of two that is a control's
   pub ends-two : 0xc2 ≤ a → a < 0xe0
-      → (from + 1 < length bytes → is_in continuation (slice_index bytes (from + 1)) ≡ true → (a ≡ 0xc2 → 0xa0 ≤ slice_index bytes (from + 1)) → ⊥) → EndsRun keeps bytes from
+      → (from + 1 < length bytes → is_in continuation (slice_index bytes (from + 1)) ≡ true
+      → (a ≡ 0xc2 → 0xa0 ≤ slice_index bytes (from + 1)) → ⊥) → EndsRun keeps bytes from
   ends-two low high none n far whole =
       let p = begins n whole in
-      let one = fits-one (second_range a) bytes (from + 1) p.m (sym (tests_two a low high (behind p.m)).is_whole ∙ p.well) in
+      let one =
+      fits-one (second_range a) bytes (from + 1) p.m (sym (tests_two a low high (behind p.m)).is_whole ∙ p.well) in
       let b : ℕ = slice_index bytes (from + 1) in
-      let second : is_in continuation b ≡ true = subst (λ range. is_in range b ≡ true) (second_plain a (omega arith) (omega arith) (omega arith) (omega arith)) one.is in
+      let second : is_in continuation b ≡ true =
+      subst (λ range. is_in range b ≡ true)
+      (second_plain a (omega arith) (omega arith) (omega arith) (omega arith)) one.is in
       let control : (a ≡ 0xc2) × (b < 0xa0) = elim (cases_lt b 0xa0) [
         | inr up ↦ absurd (none one.within second (λ _. omega (arith, up)))
         | inl down ↦ elim (cases_lt 0xc2 a) [
@@ -98,24 +111,31 @@ module _ (keeps : Bool) (bytes : List ℕ) (from a : ℕ) (within : from < lengt
       ] in
       let bounds = continuation-bounds b second in
       let number : scalar_of (a ∷ b ∷ []) ≡ b = omega (arith, control.0, bounds.0) in
-      rw (p.parts, one.same, number) (left_out b (grind (arith, nat_tests, control.1, bounds.0)) (λ _. grind (arith, nat_tests, bounds.0)))
+      rw (p.parts, one.same, number)
+      (left_out b (grind (arith, nat_tests, control.1, bounds.0)) (λ _. grind (arith, nat_tests, bounds.0)))
 
   -- no sequence of three
   pub ends-three : 0xe0 ≤ a → a < 0xf0
-      → (from + 2 < length bytes → is_in (second_range a) (slice_index bytes (from + 1)) ≡ true → is_in continuation (slice_index bytes (from + 2)) ≡ true → ⊥) → EndsRun keeps bytes from
+      → (from + 2 < length bytes → is_in (second_range a) (slice_index bytes (from + 1)) ≡ true
+      → is_in continuation (slice_index bytes (from + 2)) ≡ true → ⊥) → EndsRun keeps bytes from
   ends-three low high none n far whole =
       let p = begins n whole in
-      let those = fits-in (second_range a ∷ continuation ∷ []) bytes (from + 1) p.m (sym (tests_three a low high (behind p.m)).is_whole ∙ p.well) in
+      let those =
+      fits-in (second_range a ∷ continuation ∷ []) bytes (from + 1) p.m
+      (sym (tests_three a low high (behind p.m)).is_whole ∙ p.well) in
       let e : from + 1 + 1 ≡ from + 2 = omega arith in
       absurd (none (rw e at those.2.0) those.1 (rw e at those.2.1))
 
   -- .. and none of four
   pub ends-four : 0xf0 ≤ a → a < 0xf5
-      → (from + 3 < length bytes → is_in (second_range a) (slice_index bytes (from + 1)) ≡ true → is_in continuation (slice_index bytes (from + 2)) ≡ true
+      → (from + 3 < length bytes → is_in (second_range a) (slice_index bytes (from + 1)) ≡ true
+      → is_in continuation (slice_index bytes (from + 2)) ≡ true
       → is_in continuation (slice_index bytes (from + 3)) ≡ true → ⊥) → EndsRun keeps bytes from
   ends-four low high none n far whole =
       let p = begins n whole in
-      let those = fits-in (second_range a ∷ continuation ∷ continuation ∷ []) bytes (from + 1) p.m (sym (tests_four a low high (behind p.m)).is_whole ∙ p.well) in
+      let those =
+      fits-in (second_range a ∷ continuation ∷ continuation ∷ []) bytes (from + 1) p.m
+      (sym (tests_four a low high (behind p.m)).is_whole ∙ p.well) in
       let e : from + 1 + 1 ≡ from + 2 = omega arith in
       let f : from + 2 + 1 ≡ from + 3 = omega arith in
       absurd (none (rw (e, f) at those.2.2.0) those.1 (rw e at those.2.1) (rw (e, f) at those.2.2.1))
@@ -128,7 +148,9 @@ module _ (keeps : Bool) (bytes : List ℕ) (from a : ℕ) (within : from < lengt
         | inl two ↦ ends-two bounds.0 two (λ more continues plain. none more)
         | inr rest ↦ elim (cases_lt a 0xf0) [
           | inl three ↦ ends-three (omega (arith, rest)) three (λ more second third. none (omega (arith, more)))
-          | inr four ↦ ends-four (omega (arith, four)) (omega (arith, bounds.1)) (λ more second third fourth. none (omega (arith, more)))
+          | inr four ↦
+              ends-four (omega (arith, four)) (omega (arith, bounds.1))
+              (λ more second third fourth. none (omega (arith, more)))
         ]
       ]
 
@@ -139,7 +161,8 @@ ends-all keeps bytes place all zero far whole = absurd (let e : false ≡ true =
 ends-all keeps bytes place all (suc n) far whole = absurd (omega (arith, all, far))
 
 -- ASCII that is printed begins a run
-pub ends-unprinted : (bytes : List ℕ) (from : ℕ) → from < length bytes → EndsRun false bytes from → is_in (to 0x20 0x7f) (slice_index bytes from) ≡ false
+pub ends-unprinted : (bytes : List ℕ) (from : ℕ) → from < length bytes → EndsRun false bytes from
+    → is_in (to 0x20 0x7f) (slice_index bytes from) ≡ false
 unfolding is_well_formed utf8_rows
 ends-unprinted bytes from within ended = elim (cases_Bool (is_in (to 0x20 0x7f) (slice_index bytes from))) [
   | inr other ↦ other

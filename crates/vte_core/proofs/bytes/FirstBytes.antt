@@ -33,7 +33,8 @@ pub behind_three : (a : ℕ) → 0xe0 ≤ a → a < 0xf0 → wanted_behind a utf
 unfolding utf8_rows second_range
 behind_three a low high = grind (arith, nat_tests)
 
-pub behind_four : (a : ℕ) → 0xf0 ≤ a → a < 0xf5 → wanted_behind a utf8_rows ≡ (second_range a ∷ continuation ∷ continuation ∷ []) ∷ []
+pub behind_four : (a : ℕ) → 0xf0 ≤ a → a < 0xf5
+    → wanted_behind a utf8_rows ≡ (second_range a ∷ continuation ∷ continuation ∷ []) ∷ []
 unfolding utf8_rows second_range
 behind_four a low high = grind (arith, nat_tests)
 
@@ -154,7 +155,8 @@ pub record TruncatedTwo (a b : ℕ) : Type 0 where
 
 pub truncated_two : (a b : ℕ) → is_truncated (a ∷ b ∷ []) ≡ true → TruncatedTwo a b
 unfolding is_truncated utf8_rows second_range
-truncated_two a b more = record { low = grind (arith, nat_tests); high = grind (arith, nat_tests); second = grind (arith, nat_tests) }
+truncated_two a b more =
+    record { low = grind (arith, nat_tests); high = grind (arith, nat_tests); second = grind (arith, nat_tests) }
 
 pub record TruncatedThree (a b c : ℕ) : Type 0 where
   pub low : 0xf0 ≤ a
@@ -164,7 +166,13 @@ pub record TruncatedThree (a b c : ℕ) : Type 0 where
 
 pub truncated_three : (a b c : ℕ) → is_truncated (a ∷ b ∷ c ∷ []) ≡ true → TruncatedThree a b c
 unfolding is_truncated utf8_rows second_range
-truncated_three a b c more = record { low = grind (arith, nat_tests); high = grind (arith, nat_tests); second = grind (arith, nat_tests); third = grind (arith, nat_tests) }
+truncated_three a b c more =
+    record {
+      low = grind (arith, nat_tests);
+      high = grind (arith, nat_tests);
+      second = grind (arith, nat_tests);
+      third = grind (arith, nat_tests);
+    }
 
 -- ---- a byte of ASCII
 
@@ -182,8 +190,10 @@ truncated_long a u long = elim (first_byte a) [
   | ascii high ↦ (tests_ascii a high u).is_open
   | lone none ↦ (tests_none a none u).is_open
   | of_two low high ↦ (tests_two a low high u).is_open ∙ fits_front-long (second_range a ∷ []) u (omega (arith, long))
-  | of_three low high ↦ (tests_three a low high u).is_open ∙ fits_front-long (second_range a ∷ continuation ∷ []) u (omega (arith, long))
-  | of_four low high ↦ (tests_four a low high u).is_open ∙ fits_front-long (second_range a ∷ continuation ∷ continuation ∷ []) u long
+  | of_three low high ↦
+      (tests_three a low high u).is_open ∙ fits_front-long (second_range a ∷ continuation ∷ []) u (omega (arith, long))
+  | of_four low high ↦
+      (tests_four a low high u).is_open ∙ fits_front-long (second_range a ∷ continuation ∷ continuation ∷ []) u long
 ]
 
 after_one : (a b : ℕ) → b < 0x80 → Tests (a ∷ b ∷ []) false false
@@ -204,5 +214,7 @@ unfolding is_truncated
 ascii_breaks [] b more high = cc
 ascii_breaks (a ∷ []) b more high = after_one a b high
 ascii_breaks (a ∷ c ∷ []) b more high = after_two a c b high
-ascii_breaks (a ∷ c ∷ d ∷ []) b more high = record { is_whole = after_three a c d b high; is_open = truncated_long a (c ∷ d ∷ b ∷ []) (omega arith) }
-ascii_breaks (a ∷ c ∷ d ∷ e ∷ u) b more high = absurd (false≢true (sym (truncated_long a (c ∷ d ∷ e ∷ u) (omega arith)) ∙ more))
+ascii_breaks (a ∷ c ∷ d ∷ []) b more high =
+    record { is_whole = after_three a c d b high; is_open = truncated_long a (c ∷ d ∷ b ∷ []) (omega arith) }
+ascii_breaks (a ∷ c ∷ d ∷ e ∷ u) b more high =
+    absurd (false≢true (sym (truncated_long a (c ∷ d ∷ e ∷ u) (omega arith)) ∙ more))

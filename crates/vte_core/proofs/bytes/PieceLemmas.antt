@@ -1,7 +1,8 @@
 -- Bytes of the same classes, and what these classes are not.
 use Rattle.vte_core.proofs.Common.{◌≡◌, ℕ, Bool, true, false, List, [], ◌∷◌, ◌++◌, refl, Class, Control, Cancel, Digit, Colon, Semicolon, Final, is_control, is_head, is_parameter, ends_head, AreOf}
 
-pub AreOf-append : (has : Class → Bool) (front rest : List ℕ) → AreOf has front → AreOf has rest → AreOf has (front ++ rest)
+pub AreOf-append : (has : Class → Bool) (front rest : List ℕ) → AreOf has front → AreOf has rest
+    → AreOf has (front ++ rest)
 AreOf-append has [] rest are more = more
 AreOf-append has (b ∷ front) rest are more = (are.0, AreOf-append has front rest are.1 more)
 

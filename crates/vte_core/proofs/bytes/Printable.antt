@@ -56,10 +56,17 @@ ascii-one b below (suc i) = omega arith
 
 plain : (keeps : Bool) (bytes : List ℕ) → AllPrinted bytes → All (λ c. is_left_out keeps c ≡ false) bytes
 plain keeps [] are = All-nil (λ c. is_left_out keeps c ≡ false)
-plain keeps (b ∷ bytes) are = All-cons (λ c. is_left_out keeps c ≡ false) b bytes (no_control-stays keeps b (plain_byte b are.0)) (plain keeps bytes are.1)
+plain keeps (b ∷ bytes) are =
+    All-cons (λ c. is_left_out keeps c ≡ false) b bytes (no_control-stays keeps b (plain_byte b are.0))
+    (plain keeps bytes are.1)
 
-run_bytes : (keeps : Bool) (bytes : List ℕ) → IsAscii bytes → All (λ c. is_left_out keeps c ≡ false) bytes → AreRun keeps bytes
-run_bytes keeps bytes a stay = record { utf8 = IsUtf8-from_ascii bytes a; plain = subst (All (λ c. is_left_out keeps c ≡ false)) (sym (chars-IsAscii bytes a)) stay }
+run_bytes : (keeps : Bool) (bytes : List ℕ) → IsAscii bytes → All (λ c. is_left_out keeps c ≡ false) bytes
+    → AreRun keeps bytes
+run_bytes keeps bytes a stay =
+    record {
+      utf8 = IsUtf8-from_ascii bytes a;
+      plain = subst (All (λ c. is_left_out keeps c ≡ false)) (sym (chars-IsAscii bytes a)) stay;
+    }
 
 pub printable-ascii : (keeps : Bool) (bytes : List ℕ) (n : ℕ) → ArePrinted bytes 0 n → AreRun keeps (take n bytes)
 printable-ascii keeps bytes n are =
@@ -69,20 +76,29 @@ printable-ascii keeps bytes n are =
     run_bytes keeps (take n bytes) (ascii (take n bytes) all) (plain keeps (take n bytes) all)
 
 pub printable-nil : (keeps : Bool) → AreRun keeps []
-printable-nil keeps = record { utf8 = IsUtf8-nil; plain = subst (All (λ c. is_left_out keeps c ≡ false)) (sym chars-nil) (All-nil (λ c. is_left_out keeps c ≡ false)) }
+printable-nil keeps =
+    record {
+      utf8 = IsUtf8-nil;
+      plain =
+          subst (All (λ c. is_left_out keeps c ≡ false)) (sym chars-nil) (All-nil (λ c. is_left_out keeps c ≡ false));
+    }
 
 pub printable-append : (keeps : Bool) (xs ys : List ℕ) → AreRun keeps xs → AreRun keeps ys → AreRun keeps (xs ++ ys)
 printable-append keeps xs ys a b = record {
   utf8 = IsUtf8-append xs ys a.utf8 b.utf8;
-  plain = subst (All (λ c. is_left_out keeps c ≡ false)) (sym (chars-append xs ys a.utf8)) (All-append (λ c. is_left_out keeps c ≡ false) (chars xs) (chars ys) a.plain b.plain);
+  plain =
+      subst (All (λ c. is_left_out keeps c ≡ false)) (sym (chars-append xs ys a.utf8))
+      (All-append (λ c. is_left_out keeps c ≡ false) (chars xs) (chars ys) a.plain b.plain);
 }
 
 -- ---- one character
 
 chars_encode : (c : ℕ) → IsScalar c → chars (encode c) ≡ c ∷ []
-chars_encode c is = chars_past_char (encode c) [] c (IsUtf8-encode c is) (sym (append-nil (encode c))) ∙ ap (λ cs. c ∷ cs) chars-nil
+chars_encode c is =
+    chars_past_char (encode c) [] c (IsUtf8-encode c is) (sym (append-nil (encode c))) ∙ ap (λ cs. c ∷ cs) chars-nil
 
-pub run_one : (keeps : Bool) (c : ℕ) → IsScalar c → is_left_out keeps c ≡ false → All (λ c. is_left_out keeps c ≡ false) (chars (encode c))
+pub run_one : (keeps : Bool) (c : ℕ) → IsScalar c → is_left_out keeps c ≡ false
+    → All (λ c. is_left_out keeps c ≡ false) (chars (encode c))
 run_one keeps c is stays = subst (All (λ c. is_left_out keeps c ≡ false)) (sym (chars_encode c is))
     (All-cons (λ c. is_left_out keeps c ≡ false) c [] stays (All-nil (λ c. is_left_out keeps c ≡ false)))
 
@@ -99,30 +115,42 @@ pub printed-is : (b : ℕ) → is_in (to 0x20 0x7f) b ≡ true → IsPrinted b
 printed-is b e = grind (arith, nat_tests)
 
 -- a run of one byte
-one_byte : (bytes : List ℕ) (from b : ℕ) → from < length bytes → b ≡ slice_index bytes from → take (from + 1 - from) (drop from bytes) ≡ b ∷ []
+one_byte : (bytes : List ℕ) (from b : ℕ) → from < length bytes → b ≡ slice_index bytes from
+    → take (from + 1 - from) (drop from bytes) ≡ b ∷ []
 one_byte bytes from b within is =
-    ap (λ n. take n (drop from bytes)) (let e : from + 1 - from ≡ 1 = omega arith in e) ∙ ap (take 1) (drop_more bytes from 0 within) ∙ ap (λ x. x ∷ []) (sym is)
+    ap (λ n. take n (drop from bytes)) (let e : from + 1 - from ≡ 1 = omega arith in e)
+    ∙ ap (take 1) (drop_more bytes from 0 within) ∙ ap (λ x. x ∷ []) (sym is)
 
-pub chars-one : (bytes : List ℕ) (from b : ℕ) → from < length bytes → b ≡ slice_index bytes from → IsPrinted b → chars (take (from + 1 - from) (drop from bytes)) ≡ b ∷ []
-chars-one bytes from b within is printed = ap chars (one_byte bytes from b within is) ∙ chars-IsAscii (b ∷ []) (ascii (b ∷ []) (printed, tt))
+pub chars-one : (bytes : List ℕ) (from b : ℕ) → from < length bytes → b ≡ slice_index bytes from → IsPrinted b
+    → chars (take (from + 1 - from) (drop from bytes)) ≡ b ∷ []
+chars-one bytes from b within is printed =
+    ap chars (one_byte bytes from b within is) ∙ chars-IsAscii (b ∷ []) (ascii (b ∷ []) (printed, tt))
 
 -- HT, LF or CR, where these are kept
-pub run-layout : (bytes : List ℕ) (from b : ℕ) → from < length bytes → b ≡ slice_index bytes from → is_layout b ≡ true → IsRun true bytes from (from + 1)
+pub run-layout : (bytes : List ℕ) (from b : ℕ) → from < length bytes → b ≡ slice_index bytes from → is_layout b ≡ true
+    → IsRun true bytes from (from + 1)
 run-layout bytes from b within is layout =
-    subst (AreRun true) (sym (one_byte bytes from b within is)) (run_bytes true (b ∷ []) (ascii-one b (layout-is_ascii b layout))
-    (All-cons (λ c. is_left_out true c ≡ false) b [] (layout-stays b layout) (All-nil (λ c. is_left_out true c ≡ false))))
+    subst (AreRun true) (sym (one_byte bytes from b within is))
+    (run_bytes true (b ∷ []) (ascii-one b (layout-is_ascii b layout))
+    (All-cons (λ c. is_left_out true c ≡ false) b [] (layout-stays b layout)
+    (All-nil (λ c. is_left_out true c ≡ false))))
 
 pub run-none : (keeps : Bool) (bytes : List ℕ) (from : ℕ) → IsRun keeps bytes from from
-run-none keeps bytes from = subst (λ n. AreRun keeps (take n (drop from bytes))) (let e : 0 ≡ from - from = omega arith in e) (printable-nil keeps)
+run-none keeps bytes from =
+    subst (λ n. AreRun keeps (take n (drop from bytes))) (let e : 0 ≡ from - from = omega arith in e)
+    (printable-nil keeps)
 
 pub run-ascii : (keeps : Bool) (bytes : List ℕ) (from to : ℕ) → ArePrinted bytes from to → IsRun keeps bytes from to
 run-ascii keeps bytes from to are = printable-ascii keeps (drop from bytes) (to - from) (λ k low high.
     subst IsPrinted (sym (get_or-drop from bytes k 0)) (are (from + k) (omega arith) (omega (arith, high))))
 
-pub run-append : (keeps : Bool) (bytes : List ℕ) (i j k : ℕ) → i ≤ j → j ≤ k → IsRun keeps bytes i j → IsRun keeps bytes j k → IsRun keeps bytes i k
+pub run-append : (keeps : Bool) (bytes : List ℕ) (i j k : ℕ) → i ≤ j → j ≤ k → IsRun keeps bytes i j
+    → IsRun keeps bytes j k → IsRun keeps bytes i k
 run-append keeps bytes i j k first second a b =
-    let same : drop (j - i) (drop i bytes) ≡ drop j bytes = drop-drop (j - i) i bytes ∙ ap (λ n. drop n bytes) (let e : i + (j - i) ≡ j = omega (arith, first) in e) in
+    let same : drop (j - i) (drop i bytes) ≡ drop j bytes =
+    drop-drop (j - i) i bytes ∙ ap (λ n. drop n bytes) (let e : i + (j - i) ≡ j = omega (arith, first) in e) in
     let whole : take (k - i) (drop i bytes) ≡ take (j - i) (drop i bytes) ++ take (k - j) (drop j bytes) =
     ap (λ n. take n (drop i bytes)) (let e : k - i ≡ j - i + (k - j) = omega (arith, first, second) in e)
     ∙ take-add (j - i) (k - j) (drop i bytes) ∙ ap (λ x. take (j - i) (drop i bytes) ++ take (k - j) x) same in
-    subst (AreRun keeps) (sym whole) (printable-append keeps (take (j - i) (drop i bytes)) (take (k - j) (drop j bytes)) a b)
+    subst (AreRun keeps) (sym whole)
+    (printable-append keeps (take (j - i) (drop i bytes)) (take (k - j) (drop j bytes)) a b)

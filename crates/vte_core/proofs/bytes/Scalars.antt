@@ -64,31 +64,41 @@ fits-length : (ranges : List Range) (u : List ℕ) → fits ranges u ≡ true �
 fits-length [] [] fit = refl
 fits-length [] (b ∷ u) fit = absurd (false≢true fit)
 fits-length (range ∷ ranges) [] fit = absurd (false≢true fit)
-fits-length (range ∷ ranges) (b ∷ u) fit = ap suc (fits-length ranges u (and_parts (is_in range b) (fits ranges u) fit).1)
+fits-length (range ∷ ranges) (b ∷ u) fit =
+    ap suc (fits-length ranges u (and_parts (is_in range b) (fits ranges u) fit).1)
 
 -- a well-formed sequence, by its bytes
 pub data Sequence (p : List ℕ) : Type 0 where
   whole_one : (a : ℕ) → p ≡ a ∷ [] → a < 0x80 → Sequence p
   whole_two : (a b : ℕ) → p ≡ a ∷ b ∷ [] → 0xc2 ≤ a → a < 0xe0 → SecondByte a b → Sequence p
-  whole_three : (a b c : ℕ) → p ≡ a ∷ b ∷ c ∷ [] → 0xe0 ≤ a → a < 0xf0 → SecondByte a b → (0x80 ≤ c) × (c ≤ 0xbf) → Sequence p
-  whole_four : (a b c d : ℕ) → p ≡ a ∷ b ∷ c ∷ d ∷ [] → 0xf0 ≤ a → a < 0xf5 → SecondByte a b → (0x80 ≤ c) × (c ≤ 0xbf) → (0x80 ≤ d) × (d ≤ 0xbf) → Sequence p
+  whole_three : (a b c : ℕ) → p ≡ a ∷ b ∷ c ∷ [] → 0xe0 ≤ a → a < 0xf0 → SecondByte a b
+      → (0x80 ≤ c) × (c ≤ 0xbf) → Sequence p
+  whole_four : (a b c d : ℕ) → p ≡ a ∷ b ∷ c ∷ d ∷ [] → 0xf0 ≤ a → a < 0xf5 → SecondByte a b → (0x80 ≤ c) × (c ≤ 0xbf)
+      → (0x80 ≤ d) × (d ≤ 0xbf) → Sequence p
 
 two_fit : (a : ℕ) (u : List ℕ) → 0xc2 ≤ a → a < 0xe0 → fits (second_range a ∷ []) u ≡ true → Sequence (a ∷ u)
 two_fit a (b ∷ []) low high fit = whole_two a b refl low high (second_byte a b (and_parts _ _ fit).0)
 two_fit a u low high fit = let one : length u ≡ 1 = fits-length (second_range a ∷ []) u fit in absurd (omega arith)
 
-three_fit : (a : ℕ) (u : List ℕ) → 0xe0 ≤ a → a < 0xf0 → fits (second_range a ∷ continuation ∷ []) u ≡ true → Sequence (a ∷ u)
+three_fit : (a : ℕ) (u : List ℕ) → 0xe0 ≤ a → a < 0xf0 → fits (second_range a ∷ continuation ∷ []) u ≡ true
+    → Sequence (a ∷ u)
 three_fit a (b ∷ c ∷ []) low high fit =
     let parts : (is_in (second_range a) b ≡ true) × ((is_in continuation c && true) ≡ true) = and_parts _ _ fit in
     whole_three a b c refl low high (second_byte a b parts.0) (continuation-bounds c (and_parts _ _ parts.1).0)
-three_fit a u low high fit = let two : length u ≡ 2 = fits-length (second_range a ∷ continuation ∷ []) u fit in absurd (omega arith)
+three_fit a u low high fit = let two : length u ≡ 2 = fits-length (second_range a ∷ continuation ∷ []) u fit in
+    absurd (omega arith)
 
-four_fit : (a : ℕ) (u : List ℕ) → 0xf0 ≤ a → a < 0xf5 → fits (second_range a ∷ continuation ∷ continuation ∷ []) u ≡ true → Sequence (a ∷ u)
+four_fit : (a : ℕ) (u : List ℕ) → 0xf0 ≤ a → a < 0xf5
+    → fits (second_range a ∷ continuation ∷ continuation ∷ []) u ≡ true → Sequence (a ∷ u)
 four_fit a (b ∷ c ∷ d ∷ []) low high fit =
-    let parts : (is_in (second_range a) b ≡ true) × ((is_in continuation c && (is_in continuation d && true)) ≡ true) = and_parts _ _ fit in
+    let parts : (is_in (second_range a) b ≡ true) × ((is_in continuation c && (is_in continuation d && true)) ≡ true) =
+    and_parts _ _ fit in
     let rest : (is_in continuation c ≡ true) × ((is_in continuation d && true) ≡ true) = and_parts _ _ parts.1 in
-    whole_four a b c d refl low high (second_byte a b parts.0) (continuation-bounds c rest.0) (continuation-bounds d (and_parts _ _ rest.1).0)
-four_fit a u low high fit = let three : length u ≡ 3 = fits-length (second_range a ∷ continuation ∷ continuation ∷ []) u fit in absurd (omega arith)
+    whole_four a b c d refl low high (second_byte a b parts.0) (continuation-bounds c rest.0)
+    (continuation-bounds d (and_parts _ _ rest.1).0)
+four_fit a u low high fit =
+    let three : length u ≡ 3 = fits-length (second_range a ∷ continuation ∷ continuation ∷ []) u fit in
+    absurd (omega arith)
 
 by_first : (a : ℕ) (u : List ℕ) → FirstByte a → is_well_formed (a ∷ u) ≡ true → Sequence (a ∷ u)
 by_first a [] (ascii high) whole = whole_one a refl high
@@ -108,7 +118,8 @@ scalar_of-in_range p whole = elim (sequence p whole) [
   | whole_one a is high ↦ rw is (inl (omega arith))
   | whole_two a b is low high second ↦ rw is (two_in_range a b low high second)
   | whole_three a b c is low high second third ↦ rw is (three_in_range a b c low high second third.0 third.1)
-  | whole_four a b c d is low high second third fourth ↦ rw is (four_in_range a b c d low high second third.0 third.1 fourth.0 fourth.1)
+  | whole_four a b c d is low high second third fourth ↦
+      rw is (four_in_range a b c d low high second third.0 third.1 fourth.0 fourth.1)
 ]
 
 is_scalar : (c : ℕ) → InScalarRange c → IsScalar c

@@ -7,11 +7,19 @@ use Rattle.vte_core.proofs.bytes.Printable.{run-append}
 
 pub scans-run : {B : Type 0} {keeps : Bool} {bytes : List ℕ} {i j k : ℕ} {s t u : Looks B}
     → Scans (IsRun keeps) bytes i j s t → Scans (IsRun keeps) bytes j k t u → Scans (IsRun keeps) bytes i k s u
-scans-run a b = record { low = omega (arith, a.low, b.low); high = b.high; are = run-append _ _ _ _ _ a.low b.low a.are b.are; least = omega (arith, a.least, b.least) }
+scans-run a b =
+    record {
+      low = omega (arith, a.low, b.low);
+      high = b.high;
+      are = run-append _ _ _ _ _ a.low b.low a.are b.are;
+      least = omega (arith, a.least, b.least);
+    }
 
 -- over a block, of which the first bytes are such
-pub scans-block : {B : Type 0} (holds : ℕ → Type 0) (bytes : List ℕ) {block : List ℕ} {i j n : ℕ} (m : ℕ) {s t u : Looks B} → Scans (Each holds) bytes i j s t
-    → (j + n ≤ length bytes) × (block ≡ take n (drop j bytes)) × (looked u ≡ looked t + n) → m ≤ n → Each holds block 0 m → Scans (Each holds) bytes i (j + m) s u
+pub scans-block : {B : Type 0} (holds : ℕ → Type 0) (bytes : List ℕ) {block : List ℕ} {i j n : ℕ} (m : ℕ)
+    {s t u : Looks B} → Scans (Each holds) bytes i j s t
+    → (j + n ≤ length bytes) × (block ≡ take n (drop j bytes)) × (looked u ≡ looked t + n) → m ≤ n
+    → Each holds block 0 m → Scans (Each holds) bytes i (j + m) s u
 scans-block holds bytes m a block few all = record {
   low = omega (arith, a.low);
   high = omega (arith, block.0, few);

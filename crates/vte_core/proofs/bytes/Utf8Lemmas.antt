@@ -1,4 +1,5 @@
--- What the rows of UTF-8 say of the bytes one after the other: after a first byte at most one row is left.
+-- What the rows of UTF-8 say of the bytes one after the other: after a first byte at most one row
+-- is left.
 use Rattle.vte_core.proofs.Common.{◌≡◌, ℕ, suc, ◌+◌, ◌<◌, ◌≤◌, Bool, true, false, not, ◌&&◌, List, [], ◌∷◌, ◌++◌, length, refl, sym, ap, ◌∙◌, arith, inl, inr, nat_le, list_any, false≢true, le-leb}
 use Rattle.vte_core.proofs.Common.{lt-leb, leb-true, and_from, and_left, cases_Bool, and_parts, Range, is_in, utf8_rows, wanted_behind, wanted, wants_none, allowed}
 
@@ -13,7 +14,8 @@ AtMostOne (row ∷ next ∷ rows) = ⊥
 abbrev pub ascends : ℕ → List (List Range) → Bool
 ascends n [] = true
 ascends n ([] ∷ rows) = false
-ascends n ((range ∷ ranges) ∷ rows) = nat_le n range.first && (nat_le range.first range.last && ascends (range.last + 1) rows)
+ascends n ((range ∷ ranges) ∷ rows) =
+    nat_le n range.first && (nat_le range.first range.last && ascends (range.last + 1) rows)
 
 -- a byte and a range
 pub in_range : (range : Range) (b : ℕ) → range.first ≤ b → b ≤ range.last → is_in range b ≡ true
@@ -27,8 +29,10 @@ pub none_behind : (n b : ℕ) (rows : List (List Range)) → ascends n rows ≡ 
 none_behind n b [] up low = refl
 none_behind n b ([] ∷ rows) up low = cc
 none_behind n b ((range ∷ ranges) ∷ rows) up low =
-    let parts : (nat_le n range.first ≡ true) × ((nat_le range.first range.last && ascends (range.last + 1) rows) ≡ true) = and_parts _ _ up in
-    let rest : (nat_le range.first range.last ≡ true) × (ascends (range.last + 1) rows ≡ true) = and_parts _ _ parts.1 in
+    let parts : (nat_le n range.first ≡ true)
+    × ((nat_le range.first range.last && ascends (range.last + 1) rows) ≡ true) = and_parts _ _ up in
+    let rest : (nat_le range.first range.last ≡ true) × (ascends (range.last + 1) rows ≡ true) =
+    and_parts _ _ parts.1 in
     let above : n ≤ range.first = leb-true _ _ parts.0 in
     let ends : range.first ≤ range.last = leb-true _ _ rest.0 in
     let left : is_in range b ≡ false = below_range range b (omega arith) in
@@ -38,8 +42,10 @@ AtMostOne-behind_rows : (n b : ℕ) (rows : List (List Range)) → ascends n row
 AtMostOne-behind_rows n b [] up = tt
 AtMostOne-behind_rows n b ([] ∷ rows) up = cc
 AtMostOne-behind_rows n b ((range ∷ ranges) ∷ rows) up =
-    let parts : (nat_le n range.first ≡ true) × ((nat_le range.first range.last && ascends (range.last + 1) rows) ≡ true) = and_parts _ _ up in
-    let rest : (nat_le range.first range.last ≡ true) × (ascends (range.last + 1) rows ≡ true) = and_parts _ _ parts.1 in
+    let parts : (nat_le n range.first ≡ true)
+    × ((nat_le range.first range.last && ascends (range.last + 1) rows) ≡ true) = and_parts _ _ up in
+    let rest : (nat_le range.first range.last ≡ true) × (ascends (range.last + 1) rows ≡ true) =
+    and_parts _ _ parts.1 in
     elim (cases_Bool (is_in range b)) [
       | inl e ↦ rw e (behind (leb-true _ _ (and_parts _ _ e).1) rest.1)
       | inr e ↦ rw e (AtMostOne-behind_rows (range.last + 1) b rows rest.1)
@@ -104,7 +110,8 @@ allowed_none [] = refl
 allowed_none (b ∷ bytes) = refl
 
 -- a sequence is allowed whole, and nothing after it
-pub allowed_whole : (rows : List (List Range)) (bytes x : List ℕ) → AtMostOne rows → some_whole (wanted bytes rows) ≡ true
+pub allowed_whole : (rows : List (List Range)) (bytes x : List ℕ) → AtMostOne rows
+    → some_whole (wanted bytes rows) ≡ true
     → allowed rows (bytes ++ x) ≡ length bytes
 allowed_whole rows [] [] one whole = refl
 allowed_whole [] [] (c ∷ x) one whole = refl
@@ -120,19 +127,22 @@ allowed_whole rows (b ∷ bytes) x one whole =
     next (row ∷ more) whole same = ap suc same
 
 -- a truncated sequence is allowed whole, and nothing after it that no row wants there
-pub allowed_broken : (rows : List (List Range)) (bytes : List ℕ) (b : ℕ) (x : List ℕ) → some_open (wanted bytes rows) ≡ true
+pub allowed_broken : (rows : List (List Range)) (bytes : List ℕ) (b : ℕ) (x : List ℕ)
+    → some_open (wanted bytes rows) ≡ true
     → wanted_behind b (wanted bytes rows) ≡ [] → allowed rows (bytes ++ b ∷ x) ≡ length bytes
 allowed_broken rows [] b x more none = rw (none, allowed)
 allowed_broken rows (c ∷ bytes) b x more none =
     next (wanted_behind c rows) more (allowed_broken (wanted_behind c rows) bytes b x more none)
   where
-    next : (rows : List (List Range)) → some_open (wanted bytes rows) ≡ true → allowed rows (bytes ++ b ∷ x) ≡ length bytes
+    next : (rows : List (List Range)) → some_open (wanted bytes rows) ≡ true
+        → allowed rows (bytes ++ b ∷ x) ≡ length bytes
         → elim rows [ [] ↦ 0 | row ∷ more ↦ suc (allowed (row ∷ more) (bytes ++ b ∷ x)) ] ≡ suc (length bytes)
     next [] more same = absurd (false≢true (sym (ap some_open (wanted_none bytes)) ∙ more))
     next (row ∷ rows) more same = ap suc same
 
 -- a truncated sequence at the end is allowed whole
-pub allowed_end : (rows : List (List Range)) (bytes : List ℕ) → some_open (wanted bytes rows) ≡ true → allowed rows bytes ≡ length bytes
+pub allowed_end : (rows : List (List Range)) (bytes : List ℕ) → some_open (wanted bytes rows) ≡ true
+    → allowed rows bytes ≡ length bytes
 allowed_end rows [] more = refl
 allowed_end rows (c ∷ bytes) more = next (wanted_behind c rows) more (allowed_end (wanted_behind c rows) bytes more)
   where

@@ -22,7 +22,8 @@ mask_at : (k : ℕ) → k < 8 → bit_at mask (8 * k + 7) ≡ 1
 mask_at k low = eqb-true _ _ (agree_below_at (λ k. nat_eq (bit_at mask (8 * k + 7)) 1) (λ k. true) 8 k refl low)
 
 -- a byte at whose bit 7 neither number has a 1
-byte : (word k : ℕ) → word < 18446744073709551616 → k < 8 → bit_at (less word) (8 * k + 7) ≡ 0 → bit_at word (8 * k + 7) ≡ 0 → IsPrinted (get_or (to_le_bytes w64 word) k 0)
+byte : (word k : ℕ) → word < 18446744073709551616 → k < 8 → bit_at (less word) (8 * k + 7) ≡ 0
+    → bit_at word (8 * k + 7) ≡ 0 → IsPrinted (get_or (to_le_bytes w64 word) k 0)
 byte word zero fits low x y = (omega (arith, fits, x, y), omega (arith, fits, x, y))
 byte word (suc zero) fits low x y = (omega (arith, fits, x, y), omega (arith, fits, x, y))
 byte word (suc (suc zero)) fits low x y = (omega (arith, fits, x, y), omega (arith, fits, x, y))
@@ -30,15 +31,18 @@ byte word (suc (suc (suc zero))) fits low x y = (omega (arith, fits, x, y), omeg
 byte word (suc (suc (suc (suc zero)))) fits low x y = (omega (arith, fits, x, y), omega (arith, fits, x, y))
 byte word (suc (suc (suc (suc (suc zero))))) fits low x y = (omega (arith, fits, x, y), omega (arith, fits, x, y))
 byte word (suc (suc (suc (suc (suc (suc zero)))))) fits low x y = (omega (arith, fits, x, y), omega (arith, fits, x, y))
-byte word (suc (suc (suc (suc (suc (suc (suc zero))))))) fits low x y = (omega (arith, fits, x, y), omega (arith, fits, x, y))
+byte word (suc (suc (suc (suc (suc (suc (suc zero))))))) fits low x y =
+    (omega (arith, fits, x, y), omega (arith, fits, x, y))
 byte word (suc (suc (suc (suc (suc (suc (suc (suc k)))))))) fits low x y = absurd (omega (arith, low))
 
 pub marks-fit : (word : ℕ) → marks_of word < 18446744073709551616
 marks-fit word = omega (arith, and_le_r (bit_or (less word) word) mask)
 
 -- up to a byte that is marked, or all
-pub front-printed : (bytes : List ℕ) (word n : ℕ) → ((i : ℕ) → get_or bytes i 0 < 256) → length bytes ≡ 8 → word < 18446744073709551616
-    → word ≡ from_le_bytes w64 bytes → n ≤ 8 → ((i : ℕ) → i < 8 * n → bit_at (marks_of word) i ≡ 0) → ArePrinted bytes 0 n
+pub front-printed : (bytes : List ℕ) (word n : ℕ) → ((i : ℕ) → get_or bytes i 0 < 256) → length bytes ≡ 8
+    → word < 18446744073709551616
+    → word ≡ from_le_bytes w64 bytes → n ≤ 8 → ((i : ℕ) → i < 8 * n → bit_at (marks_of word) i ≡ 0)
+    → ArePrinted bytes 0 n
 front-printed bytes word n are long fits is most zeros k _ few =
     let low : k < 8 = omega (arith, few, most) in
     let e = zeros (8 * k + 7) (omega (arith, few)) in
@@ -46,4 +50,5 @@ front-printed bytes word n are long fits is most zeros k _ few =
     let both = bit_at_and (bit_or (less word) word) mask (8 * k + 7) in
     let small = bit_at-lt (bit_or (less word) word) (8 * k + 7) in
     subst IsPrinted (ap (λ x. get_or x k 0) (le_bytes_8 bytes word long are is))
-    (byte word k fits low (omega (arith, e, both, either, small, mask_at k low)) (omega (arith, e, both, either, small, mask_at k low)))
+    (byte word k fits low (omega (arith, e, both, either, small, mask_at k low))
+    (omega (arith, e, both, either, small, mask_at k low)))

@@ -22,7 +22,8 @@ use Rattle.vte_core.proofs.Common.{IsBehind, open_at, open_end, append-nil, appe
 use Rattle.std.proofs.lemmas.List.{drop-drop}
 use Rattle.vte_core.proofs.streams.StreamLemmas.{reads-byte}
 
-stands_in_text : {B : Type 0} {limit : Option ℕ} (parser : Machine B) (v : Unfinished) (u : List ℕ) → parser.state ≡ Text v → bytes_of v ≡ u
+stands_in_text : {B : Type 0} {limit : Option ℕ} (parser : Machine B) (v : Unfinished) (u : List ℕ)
+    → parser.state ≡ Text v → bytes_of v ≡ u
     → is_open u ≡ true → Stands limit parser (InText u)
 stands_in_text parser v u e same more = stands-by e (same, more)
 
@@ -30,51 +31,81 @@ stands_in_text parser v u e same more = stands-by e (same, more)
 abbrev pub in_text : {B : Type 0} → Machine B → Unfinished → Machine B
 in_text parser unfinished = record { state = Text unfinished; collected = parser.collected; command = parser.command }
 
-by_other : {B : Type 0} (limit : Option ℕ) (parser other : Machine B) (u : Unfinished) (place : Place) → StandsBy limit (Text u) parser place → StandsBy limit (Text u) other place
+by_other : {B : Type 0} (limit : Option ℕ) (parser other : Machine B) (u : Unfinished) (place : Place)
+    → StandsBy limit (Text u) parser place → StandsBy limit (Text u) other place
 by_other limit parser other u (InText bytes) s = s
 by_other limit parser other u _ s = absurd s
 
 -- in a text only the state counts
-pub inside-same : {V B : Type 0} {asks : Bool} {step : V → Event → V} {is_terminated : V → Bool} {old new : V} {limit : Option ℕ}
+pub inside-same : {V B : Type 0} {asks : Bool} {step : V → Event → V} {is_terminated : V → Bool} {old new : V}
+    {limit : Option ℕ}
     {stream bytes : List ℕ} {i : ℕ} {u : Unfinished} {parser next : Machine B}
-    → parser.state ≡ Text u → next.state ≡ Text u → StandsInside asks step is_terminated old new limit stream bytes i parser
+    → parser.state ≡ Text u → next.state ≡ Text u
+    → StandsInside asks step is_terminated old new limit stream bytes i parser
     → StandsInside asks step is_terminated old new limit stream bytes i next
 inside-same {limit = limit} {u = u} {parser = parser} {next = next} e f s =
-    record { place = s.place; stands = stands-by f (by_other limit parser next u s.place (stands-in e s.stands)); has_come = s.has_come }
+    record {
+      place = s.place;
+      stands = stands-by f (by_other limit parser next u s.place (stands-in e s.stands));
+      has_come = s.has_come;
+    }
 
 -- ---- between characters
 
 -- a byte that is a character
-performs-whole : {V B : Type 0} {step : V → Event → V} {old new : V} {limit : Option ℕ} {b : ℕ} {parser : Machine B} → parser.state ≡ Text Nothing → b ≢ escape
-    → is_well_formed (b ∷ []) ≡ true → new ≡ step old (character_event b) → (place : Place) → Stands limit parser place → IsBetween place
+performs-whole : {V B : Type 0} {step : V → Event → V} {old new : V} {limit : Option ℕ} {b : ℕ} {parser : Machine B}
+    → parser.state ≡ Text Nothing → b ≢ escape
+    → is_well_formed (b ∷ []) ≡ true → new ≡ step old (character_event b) → (place : Place) → Stands limit parser place
+    → IsBetween place
     → Performs step old new limit place (b ∷ []) parser
 performs-whole {limit = limit} {b = b} e n whole performed =
-    performs-begun e n (λ s. record { told = character_event b ∷ []; next = InText []; performed = performed; stands = s; leads = text-whole limit [] b whole })
+    performs-begun e n
+    (λ s. record {
+      told = character_event b ∷ [];
+      next = InText [];
+      performed = performed;
+      stands = s;
+      leads = text-whole limit [] b whole;
+    })
 
 -- a byte that begins none
-performs-lone : {V B : Type 0} {step : V → Event → V} {old new : V} {limit : Option ℕ} {b : ℕ} {parser : Machine B} → parser.state ≡ Text Nothing → b ≢ escape
-    → is_well_formed (b ∷ []) ≡ false → is_truncated (b ∷ []) ≡ false → new ≡ step old (malformed_event (b ∷ [])) → (place : Place)
+performs-lone : {V B : Type 0} {step : V → Event → V} {old new : V} {limit : Option ℕ} {b : ℕ} {parser : Machine B}
+    → parser.state ≡ Text Nothing → b ≢ escape
+    → is_well_formed (b ∷ []) ≡ false → is_truncated (b ∷ []) ≡ false → new ≡ step old (malformed_event (b ∷ []))
+    → (place : Place)
     → Stands limit parser place → IsBetween place
     → Performs step old new limit place (b ∷ []) parser
 performs-lone {limit = limit} {b = b} e n whole more performed =
-    performs-begun e n (λ s. record { told = malformed_event (b ∷ []) ∷ []; next = InText []; performed = performed; stands = s; leads = text-lone limit b whole more })
+    performs-begun e n
+    (λ s. record {
+      told = malformed_event (b ∷ []) ∷ [];
+      next = InText [];
+      performed = performed;
+      stands = s;
+      leads = text-lone limit b whole more;
+    })
 
 prints : (b : ℕ) → is_in (to 0x20 0x7f) b ≡ true → character_event b ≡ Print b
 unfolding character_event
 prints b printed = grind (arith, nat_tests)
 
 -- a character of ASCII that is printed
-pub performs-printed : {V B : Type 0} {step : V → Event → V} {old new : V} {limit : Option ℕ} {b c : ℕ} {parser : Machine B} → parser.state ≡ Text Nothing
-    → is_in (to 0x20 0x7f) b ≡ true → c ≡ b → new ≡ step old (Print c) → (place : Place) → Stands limit parser place → IsBetween place
+pub performs-printed : {V B : Type 0} {step : V → Event → V} {old new : V} {limit : Option ℕ} {b c : ℕ}
+    {parser : Machine B} → parser.state ≡ Text Nothing
+    → is_in (to 0x20 0x7f) b ≡ true → c ≡ b → new ≡ step old (Print c) → (place : Place) → Stands limit parser place
+    → IsBetween place
     → Performs step old new limit place (b ∷ []) parser
 performs-printed {step = step} {old = old} {b = b} e printed same told =
     let low : 0x20 ≤ b = grind (arith, nat_tests) in
     let high : b < 0x80 = grind (arith, nat_tests) in
-    performs-whole e (λ escape. omega (arith, escape, low)) (ascii_alone b high).is_whole (told ∙ ap (λ x. step old (Print x)) same ∙ ap (step old) (sym (prints b printed)))
+    performs-whole e (λ escape. omega (arith, escape, low)) (ascii_alone b high).is_whole
+    (told ∙ ap (λ x. step old (Print x)) same ∙ ap (step old) (sym (prints b printed)))
 
 -- a byte that is neither printed nor begins a longer one
-pub performs-single : {V B : Type 0} {step : V → Event → V} {old new : V} {limit : Option ℕ} {b : ℕ} {parser : Machine B} → parser.state ≡ Text Nothing → b ≢ escape
-    → is_in (to 0xc2 0xf4) b ≡ false → (b < 0x80 → new ≡ step old (character_event b)) → (0x80 ≤ b → new ≡ step old (malformed_event (b ∷ []))) → (place : Place)
+pub performs-single : {V B : Type 0} {step : V → Event → V} {old new : V} {limit : Option ℕ} {b : ℕ}
+    {parser : Machine B} → parser.state ≡ Text Nothing → b ≢ escape
+    → is_in (to 0xc2 0xf4) b ≡ false → (b < 0x80 → new ≡ step old (character_event b))
+    → (0x80 ≤ b → new ≡ step old (malformed_event (b ∷ []))) → (place : Place)
     → Stands limit parser place → IsBetween place → Performs step old new limit place (b ∷ []) parser
 performs-single {b = b} e n no_lead control malformed = elim (cases_lt b 0x80) [
   | inl low ↦ performs-whole e n (ascii_alone b low).is_whole (control low)
@@ -87,12 +118,21 @@ performs-single {b = b} e n no_lead control malformed = elim (cases_lt b 0x80) [
 ]
 
 -- a byte that begins a longer one
-pub performs-opened : {V B : Type 0} {step : V → Event → V} {value : V} {limit : Option ℕ} {b : ℕ} {v : Unfinished} {parser next : Machine B} → parser.state ≡ Text Nothing
-    → b ≢ escape → Carries [] b (StillUnfinished v) → next.state ≡ Text v → (place : Place) → Stands limit parser place → IsBetween place
+pub performs-opened : {V B : Type 0} {step : V → Event → V} {value : V} {limit : Option ℕ} {b : ℕ} {v : Unfinished}
+    {parser next : Machine B} → parser.state ≡ Text Nothing
+    → b ≢ escape → Carries [] b (StillUnfinished v) → next.state ≡ Text v → (place : Place) → Stands limit parser place
+    → IsBetween place
     → Performs step value value limit place (b ∷ []) next
 performs-opened {limit = limit} {b = b} {v = v} {next = next} e n carries state =
     let more : is_truncated (b ∷ []) ≡ true = rw carries.0 at carries.1 in
-    performs-begun e n (λ s. record { told = []; next = InText (b ∷ []); performed = refl; stands = stands_in_text next v (b ∷ []) state carries.0 more; leads = text-unfinished limit [] b })
+    performs-begun e n
+    (λ s. record {
+      told = [];
+      next = InText (b ∷ []);
+      performed = refl;
+      stands = stands_in_text next v (b ∷ []) state carries.0 more;
+      leads = text-unfinished limit [] b;
+    })
 
 -- ---- inside a character
 
@@ -100,7 +140,8 @@ record AtText (u : Unfinished) (place : Place) : Type 0 where
   same : place ≡ InText (bytes_of u)
   begun : is_open (bytes_of u) ≡ true
 
-by_text : {B : Type 0} (limit : Option ℕ) (parser : Machine B) (u : Unfinished) (place : Place) → StandsBy limit (Text u) parser place → AtText u place
+by_text : {B : Type 0} (limit : Option ℕ) (parser : Machine B) (u : Unfinished) (place : Place)
+    → StandsBy limit (Text u) parser place → AtText u place
 by_text limit parser u (InText bytes) s = record { same = ap InText (sym s.0); begun = ap is_open s.0 ∙ s.1 }
 by_text limit parser u _ s = absurd s
 
@@ -113,47 +154,71 @@ unfolding is_truncated
 truncated-some [] more none = cc
 truncated-some (x ∷ u) more none = cc
 
-module _ {V B : Type 0} {asks : Bool} {step : V → Event → V} {is_terminated : V → Bool} {old mid : V} {limit : Option ℕ} {stream bytes : List ℕ} where
-  inside-open : {i : ℕ} {u : Unfinished} {parser : Machine B} → parser.state ≡ Text u → StandsInside asks step is_terminated old mid limit stream bytes i parser
+module _ {V B : Type 0} {asks : Bool} {step : V → Event → V} {is_terminated : V → Bool} {old mid : V} {limit : Option ℕ}
+    {stream bytes : List ℕ} where
+  inside-open : {i : ℕ} {u : Unfinished} {parser : Machine B} → parser.state ≡ Text u
+      → StandsInside asks step is_terminated old mid limit stream bytes i parser
       → is_open (bytes_of u) ≡ true
   inside-open {u = u} {parser = parser} e s = (by_text limit parser u s.place (stands-in e s.stands)).begun
 
   -- a byte that the character goes on with
   carried-more : {i b : ℕ} {u v : Unfinished} {parser next : Machine B}
-      → parser.state ≡ Text u → is_truncated (bytes_of u) ≡ true → Carries (bytes_of u) b (StillUnfinished v) → next.state ≡ Text v
-      → StandsInside asks step is_terminated old mid limit stream bytes i parser → i < length bytes → b ≡ slice_index bytes i
+      → parser.state ≡ Text u → is_truncated (bytes_of u) ≡ true → Carries (bytes_of u) b (StillUnfinished v)
+      → next.state ≡ Text v
+      → StandsInside asks step is_terminated old mid limit stream bytes i parser → i < length bytes
+      → b ≡ slice_index bytes i
       → StandsInside asks step is_terminated old mid limit stream bytes (i + 1) next
   carried-more {i = i} {b = b} {u = u} {v = v} {parser = parser} {next = next} e opened carries state s within is =
       let t = by_text limit parser u s.place (stands-in e s.stands) in
       let more : is_truncated (bytes_of u ++ b ∷ []) ≡ true = subst (λ x. is_truncated x ≡ true) carries.0 carries.1 in
       record {
         place = InText (bytes_of u ++ b ∷ []);
-        stands = stands_in_text next v (bytes_of u ++ b ∷ []) state carries.0 (is_open-truncated (bytes_of u ++ b ∷ []) more);
-        has_come = come-carried {these = []} t.begun within is (truncated-some (bytes_of u) opened) (breaks-unfinished (bytes_of u) b more)
-            (reads-byte limit (InText (bytes_of u)) (InText (bytes_of u ++ b ∷ [])) b [] (carried_is_no_escape (bytes_of u) b opened (inr more))
+        stands =
+            stands_in_text next v (bytes_of u ++ b ∷ []) state carries.0
+            (is_open-truncated (bytes_of u ++ b ∷ []) more);
+        has_come =
+            come-carried {these = []} t.begun within is (truncated-some (bytes_of u) opened)
+            (breaks-unfinished (bytes_of u) b more)
+            (reads-byte limit (InText (bytes_of u)) (InText (bytes_of u ++ b ∷ [])) b []
+            (carried_is_no_escape (bytes_of u) b opened (inr more))
             (text-unfinished limit (bytes_of u) b)) refl (is_open-truncated (bytes_of u ++ b ∷ []) more)
             (subst (CameInside asks step is_terminated old mid limit stream bytes i) t.same s.has_come);
       }
 
   -- a byte that ends it
   carried-whole : {new : V} {i j b c : ℕ} {u : Unfinished} {parser next : Machine B}
-      → parser.state ≡ Text u → is_truncated (bytes_of u) ≡ true → Carries (bytes_of u) b (Whole c) → next.state ≡ Text Nothing
+      → parser.state ≡ Text u → is_truncated (bytes_of u) ≡ true → Carries (bytes_of u) b (Whole c)
+      → next.state ≡ Text Nothing
       → new ≡ step mid (character_event c)
-      → StandsInside asks step is_terminated old mid limit stream bytes i parser → i < length bytes → b ≡ slice_index bytes i → j ≡ i + 1
+      → StandsInside asks step is_terminated old mid limit stream bytes i parser → i < length bytes
+      → b ≡ slice_index bytes i → j ≡ i + 1
       → StandsAt asks step is_terminated old new limit stream bytes j next
-  carried-whole {new = new} {i = i} {b = b} {u = u} {parser = parser} {next = next} e opened carries state performed s within is behind =
+  carried-whole {new = new} {i = i} {b = b} {u = u} {parser = parser}
+      {next = next} e opened carries state performed s within is behind =
       let t = by_text limit parser u s.place (stands-in e s.stands) in
-      let c = come-carried {new = new} {next = InText []} {these = character_event (scalar_of (bytes_of u ++ b ∷ [])) ∷ []} t.begun within is (truncated-some (bytes_of u) opened)
+      let c =
+      come-carried {new = new} {next = InText []}
+      {these = character_event (scalar_of (bytes_of u ++ b ∷ [])) ∷ []} t.begun within is
+      (truncated-some (bytes_of u) opened)
       (breaks-whole (bytes_of u) b carries.0)
-      (reads-byte limit (InText (bytes_of u)) (InText []) b _ (carried_is_no_escape (bytes_of u) b opened (inl carries.0)) (text-whole limit (bytes_of u) b carries.0))
-      (performed ∙ ap (λ n. step mid (character_event n)) carries.1) refl (subst (CameInside asks step is_terminated old mid limit stream bytes i) t.same s.has_come) in
+      (reads-byte limit (InText (bytes_of u)) (InText []) b _
+      (carried_is_no_escape (bytes_of u) b opened (inl carries.0)) (text-whole limit (bytes_of u) b carries.0))
+      (performed ∙ ap (λ n. step mid (character_event n)) carries.1) refl
+      (subst (CameInside asks step is_terminated old mid limit stream bytes i) t.same s.has_come) in
       subst (λ n. StandsAt asks step is_terminated old new limit stream bytes n next) (sym behind)
-      (record { place = InText []; stands = stands_in_text next Nothing [] state refl refl; between = λ _. refl; has_come = come-between refl refl c })
+      (record {
+        place = InText [];
+        stands = stands_in_text next Nothing [] state refl refl;
+        between = λ _. refl;
+        has_come = come-between refl refl c;
+      })
 
   -- a byte that breaks it
   carried-broken : {new : V} {i b : ℕ} {u : Unfinished} {parser next : Machine B}
-      → parser.state ≡ Text u → is_truncated (bytes_of u) ≡ true → Carries (bytes_of u) b Broken → next.state ≡ Text Nothing → new ≡ step mid (Print replacement)
-      → StandsInside asks step is_terminated old mid limit stream bytes i parser → i < length bytes → b ≡ slice_index bytes i
+      → parser.state ≡ Text u → is_truncated (bytes_of u) ≡ true → Carries (bytes_of u) b Broken
+      → next.state ≡ Text Nothing → new ≡ step mid (Print replacement)
+      → StandsInside asks step is_terminated old mid limit stream bytes i parser → i < length bytes
+      → b ≡ slice_index bytes i
       → StandsAt asks step is_terminated old new limit stream bytes i next
   carried-broken {i = i} {b = b} {u = u} {parser = parser} {next = next} e opened carries state performed s within is =
       let t = by_text limit parser u s.place (stands-in e s.stands) in
@@ -168,33 +233,44 @@ module _ {V B : Type 0} {asks : Bool} {step : V → Event → V} {is_terminated 
 -- ---- a call inside a character
 
 -- the bytes of a character, with those at a place
-bytes_more : (bytes : List ℕ) (i j n m : ℕ) (begun : List ℕ) {u : List ℕ} → j ≡ i + n → u ≡ begun ++ take n (drop i bytes)
+bytes_more : (bytes : List ℕ) (i j n m : ℕ) (begun : List ℕ) {u : List ℕ} → j ≡ i + n
+    → u ≡ begun ++ take n (drop i bytes)
     → u ++ take m (drop j bytes) ≡ begun ++ take (n + m) (drop i bytes)
 bytes_more bytes i j n m begun far are =
-    ap (λ (x : List ℕ). x ++ take m (drop j bytes)) are ∙ append_assoc begun (take n (drop i bytes)) (take m (drop j bytes))
-    ∙ ap (λ (x : List ℕ). begun ++ (take n (drop i bytes) ++ take m x)) (ap (λ k. drop k bytes) far ∙ sym (drop-drop n i bytes))
+    ap (λ (x : List ℕ). x ++ take m (drop j bytes)) are
+    ∙ append_assoc begun (take n (drop i bytes)) (take m (drop j bytes))
+    ∙ ap (λ (x : List ℕ). begun ++ (take n (drop i bytes) ++ take m x))
+    (ap (λ k. drop k bytes) far ∙ sym (drop-drop n i bytes))
     ∙ ap (λ (x : List ℕ). begun ++ x) (sym (take-add n m (drop i bytes)))
 
-byte_more : (bytes : List ℕ) (i n : ℕ) (begun : List ℕ) {j b : ℕ} {u : List ℕ} → j < length bytes → j ≡ i + n → b ≡ slice_index bytes j → u ≡ begun ++ take n (drop i bytes)
+byte_more : (bytes : List ℕ) (i n : ℕ) (begun : List ℕ) {j b : ℕ} {u : List ℕ} → j < length bytes → j ≡ i + n
+    → b ≡ slice_index bytes j → u ≡ begun ++ take n (drop i bytes)
     → u ++ b ∷ [] ≡ begun ++ take (n + 1) (drop i bytes)
 byte_more bytes i n begun {j = j} {u = u} within far is are =
-    ap (λ (x : List ℕ). u ++ x) (ap (λ (x : ℕ). x ∷ []) is ∙ sym (ap (take 1) (drop_more bytes j 0 within))) ∙ bytes_more bytes i j n 1 begun far are
+    ap (λ (x : List ℕ). u ++ x) (ap (λ (x : ℕ). x ∷ []) is ∙ sym (ap (take 1) (drop_more bytes j 0 within)))
+    ∙ bytes_more bytes i j n 1 begun far are
 
--- From place i, inside a character of the bytes `begun`, a call has come to place j, inside one of the bytes `u`, and told nothing.
-pub record GoesOn {V B : Type 0} (asks : Bool) (step : V → Event → V) (is_terminated : V → Bool) (value : V) (limit : Option ℕ) (bytes : List ℕ) (i j : ℕ)
+-- From place i, inside a character of the bytes `begun`, a call has come to place j, inside one of
+-- the bytes `u`, and told nothing.
+pub record GoesOn {V B : Type 0} (asks : Bool) (step : V → Event → V) (is_terminated : V → Bool) (value : V)
+    (limit : Option ℕ) (bytes : List ℕ) (i j : ℕ)
     (begun u : Unfinished) (next : Machine B) : Type 0 where
-  pub inside : (old : V) (stream : List ℕ) (parser : Machine B) → parser.state ≡ Text begun → StandsInside asks step is_terminated old value limit stream bytes i parser
+  pub inside : (old : V) (stream : List ℕ) (parser : Machine B) → parser.state ≡ Text begun
+      → StandsInside asks step is_terminated old value limit stream bytes i parser
       → StandsInside asks step is_terminated old value limit stream bytes j (in_text next u)
   -- the same for a performer that keeps all events
-  pub kept : (stream : List ℕ) (parser : Machine B) → parser.state ≡ Text begun → StandsInside false keep never [] (added limit stream (take i bytes)) limit stream bytes i parser
+  pub kept : (stream : List ℕ) (parser : Machine B) → parser.state ≡ Text begun
+      → StandsInside false keep never [] (added limit stream (take i bytes)) limit stream bytes i parser
       → StandsInside false keep never [] (added limit stream (take i bytes)) limit stream bytes j (in_text next u)
   pub more : is_open (bytes_of begun) ≡ true → is_truncated (bytes_of u) ≡ true
   pub n : ℕ
   pub far : j ≡ i + n
   pub are : is_open (bytes_of begun) ≡ true → bytes_of u ≡ bytes_of begun ++ take n (drop i bytes)
 
-module _ {V B : Type 0} {asks : Bool} {step : V → Event → V} {is_terminated : V → Bool} {value : V} {limit : Option ℕ} {bytes : List ℕ} {i : ℕ} {begun : Unfinished} where
-  pub goes-nowhere : (next : Machine B) → bytes_of begun ≢ [] → GoesOn asks step is_terminated value limit bytes i i begun begun next
+module _ {V B : Type 0} {asks : Bool} {step : V → Event → V} {is_terminated : V → Bool} {value : V} {limit : Option ℕ}
+    {bytes : List ℕ} {i : ℕ} {begun : Unfinished} where
+  pub goes-nowhere : (next : Machine B) → bytes_of begun ≢ []
+      → GoesOn asks step is_terminated value limit bytes i i begun begun next
   goes-nowhere next some = record {
     inside = λ old stream parser e s. inside-same e refl s;
     kept = λ stream parser e s. inside-same e refl s;
@@ -204,37 +280,50 @@ module _ {V B : Type 0} {asks : Bool} {step : V → Event → V} {is_terminated 
     are = λ _. sym (append-nil (bytes_of begun));
   }
 
-  pub goes-more : {j b : ℕ} {u v : Unfinished} {parser next : Machine B} → GoesOn asks step is_terminated value limit bytes i j begun u parser
-      → (is_truncated (bytes_of u) ≡ true → Carries (bytes_of u) b (StillUnfinished v)) → j < length bytes → b ≡ slice_index bytes j
+  pub goes-more : {j b : ℕ} {u v : Unfinished} {parser next : Machine B}
+      → GoesOn asks step is_terminated value limit bytes i j begun u parser
+      → (is_truncated (bytes_of u) ≡ true → Carries (bytes_of u) b (StillUnfinished v)) → j < length bytes
+      → b ≡ slice_index bytes j
       → GoesOn asks step is_terminated value limit bytes i (j + 1) begun v next
   goes-more goes carries within is = record {
-    inside = λ old stream parser e s. let more = goes.more (inside-open e s) in carried-more refl more (carries more) refl (goes.inside old stream parser e s) within is;
-    kept = λ stream parser e s. let more = goes.more (inside-open e s) in carried-more refl more (carries more) refl (goes.kept stream parser e s) within is;
+    inside = λ old stream parser e s. let more = goes.more (inside-open e s) in
+        carried-more refl more (carries more) refl (goes.inside old stream parser e s) within is;
+    kept = λ stream parser e s. let more = goes.more (inside-open e s) in
+        carried-more refl more (carries more) refl (goes.kept stream parser e s) within is;
     more = λ opened. (carries (goes.more opened)).1;
     n = goes.n + 1;
     far = omega (arith, goes.far);
-    are = λ opened. (carries (goes.more opened)).0 ∙ byte_more bytes i goes.n (bytes_of begun) within goes.far is (goes.are opened);
+    are =
+        λ opened. (carries (goes.more opened)).0
+        ∙ byte_more bytes i goes.n (bytes_of begun) within goes.far is (goes.are opened);
   }
 
   -- all bytes are read
-  pub completes-all : {j k : ℕ} {u : Unfinished} {next : Machine B} → GoesOn asks step is_terminated value limit bytes i j begun u next → j ≡ k → length bytes ≤ k
+  pub completes-all : {j k : ℕ} {u : Unfinished} {next : Machine B}
+      → GoesOn asks step is_terminated value limit bytes i j begun u next → j ≡ k → length bytes ≤ k
       → Completes asks step is_terminated value value limit bytes i k begun (in_text next u)
   completes-all goes end all = record {
     stands_at = λ old stream parser e s. inside-all (inside-moved end (goes.inside old stream parser e s)) all;
     text = λ within. absurd (omega arith);
     others = λ old stream parser e s. record {
       events = [];
-      parts = sym (told-at (inside-all (inside-moved end (goes.kept stream parser e (keeps-inside s))) all)) ∙ sym (append-nil (added limit stream (take i bytes)));
+      parts =
+          sym (told-at (inside-all (inside-moved end (goes.kept stream parser e (keeps-inside s))) all))
+          ∙ sym (append-nil (added limit stream (take i bytes)));
       are = inl (All-nil IsOther);
     };
   }
 
   -- a byte ends the character
-  pub completes-whole : {new : V} {j k b c : ℕ} {u : Unfinished} {parser next : Machine B} → GoesOn asks step is_terminated value limit bytes i j begun u parser
-      → (is_truncated (bytes_of u) ≡ true → Carries (bytes_of u) b (Whole c)) → next.state ≡ Text Nothing → new ≡ step value (character_event c)
-      → j < length bytes → b ≡ slice_index bytes j → k ≡ j + 1 → Completes asks step is_terminated value new limit bytes i k begun next
+  pub completes-whole : {new : V} {j k b c : ℕ} {u : Unfinished} {parser next : Machine B}
+      → GoesOn asks step is_terminated value limit bytes i j begun u parser
+      → (is_truncated (bytes_of u) ≡ true → Carries (bytes_of u) b (Whole c)) → next.state ≡ Text Nothing
+      → new ≡ step value (character_event c)
+      → j < length bytes → b ≡ slice_index bytes j → k ≡ j + 1
+      → Completes asks step is_terminated value new limit bytes i k begun next
   completes-whole {c = c} {u = u} {next = next} goes carries state performed within is behind = record {
-    stands_at = λ old stream parser e s. let more = goes.more (inside-open e s) in carried-whole refl more (carries more) state performed (goes.inside old stream parser e s) within is behind;
+    stands_at = λ old stream parser e s. let more = goes.more (inside-open e s) in
+        carried-whole refl more (carries more) state performed (goes.inside old stream parser e s) within is behind;
     text = λ _. state;
     others = λ old stream parser e s.
         let opened = inside-open e s in
@@ -243,7 +332,10 @@ module _ {V B : Type 0} {asks : Bool} {step : V → Event → V} {is_terminated 
         let same = byte_more bytes i goes.n (bytes_of begun) within goes.far is (goes.are opened) in
         record {
           events = character_event c ∷ [];
-          parts = sym (told-at (carried-whole {next = next} refl more whole state refl (goes.kept stream parser e (keeps-inside s)) within is behind));
+          parts =
+              sym (told-at
+              (carried-whole {next = next} refl more whole state refl
+              (goes.kept stream parser e (keeps-inside s)) within is behind));
           are = inr (record {
             n = goes.n + 1;
             far = omega (arith, goes.far, within);
@@ -255,26 +347,36 @@ module _ {V B : Type 0} {asks : Bool} {step : V → Event → V} {is_terminated 
   }
 
   -- a byte breaks it
-  pub completes-broken : {new : V} {j b : ℕ} {u : Unfinished} {parser next : Machine B} → GoesOn asks step is_terminated value limit bytes i j begun u parser
-      → (is_truncated (bytes_of u) ≡ true → Carries (bytes_of u) b Broken) → next.state ≡ Text Nothing → new ≡ step value (Print replacement)
-      → j < length bytes → b ≡ slice_index bytes j → Completes asks step is_terminated value new limit bytes i j begun next
+  pub completes-broken : {new : V} {j b : ℕ} {u : Unfinished} {parser next : Machine B}
+      → GoesOn asks step is_terminated value limit bytes i j begun u parser
+      → (is_truncated (bytes_of u) ≡ true → Carries (bytes_of u) b Broken) → next.state ≡ Text Nothing
+      → new ≡ step value (Print replacement)
+      → j < length bytes → b ≡ slice_index bytes j
+      → Completes asks step is_terminated value new limit bytes i j begun next
   completes-broken {next = next} goes carries state performed within is = record {
-    stands_at = λ old stream parser e s. let more = goes.more (inside-open e s) in carried-broken refl more (carries more) state performed (goes.inside old stream parser e s) within is;
+    stands_at = λ old stream parser e s. let more = goes.more (inside-open e s) in
+        carried-broken refl more (carries more) state performed (goes.inside old stream parser e s) within is;
     text = λ _. state;
     others = λ old stream parser e s.
         let more = goes.more (inside-open e s) in
         record {
           events = Print replacement ∷ [];
-          parts = sym (told-at (carried-broken {next = next} refl more (carries more) state refl (goes.kept stream parser e (keeps-inside s)) within is));
+          parts =
+              sym (told-at
+              (carried-broken {next = next} refl more (carries more) state refl
+              (goes.kept stream parser e (keeps-inside s)) within is));
           are = inl (All-cons IsOther (Print replacement) [] refl (All-nil IsOther));
         };
   }
 
   -- another call goes on
-  pub completes-then : {new : V} {j k : ℕ} {u : Unfinished} {parser next : Machine B} → GoesOn asks step is_terminated value limit bytes i j begun u parser
-      → Completes asks step is_terminated value new limit bytes j k u next → Completes asks step is_terminated value new limit bytes i k begun next
+  pub completes-then : {new : V} {j k : ℕ} {u : Unfinished} {parser next : Machine B}
+      → GoesOn asks step is_terminated value limit bytes i j begun u parser
+      → Completes asks step is_terminated value new limit bytes j k u next
+      → Completes asks step is_terminated value new limit bytes i k begun next
   completes-then {j = j} {u = u} {parser = parser} goes c = record {
-    stands_at = λ old stream begun e s. c.stands_at old stream (in_text parser u) refl (goes.inside old stream begun e s);
+    stands_at =
+        λ old stream begun e s. c.stands_at old stream (in_text parser u) refl (goes.inside old stream begun e s);
     text = c.text;
     others = λ old stream begun_parser e s.
         let opened = inside-open e s in
@@ -286,7 +388,8 @@ module _ {V B : Type 0} {asks : Bool} {step : V → Event → V} {is_terminated 
           are = elim told.are [
             | inl others ↦ inl others
             | inr whole ↦
-                let same : bytes_of u ++ take whole.n (drop j bytes) ≡ bytes_of begun ++ take (goes.n + whole.n) (drop i bytes) =
+                let same : bytes_of u ++ take whole.n (drop j bytes)
+                ≡ bytes_of begun ++ take (goes.n + whole.n) (drop i bytes) =
                 bytes_more bytes i j goes.n whole.n (bytes_of begun) goes.far (goes.are opened) in
                 inr (record {
                   n = goes.n + whole.n;
@@ -299,27 +402,45 @@ module _ {V B : Type 0} {asks : Bool} {step : V → Event → V} {is_terminated 
         };
   }
 
-module _ {V B : Type 0} {asks : Bool} {step : V → Event → V} {is_terminated : V → Bool} {value : V} {limit : Option ℕ} {bytes : List ℕ} {i x y : ℕ} where
+module _ {V B : Type 0} {asks : Bool} {step : V → Event → V} {is_terminated : V → Bool} {value : V} {limit : Option ℕ}
+    {bytes : List ℕ} {i x y : ℕ} where
   -- the second byte of a character of three or four
-  pub goes-second : (next : Machine B) → 0xe0 ≤ x → is_in (second_range x) y ≡ true → i < length bytes → y ≡ slice_index bytes i
+  pub goes-second : (next : Machine B) → 0xe0 ≤ x → is_in (second_range x) y ≡ true → i < length bytes
+      → y ≡ slice_index bytes i
       → GoesOn asks step is_terminated value limit bytes i (i + 1) (One x) (Two x y) next
-  goes-second next low second within is = goes-more (goes-nowhere next (some x [])) (λ more. second_open x y more second low) within is
+  goes-second next low second within is =
+      goes-more (goes-nowhere next (some x [])) (λ more. second_open x y more second low) within is
 
   -- the second and the third of one of four
-  pub goes-third : {z : ℕ} (next : Machine B) → 0xf0 ≤ x → is_in (second_range x) y ≡ true → is_in (to 0x80 0xbf) z ≡ true → i + 2 < length bytes → y ≡ slice_index bytes i
-      → z ≡ slice_index bytes (i + 1) → GoesOn asks step is_terminated value limit bytes i (i + 2) (One x) (Three x y z) next
+  pub goes-third : {z : ℕ} (next : Machine B) → 0xf0 ≤ x → is_in (second_range x) y ≡ true
+      → is_in (to 0x80 0xbf) z ≡ true → i + 2 < length bytes → y ≡ slice_index bytes i
+      → z ≡ slice_index bytes (i + 1)
+      → GoesOn asks step is_terminated value limit bytes i (i + 2) (One x) (Three x y z) next
   goes-third {z = z} next low second third within is is_third =
-      let goes = goes-more {next = next} (goes-second next (omega arith) second (omega arith) is) (λ more. third_open x y z more third low) (omega arith) is_third in
-      record { inside = λ old stream parser e s. inside-moved (omega arith) (goes.inside old stream parser e s); kept = λ stream parser e s. inside-moved (omega arith) (goes.kept stream parser e s); more = goes.more; n = goes.n; far = omega (arith, goes.far); are = goes.are }
+      let goes =
+      goes-more {next = next} (goes-second next (omega arith) second (omega arith) is)
+      (λ more. third_open x y z more third low) (omega arith) is_third in
+      record {
+        inside = λ old stream parser e s. inside-moved (omega arith) (goes.inside old stream parser e s);
+        kept = λ stream parser e s. inside-moved (omega arith) (goes.kept stream parser e s);
+        more = goes.more;
+        n = goes.n;
+        far = omega (arith, goes.far);
+        are = goes.are;
+      }
 
 -- what is open in a text
-pub opens-text : {B : Type 0} {limit : Option ℕ} {stream : List ℕ} {u : Unfinished} (parser : Machine B) → parser.state ≡ Text u → bytes_of u ≢ [] → IsBehind limit parser stream
+pub opens-text : {B : Type 0} {limit : Option ℕ} {stream : List ℕ} {u : Unfinished} (parser : Machine B)
+    → parser.state ≡ Text u → bytes_of u ≢ [] → IsBehind limit parser stream
     → open_end stream ≡ [] → ⊥
 opens-text {limit = limit} {stream = stream} {u = u} parser e some h none =
     let t = by_text limit parser u h.place (stands-in e h.stands) in
-    some (sym (ap open_at t.same) ∙ sym (after-open_end limit stream h.place h.is_after (stands-place parser h.place h.stands)) ∙ none)
+    some
+    (sym (ap open_at t.same)
+    ∙ sym (after-open_end limit stream h.place h.is_after (stands-place parser h.place h.stands)) ∙ none)
 
-pub opens-open : {B : Type 0} {limit : Option ℕ} {stream : List ℕ} {u : Unfinished} (parser : Machine B) → parser.state ≡ Text u → IsBehind limit parser stream → is_open (bytes_of u) ≡ true
+pub opens-open : {B : Type 0} {limit : Option ℕ} {stream : List ℕ} {u : Unfinished} (parser : Machine B)
+    → parser.state ≡ Text u → IsBehind limit parser stream → is_open (bytes_of u) ≡ true
 opens-open {limit = limit} {u = u} parser e h = (by_text limit parser u h.place (stands-in e h.stands)).begun
 
 -- ---- a byte that is neither printed nor begins a longer one, in what it tells
@@ -336,11 +457,14 @@ malformed_other b = elim (cases_Bool (is_control_character b)) [
   | inr is ↦ rw is (All-cons IsOther (Print replacement) [] refl (All-nil IsOther))
 ]
 
-single : (limit : Option ℕ) (b : ℕ) → b ≢ escape → is_in (to 0x20 0x7f) b ≡ false → is_in (to 0xc2 0xf4) b ≡ false → Single limit b
+single : (limit : Option ℕ) (b : ℕ) → b ≢ escape → is_in (to 0x20 0x7f) b ≡ false → is_in (to 0xc2 0xf4) b ≡ false
+    → Single limit b
 single limit b n other no_lead = elim (cases_lt b 0x80) [
   | inl low ↦ record {
     told = character_event b ∷ [];
-    reads = reads-byte limit (InText []) (InText []) b _ (not_escape b n) (text-whole limit [] b (ascii_alone b low).is_whole);
+    reads =
+        reads-byte limit (InText []) (InText []) b _ (not_escape b n)
+        (text-whole limit [] b (ascii_alone b low).is_whole);
     are = other_control b (grind (arith, nat_tests));
   }
   | inr high ↦
@@ -350,14 +474,21 @@ single limit b n other no_lead = elim (cases_lt b 0x80) [
       ]) in
       record {
         told = malformed_event (b ∷ []) ∷ [];
-        reads = reads-byte limit (InText []) (InText []) b _ (not_escape b n) (text-lone limit b lone.is_whole lone.is_open);
+        reads =
+            reads-byte limit (InText []) (InText []) b _ (not_escape b n)
+            (text-lone limit b lone.is_whole lone.is_open);
         are = malformed_other b;
       }
 ]
 
-pub adds-single : {B : Type 0} {limit : Option ℕ} {stream bytes : List ℕ} {i b : ℕ} {place : Place} (parser : Machine B) → parser.state ≡ Text Nothing → b ≢ escape
-    → is_in (to 0x20 0x7f) b ≡ false → is_in (to 0xc2 0xf4) b ≡ false → i < length bytes → b ≡ slice_index bytes i → Stands limit parser place
+pub adds-single : {B : Type 0} {limit : Option ℕ} {stream bytes : List ℕ} {i b : ℕ} {place : Place} (parser : Machine B)
+    → parser.state ≡ Text Nothing → b ≢ escape
+    → is_in (to 0x20 0x7f) b ≡ false → is_in (to 0xc2 0xf4) b ≡ false → i < length bytes → b ≡ slice_index bytes i
+    → Stands limit parser place
     → IsAfter limit (stream_at stream bytes i) place → AddsOthers limit stream bytes i (i + 1)
-adds-single {limit = limit} {stream = stream} {bytes = bytes} {i = i} {b = b} {place = place} parser e n other no_lead within is s after =
+adds-single {limit = limit} {stream = stream} {bytes = bytes} {i = i} {b = b}
+    {place = place} parser e n other no_lead within is s after =
     let one = single limit b n other no_lead in
-    adds-reads within is (subst (IsAfter limit (stream_at stream bytes i)) (between_characters parser place e s) after) one.reads refl one.are
+    adds-reads within is
+    (subst (IsAfter limit (stream_at stream bytes i)) (between_characters parser place e s) after)
+    one.reads refl one.are

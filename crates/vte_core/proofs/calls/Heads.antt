@@ -18,33 +18,46 @@ use Rattle.vte_core.proofs.streams.StreamLemmas.{no_escape, reads-byte}
 
 -- ---- what is collected
 
-between-then : (bytes : List ℕ) (i j k : ℕ) → i ≤ j → j ≤ k → take (k - i) (drop i bytes) ≡ take (j - i) (drop i bytes) ++ take (k - j) (drop j bytes)
+between-then : (bytes : List ℕ) (i j k : ℕ) → i ≤ j → j ≤ k
+    → take (k - i) (drop i bytes) ≡ take (j - i) (drop i bytes) ++ take (k - j) (drop j bytes)
 between-then bytes i j k low high =
     let whole : k - i ≡ (j - i) + (k - j) = omega (arith, low, high) in
     let here : i + (j - i) ≡ j = omega (arith, low) in
     rw (whole, take-add (j - i) (k - j) (drop i bytes), drop-drop (j - i) i bytes, here) refl
 
-pub reads-nothing : {bytes : List ℕ} {i : ℕ} {part : HeadPart} {held : Collected} → i ≤ length bytes → ReadsHead bytes i i part part held held
+pub reads-nothing : {bytes : List ℕ} {i : ℕ} {part : HeadPart} {held : Collected} → i ≤ length bytes
+    → ReadsHead bytes i i part part held held
 reads-nothing {bytes = bytes} {i = i} {part = part} {held = held} within =
     let none : i - i ≡ 0 = omega arith in
     record { low = omega arith; high = within; are = rw none tt; stands = λ head s. rw (none, append-nil head) s }
 
 pub reads-then : {bytes : List ℕ} {i j k : ℕ} {reached part next : HeadPart} {old mid new : Collected}
-    → ReadsHead bytes i j reached part old mid → ReadsHead bytes j k part next mid new → ReadsHead bytes i k reached next old new
+    → ReadsHead bytes i j reached part old mid → ReadsHead bytes j k part next mid new
+    → ReadsHead bytes i k reached next old new
 reads-then {bytes = bytes} {i = i} {j = j} {k = k} a b =
     let whole = between-then bytes i j k a.low b.low in
     record {
       low = omega (arith, a.low, b.low);
       high = b.high;
       are = rw whole (AreOf-append is_head _ _ a.are b.are);
-      stands = λ head s. rw (whole, ← append_assoc head (take (j - i) (drop i bytes)) (take (k - j) (drop j bytes))) (b.stands _ (a.stands head s));
+      stands =
+          λ head s. rw (whole, ← append_assoc head (take (j - i) (drop i bytes)) (take (k - j) (drop j bytes)))
+          (b.stands _ (a.stands head s));
     }
 
-pub reads-head_byte : {bytes : List ℕ} {i b : ℕ} {part next : HeadPart} {old new : Collected} → i < length bytes → b ≡ slice_index bytes i → is_head (class_of b) ≡ true
-    → ((head : List ℕ) → StandsInHead old part head → StandsInHead new next (head ++ b ∷ [])) → ReadsHead bytes i (i + 1) part next old new
+pub reads-head_byte : {bytes : List ℕ} {i b : ℕ} {part next : HeadPart} {old new : Collected} → i < length bytes
+    → b ≡ slice_index bytes i → is_head (class_of b) ≡ true
+    → ((head : List ℕ) → StandsInHead old part head → StandsInHead new next (head ++ b ∷ []))
+    → ReadsHead bytes i (i + 1) part next old new
 reads-head_byte {bytes = bytes} {i = i} {b = b} within at is stands =
-    let one : take (i + 1 - i) (drop i bytes) ≡ b ∷ [] = let e : i + 1 - i ≡ 1 = omega arith in rw (e, drop_more bytes i 0 within, at) refl in
-    record { low = omega arith; high = omega (arith, within); are = rw one (is, tt); stands = λ head s. rw one (stands head s) }
+    let one : take (i + 1 - i) (drop i bytes) ≡ b ∷ [] =
+    let e : i + 1 - i ≡ 1 = omega arith in rw (e, drop_more bytes i 0 within, at) refl in
+    record {
+      low = omega arith;
+      high = omega (arith, within);
+      are = rw one (is, tt);
+      stands = λ head s. rw one (stands head s);
+    }
 
 -- no byte follows
 pub at-none : {A : Type 0} (B : ℕ → Type 0) (next : Option ℕ) → ((b : ℕ) → next ≡ Some b → ⊥) → MatchOption next A B → A
@@ -59,22 +72,28 @@ part_after-none reached from to is = let same : eqb from to ≡ true = grind (ar
 pub part_after-more : (reached : HeadPart) (from to : ℕ) → from < to → part_after reached from to ≡ Parameters
 part_after-more reached from to more = let other : eqb from to ≡ false = grind (arith, nat_tests) in rw other refl
 
-part_after-may : (reached : HeadPart) (from to : ℕ) → (reached ≡ Entry) ⊎ (reached ≡ Parameters) → (part_after reached from to ≡ Entry) ⊎ (part_after reached from to ≡ Parameters)
+part_after-may : (reached : HeadPart) (from to : ℕ) → (reached ≡ Entry) ⊎ (reached ≡ Parameters)
+    → (part_after reached from to ≡ Entry) ⊎ (part_after reached from to ≡ Parameters)
 part_after-may reached from to may = by_test (eqb from to) refl
   where
-    by_test : (t : Bool) → eqb from to ≡ t → (part_after reached from to ≡ Entry) ⊎ (part_after reached from to ≡ Parameters)
+    by_test : (t : Bool) → eqb from to ≡ t
+        → (part_after reached from to ≡ Entry) ⊎ (part_after reached from to ≡ Parameters)
     by_test true e = rw e may
     by_test false e = inr (rw e refl)
 
 -- a digit or a separator
-pub reads-parameter : {bytes : List ℕ} {from i b : ℕ} {reached : HeadPart} {first old new : Collected} → (reached ≡ Entry) ⊎ (reached ≡ Parameters)
+pub reads-parameter : {bytes : List ℕ} {from i b : ℕ} {reached : HeadPart} {first old new : Collected}
+    → (reached ≡ Entry) ⊎ (reached ≡ Parameters)
     → i < length bytes → b ≡ slice_index bytes i → is_parameter (class_of b) ≡ true → KeepsIntermediates old new
-    → ((text : List ℕ) → Counts old text → Counts new (text ++ b ∷ [])) → ReadsHead bytes from i reached (part_after reached from i) first old
+    → ((text : List ℕ) → Counts old text → Counts new (text ++ b ∷ []))
+    → ReadsHead bytes from i reached (part_after reached from i) first old
     → ReadsHead bytes from (i + 1) reached (part_after reached from (i + 1)) first new
-reads-parameter {from = from} {i = i} {b = b} {reached = reached} {old = old} {new = new} may within at is keeps counts before =
+reads-parameter {from = from} {i = i} {b = b} {reached = reached} {old = old}
+    {new = new} may within at is keeps counts before =
     rw (part_after-more reached from (i + 1) (omega (arith, before.low)))
     (reads-then before (reads-head_byte within at (parameter_is_head (class_of b) is)
-    (λ head s. holds-parameter old new (part_after reached from i) head b (part_after-may reached from i may) s is keeps counts)))
+    (λ head s.
+    holds-parameter old new (part_after reached from i) head b (part_after-may reached from i may) s is keeps counts)))
 
 -- ---- the shapes that have a head
 
@@ -95,19 +114,22 @@ record InHeadAt (shape : Shape) (held : Collected) (part : HeadPart) (place : Pl
   same : place ≡ in_head shape head
   stands : StandsInHead held part head
 
-place_in : {B : Type 0} (shape : Shape) (limit : Option ℕ) (part : HeadPart) (parser : Machine B) (place : Place) → StandsBy limit (state_of shape part) parser place
+place_in : {B : Type 0} (shape : Shape) (limit : Option ℕ) (part : HeadPart) (parser : Machine B) (place : Place)
+    → StandsBy limit (state_of shape part) parser place
     → InHeadAt shape parser.collected part place
 place_in ControlHead limit part parser (InControlSequence head) s = record { head = head; same = refl; stands = s }
 place_in ControlHead limit part parser _ s = absurd s
 place_in DeviceHead limit part parser (InDeviceControl head) s = record { head = head; same = refl; stands = s }
 place_in DeviceHead limit part parser _ s = absurd s
 
-stands_in : {B : Type 0} (shape : Shape) (limit : Option ℕ) (part : HeadPart) (parser : Machine B) (head : List ℕ) → parser.state ≡ state_of shape part
+stands_in : {B : Type 0} (shape : Shape) (limit : Option ℕ) (part : HeadPart) (parser : Machine B) (head : List ℕ)
+    → parser.state ≡ state_of shape part
     → StandsInHead parser.collected part head → Stands limit parser (in_head shape head)
 stands_in ControlHead limit part parser head e s = record { by = rw e s }
 stands_in DeviceHead limit part parser head e s = record { by = rw e s }
 
-leads : (shape : Shape) (limit : Option ℕ) (head : List ℕ) (b : ℕ) → is_head (class_of b) ≡ true → Leads limit (in_head shape head) b [] (in_head shape (head ++ b ∷ []))
+leads : (shape : Shape) (limit : Option ℕ) (head : List ℕ) (b : ℕ) → is_head (class_of b) ≡ true
+    → Leads limit (in_head shape head) b [] (in_head shape (head ++ b ∷ []))
 leads ControlHead limit head b is = control-head limit head b is
 leads DeviceHead limit head b is = device-head limit head b is
 
@@ -127,64 +149,89 @@ settled : (shape : Shape) (part : HeadPart) → IsSettled (state_of shape part)
 settled ControlHead part = tt
 settled DeviceHead part = tt
 
-module _ {V : Type 0} {asks : Bool} {step : V → Event → V} {is_terminated : V → Bool} {limit : Option ℕ} {bytes : List ℕ} where
+module _ {V : Type 0} {asks : Bool} {step : V → Event → V} {is_terminated : V → Bool} {limit : Option ℕ}
+    {bytes : List ℕ} where
   -- n bytes of a head
-  come-head : {old value : V} {stream : List ℕ} {i : ℕ} (shape : Shape) (n : ℕ) (head : List ℕ) → i + n ≤ length bytes → AreOf is_head (take n (drop i bytes))
-      → MayGoOn asks is_terminated value → CameTo asks step is_terminated old value limit stream bytes i (in_head shape head)
-      → CameTo asks step is_terminated old value limit stream bytes (i + n) (in_head shape (head ++ take n (drop i bytes)))
-  come-head {i = i} shape zero head within more may_go_on c = let same : i + 0 ≡ i = omega arith in rw (append-nil head, same) c
+  come-head : {old value : V} {stream : List ℕ} {i : ℕ} (shape : Shape) (n : ℕ) (head : List ℕ) → i + n ≤ length bytes
+      → AreOf is_head (take n (drop i bytes))
+      → MayGoOn asks is_terminated value
+      → CameTo asks step is_terminated old value limit stream bytes i (in_head shape head)
+      → CameTo asks step is_terminated old value limit stream bytes (i + n)
+      (in_head shape (head ++ take n (drop i bytes)))
+  come-head {i = i} shape zero head within more may_go_on c =
+      let same : i + 0 ≡ i = omega arith in rw (append-nil head, same) c
   come-head {i = i} shape (suc n) head within more may_go_on c =
       let here : i < length bytes = omega (arith, within) in
       let b : ℕ = slice_index bytes i in
       let cut : drop i bytes ≡ b ∷ drop (i + 1) bytes = drop_more bytes i 0 here in
       let both : AreOf is_head (b ∷ take n (drop (i + 1) bytes)) = rw cut at more in
       let place = is_place shape (head ++ b ∷ []) in
-      let reads = reads-byte limit (in_head shape head) (in_head shape (head ++ b ∷ [])) b [] (no_escape b (head_ends_nothing (class_of b) both.0)) (leads shape limit head b both.0) in
-      let one = come-between place (is_between shape (head ++ b ∷ [])) (come-byte here refl may_go_on reads refl place c) in
+      let reads =
+      reads-byte limit (in_head shape head) (in_head shape (head ++ b ∷ [])) b []
+      (no_escape b (head_ends_nothing (class_of b) both.0)) (leads shape limit head b both.0) in
+      let one =
+      come-between place (is_between shape (head ++ b ∷ [])) (come-byte here refl may_go_on reads refl place c) in
       let rest = come-head {i = i + 1} shape n (head ++ b ∷ []) (omega (arith, within)) both.1 may_go_on one in
       let far : i + suc n ≡ i + 1 + n = omega arith in
       rw (far, cut) (rw (append_assoc head (b ∷ []) (take n (drop (i + 1) bytes))) at rest)
 
-module _ {V : Type 0} {asks : Bool} {step : V → Event → V} {is_terminated : V → Bool} {limit : Option ℕ} {bytes : List ℕ} where
-  pub advances-head : {quiet B : Type 0} {value : V} {i j : ℕ} {reached part : HeadPart} {parser next : Machine B} (shape : Shape) → parser.state ≡ state_of shape reached
-      → ReadsHead bytes i j reached part parser.collected next.collected → MayGoOn asks is_terminated value → next.state ≡ state_of shape part
+module _ {V : Type 0} {asks : Bool} {step : V → Event → V} {is_terminated : V → Bool} {limit : Option ℕ}
+    {bytes : List ℕ} where
+  pub advances-head : {quiet B : Type 0} {value : V} {i j : ℕ} {reached part : HeadPart} {parser next : Machine B}
+      (shape : Shape) → parser.state ≡ state_of shape reached
+      → ReadsHead bytes i j reached part parser.collected next.collected → MayGoOn asks is_terminated value
+      → next.state ≡ state_of shape part
       → Advances quiet asks step is_terminated value value limit bytes i j parser next
-  advances-head {value = value} {i = i} {j = j} {reached = reached} {part = part} {parser = parser} {next = next} shape begun reads may_go_on state = record {
-    goes_on = λ old stream s.
-        let k = place_in shape limit reached parser s.place (stands-in begun s.stands) in
-        let here : CameTo asks step is_terminated old value limit stream bytes i (in_head shape k.head) = subst (CameTo asks step is_terminated old value limit stream bytes i) k.same s.has_come in
-        let end : i + (j - i) ≡ j = omega (arith, reads.low) in
-        let run : List ℕ = take (j - i) (drop i bytes) in
-        record {
-          place = in_head shape (k.head ++ run);
-          stands = stands_in shape limit part next (k.head ++ run) state (reads.stands k.head k.stands);
-          between = λ _. is_between shape (k.head ++ run);
-          has_come = rw end at (come-head shape (j - i) k.head (omega (arith, reads.high, end)) reads.are may_go_on here);
-        };
-    settled = λ _. settled-by _ _ state (settled shape part);
-    others = λ _ old stream s.
-        let k = place_in shape limit reached parser s.place (stands-in begun s.stands) in
-        let here : CameTo false keep never [] (told limit stream bytes i) limit stream bytes i (in_head shape k.head) =
-        subst (CameTo false keep never [] (told limit stream bytes i) limit stream bytes i) k.same (came-kept s.has_come) in
-        let end : i + (j - i) ≡ j = omega (arith, reads.low) in
-        adds-same (subst (λ n. told limit stream bytes i ≡ told limit stream bytes n) end
-        (come-told (come-head shape (j - i) k.head (omega (arith, reads.high, end)) reads.are (λ does. absurd (false≢true does)) here)));
-  }
+  advances-head {value = value} {i = i} {j = j} {reached = reached} {part = part} {parser = parser}
+      {next = next} shape begun reads may_go_on state = record {
+        goes_on = λ old stream s.
+            let k = place_in shape limit reached parser s.place (stands-in begun s.stands) in
+            let here : CameTo asks step is_terminated old value limit stream bytes i (in_head shape k.head) =
+            subst (CameTo asks step is_terminated old value limit stream bytes i) k.same s.has_come in
+            let end : i + (j - i) ≡ j = omega (arith, reads.low) in
+            let run : List ℕ = take (j - i) (drop i bytes) in
+            record {
+              place = in_head shape (k.head ++ run);
+              stands = stands_in shape limit part next (k.head ++ run) state (reads.stands k.head k.stands);
+              between = λ _. is_between shape (k.head ++ run);
+              has_come =
+                  rw end at (come-head shape (j - i) k.head (omega (arith, reads.high, end)) reads.are may_go_on here);
+            };
+        settled = λ _. settled-by _ _ state (settled shape part);
+        others = λ _ old stream s.
+            let k = place_in shape limit reached parser s.place (stands-in begun s.stands) in
+            let here : CameTo false keep never [] (told limit stream bytes i) limit stream bytes i (in_head shape k.head) =
+            subst (CameTo false keep never [] (told limit stream bytes i) limit stream bytes i) k.same
+            (came-kept s.has_come) in
+            let end : i + (j - i) ≡ j = omega (arith, reads.low) in
+            adds-same (subst (λ n. told limit stream bytes i ≡ told limit stream bytes n) end
+            (come-told
+            (come-head shape (j - i) k.head (omega (arith, reads.high, end)) reads.are
+            (λ does. absurd (false≢true does)) here)));
+      }
 
   -- .. and a byte behind it, of which the caller says what it does there
-  pub advances-past : {quiet B : Type 0} {old new : V} {i j b : ℕ} {reached part : HeadPart} {parser next : Machine B} {held : Collected} (shape : Shape) → parser.state ≡ state_of shape reached
-      → ReadsHead bytes i j reached part parser.collected held → (j < length bytes) × (b ≡ slice_index bytes j) → MayGoOn asks is_terminated old
-      → ((place : Place) → Stands {B = B} limit (record { state = state_of shape part; collected = held; command = parser.command }) place → IsBetween place
-      → Performs step old new limit place (b ∷ []) next) → IsSettled next.state → Advances quiet asks step is_terminated old new limit bytes i (j + 1) parser next
+  pub advances-past : {quiet B : Type 0} {old new : V} {i j b : ℕ} {reached part : HeadPart} {parser next : Machine B}
+      {held : Collected} (shape : Shape) → parser.state ≡ state_of shape reached
+      → ReadsHead bytes i j reached part parser.collected held → (j < length bytes) × (b ≡ slice_index bytes j)
+      → MayGoOn asks is_terminated old
+      → ((place : Place)
+      → Stands {B = B} limit (record { state = state_of shape part; collected = held; command = parser.command }) place
+      → IsBetween place
+      → Performs step old new limit place (b ∷ []) next) → IsSettled next.state
+      → Advances quiet asks step is_terminated old new limit bytes i (j + 1) parser next
   advances-past {B = B} {part = part} {parser = parser} {held = held} shape begun reads at may_go_on performs settled =
       let head : Machine B = record { state = state_of shape part; collected = held; command = parser.command } in
-      advances-then (advances-head {next = head} shape begun reads may_go_on refl) (advances-when (quiet_head shape part _) (advances-byte at.0 at.1 may_go_on performs settled))
+      advances-then (advances-head {next = head} shape begun reads may_go_on refl)
+      (advances-when (quiet_head shape part _) (advances-byte at.0 at.1 may_go_on performs settled))
 
 -- a byte other than CAN, SUB and ESC there
-pub performs-head : {V B : Type 0} {step : V → Event → V} {old new : V} {limit : Option ℕ} {b : ℕ} {parser next : Machine B} (shape : Shape) (part : HeadPart)
+pub performs-head : {V B : Type 0} {step : V → Event → V} {old new : V} {limit : Option ℕ} {b : ℕ}
+    {parser next : Machine B} (shape : Shape) (part : HeadPart)
     → parser.state ≡ state_of shape part → ends_all (class_of b) ≡ false
     → ((head : List ℕ) → StandsInHead parser.collected part head → Takes step old new limit (in_head shape head) b next)
     → (place : Place) → Stands limit parser place → IsBetween place → Performs step old new limit place (b ∷ []) next
-performs-head {step = step} {old = old} {new = new} {limit = limit} {b = b} {parser = parser} {next = next} shape part e ordinary takes = performs-in e ordinary (λ place s.
+performs-head {step = step} {old = old} {new = new} {limit = limit} {b = b} {parser = parser}
+    {next = next} shape part e ordinary takes = performs-in e ordinary (λ place s.
     let k = place_in shape limit part parser place s in
     subst (λ p. Takes step old new limit p b next) (sym k.same) (takes k.head k.stands))

@@ -13,7 +13,8 @@ use Rattle.vte_core.proofs.stops.Units.{added_from, after_from, breaks_there, go
 -- ---- the bytes of a call from one place to the next
 
 run-ends : (bytes : List ℕ) (i j : ℕ) → i < j → take j bytes ≡ take i bytes ++ take (j - i) (drop i bytes)
-run-ends bytes i j further = let place : j ≡ i + (j - i) = omega (arith, further) in ap (λ n. take n bytes) place ∙ take-add i (j - i) bytes
+run-ends bytes i j further =
+    let place : j ≡ i + (j - i) = omega (arith, further) in ap (λ n. take n bytes) place ∙ take-add i (j - i) bytes
 
 -- of what is unread only the next byte counts
 breaks-front : (u unread : List ℕ) (n : ℕ) → 0 < n → breaks u unread ≡ true → breaks u (take n unread) ≡ true
@@ -30,133 +31,185 @@ module _ (limit : Option ℕ) (stream bytes : List ℕ) (i j : ℕ) (further : i
   run = take (j - i) (drop i bytes)
 
   run-breaks : breaks_at stream bytes i ≡ true → breaks (open_end here) run ≡ true
-  run-breaks broken = breaks-front (open_end here) (drop i bytes) (j - i) (omega (arith, further)) (breaks_there stream bytes i broken)
+  run-breaks broken =
+      breaks-front (open_end here) (drop i bytes) (j - i) (omega (arith, further)) (breaks_there stream bytes i broken)
 
-  run-after : (next : Place) → IsAfter limit (stream_at stream bytes i ++ run) next → IsAfter limit (stream ++ take j bytes) next
+  run-after : (next : Place) → IsAfter limit (stream_at stream bytes i ++ run) next
+      → IsAfter limit (stream ++ take j bytes) next
   unfolding stream_at
   run-after next a =
-      let all : here ++ run ≡ stream ++ take j bytes = append_assoc stream (take i bytes) run ∙ ap (λ x. stream ++ x) (sym (run-ends bytes i j further)) in
+      let all : here ++ run ≡ stream ++ take j bytes =
+      append_assoc stream (take i bytes) run ∙ ap (λ x. stream ++ x) (sym (run-ends bytes i j further)) in
       subst (λ s. IsAfter limit s next) all (after_from limit here run next (breaks_at stream bytes i) run-breaks a)
 
-  pub run-added : added limit stream (take j bytes) ≡ told limit stream bytes i ++ added limit (stream_at stream bytes i) run
+  pub run-added : added limit stream (take j bytes)
+      ≡ told limit stream bytes i ++ added limit (stream_at stream bytes i) run
   unfolding told stream_at
-  run-added = ap (added limit stream) (run-ends bytes i j further) ∙ added_from limit stream (take i bytes) run (breaks_at stream bytes i) run-breaks
+  run-added =
+      ap (added limit stream) (run-ends bytes i j further)
+      ∙ added_from limit stream (take i bytes) run (breaks_at stream bytes i) run-breaks
 
-module _ {V : Type 0} {asks : Bool} {step : V → Event → V} {is_terminated : V → Bool} {old : V} {limit : Option ℕ} {stream bytes : List ℕ} where
+module _ {V : Type 0} {asks : Bool} {step : V → Event → V} {is_terminated : V → Bool} {old : V} {limit : Option ℕ}
+    {stream bytes : List ℕ} where
   -- ---- from inside to a place
 
   -- no character is broken here: nothing is told more
-  come-whole : {value : V} {i : ℕ} {place : Place} → breaks_at stream bytes i ≡ false → CameInside asks step is_terminated old value limit stream bytes i place
+  come-whole : {value : V} {i : ℕ} {place : Place} → breaks_at stream bytes i ≡ false
+      → CameInside asks step is_terminated old value limit stream bytes i place
       → CameTo asks step is_terminated old value limit stream bytes i place
   come-whole {i = i} whole c = rw (told-between limit stream bytes i whole, stream_at-between stream bytes i whole) c
 
-  pub come-between : {value : V} {i : ℕ} {place : Place} → IsPlace place → IsBetween place → CameInside asks step is_terminated old value limit stream bytes i place
+  pub come-between : {value : V} {i : ℕ} {place : Place} → IsPlace place → IsBetween place
+      → CameInside asks step is_terminated old value limit stream bytes i place
       → CameTo asks step is_terminated old value limit stream bytes i place
   come-between {i = i} {place = place} is between c =
-      come-whole (breaks_at-between stream bytes i (after-open_end limit (stream ++ take i bytes) place c.is_after is ∙ open_at-between place between)) c
+      come-whole
+      (breaks_at-between stream bytes i
+      (after-open_end limit (stream ++ take i bytes) place c.is_after is ∙ open_at-between place between)) c
 
-  pub come-all : {value : V} {i : ℕ} {place : Place} → length bytes ≤ i → CameInside asks step is_terminated old value limit stream bytes i place
+  pub come-all : {value : V} {i : ℕ} {place : Place} → length bytes ≤ i
+      → CameInside asks step is_terminated old value limit stream bytes i place
       → CameTo asks step is_terminated old value limit stream bytes i place
   come-all {i = i} all c = come-whole (breaks_at-all stream bytes i all) c
 
   -- U+FFFD is told for a character that the next byte breaks, and the parser stands as at first
-  pub come-broken : {value new : V} {i b : ℕ} {place : Place} → IsPlace place → i < length bytes → b ≡ slice_index bytes i → breaks (open_at place) (b ∷ []) ≡ true
+  pub come-broken : {value new : V} {i b : ℕ} {place : Place} → IsPlace place → i < length bytes
+      → b ≡ slice_index bytes i → breaks (open_at place) (b ∷ []) ≡ true
       → new ≡ step value (Print replacement)
-      → CameInside asks step is_terminated old value limit stream bytes i place → CameTo asks step is_terminated old new limit stream bytes i (InText [])
+      → CameInside asks step is_terminated old value limit stream bytes i place
+      → CameTo asks step is_terminated old new limit stream bytes i (InText [])
   come-broken {i = i} {b = b} {place = place} is_place within is broken performed c =
       let here : breaks_at stream bytes i ≡ true =
-      breaks_at-byte stream bytes (open_at place) i b within is (after-open_end limit (stream ++ take i bytes) place c.is_after is_place) ∙ broken in
+      breaks_at-byte stream bytes (open_at place) i b within is
+      (after-open_end limit (stream ++ take i bytes) place c.is_after is_place) ∙ broken in
       record {
         performed =
             performed ∙ ap (λ v. step v (Print replacement)) c.performed
-            ∙ sym (after-append step old (added limit stream (take i bytes)) (Print replacement ∷ [])) ∙ ap (after step old) (sym (told-broken limit stream bytes i here));
-        is_after = subst (λ s. IsAfter limit s (InText [])) (sym (stream_at-broken stream bytes i here)) (after-nothing limit);
+            ∙ sym (after-append step old (added limit stream (take i bytes)) (Print replacement ∷ []))
+            ∙ ap (after step old) (sym (told-broken limit stream bytes i here));
+        is_after =
+            subst (λ s. IsAfter limit s (InText [])) (sym (stream_at-broken stream bytes i here)) (after-nothing limit);
         earlier = c.earlier;
       }
 
   -- ---- some bytes more
 
-  -- the performer may go on where they begin, if something starts there, and wherever something starts among them
+  -- the performer may go on where they begin, if something starts there, and wherever something
+  -- starts among them
   pub come-further : {value new : V} {i j : ℕ} {place next : Place} {these : List Event} → i < j → j ≤ length bytes
       → (asks ≡ true → IsStart stream bytes i → is_terminated value ≡ false)
       → (asks ≡ true → (k : ℕ) → i < k → k < j → is_terminated (after step old (told limit stream bytes k)) ≡ false)
       → Reads limit place (take (j - i) (drop i bytes)) these next → new ≡ after step value these → IsPlace next
-      → CameTo asks step is_terminated old value limit stream bytes i place → CameInside asks step is_terminated old new limit stream bytes j next
-  come-further {value = value} {i = i} {j = j} {place = place} {next = next} {these = these} in_order within here inside r performed is_place c = record {
-    performed =
-        performed ∙ ap (λ v. after step v these) c.performed
-        ∙ sym (after-append step old (told limit stream bytes i) these)
-        ∙ ap (after step old) (sym (run-added limit stream bytes i j in_order
-        ∙ ap (λ (es : List Event). told limit stream bytes i ++ es) (added-reads limit (stream_at stream bytes i) (take (j - i) (drop i bytes)) place next these c.is_after r is_place)));
-    is_after = run-after limit stream bytes i j in_order next (after-reads limit (stream_at stream bytes i) (take (j - i) (drop i bytes)) place next these c.is_after r is_place);
-    earlier = λ does k below start. elim (cases_lt k i) [
-      | inl front ↦ c.earlier does k front start
-      | inr from ↦ elim (cases_lt i k) [
-        | inl past ↦ inside does k past below
-        | inr same ↦
-            let same : k ≡ i = omega (arith, from, same) in
-            subst (λ n. IsStart stream bytes n → is_terminated (after step old (told limit stream bytes n)) ≡ false) (sym same)
-            (λ s. ap is_terminated (sym c.performed) ∙ here does s) start
-      ]
-    ];
-  }
+      → CameTo asks step is_terminated old value limit stream bytes i place
+      → CameInside asks step is_terminated old new limit stream bytes j next
+  come-further {value = value} {i = i} {j = j} {place = place} {next = next}
+      {these = these} in_order within here inside r performed is_place c = record {
+        performed =
+            performed ∙ ap (λ v. after step v these) c.performed
+            ∙ sym (after-append step old (told limit stream bytes i) these)
+            ∙ ap (after step old) (sym (run-added limit stream bytes i j in_order
+            ∙ ap (λ (es : List Event). told limit stream bytes i ++ es)
+            (added-reads limit (stream_at stream bytes i)
+            (take (j - i) (drop i bytes)) place next these c.is_after r is_place)));
+        is_after =
+            run-after limit stream bytes i j in_order next
+            (after-reads limit (stream_at stream bytes i)
+            (take (j - i) (drop i bytes)) place next these c.is_after r is_place);
+        earlier = λ does k below start. elim (cases_lt k i) [
+          | inl front ↦ c.earlier does k front start
+          | inr from ↦ elim (cases_lt i k) [
+            | inl past ↦ inside does k past below
+            | inr same ↦
+                let same : k ≡ i = omega (arith, from, same) in
+                subst (λ n. IsStart stream bytes n
+                → is_terminated (after step old (told limit stream bytes n)) ≡ false) (sym same)
+                (λ s. ap is_terminated (sym c.performed) ∙ here does s) start
+          ]
+        ];
+      }
 
-  further : {value new : V} {i b : ℕ} {place next : Place} {these : List Event} → i < length bytes → b ≡ slice_index bytes i
-      → (asks ≡ true → IsStart stream bytes i → is_terminated value ≡ false) → Reads limit place (b ∷ []) these next → new ≡ after step value these → IsPlace next
-      → CameTo asks step is_terminated old value limit stream bytes i place → CameInside asks step is_terminated old new limit stream bytes (i + 1) next
+  further : {value new : V} {i b : ℕ} {place next : Place} {these : List Event} → i < length bytes
+      → b ≡ slice_index bytes i
+      → (asks ≡ true → IsStart stream bytes i → is_terminated value ≡ false) → Reads limit place (b ∷ []) these next
+      → new ≡ after step value these → IsPlace next
+      → CameTo asks step is_terminated old value limit stream bytes i place
+      → CameInside asks step is_terminated old new limit stream bytes (i + 1) next
   further {i = i} {b = b} {place = place} {next = next} {these = these} within is here r =
-      let one : take (i + 1 - i) (drop i bytes) ≡ b ∷ [] = let e : i + 1 - i ≡ 1 = omega arith in rw (e, drop_more bytes i 0 within, is) refl in
-      come-further (omega arith) (omega (arith, within)) here (λ does k past below. absurd (omega (arith, past, below))) (subst (λ x. Reads limit place x these next) (sym one) r)
+      let one : take (i + 1 - i) (drop i bytes) ≡ b ∷ [] =
+      let e : i + 1 - i ≡ 1 = omega arith in rw (e, drop_more bytes i 0 within, is) refl in
+      come-further (omega arith) (omega (arith, within)) here (λ does k past below. absurd (omega (arith, past, below)))
+      (subst (λ x. Reads limit place x these next) (sym one) r)
 
   -- behind an answer, whatever starts here; behind a broken character too
-  pub come-byte : {value new : V} {i b : ℕ} {place next : Place} {these : List Event} → i < length bytes → b ≡ slice_index bytes i → MayGoOn asks is_terminated value
+  pub come-byte : {value new : V} {i b : ℕ} {place next : Place} {these : List Event} → i < length bytes
+      → b ≡ slice_index bytes i → MayGoOn asks is_terminated value
       → Reads limit place (b ∷ []) these next → new ≡ after step value these → IsPlace next
-      → CameTo asks step is_terminated old value limit stream bytes i place → CameInside asks step is_terminated old new limit stream bytes (i + 1) next
-  come-byte within is may_go_on r performed is_place c = further within is (λ does _. may_go_on does) r performed is_place c
+      → CameTo asks step is_terminated old value limit stream bytes i place
+      → CameInside asks step is_terminated old new limit stream bytes (i + 1) next
+  come-byte within is may_go_on r performed is_place c =
+      further within is (λ does _. may_go_on does) r performed is_place c
 
   -- inside a character
-  pub come-carried : {value new : V} {i b : ℕ} {place next : Place} {these : List Event} → IsPlace place → i < length bytes → b ≡ slice_index bytes i
-      → (open_at place ≡ [] → ⊥) → breaks (open_at place) (b ∷ []) ≡ false → Reads limit place (b ∷ []) these next → new ≡ after step value these → IsPlace next
-      → CameInside asks step is_terminated old value limit stream bytes i place → CameInside asks step is_terminated old new limit stream bytes (i + 1) next
+  pub come-carried : {value new : V} {i b : ℕ} {place next : Place} {these : List Event} → IsPlace place
+      → i < length bytes → b ≡ slice_index bytes i
+      → (open_at place ≡ [] → ⊥) → breaks (open_at place) (b ∷ []) ≡ false → Reads limit place (b ∷ []) these next
+      → new ≡ after step value these → IsPlace next
+      → CameInside asks step is_terminated old value limit stream bytes i place
+      → CameInside asks step is_terminated old new limit stream bytes (i + 1) next
   come-carried {i = i} {b = b} {place = place} is_here within is some whole r performed is_place c =
-      let ends : open_end (stream ++ take i bytes) ≡ open_at place = after-open_end limit (stream ++ take i bytes) place c.is_after is_here in
-      further within is (λ _ start. absurd (no_start stream bytes (open_at place) i b within is ends some whole start)) r performed is_place
+      let ends : open_end (stream ++ take i bytes) ≡ open_at place =
+      after-open_end limit (stream ++ take i bytes) place c.is_after is_here in
+      further within is
+      (λ _ start. absurd (no_start stream bytes (open_at place) i b within is ends some whole start)) r
+      performed is_place
       (come-whole (breaks_at-byte stream bytes (open_at place) i b within is ends ∙ whole) c)
 
   -- n data bytes of a command, before which the performer was asked once
-  pub come-items : {value : V} {i : ℕ} (n : ℕ) (items : List ℕ) → i + n ≤ length bytes → ((k : ℕ) → i ≤ k → k < i + n → 0x20 ≤ slice_index bytes k)
-      → MayGoOn asks is_terminated value → CameTo asks step is_terminated old value limit stream bytes i (InSystemCommand items)
-      → CameTo asks step is_terminated old value limit stream bytes (i + n) (InSystemCommand (items ++ take n (drop i bytes)))
-  come-items {i = i} zero items within low may_go_on c = let same : i + 0 ≡ i = omega arith in rw (append-nil items, same) c
+  pub come-items : {value : V} {i : ℕ} (n : ℕ) (items : List ℕ) → i + n ≤ length bytes
+      → ((k : ℕ) → i ≤ k → k < i + n → 0x20 ≤ slice_index bytes k)
+      → MayGoOn asks is_terminated value
+      → CameTo asks step is_terminated old value limit stream bytes i (InSystemCommand items)
+      → CameTo asks step is_terminated old value limit stream bytes (i + n)
+      (InSystemCommand (items ++ take n (drop i bytes)))
+  come-items {i = i} zero items within low may_go_on c =
+      let same : i + 0 ≡ i = omega arith in rw (append-nil items, same) c
   come-items {i = i} (suc n) items within low may_go_on c =
       let here : i < length bytes = omega (arith, within) in
       let b : ℕ = slice_index bytes i in
       let is_item : 0x20 ≤ b = low i (omega arith) (omega arith) in
       let one = come-between tt tt (come-byte here refl may_go_on (reads-item limit items b is_item) refl tt c) in
-      let rest = come-items {i = i + 1} n (items ++ b ∷ []) (omega (arith, within)) (λ k from to. low k (omega (arith, from)) (omega (arith, to))) may_go_on one in
+      let rest =
+      come-items {i = i + 1} n (items ++ b ∷ []) (omega (arith, within))
+      (λ k from to. low k (omega (arith, from)) (omega (arith, to))) may_go_on one in
       let far : i + suc n ≡ i + 1 + n = omega arith in
       rw (far, drop_more bytes i 0 here) (rw (append_assoc items (b ∷ []) (take n (drop (i + 1) bytes))) at rest)
 
   -- ---- the start of a call
 
-  pub come-nowhere : {place : Place} → IsAfter limit stream place → CameInside asks step is_terminated old old limit stream bytes 0 place
+  pub come-nowhere : {place : Place} → IsAfter limit stream place
+      → CameInside asks step is_terminated old old limit stream bytes 0 place
   come-nowhere {place = place} a = record {
     performed = sym (ap (after step old) (added-nothing limit stream));
     is_after = rw (append-nil stream) a;
     earlier = λ does j below start. absurd (omega arith);
   }
 
-  come-back : {value : V} {i : ℕ} {place : Place} → breaks_at stream bytes i ≡ false → CameTo asks step is_terminated old value limit stream bytes i place
+  come-back : {value : V} {i : ℕ} {place : Place} → breaks_at stream bytes i ≡ false
+      → CameTo asks step is_terminated old value limit stream bytes i place
       → CameInside asks step is_terminated old value limit stream bytes i place
   come-back {i = i} whole c = rw (told-between limit stream bytes i whole, stream_at-between stream bytes i whole) at c
 
   -- in a command no character was broken
-  pub come-command : {value : V} {i : ℕ} {items : List ℕ} → CameTo asks step is_terminated old value limit stream bytes i (InSystemCommand items)
+  pub come-command : {value : V} {i : ℕ} {items : List ℕ}
+      → CameTo asks step is_terminated old value limit stream bytes i (InSystemCommand items)
       → CameInside asks step is_terminated old value limit stream bytes i (InSystemCommand items)
   come-command {value = value} {i = i} {items = items} c = elim (cases_Bool (breaks_at stream bytes i)) [
     | inl broken ↦
-        let a : IsAfter limit [] (InSystemCommand items) = subst (λ s. IsAfter limit s (InSystemCommand items)) (stream_at-broken stream bytes i broken) c.is_after in
-        let none = sym (after-left limit [] (InText []) (after-nothing limit) refl) ∙ after-left limit [] (InSystemCommand items) a tt in
+        let a : IsAfter limit [] (InSystemCommand items) =
+        subst (λ s. IsAfter limit s (InSystemCommand items)) (stream_at-broken stream bytes i broken) c.is_after in
+        let none =
+        sym (after-left limit [] (InText []) (after-nothing limit) refl)
+        ∙ after-left limit [] (InSystemCommand items) a tt in
         let f : ⊥ = cc in absurd f
     | inr whole ↦ come-back whole c
   ]
@@ -168,14 +221,17 @@ module _ {V : Type 0} {asks : Bool} {step : V → Event → V} {is_terminated : 
   come-starts {i = i} {place = place} is between within c = elim (cases_Bool (breaks_at stream bytes i)) [
     | inl broken ↦ starts-broken stream bytes i within broken
     | inr whole ↦ starts-between stream bytes i within
-        (ap open_end (sym (stream_at-between stream bytes i whole)) ∙ after-open_end limit (stream_at stream bytes i) place c.is_after is ∙ open_at-between place between)
+        (ap open_end (sym (stream_at-between stream bytes i whole))
+        ∙ after-open_end limit (stream_at stream bytes i) place c.is_after is ∙ open_at-between place between)
   ]
 
   -- ---- the end of a call
 
   -- the public clauses of a call that may stop: `starts` comes from the loop's exit
-  pub come-to : {value : V} {n : ℕ} {place : Place} → asks ≡ true → n ≤ length bytes → (n < length bytes → IsStart stream bytes n)
-      → CameTo asks step is_terminated old value limit stream bytes n place → ComesTo step is_terminated old value limit stream bytes n
+  pub come-to : {value : V} {n : ℕ} {place : Place} → asks ≡ true → n ≤ length bytes
+      → (n < length bytes → IsStart stream bytes n)
+      → CameTo asks step is_terminated old value limit stream bytes n place
+      → ComesTo step is_terminated old value limit stream bytes n
   come-to {n = n} does within starts c =
       let unread : List ℕ = drop n bytes in
       record {
@@ -186,11 +242,13 @@ module _ {V : Type 0} {asks : Bool} {step : V → Event → V} {is_terminated : 
         goes_on =
             ap (λ v. after step v (added limit (stream_at stream bytes n) unread)) c.performed
             ∙ sym (after-append step old (told limit stream bytes n) (added limit (stream_at stream bytes n) unread))
-            ∙ ap (after step old) (ap (λ x. told limit stream bytes n ++ added limit (stream_at stream bytes n) x) (sym (append-nil unread))
+            ∙ ap (after step old)
+            (ap (λ x. told limit stream bytes n ++ added limit (stream_at stream bytes n) x) (sym (append-nil unread))
             ∙ sym (goes_on_from limit stream bytes [] n) ∙ ap (added limit stream) (append-nil bytes));
       }
 
   -- .. and of one that reads all bytes
-  pub come-performs : {value : V} {n : ℕ} {place : Place} → n ≡ length bytes → CameTo asks step is_terminated old value limit stream bytes n place
+  pub come-performs : {value : V} {n : ℕ} {place : Place} → n ≡ length bytes
+      → CameTo asks step is_terminated old value limit stream bytes n place
       → value ≡ after step old (added limit stream bytes)
   come-performs {n = n} all c = c.performed ∙ ap (after step old) (told-all limit stream bytes n all)

@@ -10,16 +10,20 @@ use Rattle.vte_core.proofs.fields.Standing.{in_command, stands-by, stands-place}
 use Rattle.vte_core.proofs.streams.After.{after-left, after-reads}
 use Rattle.vte_core.proofs.streams.CommandSizes.{counts_data}
 
-pub inside-reads : {V B : Type 0} {asks : Bool} {step : V → Event → V} {is_terminated : V → Bool} {old value : V} {limit : Option ℕ} {stream bytes : List ℕ} {i : ℕ} {parser : Machine B}
-    → StandsInside asks step is_terminated old value limit stream bytes i parser → IsBehind limit parser (stream ++ take i bytes)
+pub inside-reads : {V B : Type 0} {asks : Bool} {step : V → Event → V} {is_terminated : V → Bool} {old value : V}
+    {limit : Option ℕ} {stream bytes : List ℕ} {i : ℕ} {parser : Machine B}
+    → StandsInside asks step is_terminated old value limit stream bytes i parser
+    → IsBehind limit parser (stream ++ take i bytes)
 inside-reads s = record { place = s.place; stands = s.stands; is_after = s.has_come.is_after }
 
 -- what a stream leaves is what its place leaves
-left_here : {B : Type 0} (parser : Machine B) (stream : List ℕ) (h : IsBehind None parser stream) → (outcome None stream).left ≡ left_at None h.place
+left_here : {B : Type 0} (parser : Machine B) (stream : List ℕ) (h : IsBehind None parser stream)
+    → (outcome None stream).left ≡ left_at None h.place
 left_here parser stream h = after-left None stream h.place h.is_after (stands-place parser h.place h.stands)
 
 -- a byte that is refused is a data byte of an open command
-pub meets_data : {B : Type 0} {parser : Machine B} {stream bytes : List ℕ} {from : ℕ} → IsRefusedAt None parser.state parser.command bytes from
+pub meets_data : {B : Type 0} {parser : Machine B} {stream bytes : List ℕ} {from : ℕ}
+    → IsRefusedAt None parser.state parser.command bytes from
     → IsBehind None parser stream → MeetsData stream (slice_index bytes from)
 meets_data {parser = parser} {stream = stream} {bytes = bytes} {from = from} refused h =
     let byte : ℕ = slice_index bytes from in
@@ -27,36 +31,45 @@ meets_data {parser = parser} {stream = stream} {bytes = bytes} {from = from} ref
     let o = open_for parser.command k.items byte k.keeps refused.few refused.is_data.1 in
     let last : Place = InSystemCommand (k.items ++ byte ∷ []) in
     let joined : IsAfter None (stream ++ byte ∷ []) last =
-    after-reads None stream (byte ∷ []) (InSystemCommand k.items) last [] (subst (IsAfter None stream) k.same h.is_after) (reads-item None k.items byte refused.is_data.0) tt in
+    after-reads None stream (byte ∷ []) (InSystemCommand k.items) last []
+    (subst (IsAfter None stream) k.same h.is_after) (reads-item None k.items byte refused.is_data.0) tt in
     record {
       pieces = o.pieces;
       last = o.last;
       dropped = drops_data None k.items;
       few = o.few;
-      is_open = left_here parser stream h ∙ ap (left_at None) k.same ∙ ap (λ those. OpenCommand those (drops_data None k.items)) o.before;
+      is_open =
+          left_here parser stream h ∙ ap (left_at None) k.same
+          ∙ ap (λ those. OpenCommand those (drops_data None k.items)) o.before;
       is_data = refused.is_data;
       joins = after-left None (stream ++ byte ∷ []) last joined tt
-          ∙ ap (λ those. OpenCommand those (drops_data None (k.items ++ byte ∷ []))) o.behind ∙ ap (λ d. OpenCommand (o.pieces ++ (o.last ++ byte ∷ []) ∷ []) d) o.dropped;
+          ∙ ap (λ those. OpenCommand those (drops_data None (k.items ++ byte ∷ []))) o.behind
+          ∙ ap (λ d. OpenCommand (o.pieces ++ (o.last ++ byte ∷ []) ∷ []) d) o.dropped;
     }
 
 -- ---- where a call ends
 
 -- whatever a call answers, it has read so many bytes
-pub by_count : {P : ℕ → Type 0} {Q : Refused → Type 0} {R : ℕ → Type 0} (result : Result ℕ Refused) → IfOk result P → IfErr result Q
+pub by_count : {P : ℕ → Type 0} {Q : Refused → Type 0} {R : ℕ → Type 0} (result : Result ℕ Refused) → IfOk result P
+    → IfErr result Q
     → ((read : ℕ) → P read → R read) → ((refused : Refused) → Q refused → R refused.read) → R (read_count result)
 by_count (Ok read) ok err from_ok from_err = from_ok read ok
 by_count (Err refused) ok err from_ok from_err = from_err refused err
 
 -- what can't be an error is an answer
-pub ok_only : {A : Type 0} {Q : Refused → Type 0} (result : Result A Refused) → IfErr result Q → ((refused : Refused) → Q refused → ⊥) → IsOk result
+pub ok_only : {A : Type 0} {Q : Refused → Type 0} (result : Result A Refused) → IfErr result Q
+    → ((refused : Refused) → Q refused → ⊥) → IsOk result
 ok_only (Ok value) err never = refl
 ok_only (Err refused) err never = absurd (never refused err)
 
 -- in a command no character is open
-pub refuses-inside : {V B : Type 0} {asks : Bool} {step : V → Event → V} {is_terminated : V → Bool} {old new : V} {bytes : List ℕ} {n : ℕ} {before parser : Machine B}
-    → RefusesAt asks step is_terminated old new None bytes n before parser → (stream : List ℕ) → IsBehind None before stream
+pub refuses-inside : {V B : Type 0} {asks : Bool} {step : V → Event → V} {is_terminated : V → Bool} {old new : V}
+    {bytes : List ℕ} {n : ℕ} {before parser : Machine B}
+    → RefusesAt asks step is_terminated old new None bytes n before parser → (stream : List ℕ)
+    → IsBehind None before stream
     → StandsInside asks step is_terminated old new None stream bytes n parser
-refuses-inside {asks = asks} {step = step} {is_terminated = is_terminated} {old = old} {new = new} {bytes = bytes} {n = n} {parser = parser} r stream h =
+refuses-inside {asks = asks} {step = step} {is_terminated = is_terminated} {old = old} {new = new} {bytes = bytes}
+    {n = n} {parser = parser} r stream h =
     let s = r.stands_at stream h in
     let k = in_command parser s.place r.refused.inside s.stands in
     record {
@@ -68,17 +81,21 @@ refuses-inside {asks = asks} {step = step} {is_terminated = is_terminated} {old 
 -- ---- what is stored
 
 -- in a command as many bytes as are open
-pub stored_is_open : {B : Type 0} (parser : Machine B) (stream : List ℕ) → parser.state ≡ SystemCommand → IsBehind None parser stream
+pub stored_is_open : {B : Type 0} (parser : Machine B) (stream : List ℕ) → parser.state ≡ SystemCommand
+    → IsBehind None parser stream
     → length parser.command.bytes ≡ open_size stream
 stored_is_open parser stream e h =
     let k = in_command parser h.place e h.stands in
-    pieces_stored None parser.command k.items k.keeps ∙ sym (ap data_left (left_here parser stream h ∙ ap (left_at None) k.same))
+    pieces_stored None parser.command k.items k.keeps
+    ∙ sym (ap data_left (left_here parser stream h ∙ ap (left_at None) k.same))
 
-is_command : {B : Type 0} (state : State) (parser : Machine B) (items : List ℕ) → StandsBy None state parser (InSystemCommand items) → state ≡ SystemCommand
+is_command : {B : Type 0} (state : State) (parser : Machine B) (items : List ℕ)
+    → StandsBy None state parser (InSystemCommand items) → state ≡ SystemCommand
 is_command SystemCommand parser items s = refl
 is_command _ parser items s = absurd s
 
-by_place : {B : Type 0} (parser : Machine B) (place : Place) (pieces : List (List ℕ)) (dropped : Bool) → Stands None parser place → left_at None place ≡ OpenCommand pieces dropped
+by_place : {B : Type 0} (parser : Machine B) (place : Place) (pieces : List (List ℕ)) (dropped : Bool)
+    → Stands None parser place → left_at None place ≡ OpenCommand pieces dropped
     → parser.state ≡ SystemCommand
 by_place parser (InText []) pieces dropped s e = cc
 by_place parser (InText (a ∷ u)) pieces dropped s e = cc
@@ -86,26 +103,40 @@ by_place parser (InSystemCommand items) pieces dropped s e = is_command parser.s
 by_place parser _ pieces dropped s e = cc
 
 -- a command is open in that state alone
-in_state : {B : Type 0} (parser : Machine B) (stream : List ℕ) → IsBehind None parser stream → (pieces : List (List ℕ)) (dropped : Bool) → (outcome None stream).left ≡ OpenCommand pieces dropped
+in_state : {B : Type 0} (parser : Machine B) (stream : List ℕ) → IsBehind None parser stream
+    → (pieces : List (List ℕ)) (dropped : Bool) → (outcome None stream).left ≡ OpenCommand pieces dropped
     → parser.state ≡ SystemCommand
-in_state parser stream h pieces dropped open_command = by_place parser h.place pieces dropped h.stands (sym (left_here parser stream h) ∙ open_command)
+in_state parser stream h pieces dropped open_command =
+    by_place parser h.place pieces dropped h.stands (sym (left_here parser stream h) ∙ open_command)
 
 -- of an open command the bytes of its pieces
-pub stores_pieces : {B : Type 0} (parser : Machine B) (stream : List ℕ) → IsBehind None parser stream → (pieces : List (List ℕ)) (dropped : Bool)
+pub stores_pieces : {B : Type 0} (parser : Machine B) (stream : List ℕ) → IsBehind None parser stream
+    → (pieces : List (List ℕ)) (dropped : Bool)
     → (outcome None stream).left ≡ OpenCommand pieces dropped → length parser.command.bytes ≡ length (concat pieces)
-stores_pieces parser stream h pieces dropped open_command = stored_is_open parser stream (in_state parser stream h pieces dropped open_command) h ∙ ap data_left open_command
+stores_pieces parser stream h pieces dropped open_command =
+    stored_is_open parser stream (in_state parser stream h pieces dropped open_command) h ∙ ap data_left open_command
 
-by_left : (left : Open) (n : ℕ) → ((pieces : List (List ℕ)) (dropped : Bool) → left ≡ OpenCommand pieces dropped → n ≡ length (concat pieces)) → data_left left ≤ n
+by_left : (left : Open) (n : ℕ)
+    → ((pieces : List (List ℕ)) (dropped : Bool) → left ≡ OpenCommand pieces dropped → n ≡ length (concat pieces))
+    → data_left left ≤ n
 by_left (OpenCommand pieces dropped) n stored = omega (arith, stored pieces dropped refl)
 by_left _ n stored = omega arith
 
 -- no more are open
-pub open_is_stored : {B : Type 0} (parser : Machine B) (stream : List ℕ) → IsBehind None parser stream → open_size stream ≤ length parser.command.bytes
-open_is_stored parser stream h = by_left (outcome None stream).left (length parser.command.bytes) (stores_pieces parser stream h)
+pub open_is_stored : {B : Type 0} (parser : Machine B) (stream : List ℕ) → IsBehind None parser stream
+    → open_size stream ≤ length parser.command.bytes
+open_is_stored parser stream h =
+    by_left (outcome None stream).left (length parser.command.bytes) (stores_pieces parser stream h)
 
 -- .. and none outside a command
-pub none_is_open : {B : Type 0} (parser : Machine B) (stream : List ℕ) → (parser.state ≡ SystemCommand → ⊥) → IsBehind None parser stream → open_size stream ≡ 0
-none_is_open parser stream other h = omega (arith, by_left (outcome None stream).left 0 (λ pieces dropped e. absurd (other (in_state parser stream h pieces dropped e))))
+pub none_is_open : {B : Type 0} (parser : Machine B) (stream : List ℕ) → (parser.state ≡ SystemCommand → ⊥)
+    → IsBehind None parser stream → open_size stream ≡ 0
+none_is_open parser stream other h =
+    omega (
+      arith,
+      by_left (outcome None stream).left 0
+          (λ pieces dropped e. absurd (other (in_state parser stream h pieces dropped e))),
+    )
 
 -- .. nor in a store that was cleared
 pub nothing_stored : {held : Held} → Keeps None held [] → length held.bytes ≡ 0
@@ -113,9 +144,23 @@ unfolding pieces_of Rattle.vte_core.specs.SystemCommand.kept_items
 nothing_stored {held = held} keeps = pieces_stored None held [] keeps
 
 -- where there was memory for all bytes of the call, none is refused
-pub never_refused : {V B : Type 0} {asks : Bool} {step : V → Event → V} {is_terminated : V → Bool} {old new : V} {bytes : List ℕ} {n : ℕ} {before parser : Machine B}
-    → RefusesAt asks step is_terminated old new None bytes n before parser → (stream : List ℕ) → IsBehind None before stream
+pub never_refused : {V B : Type 0} {asks : Bool} {step : V → Event → V} {is_terminated : V → Bool} {old new : V}
+    {bytes : List ℕ} {n : ℕ} {before parser : Machine B}
+    → RefusesAt asks step is_terminated old new None bytes n before parser → (stream : List ℕ)
+    → IsBehind None before stream
     → open_size stream + length bytes ≤ before.command.capacity → before.command.capacity ≤ parser.command.capacity → ⊥
 never_refused {bytes = bytes} {n = n} {parser = parser} r stream h enough kept =
-    let stored = stored_is_open parser (stream ++ take n bytes) r.refused.inside (inside-reads (refuses-inside r stream h)) in
-    omega (arith, stored, (counts_data stream (take n bytes)).left, r.refused.lacks.lacks, r.refused.lacks.within, r.within, length-take n bytes, enough, kept)
+    let stored =
+    stored_is_open parser (stream ++ take n bytes) r.refused.inside (inside-reads (refuses-inside r stream h)) in
+    omega (
+      arith,
+      stored,
+      (counts_data stream (take n bytes)).left,
+      r.refused.lacks.lacks,
+      r.refused.lacks.within,
+      r.within,
+      length-take n
+          bytes,
+      enough,
+      kept,
+    )

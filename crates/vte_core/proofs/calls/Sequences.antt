@@ -8,33 +8,45 @@ use Rattle.vte_core.proofs.fields.Standing.{stands-by, stands-in}
 use Rattle.vte_core.proofs.calls.Runs.{advances-byte, advances-when, settled-by}
 use Rattle.vte_core.proofs.places.PlaceLeads.{byte-dropped, escape-control_sequence}
 
-again : {V B : Type 0} (step : V → Event → V) (value : V) (limit : Option ℕ) (b : ℕ) (parser : Machine B) (place : Place) → parser.state ≡ Escape → b ≡ 0x1b
-    → Stands limit parser place → StandsBy limit Escape parser place → Performs step value value limit place (b ∷ []) parser
+again : {V B : Type 0} (step : V → Event → V) (value : V) (limit : Option ℕ) (b : ℕ) (parser : Machine B)
+    (place : Place) → parser.state ≡ Escape → b ≡ 0x1b
+    → Stands limit parser place → StandsBy limit Escape parser place
+    → Performs step value value limit place (b ∷ []) parser
 again step value limit b parser AtEscape e is s by = performs-escape is e by AtEscape s refl
 again step value limit b parser _ e is s by = absurd by
 
 -- ESC once more
-pub advances-again : {quiet V B : Type 0} {asks : Bool} {step : V → Event → V} {is_terminated : V → Bool} {value : V} {limit : Option ℕ} {bytes : List ℕ} {i b : ℕ} {parser : Machine B}
+pub advances-again : {quiet V B : Type 0} {asks : Bool} {step : V → Event → V} {is_terminated : V → Bool} {value : V}
+    {limit : Option ℕ} {bytes : List ℕ} {i b : ℕ} {parser : Machine B}
     → parser.state ≡ Escape → i < length bytes → b ≡ slice_index bytes i → MayGoOn asks is_terminated value → b ≡ 0x1b
     → Advances quiet asks step is_terminated value value limit bytes i (i + 1) parser parser
 advances-again {step = step} {value = value} {limit = limit} {b = b} {parser = parser} begun within is may_go_on same =
     advances-when (rw begun tt) (advances-byte within is may_go_on
-    (λ place s between. again step value limit b parser place begun same s (stands-in begun s)) (settled-by _ _ begun tt))
+    (λ place s between. again step value limit b parser place begun same s (stands-in begun s))
+    (settled-by _ _ begun tt))
 
 -- DEL and 80..FF
 pub performs-dropped : {V B : Type 0} {step : V → Event → V} {value : V} {limit : Option ℕ} {b : ℕ} {parser : Machine B}
-    → parser.state ≡ Escape → is_head (class_of b) ≡ false → is_final (class_of b) ≡ false → ends_all (class_of b) ≡ false → is_control (class_of b) ≡ false
-    → (place : Place) → Stands limit parser place → IsBetween place → Performs step value value limit place (b ∷ []) parser
+    → parser.state ≡ Escape → is_head (class_of b) ≡ false → is_final (class_of b) ≡ false
+    → ends_all (class_of b) ≡ false → is_control (class_of b) ≡ false
+    → (place : Place) → Stands limit parser place → IsBetween place
+    → Performs step value value limit place (b ∷ []) parser
 performs-dropped {limit = limit} {b = b} {parser = parser} begun head final ordinary control =
     let dropped = left_is_dropped (class_of b) head final ordinary control in
-    performs-in begun ordinary (at_escape parser (λ holds. taken [] AtEscape refl (stands-by begun holds) (byte-dropped limit AtEscape b _ refl refl dropped)))
+    performs-in begun ordinary
+    (at_escape parser
+    (λ holds. taken [] AtEscape refl (stands-by begun holds) (byte-dropped limit AtEscape b _ refl refl dropped)))
 
 -- ESC [
-pub advances-bracket : {quiet V B : Type 0} {asks : Bool} {step : V → Event → V} {is_terminated : V → Bool} {value : V} {limit : Option ℕ} {bytes : List ℕ} {i b : ℕ}
-    {parser next : Machine B} → parser.state ≡ Escape → i < length bytes → b ≡ slice_index bytes i → MayGoOn asks is_terminated value → b ≡ 0x5b
+pub advances-bracket : {quiet V B : Type 0} {asks : Bool} {step : V → Event → V} {is_terminated : V → Bool} {value : V}
+    {limit : Option ℕ} {bytes : List ℕ} {i b : ℕ}
+    {parser next : Machine B} → parser.state ≡ Escape → i < length bytes → b ≡ slice_index bytes i
+    → MayGoOn asks is_terminated value → b ≡ 0x5b
     → next.state ≡ ControlSequence Entry → (Holds parser.collected [] → HoldsHead next.collected Entry [])
     → Advances quiet asks step is_terminated value value limit bytes i (i + 1) parser next
 unfolding class_of key_of
 advances-bracket {limit = limit} {parser = parser} begun within is may_go_on bracket state holds =
     advances-when tt (advances-in begun within is may_go_on (rw bracket refl)
-    (at_escape parser (λ before. taken [] (InControlSequence []) refl (stands-by state (holds before)) (rw bracket (escape-control_sequence limit 0x5b refl refl)))) (settled-by _ _ state tt))
+    (at_escape parser
+    (λ before. taken [] (InControlSequence []) refl (stands-by state (holds before))
+    (rw bracket (escape-control_sequence limit 0x5b refl refl)))) (settled-by _ _ state tt))

@@ -7,12 +7,14 @@ use Rattle.vte_core.proofs.streams.StreamLemmas.{reads-byte}
 
 -- ---- between characters
 
-by_text : {B : Type 0} (limit : Option ℕ) (parser : Machine B) (place : Place) → StandsBy limit (Text Nothing) parser place → place ≡ InText []
+by_text : {B : Type 0} (limit : Option ℕ) (parser : Machine B) (place : Place)
+    → StandsBy limit (Text Nothing) parser place → place ≡ InText []
 by_text limit parser (InText bytes) s = ap InText (sym s.0)
 by_text limit parser _ s = absurd s
 
 -- between characters of a text there is one place
-pub between_characters : {B : Type 0} {limit : Option ℕ} (parser : Machine B) (place : Place) → parser.state ≡ Text Nothing → Stands limit parser place → place ≡ InText []
+pub between_characters : {B : Type 0} {limit : Option ℕ} (parser : Machine B) (place : Place)
+    → parser.state ≡ Text Nothing → Stands limit parser place → place ≡ InText []
 between_characters {limit = limit} parser place e s = by_text limit parser place (stands-in e s)
 
 -- ---- whether a call asks
@@ -26,12 +28,16 @@ asks-none n none is = let e : not (eqb 0 0) ≡ true = rw none at is in cc
 
 -- a call that asks nothing reads all
 pub reads-all : (n size : ℕ) → n ≤ size → (n < size → false ≡ true) → n ≡ size
-reads-all n size within asked = elim (cases_lt n size) [ inl below ↦ absurd (false≢true (asked below)) | inr past ↦ omega (arith, past, within) ]
+reads-all n size within asked =
+    elim (cases_lt n size) [ inl below ↦ absurd (false≢true (asked below)) | inr past ↦ omega (arith, past, within) ]
 
 -- ---- in an operating system command
 
 item_is_no_escape : (b : ℕ) → 0x20 ≤ b → eqb b escape ≡ false
 item_is_no_escape b low = grind (arith, nat_tests)
 
-pub reads-item : (limit : Option ℕ) (items : List ℕ) (b : ℕ) → 0x20 ≤ b → Reads limit (InSystemCommand items) (b ∷ []) [] (InSystemCommand (items ++ b ∷ []))
-reads-item limit items b low = reads-byte limit (InSystemCommand items) (InSystemCommand (items ++ b ∷ [])) b [] (item_is_no_escape b low) (command-item limit items b low)
+pub reads-item : (limit : Option ℕ) (items : List ℕ) (b : ℕ) → 0x20 ≤ b
+    → Reads limit (InSystemCommand items) (b ∷ []) [] (InSystemCommand (items ++ b ∷ []))
+reads-item limit items b low =
+    reads-byte limit (InSystemCommand items) (InSystemCommand (items ++ b ∷ [])) b [] (item_is_no_escape b low)
+    (command-item limit items b low)

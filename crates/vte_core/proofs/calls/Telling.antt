@@ -1,4 +1,5 @@
--- What is told from place to place, as a performer knows it that keeps all events; and what tells no run.
+-- What is told from place to place, as a performer knows it that keeps all events; and what tells
+-- no run.
 use Rattle.vte_core.proofs.Common.{◌≡◌, ℕ, ◌+◌, ◌-◌, ◌<◌, inl, inr, Bool, true, false, Option, List, [], ◌∷◌, ◌++◌, length, take, drop, refl, ap, sym, ◌∙◌, append_assoc, append-nil, arith, cases_Bool, drop_more}
 use Rattle.vte_core.proofs.Common.{slice_index, false≢true, All, All-append, All-cons, All-nil, Event, Print, replacement, after, added, told, stream_at, breaks_at, State, Text, DeviceData, Machine, StandsBy, class_of}
 use Rattle.vte_core.proofs.Common.{CameTo, StandsAt, StandsInside, Reads, Place, InText, InData, IsAfter, AddsOthers, IsOther, is_data}
@@ -24,57 +25,82 @@ after-keep : (given more : List Event) → after keep given more ≡ given ++ mo
 after-keep given [] = sym (append-nil given)
 after-keep given (event ∷ more) = after-keep (given ++ event ∷ []) more ∙ append_assoc given (event ∷ []) more
 
-pub came-kept : {V : Type 0} {asks : Bool} {step : V → Event → V} {is_terminated : V → Bool} {old value : V} {limit : Option ℕ} {stream bytes : List ℕ} {i : ℕ} {given : List Event} {read : List ℕ}
-    {place : Place} → HasCome asks step is_terminated old value limit stream bytes i given read place → HasCome false keep never [] given limit stream bytes i given read place
-came-kept {given = given} c = record { performed = sym (after-keep [] given); is_after = c.is_after; earlier = λ does. absurd (false≢true does) }
+pub came-kept : {V : Type 0} {asks : Bool} {step : V → Event → V} {is_terminated : V → Bool} {old value : V}
+    {limit : Option ℕ} {stream bytes : List ℕ} {i : ℕ} {given : List Event} {read : List ℕ}
+    {place : Place} → HasCome asks step is_terminated old value limit stream bytes i given read place
+    → HasCome false keep never [] given limit stream bytes i given read place
+came-kept {given = given} c =
+    record { performed = sym (after-keep [] given); is_after = c.is_after; earlier = λ does. absurd (false≢true does) }
 
-kept-is : {limit : Option ℕ} {stream bytes : List ℕ} {i : ℕ} {value given : List Event} {read : List ℕ} {place : Place} → HasCome false keep never [] value limit stream bytes i given read place
+kept-is : {limit : Option ℕ} {stream bytes : List ℕ} {i : ℕ} {value given : List Event} {read : List ℕ} {place : Place}
+    → HasCome false keep never [] value limit stream bytes i given read place
     → value ≡ given
 kept-is {given = given} c = c.performed ∙ after-keep [] given
 
-module _ {V B : Type 0} {asks : Bool} {step : V → Event → V} {is_terminated : V → Bool} {old value : V} {limit : Option ℕ} {stream bytes : List ℕ} {i : ℕ} {parser : Machine B} where
-  pub keeps-at : StandsAt asks step is_terminated old value limit stream bytes i parser → StandsAt false keep never [] (told limit stream bytes i) limit stream bytes i parser
+module _ {V B : Type 0} {asks : Bool} {step : V → Event → V} {is_terminated : V → Bool} {old value : V}
+    {limit : Option ℕ} {stream bytes : List ℕ} {i : ℕ} {parser : Machine B} where
+  pub keeps-at : StandsAt asks step is_terminated old value limit stream bytes i parser
+      → StandsAt false keep never [] (told limit stream bytes i) limit stream bytes i parser
   keeps-at s = record { place = s.place; stands = s.stands; between = s.between; has_come = came-kept s.has_come }
 
-  pub keeps-inside : StandsInside asks step is_terminated old value limit stream bytes i parser → StandsInside false keep never [] (added limit stream (take i bytes)) limit stream bytes i parser
+  pub keeps-inside : StandsInside asks step is_terminated old value limit stream bytes i parser
+      → StandsInside false keep never [] (added limit stream (take i bytes)) limit stream bytes i parser
   keeps-inside s = record { place = s.place; stands = s.stands; has_come = came-kept s.has_come }
 
-pub come-told : {limit : Option ℕ} {stream bytes : List ℕ} {i : ℕ} {value : List Event} {place : Place} → CameTo false keep never [] value limit stream bytes i place → value ≡ told limit stream bytes i
+pub come-told : {limit : Option ℕ} {stream bytes : List ℕ} {i : ℕ} {value : List Event} {place : Place}
+    → CameTo false keep never [] value limit stream bytes i place → value ≡ told limit stream bytes i
 come-told c = kept-is c
 
-pub told-at : {B : Type 0} {value : List Event} {limit : Option ℕ} {stream bytes : List ℕ} {i : ℕ} {parser : Machine B} → StandsAt false keep never [] value limit stream bytes i parser
+pub told-at : {B : Type 0} {value : List Event} {limit : Option ℕ} {stream bytes : List ℕ} {i : ℕ} {parser : Machine B}
+    → StandsAt false keep never [] value limit stream bytes i parser
     → value ≡ told limit stream bytes i
 told-at s = kept-is s.has_come
 
-pub added-inside : {B : Type 0} {value : List Event} {limit : Option ℕ} {stream bytes : List ℕ} {i : ℕ} {parser : Machine B} → StandsInside false keep never [] value limit stream bytes i parser
+pub added-inside : {B : Type 0} {value : List Event} {limit : Option ℕ} {stream bytes : List ℕ} {i : ℕ}
+    {parser : Machine B} → StandsInside false keep never [] value limit stream bytes i parser
     → value ≡ added limit stream (take i bytes)
 added-inside s = kept-is s.has_come
 
 -- ---- what is told between two places
 
-pub adds-same : {limit : Option ℕ} {stream bytes : List ℕ} {i j : ℕ} → told limit stream bytes i ≡ told limit stream bytes j → AddsOthers limit stream bytes i j
-adds-same {limit = limit} {stream = stream} {bytes = bytes} {i = i} e = record { events = []; are = All-nil IsOther; parts = sym e ∙ sym (append-nil (told limit stream bytes i)) }
+pub adds-same : {limit : Option ℕ} {stream bytes : List ℕ} {i j : ℕ}
+    → told limit stream bytes i ≡ told limit stream bytes j → AddsOthers limit stream bytes i j
+adds-same {limit = limit} {stream = stream} {bytes = bytes} {i = i} e =
+    record { events = []; are = All-nil IsOther; parts = sym e ∙ sym (append-nil (told limit stream bytes i)) }
 
-pub adds-then : {limit : Option ℕ} {stream bytes : List ℕ} {i j k : ℕ} → AddsOthers limit stream bytes i j → AddsOthers limit stream bytes j k → AddsOthers limit stream bytes i k
+pub adds-then : {limit : Option ℕ} {stream bytes : List ℕ} {i j k : ℕ} → AddsOthers limit stream bytes i j
+    → AddsOthers limit stream bytes j k → AddsOthers limit stream bytes i k
 adds-then {limit = limit} {stream = stream} {bytes = bytes} {i = i} a b = record {
   events = a.events ++ b.events;
   are = All-append IsOther a.events b.events a.are b.are;
-  parts = b.parts ∙ ap (λ (es : List Event). es ++ b.events) a.parts ∙ append_assoc (told limit stream bytes i) a.events b.events;
+  parts =
+      b.parts ∙ ap (λ (es : List Event). es ++ b.events) a.parts
+      ∙ append_assoc (told limit stream bytes i) a.events b.events;
 }
 
-pub adds-reads : {limit : Option ℕ} {stream bytes : List ℕ} {i b : ℕ} {place next : Place} {these : List Event} → i < length bytes → b ≡ slice_index bytes i
-    → IsAfter limit (stream_at stream bytes i) place → Reads limit place (b ∷ []) these next → IsPlace next → All IsOther these → AddsOthers limit stream bytes i (i + 1)
-adds-reads {limit = limit} {stream = stream} {bytes = bytes} {i = i} {b = b} {place = place} {next = next} {these = these} within is a r is_place are =
-    let one : take (i + 1 - i) (drop i bytes) ≡ b ∷ [] = let e : i + 1 - i ≡ 1 = omega arith in rw (e, drop_more bytes i 0 within, is) refl in
+pub adds-reads : {limit : Option ℕ} {stream bytes : List ℕ} {i b : ℕ} {place next : Place} {these : List Event}
+    → i < length bytes → b ≡ slice_index bytes i
+    → IsAfter limit (stream_at stream bytes i) place → Reads limit place (b ∷ []) these next → IsPlace next
+    → All IsOther these → AddsOthers limit stream bytes i (i + 1)
+adds-reads {limit = limit} {stream = stream} {bytes = bytes} {i = i} {b = b} {place = place} {next = next}
+    {these = these} within is a r is_place are =
+    let one : take (i + 1 - i) (drop i bytes) ≡ b ∷ [] =
+    let e : i + 1 - i ≡ 1 = omega arith in rw (e, drop_more bytes i 0 within, is) refl in
     let before : List Event = told limit stream bytes i in
     let all : added limit stream (take (i + 1) bytes) ≡ before ++ these =
     run-added limit stream bytes i (i + 1) (omega arith)
-    ∙ ap (λ (es : List Event). before ++ es) (ap (added limit (stream_at stream bytes i)) one ∙ added-reads limit (stream_at stream bytes i) (b ∷ []) place next these a r is_place) in
+    ∙ ap (λ (es : List Event). before ++ es)
+    (ap (added limit (stream_at stream bytes i)) one
+    ∙ added-reads limit (stream_at stream bytes i) (b ∷ []) place next these a r is_place) in
     elim (cases_Bool (breaks_at stream bytes (i + 1))) [
       | inl broken ↦ record {
         events = these ++ Print replacement ∷ [];
-        are = All-append IsOther these (Print replacement ∷ []) are (All-cons IsOther (Print replacement) [] refl (All-nil IsOther));
-        parts = told-broken limit stream bytes (i + 1) broken ∙ ap (λ (es : List Event). es ++ Print replacement ∷ []) all ∙ append_assoc before these (Print replacement ∷ []);
+        are =
+            All-append IsOther these (Print replacement ∷ []) are
+            (All-cons IsOther (Print replacement) [] refl (All-nil IsOther));
+        parts =
+            told-broken limit stream bytes (i + 1) broken ∙ ap (λ (es : List Event). es ++ Print replacement ∷ []) all
+            ∙ append_assoc before these (Print replacement ∷ []);
       }
       | inr whole ↦ record { events = these; are = are; parts = told-between limit stream bytes (i + 1) whole ∙ all }
     ]
@@ -86,20 +112,25 @@ all_others [] are = All-nil IsOther
 all_others (event ∷ []) are = All-cons IsOther event [] are (All-nil IsOther)
 all_others (event ∷ next ∷ events) are = All-cons IsOther event (next ∷ events) are.0 (all_others (next ∷ events) are.1)
 
-pub quiet-place : {B : Type 0} (limit : Option ℕ) (state : State) (parser : Machine B) (place : Place) (b : ℕ) → IsQuietIn state b → StandsBy limit state parser place → IsQuiet place b
+pub quiet-place : {B : Type 0} (limit : Option ℕ) (state : State) (parser : Machine B) (place : Place) (b : ℕ)
+    → IsQuietIn state b → StandsBy limit state parser place → IsQuiet place b
 quiet-place limit (Text u) parser place b quiet s = absurd quiet
 quiet-place limit DeviceData parser InData b quiet s = quiet
 quiet-place limit _ parser (InText u) b quiet s = absurd s
 quiet-place limit _ parser InData b quiet s = absurd s
 quiet-place limit _ parser _ b quiet s = tt
 
-pub adds-quiet : {limit : Option ℕ} {stream bytes : List ℕ} {i b : ℕ} {place : Place} → i < length bytes → b ≡ slice_index bytes i → IsAfter limit (stream_at stream bytes i) place
+pub adds-quiet : {limit : Option ℕ} {stream bytes : List ℕ} {i b : ℕ} {place : Place} → i < length bytes
+    → b ≡ slice_index bytes i → IsAfter limit (stream_at stream bytes i) place
     → IsPlace place → IsQuiet place b → AddsOthers limit stream bytes i (i + 1)
 adds-quiet {limit = limit} {b = b} {place = place} within is a is_place quiet =
     let s = steps limit place b is_place in
     adds-reads within is a s.reads s.is_place (all_others s.told (s.others quiet))
 
 -- what is told of a character whose first byte told nothing
-pub adds-character : {limit : Option ℕ} {stream begun bytes : List ℕ} {i j : ℕ} (a : AddsCharacter limit stream begun bytes (i + 1) j)
-    → told limit stream bytes i ≡ added limit stream (take (i + 1) bytes) → All IsOther a.events → AddsOthers limit stream bytes i j
-adds-character a silent are = record { events = a.events; are = are; parts = a.parts ∙ ap (λ (es : List Event). es ++ a.events) (sym silent) }
+pub adds-character : {limit : Option ℕ} {stream begun bytes : List ℕ} {i j : ℕ}
+    (a : AddsCharacter limit stream begun bytes (i + 1) j)
+    → told limit stream bytes i ≡ added limit stream (take (i + 1) bytes) → All IsOther a.events
+    → AddsOthers limit stream bytes i j
+adds-character a silent are =
+    record { events = a.events; are = are; parts = a.parts ∙ ap (λ (es : List Event). es ++ a.events) (sym silent) }

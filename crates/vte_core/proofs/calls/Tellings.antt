@@ -8,15 +8,22 @@ use Rattle.vte_core.proofs.streams.After.{added-nothing}
 use Rattle.vte_core.proofs.streams.Others.{wide, wide_all, wide_character}
 
 -- nothing, at its start
-pub tells-nothing : {B : Type 0} {limit : Option ℕ} {stream bytes : List ℕ} {parser : Machine B} → IsSettled parser.state → IsBehind limit parser stream → TellsOthers limit stream bytes 0
+pub tells-nothing : {B : Type 0} {limit : Option ℕ} {stream bytes : List ℕ} {parser : Machine B}
+    → IsSettled parser.state → IsBehind limit parser stream → TellsOthers limit stream bytes 0
 tells-nothing {limit = limit} {stream = stream} {bytes = bytes} settled h =
-    let none : [] ≡ told limit stream bytes 0 = told-at (starts-at {asks = false} {step = keep} {is_terminated = never} settled h) in
-    record { others = λ _. subst (All IsOther) none (All-nil IsOther); opened = subst (All IsWide) none (All-nil IsWide) }
+    let none : [] ≡ told limit stream bytes 0 =
+    told-at (starts-at {asks = false} {step = keep} {is_terminated = never} settled h) in
+    record {
+      others = λ _. subst (All IsOther) none (All-nil IsOther);
+      opened = subst (All IsWide) none (All-nil IsWide);
+    }
 
 -- what an open character is
-pub tells-open : {limit : Option ℕ} {stream begun bytes : List ℕ} {j : ℕ} → AddsCharacter limit stream begun bytes 0 j → (open_end stream ≡ [] → ⊥) → TellsOthers limit stream bytes j
+pub tells-open : {limit : Option ℕ} {stream begun bytes : List ℕ} {j : ℕ} → AddsCharacter limit stream begun bytes 0 j
+    → (open_end stream ≡ [] → ⊥) → TellsOthers limit stream bytes j
 tells-open {limit = limit} {stream = stream} {bytes = bytes} {j = j} a opened =
-    let all : told limit stream bytes j ≡ a.events = a.parts ∙ ap (λ (es : List Event). es ++ a.events) (added-nothing limit stream) in
+    let all : told limit stream bytes j ≡ a.events =
+    a.parts ∙ ap (λ (es : List Event). es ++ a.events) (added-nothing limit stream) in
     record {
       others = λ none. absurd (opened none);
       opened = subst (All IsWide) (sym all) (elim a.are [
@@ -26,8 +33,13 @@ tells-open {limit = limit} {stream = stream} {bytes = bytes} {j = j} a opened =
     }
 
 -- and more
-pub tells-more : {limit : Option ℕ} {stream bytes : List ℕ} {i j : ℕ} → TellsOthers limit stream bytes i → AddsOthers limit stream bytes i j → TellsOthers limit stream bytes j
+pub tells-more : {limit : Option ℕ} {stream bytes : List ℕ} {i j : ℕ} → TellsOthers limit stream bytes i
+    → AddsOthers limit stream bytes i j → TellsOthers limit stream bytes j
 tells-more {limit = limit} {stream = stream} {bytes = bytes} {i = i} t a = record {
-  others = λ none. subst (All IsOther) (sym a.parts) (All-append IsOther (told limit stream bytes i) a.events (t.others none) a.are);
-  opened = subst (All IsWide) (sym a.parts) (All-append IsWide (told limit stream bytes i) a.events t.opened (wide_all a.events a.are));
+  others =
+      λ none.
+      subst (All IsOther) (sym a.parts) (All-append IsOther (told limit stream bytes i) a.events (t.others none) a.are);
+  opened =
+      subst (All IsWide) (sym a.parts)
+      (All-append IsWide (told limit stream bytes i) a.events t.opened (wide_all a.events a.are));
 }

@@ -21,19 +21,23 @@ use Rattle.vte_core.proofs.streams.StreamSteps.{told_by_stream}
 
 -- ---- what a text gives, and a run
 
-reads-characters : (limit : Option ℕ) (text : List ℕ) → IsUtf8 text → All (λ b. b ≢ escape) text → Reads limit (InText []) text (map character_event (chars text)) (InText [])
+reads-characters : (limit : Option ℕ) (text : List ℕ) → IsUtf8 text → All (λ b. b ≢ escape) text
+    → Reads limit (InText []) text (map character_event (chars text)) (InText [])
 unfolding outcome_behind
 reads-characters limit text is none = record {
   reads = λ more.
       let cut = cut_at_escape more in
       ap (λ c. with_bodies limit (text_outcome c.text) c.bodies) (cut-text text more none)
       ∙ ap (λ x. with_bodies limit (text_outcome (x ++ cut.text)) cut.bodies) (sym (encodes-chars text is))
-      ∙ ap (λ part. with_bodies limit part cut.bodies) (text_outcome-encodes (chars text) cut.text (scalars-chars text is))
+      ∙ ap (λ part. with_bodies limit part cut.bodies)
+      (text_outcome-encodes (chars text) cut.text (scalars-chars text is))
       ∙ with_bodies-tell limit (map character_event (chars text)) (text_outcome cut.text) cut.bodies;
 }
 
-pub told_as_characters : (limit : Option ℕ) (text : List ℕ) → IsUtf8 text → All (λ b. b ≢ escape) text → events limit text ≡ map character_event (chars text)
-told_as_characters limit text is none = told_by_stream limit (InText []) text (map character_event (chars text)) refl (reads-characters limit text is none)
+pub told_as_characters : (limit : Option ℕ) (text : List ℕ) → IsUtf8 text → All (λ b. b ≢ escape) text
+    → events limit text ≡ map character_event (chars text)
+told_as_characters limit text is none =
+    told_by_stream limit (InText []) text (map character_event (chars text)) refl (reads-characters limit text is none)
 
 -- no character of the list is a control that a run leaves out
 abbrev ArePlain : Bool → List ℕ → Type 0
@@ -63,15 +67,20 @@ no_escape-encode keeps c plain = All-from_get_or (λ b. b ≢ escape) (encode c)
 
 no_escape-encodes : (keeps : Bool) (cs : List ℕ) → ArePlain keeps cs → All (λ b. b ≢ escape) (encodes cs)
 no_escape-encodes keeps [] plain = All-nil (λ b. b ≢ escape)
-no_escape-encodes keeps (c ∷ cs) plain = All-append (λ b. b ≢ escape) (encode c) (encodes cs) (no_escape-encode keeps c (All-head (λ c. is_left_out keeps c ≡ false) c cs plain))
+no_escape-encodes keeps (c ∷ cs) plain =
+    All-append (λ b. b ≢ escape) (encode c) (encodes cs)
+    (no_escape-encode keeps c (All-head (λ c. is_left_out keeps c ≡ false) c cs plain))
     (no_escape-encodes keeps cs (All-tail (λ c. is_left_out keeps c ≡ false) c cs plain))
 
 no_escape : (keeps : Bool) (run : List ℕ) → AreRun keeps run → All (λ b. b ≢ escape) run
-no_escape keeps run are = subst (All (λ b. b ≢ escape)) (encodes-chars run are.utf8) (no_escape-encodes keeps (chars run) are.plain)
+no_escape keeps run are =
+    subst (All (λ b. b ≢ escape)) (encodes-chars run are.utf8) (no_escape-encodes keeps (chars run) are.plain)
 
-pub reads-text : (limit : Option ℕ) (keeps : Bool) (run : List ℕ) → AreRun keeps run → Reads limit (InText []) run (map (run_event keeps) (chars run)) (InText [])
+pub reads-text : (limit : Option ℕ) (keeps : Bool) (run : List ℕ) → AreRun keeps run
+    → Reads limit (InText []) run (map (run_event keeps) (chars run)) (InText [])
 reads-text limit keeps run are =
-    subst (λ es. Reads limit (InText []) run es (InText [])) (plain-events keeps (chars run) are.plain) (reads-characters limit run are.utf8 (no_escape keeps run are))
+    subst (λ es. Reads limit (InText []) run es (InText [])) (plain-events keeps (chars run) are.plain)
+    (reads-characters limit run are.utf8 (no_escape keeps run are))
 
 -- ---- what it does
 
@@ -79,45 +88,65 @@ reads-text limit keeps run are =
 pub prints-one : {V : Type 0} {keeps : Bool} {step : V → Event → V} {old new : V} {bytes : List ℕ} {from b c : ℕ}
     → from < length bytes → b ≡ slice_index bytes from → IsPrinted b → c ≡ b
     → new ≡ step old (Print c) → PrintsRun keeps step old new bytes from (from + 1)
-prints-one {keeps = keeps} {step = step} {old = old} {bytes = bytes} {from = from} {b = b} within is printed same e = record {
-  run = run-ascii keeps bytes from (from + 1) (each-one IsPrinted bytes from (subst IsPrinted is printed));
-  printed = e ∙ ap (λ x. step old (Print x)) same ∙ ap (λ event. step old event) (sym (printed-event keeps b printed))
-      ∙ ap (λ cs. after step old (map (run_event keeps) cs)) (sym (chars-one bytes from b within is printed));
-}
+prints-one {keeps = keeps} {step = step} {old = old} {bytes = bytes} {from = from}
+    {b = b} within is printed same e = record {
+      run = run-ascii keeps bytes from (from + 1) (each-one IsPrinted bytes from (subst IsPrinted is printed));
+      printed = e ∙ ap (λ x. step old (Print x)) same ∙ ap (λ event. step old event) (sym (printed-event keeps b printed))
+          ∙ ap (λ cs. after step old (map (run_event keeps) cs)) (sym (chars-one bytes from b within is printed));
+    }
 
 -- ---- a performer that no character stops
 
-not_stopped : {V : Type 0} (keeps : Bool) (step : V → Event → V) (is_terminated : V → Bool) → NoCharacterStops keeps step is_terminated
+not_stopped : {V : Type 0} (keeps : Bool) (step : V → Event → V) (is_terminated : V → Bool)
+    → NoCharacterStops keeps step is_terminated
     → (value : V) (given rest : List Event) (cs : List ℕ)
-    → given ++ rest ≡ map (run_event keeps) cs → is_terminated value ≡ false → is_terminated (after step value given) ≡ false
+    → given ++ rest ≡ map (run_event keeps) cs → is_terminated value ≡ false
+    → is_terminated (after step value given) ≡ false
 not_stopped keeps step is_terminated never value [] rest cs e goes = goes
 not_stopped keeps step is_terminated never value (x ∷ given) rest [] e goes = cc
 not_stopped keeps step is_terminated never value (x ∷ given) rest (c ∷ cs) e goes =
     let first : x ≡ run_event keeps c = cc in
     let others : given ++ rest ≡ map (run_event keeps) cs = cc in
-    not_stopped keeps step is_terminated never (step value x) given rest cs others (ap (λ event. is_terminated (step value event)) first ∙ never value c goes)
+    not_stopped keeps step is_terminated never (step value x) given rest cs others
+    (ap (λ event. is_terminated (step value event)) first ∙ never value c goes)
 
 -- the U+FFFD of a broken character stops it neither
-not_stopped-told : {V : Type 0} (keeps : Bool) (step : V → Event → V) (is_terminated : V → Bool) → NoCharacterStops keeps step is_terminated
+not_stopped-told : {V : Type 0} (keeps : Bool) (step : V → Event → V) (is_terminated : V → Bool)
+    → NoCharacterStops keeps step is_terminated
     → (value : V) (limit : Option ℕ) (stream bytes : List ℕ) (k : ℕ)
-    → is_terminated (after step value (added limit stream (take k bytes))) ≡ false → is_terminated (after step value (told limit stream bytes k)) ≡ false
-not_stopped-told keeps step is_terminated never value limit stream bytes k goes = elim (cases_Bool (breaks_at stream bytes k)) [
-  | inl broken ↦ rw (told-broken limit stream bytes k broken, after-append step value (added limit stream (take k bytes)) (Print replacement ∷ []))
-      (rw (replacement-event keeps) at (never (after step value (added limit stream (take k bytes))) replacement goes))
-  | inr whole ↦ rw (told-between limit stream bytes k whole) goes
-]
+    → is_terminated (after step value (added limit stream (take k bytes))) ≡ false
+    → is_terminated (after step value (told limit stream bytes k)) ≡ false
+not_stopped-told keeps step is_terminated never value limit stream bytes k goes =
+    elim (cases_Bool (breaks_at stream bytes k)) [
+      | inl broken ↦
+          rw (
+            told-broken limit stream bytes k broken,
+            after-append step value (added limit stream (take k bytes))
+                (Print replacement ∷ []),
+          )
+          (rw (replacement-event keeps) at (never (after step value (added limit stream (take k bytes))) replacement goes))
+      | inr whole ↦ rw (told-between limit stream bytes k whole) goes
+    ]
 
-pub may_go_on-text : {V : Type 0} {asks keeps : Bool} {step : V → Event → V} {is_terminated : V → Bool} {old new : V} {bytes : List ℕ} {i j : ℕ}
-    → (asks ≡ true → NoCharacterStops keeps step is_terminated) → MayGoOn asks is_terminated old → PrintsRun keeps step old new bytes i j → MayGoOn asks is_terminated new
-may_go_on-text {keeps = keeps} {step = step} {is_terminated = is_terminated} {old = old} {bytes = bytes} {i = i} {j = j} never may_go_on prints does =
+pub may_go_on-text : {V : Type 0} {asks keeps : Bool} {step : V → Event → V} {is_terminated : V → Bool} {old new : V}
+    {bytes : List ℕ} {i j : ℕ}
+    → (asks ≡ true → NoCharacterStops keeps step is_terminated) → MayGoOn asks is_terminated old
+    → PrintsRun keeps step old new bytes i j → MayGoOn asks is_terminated new
+may_go_on-text {keeps = keeps} {step = step} {is_terminated = is_terminated} {old = old} {bytes = bytes} {i = i}
+    {j = j} never may_go_on prints does =
     let cs = chars (take (j - i) (drop i bytes)) in
-    ap is_terminated prints.printed ∙ not_stopped keeps step is_terminated (never does) old (map (run_event keeps) cs) [] cs (append-nil (map (run_event keeps) cs)) (may_go_on does)
+    ap is_terminated prints.printed
+    ∙ not_stopped keeps step is_terminated (never does) old (map (run_event keeps) cs) [] cs
+    (append-nil (map (run_event keeps) cs)) (may_go_on does)
 
 -- a run more
-pub advances-text : {V B : Type 0} {asks keeps : Bool} {step : V → Event → V} {is_terminated : V → Bool} {old new : V} {limit : Option ℕ} {bytes : List ℕ} {i j : ℕ} {parser : Machine B}
-    → (asks ≡ true → NoCharacterStops keeps step is_terminated) → MayGoOn asks is_terminated old → i < length bytes → parser.state ≡ Text Nothing → i < j → j ≤ length bytes
+pub advances-text : {V B : Type 0} {asks keeps : Bool} {step : V → Event → V} {is_terminated : V → Bool} {old new : V}
+    {limit : Option ℕ} {bytes : List ℕ} {i j : ℕ} {parser : Machine B}
+    → (asks ≡ true → NoCharacterStops keeps step is_terminated) → MayGoOn asks is_terminated old → i < length bytes
+    → parser.state ≡ Text Nothing → i < j → j ≤ length bytes
     → PrintsRun keeps step old new bytes i j → Advances ⊥ asks step is_terminated old new limit bytes i j parser parser
-advances-text {V = V} {B = B} {asks = asks} {keeps = keeps} {step = step} {is_terminated = is_terminated} {old = old} {new = new} {limit = limit} {bytes = bytes} {i = i} {j = j} {parser = parser}
+advances-text {V = V} {B = B} {asks = asks} {keeps = keeps} {step = step} {is_terminated = is_terminated} {old = old}
+    {new = new} {limit = limit} {bytes = bytes} {i = i} {j = j} {parser = parser}
     never may_go_on within e in_order high prints = record {
       goes_on = λ value stream s. settles (settled-by parser.state (Text Nothing) e tt) (inside-next value stream s);
       settled = λ _. settled-by parser.state (Text Nothing) e tt;
@@ -128,27 +157,38 @@ advances-text {V = V} {B = B} {asks = asks} {keeps = keeps} {step = step} {is_te
     run = take (j - i) (drop i bytes)
 
     -- after a front of the run that isn't empty
-    inside : (value : V) (stream : List ℕ) → CameTo asks step is_terminated value old limit stream bytes i (InText []) → asks ≡ true → (k : ℕ) → i < k → k < j
+    inside : (value : V) (stream : List ℕ) → CameTo asks step is_terminated value old limit stream bytes i (InText [])
+        → asks ≡ true → (k : ℕ) → i < k → k < j
         → is_terminated (after step value (told limit stream bytes k)) ≡ false
     inside value stream c does k past below =
         let from : List ℕ = stream_at stream bytes i in
         let front : List ℕ = take (k - i) (drop i bytes) in
         let rest : List ℕ = drop (k - i) run in
-        let parts : run ≡ front ++ rest = sym (take-append-drop (k - i) run) ∙ ap (λ x. x ++ rest) (take-take (k - i) (j - i) (drop i bytes) (omega (arith, below))) in
+        let parts : run ≡ front ++ rest =
+        sym (take-append-drop (k - i) run)
+        ∙ ap (λ x. x ++ rest) (take-take (k - i) (j - i) (drop i bytes) (omega (arith, below))) in
         let all : added limit from front ++ added limit (from ++ front) rest ≡ map (run_event keeps) (chars run) =
-        sym (added_both limit from front rest) ∙ ap (added limit from) (sym parts) ∙ added-reads limit from run (InText []) (InText []) _ c.is_after (reads-text limit keeps run prints.run) refl in
+        sym (added_both limit from front rest) ∙ ap (added limit from) (sym parts)
+        ∙ added-reads limit from run (InText []) (InText []) _ c.is_after
+        (reads-text limit keeps run prints.run) refl in
         not_stopped-told keeps step is_terminated (never does) value limit stream bytes k
         (ap (λ es. is_terminated (after step value es)) (run-added limit stream bytes i k past)
-        ∙ ap is_terminated (after-append step value (told limit stream bytes i) (added limit from front) ∙ ap (λ v. after step v (added limit from front)) (sym c.performed))
-        ∙ not_stopped keeps step is_terminated (never does) old (added limit from front) (added limit (from ++ front) rest) (chars run) all (may_go_on does))
+        ∙ ap is_terminated
+        (after-append step value (told limit stream bytes i) (added limit from front)
+        ∙ ap (λ v. after step v (added limit from front)) (sym c.performed))
+        ∙ not_stopped keeps step is_terminated (never does) old (added limit from front)
+        (added limit (from ++ front) rest) (chars run) all (may_go_on does))
 
     inside-next : (value : V) (stream : List ℕ) → StandsAt asks step is_terminated value old limit stream bytes i parser
         → StandsInside asks step is_terminated value new limit stream bytes j parser
     inside-next value stream s =
         let here : s.place ≡ InText [] = between_characters parser s.place e s.stands in
-        let c : CameTo asks step is_terminated value old limit stream bytes i (InText []) = subst (CameTo asks step is_terminated value old limit stream bytes i) here s.has_come in
+        let c : CameTo asks step is_terminated value old limit stream bytes i (InText []) =
+        subst (CameTo asks step is_terminated value old limit stream bytes i) here s.has_come in
         record {
           place = InText [];
           stands = subst (Stands limit parser) here s.stands;
-          has_come = come-further in_order high (λ does _. may_go_on does) (inside value stream c) (reads-text limit keeps run prints.run) prints.printed refl c;
+          has_come =
+              come-further in_order high (λ does _. may_go_on does) (inside value stream c)
+              (reads-text limit keeps run prints.run) prints.printed refl c;
         }

@@ -24,10 +24,13 @@ use Rattle.vte_core.proofs.streams.StreamLemmas.{no_escape, reads-append, reads-
 
 -- ---- no run
 
-has-nowhere : {B : Type 0} {limit : Option ℕ} {bytes : List ℕ} {from : ℕ} {place : RunPlace} {parser : Machine B} → from ≤ length bytes → place.start ≡ from → place.end ≡ from
+has-nowhere : {B : Type 0} {limit : Option ℕ} {bytes : List ℕ} {from : ℕ} {place : RunPlace} {parser : Machine B}
+    → from ≤ length bytes → place.start ≡ from → place.end ≡ from
     → place.kind ≡ Empty → HasRun limit bytes place parser
 has-nowhere {limit = limit} {bytes = bytes} {from = from} {place = place} {parser = parser} within starts ends kind =
-    let none : bytes_at bytes place ≡ [] = ap (λ n. take n (drop place.start bytes)) (let e : place.end - place.start ≡ 0 = omega (arith, starts, ends) in e) in
+    let none : bytes_at bytes place ≡ [] =
+    ap (λ n. take n (drop place.start bytes))
+    (let e : place.end - place.start ≡ 0 = omega (arith, starts, ends) in e) in
     record {
       range = record { in_order = omega (arith, starts, ends); within = omega (arith, within, ends) };
       kind = rw kind tt;
@@ -37,7 +40,8 @@ has-nowhere {limit = limit} {bytes = bytes} {from = from} {place = place} {parse
     }
 
 -- in no other state
-pub outside : (state : State) → ((unfinished : Unfinished) → state ≡ Text unfinished → ⊥) → (state ≡ DeviceData → ⊥) → IsOutside state
+pub outside : (state : State) → ((unfinished : Unfinished) → state ≡ Text unfinished → ⊥) → (state ≡ DeviceData → ⊥)
+    → IsOutside state
 outside (Text unfinished) no_text no_data = no_text unfinished refl
 outside DeviceData no_text no_data = no_data refl
 outside _ no_text no_data = tt
@@ -48,13 +52,17 @@ by_unfinished : (unfinished : Unfinished) → IsSettled (Text unfinished) → Te
 by_unfinished Nothing settled = refl
 by_unfinished _ settled = absurd settled
 
-pub settled-text : {state : State} (unfinished : Unfinished) → state ≡ Text unfinished → IsSettled state → state ≡ Text Nothing
+pub settled-text : {state : State} (unfinished : Unfinished) → state ≡ Text unfinished → IsSettled state
+    → state ≡ Text Nothing
 settled-text unfinished e settled = e ∙ by_unfinished unfinished (subst IsSettled e settled)
 
 -- bytes that lead from the parser's place to the same
-has-run : {B : Type 0} {limit : Option ℕ} {bytes : List ℕ} {place : RunPlace} {parser : Machine B} (here : Place) → IsPlace here
-    → ((at : Place) → Stands limit parser at → at ≡ here) → Reads limit here (bytes_at bytes place) (kind_events place.kind (bytes_at bytes place)) here
-    → IsRange bytes place.start place.end → AreOfKind place.kind (bytes_at bytes place) → IsWholeAt bytes place place.kind → HasRun limit bytes place parser
+has-run : {B : Type 0} {limit : Option ℕ} {bytes : List ℕ} {place : RunPlace} {parser : Machine B} (here : Place)
+    → IsPlace here
+    → ((at : Place) → Stands limit parser at → at ≡ here)
+    → Reads limit here (bytes_at bytes place) (kind_events place.kind (bytes_at bytes place)) here
+    → IsRange bytes place.start place.end → AreOfKind place.kind (bytes_at bytes place)
+    → IsWholeAt bytes place place.kind → HasRun limit bytes place parser
 has-run {limit = limit} {bytes = bytes} {place = place} {parser = parser} here is only reads range kind whole =
     let these : List ℕ = bytes_at bytes place in
     let events : List Event = kind_events place.kind these in
@@ -62,24 +70,33 @@ has-run {limit = limit} {bytes = bytes} {place = place} {parser = parser} here i
       range = range;
       kind = kind;
       whole = whole;
-      adds = λ stream h. added-reads limit stream these here here events (subst (IsAfter limit stream) (only h.place h.stands) h.is_after) reads is;
+      adds =
+          λ stream h.
+          added-reads limit stream these here here events
+          (subst (IsAfter limit stream) (only h.place h.stands) h.is_after) reads is;
       reads = λ stream h. record {
         place = here;
         stands = subst (Stands limit parser) (only h.place h.stands) h.stands;
-        is_after = after-reads limit stream these here here events (subst (IsAfter limit stream) (only h.place h.stands) h.is_after) reads is;
+        is_after =
+            after-reads limit stream these here here events
+            (subst (IsAfter limit stream) (only h.place h.stands) h.is_after) reads is;
       };
     }
 
 -- the text that stands from one place to another
-pub has-text : {B : Type 0} {limit : Option ℕ} {bytes : List ℕ} {from end : ℕ} {parser : Machine B} → parser.state ≡ Text Nothing → from < end → end ≤ length bytes
-    → IsRun false bytes from end → EndsRun false bytes end → HasRun limit bytes (record { start = from; end = end; kind = OfText }) parser
+pub has-text : {B : Type 0} {limit : Option ℕ} {bytes : List ℕ} {from end : ℕ} {parser : Machine B}
+    → parser.state ≡ Text Nothing → from < end → end ≤ length bytes
+    → IsRun false bytes from end → EndsRun false bytes end
+    → HasRun limit bytes (record { start = from; end = end; kind = OfText }) parser
 has-text {limit = limit} {bytes = bytes} {from = from} {end = end} {parser = parser} between low high are ended =
-    has-run (InText []) refl (λ place s. between_characters parser place between s) (reads-text limit false (take (end - from) (drop from bytes)) are)
+    has-run (InText []) refl (λ place s. between_characters parser place between s)
+    (reads-text limit false (take (end - from) (drop from bytes)) are)
     (record { in_order = omega (arith, low); within = high }) are (low, ended)
 
 -- ---- data
 
-by_data : {B : Type 0} (limit : Option ℕ) (parser : Machine B) (place : Place) → StandsBy limit DeviceData parser place → place ≡ InData
+by_data : {B : Type 0} (limit : Option ℕ) (parser : Machine B) (place : Place) → StandsBy limit DeviceData parser place
+    → place ≡ InData
 by_data limit parser InData s = refl
 by_data limit parser _ s = absurd s
 
@@ -92,19 +109,26 @@ reads-data limit bytes (suc n) i within are =
     let put = are i (omega arith) (omega arith) in
     let rest : List ℕ = take n (drop (i + 1) bytes) in
     rw (drop_more bytes i 0 here) (reads-append limit InData InData InData (b ∷ []) rest (Put b ∷ []) (map Put rest)
-    (reads-byte limit InData InData b (Put b ∷ []) (no_escape b (data_ends_nothing (class_of b) put)) (data-put limit b put))
-    (reads-data limit bytes n (i + 1) (omega (arith, within)) (λ k low high. are k (omega (arith, low)) (omega (arith, high)))))
+    (reads-byte limit InData InData b (Put b ∷ []) (no_escape b (data_ends_nothing (class_of b) put))
+    (data-put limit b put))
+    (reads-data limit bytes n (i + 1) (omega (arith, within))
+    (λ k low high. are k (omega (arith, low)) (omega (arith, high)))))
 
-pub has-data : {B : Type 0} {limit : Option ℕ} {bytes : List ℕ} {from end : ℕ} {parser : Machine B} → parser.state ≡ DeviceData → from < end → end ≤ length bytes
-    → ArePut bytes from end → (end < length bytes → IsPut (slice_index bytes end) → ⊥) → HasRun limit bytes (record { start = from; end = end; kind = OfData }) parser
+pub has-data : {B : Type 0} {limit : Option ℕ} {bytes : List ℕ} {from end : ℕ} {parser : Machine B}
+    → parser.state ≡ DeviceData → from < end → end ≤ length bytes
+    → ArePut bytes from end → (end < length bytes → IsPut (slice_index bytes end) → ⊥)
+    → HasRun limit bytes (record { start = from; end = end; kind = OfData }) parser
 has-data {limit = limit} {bytes = bytes} {from = from} {end = end} {parser = parser} begun low high are ended =
-    has-run InData tt (λ place s. by_data limit parser place (stands-in begun s)) (reads-data limit bytes (end - from) from (omega (arith, low, high))
-    (λ k above below. are k above (omega (arith, low, below)))) (record { in_order = omega (arith, low); within = high }) tt (low, ended)
+    has-run InData tt (λ place s. by_data limit parser place (stands-in begun s))
+    (reads-data limit bytes (end - from) from (omega (arith, low, high))
+    (λ k above below. are k above (omega (arith, low, below))))
+    (record { in_order = omega (arith, low); within = high }) tt (low, ended)
 
 -- ---- nothing open
 
 -- between characters a parser goes on as a new one
-pub anew : {B : Type 0} {limit : Option ℕ} {stream : List ℕ} (parser : Machine B) → parser.state ≡ Text Nothing → IsBehind limit parser stream → IsBehind limit parser []
+pub anew : {B : Type 0} {limit : Option ℕ} {stream : List ℕ} (parser : Machine B) → parser.state ≡ Text Nothing
+    → IsBehind limit parser stream → IsBehind limit parser []
 anew {limit = limit} parser begun h = record {
   place = InText [];
   stands = subst (Stands limit parser) (between_characters parser h.place begun h.stands) h.stands;
@@ -114,23 +138,32 @@ anew {limit = limit} parser begun h = record {
 -- ---- where a call comes
 
 -- the call comes to a run
-pub comes-to_run : {V B : Type 0} {step : V → Event → V} {is_terminated : V → Bool} {old new : V} {limit : Option ℕ} {bytes : List ℕ} {place : RunPlace}
+pub comes-to_run : {V B : Type 0} {step : V → Event → V} {is_terminated : V → Bool} {old new : V} {limit : Option ℕ}
+    {bytes : List ℕ} {place : RunPlace}
     {before parser : Machine B} → HasRun limit bytes place parser → place.start < place.end → is_terminated new ≡ false
-    → ((stream : List ℕ) → IsBehind limit before stream → StandsAt true step is_terminated old new limit stream bytes place.start parser)
+    → ((stream : List ℕ) → IsBehind limit before stream
+    → StandsAt true step is_terminated old new limit stream bytes place.start parser)
     → ComesToRun step is_terminated old new limit bytes place before parser
-comes-to_run has some goes stands = record { has = has; stands_at = stands; may_go_on = λ _. goes; stops = λ none. absurd (omega (arith, none, some)) }
+comes-to_run has some goes stands =
+    record { has = has; stands_at = stands; may_go_on = λ _. goes; stops = λ none. absurd (omega (arith, none, some)) }
 
 -- .. or ends without one
-pub comes-nowhere : {V B : Type 0} {step : V → Event → V} {is_terminated : V → Bool} {old new : V} {limit : Option ℕ} {bytes : List ℕ} {from : ℕ} {place : RunPlace}
+pub comes-nowhere : {V B : Type 0} {step : V → Event → V} {is_terminated : V → Bool} {old new : V} {limit : Option ℕ}
+    {bytes : List ℕ} {from : ℕ} {place : RunPlace}
     {before parser : Machine B} → from ≤ length bytes → place.start ≡ from → place.end ≡ from → place.kind ≡ Empty
-    → ((stream : List ℕ) → IsBehind limit before stream → StandsAt true step is_terminated old new limit stream bytes from parser)
-    → (from < length bytes → is_terminated new ≡ true) → ComesToRun step is_terminated old new limit bytes place before parser
-comes-nowhere {step = step} {is_terminated = is_terminated} {old = old} {new = new} {limit = limit} {bytes = bytes} {parser = parser} within starts ends kind stands stops = record {
-  has = has-nowhere within starts ends kind;
-  stands_at = λ stream h. subst (λ n. StandsAt true step is_terminated old new limit stream bytes n parser) (sym starts) (stands stream h);
-  may_go_on = λ some. absurd (omega (arith, some, starts, ends));
-  stops = λ _ left. stops (omega (arith, starts, left));
-}
+    → ((stream : List ℕ) → IsBehind limit before stream
+    → StandsAt true step is_terminated old new limit stream bytes from parser)
+    → (from < length bytes → is_terminated new ≡ true)
+    → ComesToRun step is_terminated old new limit bytes place before parser
+comes-nowhere {step = step} {is_terminated = is_terminated} {old = old} {new = new} {limit = limit} {bytes = bytes}
+    {parser = parser} within starts ends kind stands stops = record {
+      has = has-nowhere within starts ends kind;
+      stands_at =
+          λ stream h. subst (λ n. StandsAt true step is_terminated old new limit stream bytes n parser) (sym starts)
+          (stands stream h);
+      may_go_on = λ some. absurd (omega (arith, some, starts, ends));
+      stops = λ _ left. stops (omega (arith, starts, left));
+    }
 
 -- ---- the run that is taken there
 
@@ -140,8 +173,10 @@ record Takes (bytes : List ℕ) (end : ℕ) (these : List ℕ) (kind : RunKind) 
   events : taken_events taken ≡ kind_events kind these
   whole : IsWhole bytes end taken
 
-takes : (bytes : List ℕ) (place : RunPlace) (kind : RunKind) (taken : Taken) → IsTaken kind (bytes_at bytes place) taken → AreOfKind kind (bytes_at bytes place)
-    → length (bytes_at bytes place) ≡ place.end - place.start → IsWholeAt bytes place kind → Takes bytes place.end (bytes_at bytes place) kind taken
+takes : (bytes : List ℕ) (place : RunPlace) (kind : RunKind) (taken : Taken) → IsTaken kind (bytes_at bytes place) taken
+    → AreOfKind kind (bytes_at bytes place)
+    → length (bytes_at bytes place) ≡ place.end - place.start → IsWholeAt bytes place kind
+    → Takes bytes place.end (bytes_at bytes place) kind taken
 takes bytes place OfText (TakenText text) same are size whole = record {
   are = same;
   events = ap (λ (x : List ℕ). map Print (chars x)) same;
@@ -153,7 +188,8 @@ takes bytes place OfData (Data those) same are size whole = record {
   whole = (omega (arith, ap length same, size, whole.0), whole.1);
 }
 takes bytes place Empty TakenNothing same are size whole =
-    let none : bytes_at bytes place ≡ [] = ap (λ n. take n (drop place.start bytes)) (let e : place.end - place.start ≡ 0 = omega (arith, whole) in e) in
+    let none : bytes_at bytes place ≡ [] =
+    ap (λ n. take n (drop place.start bytes)) (let e : place.end - place.start ≡ 0 = omega (arith, whole) in e) in
     record { are = sym none; events = refl; whole = tt }
 takes bytes place OfText (Data those) same are size whole = absurd same
 takes bytes place OfText TakenNothing same are size whole = absurd same
@@ -162,14 +198,26 @@ takes bytes place OfData TakenNothing same are size whole = absurd same
 takes bytes place Empty (TakenText text) same are size whole = absurd same
 takes bytes place Empty (Data those) same are size whole = absurd same
 
-size_at : (bytes : List ℕ) (place : RunPlace) → IsRange bytes place.start place.end → length (bytes_at bytes place) ≡ place.end - place.start
-size_at bytes place range = omega (arith, length-take (place.end - place.start) (drop place.start bytes), length-drop place.start bytes, range.in_order, range.within)
+size_at : (bytes : List ℕ) (place : RunPlace) → IsRange bytes place.start place.end
+    → length (bytes_at bytes place) ≡ place.end - place.start
+size_at bytes place range =
+    omega (
+      arith,
+      length-take (place.end - place.start)
+          (drop place.start bytes),
+      length-drop place.start bytes,
+      range.in_order,
+      range.within,
+    )
 
-takes-run : {B : Type 0} {limit : Option ℕ} {bytes : List ℕ} {place : RunPlace} {parser : Machine B} (taken : Taken) → HasRun limit bytes place parser
+takes-run : {B : Type 0} {limit : Option ℕ} {bytes : List ℕ} {place : RunPlace} {parser : Machine B} (taken : Taken)
+    → HasRun limit bytes place parser
     → IsTaken place.kind (bytes_at bytes place) taken → Takes bytes place.end (bytes_at bytes place) place.kind taken
-takes-run {bytes = bytes} {place = place} taken h is = takes bytes place place.kind taken is h.kind (size_at bytes place h.range) h.whole
+takes-run {bytes = bytes} {place = place} taken h is =
+    takes bytes place place.kind taken is h.kind (size_at bytes place h.range) h.whole
 
-stands-run : {B : Type 0} {limit : Option ℕ} {bytes : List ℕ} {run : Run} {place : RunPlace} {parser : Machine B} → HasRun limit bytes place parser → run.start ≡ place.start
+stands-run : {B : Type 0} {limit : Option ℕ} {bytes : List ℕ} {run : Run} {place : RunPlace} {parser : Machine B}
+    → HasRun limit bytes place parser → run.start ≡ place.start
     → run.end ≡ place.end → IsTaken place.kind (bytes_at bytes place) run.taken → IsRunIn bytes run
 stands-run {bytes = bytes} {run = run} {place = place} h starts ends taken =
     let these = takes-run run.taken h taken in
@@ -182,19 +230,26 @@ stands-run {bytes = bytes} {run = run} {place = place} h starts ends taken =
     }
 
 -- .. in the words of its callers
-module _ {V B : Type 0} {step : V → Event → V} {is_terminated : V → Bool} {old new : V} {limit : Option ℕ} {bytes : List ℕ} (run : Run) {place : RunPlace} {before parser : Machine B}
-    (c : ComesToRun step is_terminated old new limit bytes place before parser) (starts : run.start ≡ place.start) (ends : run.end ≡ place.end)
+module _ {V B : Type 0} {step : V → Event → V} {is_terminated : V → Bool} {old new : V} {limit : Option ℕ}
+    {bytes : List ℕ} (run : Run) {place : RunPlace} {before parser : Machine B}
+    (c : ComesToRun step is_terminated old new limit bytes place before parser) (starts : run.start ≡ place.start)
+    (ends : run.end ≡ place.end)
     (taken : IsTaken place.kind (bytes_at bytes place) run.taken) where
   pub returns-run : ReturnsRun step is_terminated old new limit (IsBehind limit before) bytes run
   returns-run =
       let these = takes-run run.taken c.has taken in
       record {
         stands = stands-run c.has starts ends taken;
-        comes = λ stream h. rw starts (ends-comes refl (omega (arith, c.has.range.in_order, c.has.range.within)) (c.stands_at stream h));
+        comes =
+            λ stream h.
+            rw starts
+            (ends-comes refl (omega (arith, c.has.range.in_order, c.has.range.within)) (c.stands_at stream h));
         adds = λ stream h. rw (starts, these.are, these.events) (c.has.adds _ (ends-reads (c.stands_at stream h)));
         may_go_on = λ some. c.may_go_on (omega (arith, some, starts, ends));
         stops = λ none left. c.stops (omega (arith, none, starts, ends)) (omega (arith, left, starts));
       }
 
-  pub reads-run : (stream : List ℕ) → IsBehind limit before stream → IsBehind limit parser (stream_at stream bytes run.start ++ run_bytes run)
-  reads-run stream h = rw (starts, (takes-run run.taken c.has taken).are) (c.has.reads _ (ends-reads (c.stands_at stream h)))
+  pub reads-run : (stream : List ℕ) → IsBehind limit before stream
+      → IsBehind limit parser (stream_at stream bytes run.start ++ run_bytes run)
+  reads-run stream h =
+      rw (starts, (takes-run run.taken c.has taken).are) (c.has.reads _ (ends-reads (c.stands_at stream h)))

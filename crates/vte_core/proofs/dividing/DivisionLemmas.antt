@@ -21,9 +21,11 @@ allowed_stands row more [] none = cc
 allowed_stands row more (b ∷ bytes) none =
     next (λ row more. allowed_stands row more bytes) (wanted_behind b (row ∷ more)) refl none
   where
-    next : ((row : List Range) (more : List (List Range)) → wanted (take (allowed (row ∷ more) bytes) bytes) (row ∷ more) ≡ [] → ⊥)
+    next : ((row : List Range) (more : List (List Range))
+        → wanted (take (allowed (row ∷ more) bytes) bytes) (row ∷ more) ≡ [] → ⊥)
         → (rows : List (List Range)) → wanted_behind b (row ∷ more) ≡ rows
-        → wanted (take (elim rows [ [] ↦ 0 | row ∷ more ↦ suc (allowed (row ∷ more) bytes) ]) (b ∷ bytes)) (row ∷ more) ≡ [] → ⊥
+        → wanted (take (elim rows [ [] ↦ 0 | row ∷ more ↦ suc (allowed (row ∷ more) bytes) ]) (b ∷ bytes))
+        (row ∷ more) ≡ [] → ⊥
     next behind [] same none = cc
     next behind (first ∷ rows) same none =
         behind first rows
@@ -38,7 +40,8 @@ allowed_longest rows (b ∷ bytes) (suc n) past within =
     next (wanted_behind b rows) past (allowed_longest (wanted_behind b rows) bytes n)
   where
     next : (rows : List (List Range)) → elim rows [ [] ↦ 0 | row ∷ more ↦ suc (allowed (row ∷ more) bytes) ] < suc n
-        → (allowed rows bytes < n → n ≤ length bytes → wanted (take n bytes) rows ≡ []) → wanted (take n bytes) rows ≡ []
+        → (allowed rows bytes < n → n ≤ length bytes → wanted (take n bytes) rows ≡ [])
+        → wanted (take n bytes) rows ≡ []
     next [] past behind = wanted_none (take n bytes)
     next (row ∷ more) past behind = behind (omega arith) (omega arith)
 
@@ -59,14 +62,16 @@ is_piece b bytes = by_rows (wanted_behind b utf8_rows) refl
     by_tests rows same false false is_whole is_open stands =
         absurd (stands (neither_whole_nor_open _ is_whole is_open))
 
-    by_rows : (rows : List (List Range)) → wanted_behind b utf8_rows ≡ rows → IsPiece (b ∷ piece (wanted_behind b utf8_rows))
+    by_rows : (rows : List (List Range)) → wanted_behind b utf8_rows ≡ rows
+        → IsPiece (b ∷ piece (wanted_behind b utf8_rows))
     by_rows [] same = inr (inr (
         ap (λ (rows : List (List Range)). length (b ∷ piece rows)) same
         ∙ ap (λ (n : ℕ). length (b ∷ take n bytes)) (allowed_none bytes)))
     by_rows (row ∷ more) same = by_tests (row ∷ more) same _ _ refl refl (allowed_stands row more bytes)
 
 -- a longer front is nothing
-none_longer : (b : ℕ) (bytes : List ℕ) (n : ℕ) → further b bytes < n → n ≤ length bytes → is_truncated (b ∷ take n bytes) ≡ false
+none_longer : (b : ℕ) (bytes : List ℕ) (n : ℕ) → further b bytes < n → n ≤ length bytes
+    → is_truncated (b ∷ take n bytes) ≡ false
 unfolding is_truncated further
 none_longer b bytes n past within = ap some_open (allowed_longest (wanted_behind b utf8_rows) bytes n past within)
 
@@ -78,7 +83,9 @@ pub divided_right : (b : ℕ) (bytes : List ℕ) → IsDividedRight b bytes
 divided_right b bytes = record {
   within = further-le b bytes;
   is_piece = is_piece b bytes;
-  whole = λ n within well. rw (take-append-drop n bytes) at (further_whole b (take n bytes) (drop n bytes) well) ∙ length-take-le n bytes within;
+  whole =
+      λ n within well. rw (take-append-drop n bytes) at (further_whole b (take n bytes) (drop n bytes) well)
+      ∙ length-take-le n bytes within;
   longest = λ n within more. elim (cases_lt (further b bytes) n) [
     | inl past ↦ absurd (false≢true (sym (none_longer b bytes n past within) ∙ more))
     | inr reaches ↦ reaches

@@ -26,7 +26,8 @@ whole_is_piece b bytes d (a ∷ u) rest same well =
     let far : further b bytes ≡ length u = d.whole (length u) front.1 stands in
     rw (far, ← front.0, first) refl
 
-truncated_is_shorter : (b : ℕ) (bytes : List ℕ) → IsDividedRight b bytes → (front rest : List ℕ) → front ++ rest ≡ b ∷ bytes
+truncated_is_shorter : (b : ℕ) (bytes : List ℕ) → IsDividedRight b bytes → (front rest : List ℕ)
+    → front ++ rest ≡ b ∷ bytes
     → is_truncated front ≡ true → length front ≤ length (b ∷ take (further b bytes) bytes)
 truncated_is_shorter b bytes d [] rest same more = omega arith
 truncated_is_shorter b bytes d (a ∷ u) rest same more =

@@ -23,7 +23,8 @@ unfolding encode
 encode_three c low high = grind (arith, nat_tests)
 
 encode_four : (c : ℕ) → 0x10000 ≤ c
-    → encode c ≡ (0xf0 + c / 0x40000) ∷ (0x80 + (c / 0x1000) % 0x40) ∷ (0x80 + (c / 0x40) % 0x40) ∷ (0x80 + c % 0x40) ∷ []
+    → encode c ≡ (0xf0 + c / 0x40000) ∷ (0x80 + (c / 0x1000) % 0x40) ∷ (0x80 + (c / 0x40) % 0x40)
+    ∷ (0x80 + c % 0x40) ∷ []
 unfolding encode
 encode_four c low = grind (arith, nat_tests)
 
@@ -66,7 +67,8 @@ well_formed_is_encoded p well = elim (sequence p well) [
   | whole_one a is high ↦ rw is (encode_ascii a high)
   | whole_two a b is low high second ↦ rw is (encoded_two a b low high second)
   | whole_three a b d is low high second third ↦ rw is (encoded_three a b d low high second third.0 third.1)
-  | whole_four a b d e is low high second third last ↦ rw is (encoded_four a b d e low high second third.0 third.1 last.0 last.1)
+  | whole_four a b d e is low high second third last ↦
+      rw is (encoded_four a b d e low high second third.0 third.1 last.0 last.1)
 ]
 
 -- ---- the encoding of a character is well formed
@@ -78,7 +80,16 @@ in_plain b low high = in_range continuation b low high
 in_second : (a b : ℕ) → SecondByte a b → is_in (second_range a) b ≡ true
 unfolding second_range
 in_second a b second =
-    grind (arith, nat_tests, second.low, second.high, second.not_overlong_three, second.not_surrogate, second.not_overlong_four, second.not_past_the_last)
+    grind (
+      arith,
+      nat_tests,
+      second.low,
+      second.high,
+      second.not_overlong_three,
+      second.not_surrogate,
+      second.not_overlong_four,
+      second.not_past_the_last,
+    )
 
 formed_two : (c : ℕ) → 0x80 ≤ c → c < 0x800 → is_well_formed (encode c) ≡ true
 formed_two c low high =
@@ -92,7 +103,8 @@ formed_two c low high =
       not_overlong_four = λ is. absurd (omega arith);
       not_past_the_last = λ is. absurd (omega arith);
     } in
-    rw (encode_two c low high) ((tests_two a (omega arith) (omega arith) (b ∷ [])).is_whole ∙ rw (in_second a b second) refl)
+    rw (encode_two c low high)
+    ((tests_two a (omega arith) (omega arith) (b ∷ [])).is_whole ∙ rw (in_second a b second) refl)
 
 no_surrogate : (c : ℕ) → InScalarRange c → 0xe0 + c / 0x1000 ≡ 0xed → 0x80 + (c / 0x40) % 0x40 ≤ 0x9f
 no_surrogate c (inl below) is = omega arith
@@ -157,7 +169,8 @@ encoded_is_well_formed c is = let range = in_scalar_range c is in by_size c rang
 
 pub scalar_of-encoded : (c : ℕ) → IsScalar c → scalar_of (encode c) ≡ c
 scalar_of-encoded c is =
-    let same : encode (scalar_of (encode c)) ≡ encode c = well_formed_is_encoded (encode c) (encoded_is_well_formed c is) in
+    let same : encode (scalar_of (encode c)) ≡ encode c =
+    well_formed_is_encoded (encode c) (encoded_is_well_formed c is) in
     (encode_same (scalar_of (encode c)) c [] [] (ap (λ (u : List ℕ). u ++ []) same)).0
 
 -- ---- whole texts
@@ -177,7 +190,8 @@ segments-encodes (c ∷ cs) are =
 pub pieces_of_text : (text : List ℕ) → IsUtf8 text → segments text ≡ map encode (chars text)
 pieces_of_text text is = rw (encodes-chars text is) at (segments-encodes (chars text) (scalars-chars text is))
 
-concat-well_formed : (pieces : List (List ℕ)) → All (λ piece. is_well_formed piece ≡ true) pieces → IsUtf8 (concat pieces)
+concat-well_formed : (pieces : List (List ℕ)) → All (λ piece. is_well_formed piece ≡ true) pieces
+    → IsUtf8 (concat pieces)
 concat-well_formed [] are = IsUtf8-nil
 concat-well_formed (piece ∷ pieces) are =
     let well : is_well_formed piece ≡ true = All-head (λ piece. is_well_formed piece ≡ true) piece pieces are in
@@ -193,7 +207,8 @@ text_of_pieces text are = rw (all_divided text) at (concat-well_formed (segments
 
 -- ---- the events of a text of the library
 
-pub text_outcome-encodes : (cs rest : List ℕ) → scalars cs ≡ true → text_outcome (encodes cs ++ rest) ≡ tell (map character_event cs) (text_outcome rest)
+pub text_outcome-encodes : (cs rest : List ℕ) → scalars cs ≡ true
+    → text_outcome (encodes cs ++ rest) ≡ tell (map character_event cs) (text_outcome rest)
 text_outcome-encodes [] rest are = refl
 text_outcome-encodes (c ∷ cs) rest are =
     let parts : (scalar c ≡ true) × (scalars cs ≡ true) = and_parts (scalar c) (scalars cs) are in
@@ -204,7 +219,8 @@ text_outcome-encodes (c ∷ cs) rest are =
     ∙ sym (tell-append (character_event c ∷ []) (map character_event cs) (text_outcome rest))
 
 pub cut-text : (text more : List ℕ) → All (λ b. b ≢ escape) text
-    → cut_at_escape (text ++ more) ≡ record { text = text ++ (cut_at_escape more).text; bodies = (cut_at_escape more).bodies }
+    → cut_at_escape (text ++ more)
+    ≡ record { text = text ++ (cut_at_escape more).text; bodies = (cut_at_escape more).bodies }
 cut-text [] more none = refl
 cut-text (b ∷ text) more none =
     let other : b ≢ escape = All-head (λ b. b ≢ escape) b text none in

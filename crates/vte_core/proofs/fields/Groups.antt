@@ -40,7 +40,15 @@ count_of-cut_by_lengths [] numbers ok = ok.whole
 count_of-cut_by_lengths (n ∷ lengths) numbers ok =
     let rest = sum_rest n lengths numbers ok.whole in
     let more = count_of-cut_by_lengths lengths (drop n numbers) (AreLengths-rest n lengths numbers ok) in
-    omega (arith, rest, more, length-take-le n numbers rest.0, length-drop n numbers, sum_by-cons length (take n numbers) (cut_by_lengths lengths (drop n numbers)))
+    omega (
+      arith,
+      rest,
+      more,
+      length-take-le n numbers rest.0,
+      length-drop n numbers,
+      sum_by-cons length (take n numbers)
+          (cut_by_lengths lengths (drop n numbers)),
+    )
 
 pub filled-cut_by_lengths : (lengths numbers : List ℕ) → AreLengths lengths numbers
     → All (λ group. 0 < length group) (cut_by_lengths lengths numbers)
@@ -75,7 +83,8 @@ pub with_number-begins : (groups : List (List ℕ)) (value : ℕ)
     → with_number groups (numbered false value) ≡ groups ++ (value ∷ []) ∷ []
 with_number-begins [] value = refl
 with_number-begins (group ∷ []) value = refl
-with_number-begins (group ∷ next ∷ groups) value = ap (λ (gs : List (List ℕ)). group ∷ gs) (with_number-begins (next ∷ groups) value)
+with_number-begins (group ∷ next ∷ groups) value =
+    ap (λ (gs : List (List ℕ)). group ∷ gs) (with_number-begins (next ∷ groups) value)
 
 pub with_number-joins : (groups : List (List ℕ)) (group : List ℕ) (value : ℕ)
     → with_number (groups ++ group ∷ []) (numbered true value) ≡ groups ++ (group ++ value ∷ []) ∷ []
@@ -103,12 +112,14 @@ sum_push lengths n = sum_by_push (λ (m : ℕ). m) lengths n
 
 -- the last group has what the lengths before its own leave, and more
 cut_last : (rest numbers more : List ℕ) (n m : ℕ) → sum rest + n ≡ length numbers → m ≡ n + length more
-    → cut_by_lengths (rest ++ m ∷ []) (numbers ++ more) ≡ cut_by_lengths rest (take (sum rest) numbers) ++ (drop (sum rest) numbers ++ more) ∷ []
+    → cut_by_lengths (rest ++ m ∷ []) (numbers ++ more)
+    ≡ cut_by_lengths rest (take (sum rest) numbers) ++ (drop (sum rest) numbers ++ more) ∷ []
 cut_last rest numbers more n m whole size =
     let at = sum rest in
     ap (λ v. cut_by_lengths (rest ++ m ∷ []) (v ++ more)) (sym (take-append-drop at numbers))
     ∙ ap (cut_by_lengths (rest ++ m ∷ [])) (append_assoc (take at numbers) (drop at numbers) more)
-    ∙ cut_by_lengths-push rest (take at numbers) m (drop at numbers ++ more) (sym (length-take-le at numbers (omega arith)))
+    ∙ cut_by_lengths-push rest (take at numbers) m (drop at numbers ++ more)
+    (sym (length-take-le at numbers (omega arith)))
     (omega (arith, length-append (drop at numbers) more, length-drop at numbers))
 
 -- what stands there with the number
@@ -118,7 +129,8 @@ pub record IsPushed (joined : Bool) (lengths rest numbers : List ℕ) (last : Op
       ≡ with_number (cut_by_lengths lengths numbers) (numbered joined value)
   pub lengths_fit : AreLengths (rest ++ (unwrap_or last 0 + 1) ∷ []) (numbers ++ value ∷ [])
 
-one_more : (joined : Bool) (lengths rest numbers : List ℕ) (last : Option ℕ) (value : ℕ) → sum rest + unwrap_or last 0 ≡ length numbers → All (λ n. 0 < n) rest
+one_more : (joined : Bool) (lengths rest numbers : List ℕ) (last : Option ℕ) (value : ℕ)
+    → sum rest + unwrap_or last 0 ≡ length numbers → All (λ n. 0 < n) rest
     → cut_by_lengths rest (take (sum rest) numbers) ++ (drop (sum rest) numbers ++ value ∷ []) ∷ []
     ≡ with_number (cut_by_lengths lengths numbers) (numbered joined value)
     → IsPushed joined lengths rest numbers last value
@@ -131,13 +143,19 @@ one_more joined lengths rest numbers last value whole filled same = record {
   };
 }
 
-pushed_alone : (joined : Bool) (lengths rest numbers : List ℕ) (value : ℕ) → AreLengths lengths numbers → lengths ≡ rest ++ []
-    → with_number (cut_by_lengths lengths numbers) (numbered false value) ≡ with_number (cut_by_lengths lengths numbers) (numbered joined value)
+pushed_alone : (joined : Bool) (lengths rest numbers : List ℕ) (value : ℕ) → AreLengths lengths numbers
+    → lengths ≡ rest ++ []
+    → with_number (cut_by_lengths lengths numbers) (numbered false value)
+    ≡ with_number (cut_by_lengths lengths numbers) (numbered joined value)
     → IsPushed joined lengths rest numbers None value
 pushed_alone joined lengths rest numbers value ok parts same =
     subst (λ rest. IsPushed joined lengths rest numbers None value) (parts ∙ append-nil rest)
     (one_more joined lengths lengths numbers None value (omega (arith, ok.whole)) ok.filled
-    (rw (take_all (sum lengths) numbers (omega (arith, ok.whole)), drop_all (sum lengths) numbers (omega (arith, ok.whole)))
+    (rw (
+      take_all (sum lengths) numbers (omega (arith, ok.whole)),
+      drop_all (sum lengths) numbers
+          (omega (arith, ok.whole)),
+    )
     (sym (with_number-begins (cut_by_lengths lengths numbers) value) ∙ same)))
 
 pub pushed : (joined : Bool) (lengths rest numbers : List ℕ) (last : Option ℕ) (value : ℕ)
@@ -145,13 +163,16 @@ pub pushed : (joined : Bool) (lengths rest numbers : List ℕ) (last : Option �
 pushed true lengths rest numbers (Some n) value ok taken =
     let whole : sum rest + n ≡ length numbers = sym (sum_push rest n) ∙ ap sum (sym taken.parts) ∙ ok.whole in
     let old = simp append-nil at (cut_last rest numbers [] n n whole (omega arith)) in
-    one_more true lengths rest numbers (Some n) value whole (All-pop (λ m. 0 < m) lengths rest (Some n) taken.parts ok.filled).0
+    one_more true lengths rest numbers (Some n) value whole
+    (All-pop (λ m. 0 < m) lengths rest (Some n) taken.parts ok.filled).0
     (sym (with_number-joins (cut_by_lengths rest (take (sum rest) numbers)) (drop (sum rest) numbers) value)
-    ∙ ap (λ groups. with_number groups (numbered true value)) (sym old ∙ ap (λ those. cut_by_lengths those numbers) (sym taken.parts)))
+    ∙ ap (λ groups. with_number groups (numbered true value))
+    (sym old ∙ ap (λ those. cut_by_lengths those numbers) (sym taken.parts)))
 pushed true [] rest numbers None value ok taken = pushed_alone true [] rest numbers value ok taken.parts refl
 pushed true (n ∷ lengths) rest numbers None value ok taken = absurd (omega (arith, taken.found refl refl))
 pushed false lengths rest numbers (Some n) value ok taken = let h = taken.alone refl in cc
-pushed false lengths rest numbers None value ok taken = pushed_alone false lengths rest numbers value ok taken.parts refl
+pushed false lengths rest numbers None value ok taken =
+    pushed_alone false lengths rest numbers value ok taken.parts refl
 
 -- ---- lengths that are added up one after another
 
@@ -163,5 +184,7 @@ sum_take_more xs i some = rw (take_more xs i 0 some) (sum_by_push (λ x. x) (tak
 pub sum_take_below : (xs : List ℕ) (i : ℕ) → i < length xs → sum (take i xs) + get_or xs i 0 ≤ sum xs
 sum_take_below xs i some = omega (arith, sum_take_more xs i some, sum_by-take-le (λ x. x) xs (i + 1))
 
-pub filled_take_more : (xs : List ℕ) (i : ℕ) → i < length xs → All (λ n. 0 < n) (take i xs) → 0 < get_or xs i 0 → All (λ n. 0 < n) (take (i + 1) xs)
-filled_take_more xs i some all first = rw (take_more xs i 0 some) (All-push (λ n. 0 < n) (take i xs) (get_or xs i 0) all first)
+pub filled_take_more : (xs : List ℕ) (i : ℕ) → i < length xs → All (λ n. 0 < n) (take i xs) → 0 < get_or xs i 0
+    → All (λ n. 0 < n) (take (i + 1) xs)
+filled_take_more xs i some all first =
+    rw (take_more xs i 0 some) (All-push (λ n. 0 < n) (take i xs) (get_or xs i 0) all first)

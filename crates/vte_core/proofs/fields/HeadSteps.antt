@@ -19,12 +19,15 @@ Counts-kept old new text k c = record {
 Holds-kept : (old new : Collected) (ints : List ℕ) → KeepsIntermediates old new → Holds old ints → Holds new ints
 Holds-kept old new ints k h = record { kept = cc; too_many = k.too_many ∙ h.too_many }
 
-behind : (head marker parameters intermediates more : List ℕ) → head ≡ marker ++ (parameters ++ intermediates) → head ++ more ≡ marker ++ (parameters ++ (intermediates ++ more))
+behind : (head marker parameters intermediates more : List ℕ) → head ≡ marker ++ (parameters ++ intermediates)
+    → head ++ more ≡ marker ++ (parameters ++ (intermediates ++ more))
 behind head marker parameters intermediates more e = rw e (simp append_assoc)
 
 -- an intermediate, wherever the head has come
-pub holds-intermediate : (old new : Collected) (part : HeadPart) (head : List ℕ) (b : ℕ) → HoldsHead old part head → class_of b ≡ Intermediate
-    → KeepsNumbers old new → ((ints : List ℕ) → Holds old ints → Holds new (ints ++ b ∷ [])) → HoldsHead new Intermediates (head ++ b ∷ [])
+pub holds-intermediate : (old new : Collected) (part : HeadPart) (head : List ℕ) (b : ℕ) → HoldsHead old part head
+    → class_of b ≡ Intermediate
+    → KeepsNumbers old new → ((ints : List ℕ) → Holds old ints → Holds new (ints ++ b ∷ []))
+    → HoldsHead new Intermediates (head ++ b ∷ [])
 holds-intermediate old new part head b h e k more = record {
   marker = h.marker;
   parameters = h.parameters;
@@ -39,7 +42,8 @@ holds-intermediate old new part head b h e k more = record {
 }
 
 -- a marker, where nothing has come
-pub holds-marker : (old new : Collected) (head : List ℕ) (b : ℕ) → HoldsHead old Entry head → class_of b ≡ Marker → KeepsNumbers old new
+pub holds-marker : (old new : Collected) (head : List ℕ) (b : ℕ) → HoldsHead old Entry head → class_of b ≡ Marker
+    → KeepsNumbers old new
     → ((ints : List ℕ) → Holds old ints → Holds new (ints ++ b ∷ [])) → HoldsHead new Parameters (head ++ b ∷ [])
 holds-marker old new head b h e k more =
     let nothing : head ≡ [] = h.shape ∙ rw (h.reaches.0, h.reaches.1, h.reaches.2) refl in
@@ -58,8 +62,10 @@ holds-marker old new head b h e k more =
     }
 
 -- a byte of the parameters, after nothing, a marker or a parameter
-holds_parameter : (old new : Collected) (part : HeadPart) (head : List ℕ) (b : ℕ) (h : HoldsHead old part head) → h.intermediates ≡ []
-    → is_parameter (class_of b) ≡ true → KeepsIntermediates old new → ((text : List ℕ) → Counts old text → Counts new (text ++ b ∷ [])) → HoldsHead new Parameters (head ++ b ∷ [])
+holds_parameter : (old new : Collected) (part : HeadPart) (head : List ℕ) (b : ℕ) (h : HoldsHead old part head)
+    → h.intermediates ≡ []
+    → is_parameter (class_of b) ≡ true → KeepsIntermediates old new
+    → ((text : List ℕ) → Counts old text → Counts new (text ++ b ∷ [])) → HoldsHead new Parameters (head ++ b ∷ [])
 holds_parameter old new part head b h none is k more =
     let kept : Holds old (h.marker ++ []) = rw none at h.holds in
     record {
@@ -75,30 +81,44 @@ holds_parameter old new part head b h none is k more =
       counts = more h.parameters h.counts;
     }
 
-pub holds-parameter : (old new : Collected) (part : HeadPart) (head : List ℕ) (b : ℕ) → (part ≡ Entry) ⊎ (part ≡ Parameters) → StandsInHead old part head
-    → is_parameter (class_of b) ≡ true → KeepsIntermediates old new → ((text : List ℕ) → Counts old text → Counts new (text ++ b ∷ [])) → HoldsHead new Parameters (head ++ b ∷ [])
-holds-parameter old new part head b (inl e) s is k more = let h : HoldsHead old Entry head = rw e at s in holds_parameter old new Entry head b h h.reaches.2 is k more
-holds-parameter old new part head b (inr e) s is k more = let h : HoldsHead old Parameters head = rw e at s in holds_parameter old new Parameters head b h h.reaches.1 is k more
+pub holds-parameter : (old new : Collected) (part : HeadPart) (head : List ℕ) (b : ℕ)
+    → (part ≡ Entry) ⊎ (part ≡ Parameters) → StandsInHead old part head
+    → is_parameter (class_of b) ≡ true → KeepsIntermediates old new
+    → ((text : List ℕ) → Counts old text → Counts new (text ++ b ∷ [])) → HoldsHead new Parameters (head ++ b ∷ [])
+holds-parameter old new part head b (inl e) s is k more =
+    let h : HoldsHead old Entry head = rw e at s in holds_parameter old new Entry head b h h.reaches.2 is k more
+holds-parameter old new part head b (inr e) s is k more =
+    let h : HoldsHead old Parameters head =
+    rw e at s in holds_parameter old new Parameters head b h h.reaches.1 is k more
 
 -- a marker after a marker or a parameter
-ill_shaped-marker : (old : Collected) (head : List ℕ) (b : ℕ) → HoldsHead old Parameters head → class_of b ≡ Marker → StaysIllShaped (head ++ b ∷ [])
+ill_shaped-marker : (old : Collected) (head : List ℕ) (b : ℕ) → HoldsHead old Parameters head → class_of b ≡ Marker
+    → StaysIllShaped (head ++ b ∷ [])
 unfolding is_well_shaped
 ill_shaped-marker old head b h is = record {
   stays = λ more.
-      let e : (head ++ b ∷ []) ++ more ≡ h.marker ++ (h.parameters ++ (b ∷ more)) = rw (h.shape, h.reaches.1) (simp (append-nil, append_assoc)) in
-      let p = head_of-parts h.marker h.parameters (b ∷ more) h.is_marker h.are_parameters (rw is refl) (λ none. absurd (omega (arith, ap length none, h.reaches.0))) in
+      let e : (head ++ b ∷ []) ++ more ≡ h.marker ++ (h.parameters ++ (b ∷ more)) =
+      rw (h.shape, h.reaches.1) (simp (append-nil, append_assoc)) in
+      let p =
+      head_of-parts h.marker h.parameters (b ∷ more) h.is_marker h.are_parameters (rw is refl)
+      (λ none. absurd (omega (arith, ap length none, h.reaches.0))) in
       rw (e, p) (list_all-not [] b more (rw is refl));
 }
 
 -- what is no intermediate after an intermediate
-ill_shaped-behind : (old : Collected) (head : List ℕ) (b : ℕ) → HoldsHead old Intermediates head → is_intermediate (class_of b) ≡ false → StaysIllShaped (head ++ b ∷ [])
+ill_shaped-behind : (old : Collected) (head : List ℕ) (b : ℕ) → HoldsHead old Intermediates head
+    → is_intermediate (class_of b) ≡ false → StaysIllShaped (head ++ b ∷ [])
 unfolding is_well_shaped
 ill_shaped-behind old head b h is = record {
   stays = λ more.
-      let e : (head ++ b ∷ []) ++ more ≡ h.marker ++ (h.parameters ++ (h.intermediates ++ (b ∷ more))) = rw h.shape (simp append_assoc) in
+      let e : (head ++ b ∷ []) ++ more ≡ h.marker ++ (h.parameters ++ (h.intermediates ++ (b ∷ more))) =
+      rw h.shape (simp append_assoc) in
       let begins = λ (has : Class → Bool) (h1 : has Intermediate ≡ false).
-      begins-intermediates has h1 h.intermediates (b ∷ more) h.are_intermediates (λ none. absurd (omega (arith, ap length none, h.reaches))) in
-      let p = head_of-parts h.marker h.parameters (h.intermediates ++ b ∷ more) h.is_marker h.are_parameters (begins is_parameter refl) (λ _. begins is_marker refl) in
+      begins-intermediates has h1 h.intermediates (b ∷ more) h.are_intermediates
+      (λ none. absurd (omega (arith, ap length none, h.reaches))) in
+      let p =
+      head_of-parts h.marker h.parameters (h.intermediates ++ b ∷ more) h.is_marker h.are_parameters
+      (begins is_parameter refl) (λ _. begins is_marker refl) in
       rw (e, p) (list_all-not h.intermediates b more is);
 }
 
@@ -109,14 +129,17 @@ pub ill_shaped-now : (head : List ℕ) → StaysIllShaped head → is_well_shape
 ill_shaped-now head s = rw append-nil at (s.stays [])
 
 -- at the end of a head that is well shaped
-pub ready : (old new : Collected) (more ignored : Bool) (part : HeadPart) (head : List ℕ) → ((text : List ℕ) → Counts old text → Settles new more text)
+pub ready : (old new : Collected) (more ignored : Bool) (part : HeadPart) (head : List ℕ)
+    → ((text : List ℕ) → Counts old text → Settles new more text)
     → KeepsIntermediates old new → HoldsHead old part head → ignored ≡ (new.too_many || more) → IsReady new ignored head
 ready old new more ignored part head settles k h is =
     let parts = held-parts h.marker h.parameters h.intermediates h.is_marker h.are_parameters h.are_intermediates in
     let s = settles h.parameters h.counts in
     let holds = Holds-kept old new (h.marker ++ h.intermediates) k h.holds in
     record {
-      well_shaped = rw h.shape (held-well_shaped h.marker h.parameters h.intermediates h.is_marker h.are_parameters h.are_intermediates);
+      well_shaped =
+          rw h.shape
+          (held-well_shaped h.marker h.parameters h.intermediates h.is_marker h.are_parameters h.are_intermediates);
       groups = rw (h.shape, parts) s.groups;
       intermediates = rw (h.shape, parts) holds.kept;
       ignore = is ∙ rw (h.shape, parts, holds.too_many, s.more) refl;
@@ -142,19 +165,24 @@ left_is_marker Marker h p i = refl
 left_is_marker _ h p i = cc
 
 -- a marker that does not come first, or a digit or a separator that may not come next
-pub ill_shaped-late : (old : Collected) (part : HeadPart) (head : List ℕ) (b : ℕ) → StandsInHead old part head → is_head (class_of b) ≡ true
-    → is_intermediate (class_of b) ≡ false → ((part ≡ Entry) ⊎ (part ≡ Parameters) → is_parameter (class_of b) ≡ false) → (part ≡ Entry → ⊥) → StaysIllShaped (head ++ b ∷ [])
+pub ill_shaped-late : (old : Collected) (part : HeadPart) (head : List ℕ) (b : ℕ) → StandsInHead old part head
+    → is_head (class_of b) ≡ true
+    → is_intermediate (class_of b) ≡ false → ((part ≡ Entry) ⊎ (part ≡ Parameters) → is_parameter (class_of b) ≡ false)
+    → (part ≡ Entry → ⊥) → StaysIllShaped (head ++ b ∷ [])
 ill_shaped-late old Entry head b s h i p n = absurd (n refl)
 ill_shaped-late old Parameters head b s h i p n = ill_shaped-marker old head b s (left_is_marker _ h (p (inr refl)) i)
 ill_shaped-late old Intermediates head b s h i p n = ill_shaped-behind old head b s i
 ill_shaped-late old IllShaped head b s h i p n = ill_shaped-more head b s
 
 -- what is handed over at the end of a head
-pub dispatched-ready : (call : List (List ℕ) → List ℕ → Bool → ℕ → Event) (held : Collected) (ignored : Bool) (head : List ℕ) (final : ℕ)
-    → IsReady held ignored head → call held.params held.intermediates.items ignored final ≡ dispatched call (head_of head) final
+pub dispatched-ready : (call : List (List ℕ) → List ℕ → Bool → ℕ → Event) (held : Collected) (ignored : Bool)
+    (head : List ℕ) (final : ℕ)
+    → IsReady held ignored head
+    → call held.params held.intermediates.items ignored final ≡ dispatched call (head_of head) final
 unfolding dispatched
 dispatched-ready call held ignored head final f = rw (f.groups, f.intermediates, f.ignore) refl
 
-pub head-holds : (held : Collected) (part : HeadPart) (head : List ℕ) → (part ≡ IllShaped → ⊥) → StandsInHead held part head → HoldsHead held part head
+pub head-holds : (held : Collected) (part : HeadPart) (head : List ℕ) → (part ≡ IllShaped → ⊥)
+    → StandsInHead held part head → HoldsHead held part head
 head-holds held IllShaped head n s = absurd (n refl)
 head-holds held part head n s = s

@@ -10,18 +10,22 @@ use Rattle.std.proofs.lemmas.List.Splits.{length-slice_split, slice_split_at, sl
 
 -- `front` is the beginning of the piece that the text continues
 cut_onto : (earlier front text : List ℕ) → All (λ b. (b == semicolon) ≡ false) front →
-    cut_at (length earlier) (earlier ++ (front ++ filter is_data_byte text)) (ends_behind (length earlier + length front) text)
+    cut_at (length earlier) (earlier ++ (front ++ filter is_data_byte text))
+    (ends_behind (length earlier + length front) text)
     ≡ slice_split (λ b. b == semicolon) (front ++ text)
 cut_onto earlier front [] none =
     let all = drop_at earlier (front ++ []) (length earlier) refl in
     rw (all, append-nil front) (sym (slice_split_none (λ b. b == semicolon) front none))
-cut_onto earlier front (item ∷ text) none = by_test (item == semicolon) refl (λ earlier front none. cut_onto earlier front text none)
+cut_onto earlier front (item ∷ text) none =
+    by_test (item == semicolon) refl (λ earlier front none. cut_onto earlier front text none)
   where
     by_test : (is_end : Bool) → (item == semicolon) ≡ is_end
         → ((earlier front : List ℕ) → All (λ b. (b == semicolon) ≡ false) front →
-        cut_at (length earlier) (earlier ++ (front ++ filter is_data_byte text)) (ends_behind (length earlier + length front) text)
+        cut_at (length earlier) (earlier ++ (front ++ filter is_data_byte text))
+        (ends_behind (length earlier + length front) text)
         ≡ slice_split (λ b. b == semicolon) (front ++ text))
-        → cut_at (length earlier) (earlier ++ (front ++ filter is_data_byte (item ∷ text))) (ends_behind (length earlier + length front) (item ∷ text))
+        → cut_at (length earlier) (earlier ++ (front ++ filter is_data_byte (item ∷ text)))
+        (ends_behind (length earlier + length front) (item ∷ text))
         ≡ slice_split (λ b. b == semicolon) (front ++ item ∷ text)
     by_test true e rests =
         let more = rests (earlier ++ front) [] (λ k d lt. absurd (omega arith)) in
@@ -39,7 +43,8 @@ cut_onto earlier front (item ∷ text) none = by_test (item == semicolon) refl (
         let same = append_assoc front (item ∷ []) text in
         grind (arith, more, counted, joined, same)
 
-pub cut_at_ends : (text : List ℕ) → slice_split (λ b. b == semicolon) text ≡ cut_at 0 (filter is_data_byte text) (ends_behind 0 text)
+pub cut_at_ends : (text : List ℕ)
+    → slice_split (λ b. b == semicolon) text ≡ cut_at 0 (filter is_data_byte text) (ends_behind 0 text)
 cut_at_ends text = sym (cut_onto [] [] text (λ k d lt. absurd (omega arith)))
 
 -- ---- how many there are
@@ -48,12 +53,15 @@ pub length_cut_at : (start : ℕ) (bytes ends : List ℕ) → length (cut_at sta
 length_cut_at start bytes [] = refl
 length_cut_at start bytes (end ∷ ends) = omega (arith, length_cut_at end bytes ends)
 
-length_onto_first : (item : ℕ) (pieces : List (List ℕ)) → length (concat (onto_first item pieces)) ≡ length (concat pieces) + 1
+length_onto_first : (item : ℕ) (pieces : List (List ℕ))
+    → length (concat (onto_first item pieces)) ≡ length (concat pieces) + 1
 length_onto_first item [] = refl
-length_onto_first item (piece ∷ pieces) = omega (arith, length-append (item ∷ piece) (concat pieces), length-append piece (concat pieces))
+length_onto_first item (piece ∷ pieces) =
+    omega (arith, length-append (item ∷ piece) (concat pieces), length-append piece (concat pieces))
 
 -- all pieces of a text have its data bytes
-pieces_length : (text : List ℕ) → length (concat (slice_split (λ b. b == semicolon) text)) ≡ length (filter is_data_byte text)
+pieces_length : (text : List ℕ)
+    → length (concat (slice_split (λ b. b == semicolon) text)) ≡ length (filter is_data_byte text)
 pieces_length [] = refl
 pieces_length (item ∷ text) =
     let more = pieces_length text in
@@ -65,7 +73,8 @@ length_concat_take n pieces =
     let whole = ap concat (sym (take-append-drop n pieces)) ∙ concat-append (take n pieces) (drop n pieces) in
     omega (arith, ap length whole, length-append (concat (take n pieces)) (concat (drop n pieces)))
 
-kept_fits : (limit count : ℕ) (items : List ℕ) → count ≤ limit → count + length (filter is_data_byte (kept_after (Some limit) count items)) ≤ limit
+kept_fits : (limit count : ℕ) (items : List ℕ) → count ≤ limit
+    → count + length (filter is_data_byte (kept_after (Some limit) count items)) ≤ limit
 kept_fits limit count [] within = omega arith
 kept_fits limit count (item ∷ items) within =
     let byte = kept_fits limit (count + 1) items in
@@ -82,7 +91,8 @@ pieces_fit (Some limit) items =
 
 pub few_pieces : (limit : Option ℕ) (items : List ℕ) → length (pieces_of limit items) ≤ most_pieces
 unfolding pieces_of
-few_pieces limit items = omega (arith, length-take most_pieces (slice_split (λ b. b == semicolon) (kept_items limit items)))
+few_pieces limit items =
+    omega (arith, length-take most_pieces (slice_split (λ b. b == semicolon) (kept_items limit items)))
 
 pub some_pieces : (limit : Option ℕ) (items : List ℕ) → 0 < length (pieces_of limit items)
 unfolding pieces_of
@@ -95,11 +105,14 @@ some_pieces limit items =
 abbrev joined_size : ℕ → List (List ℕ) → ℕ
 joined_size n pieces = length (concat (take n pieces))
 
-onto_first_size : (n b : ℕ) (pieces : List (List ℕ)) → joined_size (suc n) (onto_first b pieces) ≡ joined_size (suc n) pieces + 1
+onto_first_size : (n b : ℕ) (pieces : List (List ℕ))
+    → joined_size (suc n) (onto_first b pieces) ≡ joined_size (suc n) pieces + 1
 onto_first_size n b [] = ap (λ rest. suc (length (concat rest))) (take-nil n)
-onto_first_size n b (piece ∷ pieces) = omega (arith, length-append (b ∷ piece) (concat (take n pieces)), length-append piece (concat (take n pieces)))
+onto_first_size n b (piece ∷ pieces) =
+    omega (arith, length-append (b ∷ piece) (concat (take n pieces)), length-append piece (concat (take n pieces)))
 
-split_push : (n : ℕ) (p : ℕ → Bool) (items : List ℕ) (item : ℕ) → joined_size n (slice_split p (items ++ item ∷ [])) ≤ joined_size n (slice_split p items) + 1
+split_push : (n : ℕ) (p : ℕ → Bool) (items : List ℕ) (item : ℕ)
+    → joined_size n (slice_split p (items ++ item ∷ [])) ≤ joined_size n (slice_split p items) + 1
 split_push zero p items item = omega arith
 split_push (suc n) p [] item = elim (cases_Bool (p item)) [
   | inl cuts ↦ rw cuts (grind (arith, common_steps))
@@ -125,4 +138,5 @@ kept_size items = length (concat (pieces_of None items))
 
 pub pieces_push : (items : List ℕ) (item : ℕ) → kept_size (items ++ item ∷ []) ≤ kept_size items + 1
 unfolding pieces_of kept_items
-pieces_push items item = rw (all_kept items 0, all_kept (items ++ item ∷ []) 0) (split_push most_pieces (λ b. eqb b semicolon) items item)
+pieces_push items item =
+    rw (all_kept items 0, all_kept (items ++ item ∷ []) 0) (split_push most_pieces (λ b. eqb b semicolon) items item)

@@ -7,22 +7,30 @@ use Rattle.vte_core.proofs.fields.Groups.{numbered}
 use Rattle.vte_core.proofs.fields.Parameters.{count_of-grouped, grouped-push, is_digit_no_separator, number_of-push, numbers_are}
 
 -- the numbers of the text, of which the last is being read
-counted : (collected : Collected) (text : List ℕ) (k : Counts collected text) → numbers text ≡ k.front ++ numbered collected.joined collected.number ∷ []
+counted : (collected : Collected) (text : List ℕ) (k : Counts collected text)
+    → numbers text ≡ k.front ++ numbered collected.joined collected.number ∷ []
 counted collected text k =
-    sym (ap numbers (append-nil text)) ∙ k.goes_on [] ∙ ap (λ n. k.front ++ numbered collected.joined n ∷ []) (sym k.number)
+    sym (ap numbers (append-nil text)) ∙ k.goes_on []
+    ∙ ap (λ n. k.front ++ numbered collected.joined n ∷ []) (sym k.number)
 
-held_count : (collected : Collected) (text : List ℕ) (k : Counts collected text) → count_of collected.params ≡ min 32 (length k.front)
-held_count collected text k = ap count_of k.params ∙ count_of-grouped (take most_numbers k.front) ∙ length-take most_numbers k.front
+held_count : (collected : Collected) (text : List ℕ) (k : Counts collected text)
+    → count_of collected.params ≡ min 32 (length k.front)
+held_count collected text k =
+    ap count_of k.params ∙ count_of-grouped (take most_numbers k.front) ∙ length-take most_numbers k.front
 
 -- where there is no room for the last number
-pub settles-full : (collected : Collected) (text : List ℕ) → Counts collected text → 32 ≤ count_of collected.params → Settles collected true text
+pub settles-full : (collected : Collected) (text : List ℕ) → Counts collected text → 32 ≤ count_of collected.params
+    → Settles collected true text
 unfolding groups_of has_too_many_numbers
 settles-full collected text k full =
     let c = held_count collected text k in
     let last = numbered collected.joined collected.number in
     let n : length (k.front ++ last ∷ []) ≡ length k.front + 1 = length-append k.front (last ∷ []) in
     record {
-      groups = k.params ∙ rw (counted collected text k) (ap grouped (sym (take-append-le most_numbers k.front (last ∷ []) (omega arith))));
+      groups =
+          k.params
+          ∙ rw (counted collected text k)
+          (ap grouped (sym (take-append-le most_numbers k.front (last ∷ []) (omega arith))));
       more = rw (counted collected text k) (grind (arith, nat_tests));
     }
 
@@ -35,34 +43,51 @@ settles-push old new text k room pushed =
     let last = numbered old.joined old.number in
     let n : length (k.front ++ last ∷ []) ≡ length k.front + 1 = length-append k.front (last ∷ []) in
     let before : old.params ≡ grouped k.front = k.params ∙ ap grouped (take_all most_numbers k.front (omega arith)) in
-    let all : take most_numbers (numbers text) ≡ k.front ++ last ∷ [] = rw (counted old text k) (take_all most_numbers (k.front ++ last ∷ []) (omega arith)) in
+    let all : take most_numbers (numbers text) ≡ k.front ++ last ∷ [] =
+    rw (counted old text k) (take_all most_numbers (k.front ++ last ∷ []) (omega arith)) in
     record {
-      groups = pushed ∙ ap (λ groups. with_number groups last) before ∙ sym (grouped-push k.front last) ∙ ap grouped (sym all);
+      groups =
+          pushed ∙ ap (λ groups. with_number groups last) before ∙ sym (grouped-push k.front last)
+          ∙ ap grouped (sym all);
       more = rw (counted old text k) (grind (arith, nat_tests));
     }
 
 -- after a separator
-pub counts-separator : (old settled new : Collected) (more : Bool) (text : List ℕ) (b : ℕ) → Counts old text → Settles settled more text → is_separator b ≡ true
+pub counts-separator : (old settled new : Collected) (more : Bool) (text : List ℕ) (b : ℕ) → Counts old text
+    → Settles settled more text → is_separator b ≡ true
     → new.params ≡ settled.params → new.joined ≡ is_colon b → new.number ≡ 0 → Counts new (text ++ b ∷ [])
 unfolding groups_of
 counts-separator old settled new more text b k s is params joined number = record {
   front = k.front ++ numbered old.joined old.number ∷ [];
   digits = [];
-  goes_on = λ later. ap numbers (append_assoc text (b ∷ []) later) ∙ k.goes_on (b ∷ later) ∙ rw (is, joined, k.number, append_assoc k.front) refl;
+  goes_on =
+      λ later. ap numbers (append_assoc text (b ∷ []) later) ∙ k.goes_on (b ∷ later)
+      ∙ rw (is, joined, k.number, append_assoc k.front) refl;
   params = params ∙ s.groups ∙ ap (λ ns. grouped (take most_numbers ns)) (counted old text k);
   number = number;
 }
 
 -- after a digit
-pub counts-digit : (old new : Collected) (text : List ℕ) (d : ℕ) → Counts old text → 48 ≤ d → d < 58 → new.params ≡ old.params
-    → new.joined ≡ old.joined → new.number ≡ min greatest_number (10 * old.number + (d - 48)) → Counts new (text ++ d ∷ [])
+pub counts-digit : (old new : Collected) (text : List ℕ) (d : ℕ) → Counts old text → 48 ≤ d → d < 58
+    → new.params ≡ old.params
+    → new.joined ≡ old.joined → new.number ≡ min greatest_number (10 * old.number + (d - 48))
+    → Counts new (text ++ d ∷ [])
 counts-digit old new text d k low high params joined number = record {
   front = k.front;
   digits = k.digits ++ d ∷ [];
-  goes_on = λ later. ap numbers (append_assoc text (d ∷ []) later) ∙ k.goes_on (d ∷ later) ∙ rw (is_digit_no_separator d low high, joined) refl;
+  goes_on =
+      λ later. ap numbers (append_assoc text (d ∷ []) later) ∙ k.goes_on (d ∷ later)
+      ∙ rw (is_digit_no_separator d low high, joined) refl;
   params = params ∙ k.params;
   number = number ∙ rw k.number (sym (number_of-push k.digits d low high));
 }
 
 pub counts-nothing : (new : Collected) → new.params ≡ [] → new.joined ≡ false → new.number ≡ 0 → Counts new []
-counts-nothing new params joined number = record { front = []; digits = []; goes_on = λ later. rw joined (numbers_are later); params = params; number = number }
+counts-nothing new params joined number =
+    record {
+      front = [];
+      digits = [];
+      goes_on = λ later. rw joined (numbers_are later);
+      params = params;
+      number = number;
+    }

@@ -12,10 +12,17 @@ record GoesOn (start : ℕ) (bytes ends : List ℕ) (byte : ℕ) : Type 0 where
   before : cut_at start bytes ends ≡ pieces ++ last ∷ []
   behind : cut_at start (bytes ++ byte ∷ []) ends ≡ pieces ++ (last ++ byte ∷ []) ∷ []
 
-goes_on : (left start : ℕ) (bytes ends : List ℕ) (byte : ℕ) → PiecesEnd left start ends (length bytes) → GoesOn start bytes ends byte
+goes_on : (left start : ℕ) (bytes ends : List ℕ) (byte : ℕ) → PiecesEnd left start ends (length bytes)
+    → GoesOn start bytes ends byte
 goes_on left start bytes [] byte are =
     let within = ends-within left start [] (length bytes) are in
-    record { pieces = []; last = drop start bytes; ended = refl; before = refl; behind = rw (drop-append-le start bytes (byte ∷ []) within) refl }
+    record {
+      pieces = [];
+      last = drop start bytes;
+      ended = refl;
+      before = refl;
+      behind = rw (drop-append-le start bytes (byte ∷ []) within) refl;
+    }
 goes_on zero start bytes (end ∷ ends) byte are = absurd are
 goes_on (suc left) start bytes (end ∷ ends) byte are =
     let on = goes_on left end bytes ends byte are.1 in
@@ -37,26 +44,44 @@ pub record IsOpenFor (items : List ℕ) (byte : ℕ) : Type 0 where
   pub behind : pieces_of None (items ++ byte ∷ []) ≡ pieces ++ (last ++ byte ∷ []) ∷ []
   pub dropped : drops_data None (items ++ byte ∷ []) ≡ drops_data None items
 
-take_pieces : (pieces : List (List ℕ)) (last : List ℕ) → length pieces < most_pieces → take most_pieces (pieces ++ last ∷ []) ≡ pieces ++ last ∷ []
-take_pieces pieces last few = take_all most_pieces (pieces ++ last ∷ []) (omega (arith, length-append pieces (last ∷ [])))
+take_pieces : (pieces : List (List ℕ)) (last : List ℕ) → length pieces < most_pieces
+    → take most_pieces (pieces ++ last ∷ []) ≡ pieces ++ last ∷ []
+take_pieces pieces last few =
+    take_all most_pieces (pieces ++ last ∷ []) (omega (arith, length-append pieces (last ∷ [])))
 
-concat_last : (pieces : List (List ℕ)) (last : List ℕ) → length (concat (pieces ++ last ∷ [])) ≡ length (concat pieces) + length last
+concat_last : (pieces : List (List ℕ)) (last : List ℕ)
+    → length (concat (pieces ++ last ∷ [])) ≡ length (concat pieces) + length last
 concat_last pieces last = rw (concat-append pieces (last ∷ []), append-nil last) (length-append (concat pieces) last)
 
 -- a data byte more that is in a piece isn't dropped
-same_drops : (items : List ℕ) (byte : ℕ) (pieces : List (List ℕ)) (last : List ℕ) → pieces_of None items ≡ pieces ++ last ∷ []
-    → pieces_of None (items ++ byte ∷ []) ≡ pieces ++ (last ++ byte ∷ []) ∷ [] → byte ≢ semicolon → drops_data None (items ++ byte ∷ []) ≡ drops_data None items
+same_drops : (items : List ℕ) (byte : ℕ) (pieces : List (List ℕ)) (last : List ℕ)
+    → pieces_of None items ≡ pieces ++ last ∷ []
+    → pieces_of None (items ++ byte ∷ []) ≡ pieces ++ (last ++ byte ∷ []) ∷ [] → byte ≢ semicolon
+    → drops_data None (items ++ byte ∷ []) ≡ drops_data None items
 unfolding drops_data
 same_drops items byte pieces last before behind other =
-    let more = count-run items (byte ∷ []) (All-cons (λ b. b ≢ semicolon) byte [] other (All-nil (λ b. b ≢ semicolon))) in
-    rw (before, behind, concat_last pieces last, concat_last pieces (last ++ byte ∷ []), length-append last (byte ∷ []), more) (grind (arith, nat_tests))
+    let more =
+    count-run items (byte ∷ []) (All-cons (λ b. b ≢ semicolon) byte [] other (All-nil (λ b. b ≢ semicolon))) in
+    rw (
+      before,
+      behind,
+      concat_last pieces last,
+      concat_last pieces (last ++ byte ∷ []),
+      length-append last
+          (byte ∷ []),
+      more,
+    ) (grind (arith, nat_tests))
 
-pub open_for : (held : Held) (items : List ℕ) (byte : ℕ) → Keeps None held items → length held.ends < most_pieces → byte ≢ semicolon → IsOpenFor items byte
+pub open_for : (held : Held) (items : List ℕ) (byte : ℕ) → Keeps None held items → length held.ends < most_pieces
+    → byte ≢ semicolon → IsOpenFor items byte
 open_for held items byte keeps few other =
     let g = goes_on most_pieces 0 held.bytes held.ends byte keeps.end in
     let some : length g.pieces < most_pieces = omega (arith, g.ended) in
-    let more = keeps.goes_on (byte ∷ []) ∙ behind_byte None held.bytes held.ends refl byte other [] ∙ behind_nothing None (held.bytes ++ byte ∷ []) held.ends in
-    let before = pieces_held None held items keeps ∙ ap (take most_pieces) g.before ∙ take_pieces g.pieces g.last some in
+    let more =
+    keeps.goes_on (byte ∷ []) ∙ behind_byte None held.bytes held.ends refl byte other []
+    ∙ behind_nothing None (held.bytes ++ byte ∷ []) held.ends in
+    let before =
+    pieces_held None held items keeps ∙ ap (take most_pieces) g.before ∙ take_pieces g.pieces g.last some in
     let behind = more ∙ ap (take most_pieces) g.behind ∙ take_pieces g.pieces (g.last ++ byte ∷ []) some in
     record {
       pieces = g.pieces;

@@ -9,15 +9,18 @@ use Rattle.vte_core.proofs.fields.Groups.{numbered}
 -- ---- the numbers of a text, from its front
 
 split_numbers : (joined : Bool) (digits text : List ℕ) → All (λ b. is_separator b ≡ false) digits
-    → numbers_of (joined ∷ map is_colon (filter is_separator text)) (map number_of (slice_split is_separator (digits ++ text)))
+    → numbers_of (joined ∷ map is_colon (filter is_separator text))
+    (map number_of (slice_split is_separator (digits ++ text)))
     ≡ numbers_behind joined digits text
 split_numbers joined digits [] none = rw (append-nil digits, slice_split_none is_separator digits none) refl
 split_numbers joined digits (b ∷ text) none = elim (cases_Bool (is_separator b)) [
   | inl cuts ↦
       let rest = split_numbers (is_colon b) [] text (All-nil (λ b. is_separator b ≡ false)) in
-      rw (slice_split_at is_separator digits b text none cuts, cuts) (ap (λ (l : List Number). numbered joined (number_of digits) ∷ l) rest)
+      rw (slice_split_at is_separator digits b text none cuts, cuts)
+      (ap (λ (l : List Number). numbered joined (number_of digits) ∷ l) rest)
   | inr stays ↦
-      let rest = split_numbers joined (digits ++ b ∷ []) text (All-push (λ b. is_separator b ≡ false) digits b none stays) in
+      let rest =
+      split_numbers joined (digits ++ b ∷ []) text (All-push (λ b. is_separator b ≡ false) digits b none stays) in
       rw stays (rw (append_assoc digits (b ∷ []) text) at rest)
 ]
 
@@ -43,10 +46,17 @@ abbrev pub IsSmall : Number → Type 0
 IsSmall n = n.value ≤ greatest_number
 
 -- there is one, and each is at most 65,535
-behind_small : (joined : Bool) (digits text : List ℕ) → (0 < length (numbers_behind joined digits text)) × All IsSmall (numbers_behind joined digits text)
-behind_small joined digits [] = (omega arith, All-cons IsSmall (numbered joined (number_of digits)) [] (omega arith) (All-nil IsSmall))
+behind_small : (joined : Bool) (digits text : List ℕ)
+    → (0 < length (numbers_behind joined digits text)) × All IsSmall (numbers_behind joined digits text)
+behind_small joined digits [] =
+    (omega arith, All-cons IsSmall (numbered joined (number_of digits)) [] (omega arith) (All-nil IsSmall))
 behind_small joined digits (b ∷ text) = elim (cases_Bool (is_separator b)) [
-  | inl ends ↦ rw ends (omega arith, All-cons IsSmall (numbered joined (number_of digits)) _ (omega arith) (behind_small (is_colon b) [] text).1)
+  | inl ends ↦
+      rw ends (
+        omega arith,
+        All-cons IsSmall (numbered joined (number_of digits)) _ (omega arith)
+            (behind_small (is_colon b) [] text).1,
+      )
   | inr other ↦ rw other (behind_small joined (digits ++ b ∷ []) text)
 ]
 
@@ -65,12 +75,19 @@ count_of-with_numbered (group ∷ []) true value = omega (arith, length-append g
 count_of-with_numbered (group ∷ []) false value = omega arith
 count_of-with_numbered (group ∷ next ∷ groups) joined value =
     let more = count_of-with_numbered (next ∷ groups) joined value in
-    omega (arith, more, sum_by-cons length group (with_number (next ∷ groups) (numbered joined value)), sum_by-cons length group (next ∷ groups))
+    omega (
+      arith,
+      more,
+      sum_by-cons length group
+          (with_number (next ∷ groups) (numbered joined value)),
+      sum_by-cons length group (next ∷ groups),
+    )
 
 pub count_of-with_number : (groups : List (List ℕ)) (n : Number) → count_of (with_number groups n) ≡ count_of groups + 1
 count_of-with_number groups n = count_of-with_numbered groups n.joined n.value
 
-count_of-fold : (groups : List (List ℕ)) (ns : List Number) → count_of (fold with_number groups ns) ≡ count_of groups + length ns
+count_of-fold : (groups : List (List ℕ)) (ns : List Number)
+    → count_of (fold with_number groups ns) ≡ count_of groups + length ns
 count_of-fold groups [] = omega arith
 count_of-fold groups (n ∷ ns) = omega (arith, count_of-fold (with_number groups n) ns, count_of-with_number groups n)
 
@@ -82,12 +99,14 @@ record Keeps (Q : List ℕ → Type 0) (R : ℕ → Type 0) : Type 0 where
   begins : (value : ℕ) → R value → Q (value ∷ [])
   joins : (group : List ℕ) (value : ℕ) → R value → Q group → Q (group ++ value ∷ [])
 
-All-with_numbered : {Q : List ℕ → Type 0} {R : ℕ → Type 0} (keeps : Keeps Q R) (groups : List (List ℕ)) (joined : Bool) (value : ℕ)
+All-with_numbered : {Q : List ℕ → Type 0} {R : ℕ → Type 0} (keeps : Keeps Q R) (groups : List (List ℕ))
+    (joined : Bool) (value : ℕ)
     → R value → All Q groups → All Q (with_number groups (numbered joined value))
 All-with_numbered {Q} keeps [] joined value r all = All-cons Q (value ∷ []) [] (keeps.begins value r) (All-nil Q)
 All-with_numbered {Q} keeps (group ∷ []) true value r all =
     All-cons Q (group ++ value ∷ []) [] (keeps.joins group value r (All-head Q group [] all)) (All-nil Q)
-All-with_numbered {Q} keeps (group ∷ []) false value r all = All-push Q (group ∷ []) (value ∷ []) all (keeps.begins value r)
+All-with_numbered {Q} keeps (group ∷ []) false value r all =
+    All-push Q (group ∷ []) (value ∷ []) all (keeps.begins value r)
 All-with_numbered {Q} keeps (group ∷ next ∷ groups) joined value r all =
     All-cons Q group (with_number (next ∷ groups) (numbered joined value)) (All-head Q group (next ∷ groups) all)
     (All-with_numbered keeps (next ∷ groups) joined value r (All-tail Q group (next ∷ groups) all))
@@ -108,7 +127,12 @@ pub some_group : (text : List ℕ) → 0 < length (groups_of text)
 unfolding groups_of
 some_group text =
     any_group (grouped (take most_numbers (numbers text)))
-    (omega (arith, count_of-grouped (take most_numbers (numbers text)), length-take most_numbers (numbers text), (numbers_small text).0))
+    (omega (
+      arith,
+      count_of-grouped (take most_numbers (numbers text)),
+      length-take most_numbers (numbers text),
+      (numbers_small text).0,
+    ))
 
 -- no group is empty
 pub filled-grouped : (ns : List Number) → All (λ group. 0 < length group) (grouped ns)

@@ -9,7 +9,8 @@ abbrev pub contents : List (Bor (List ℕ)) → List (List ℕ)
 contents slices = map (λ slice. slice.now) slices
 
 -- after the last of fewer than 16 ends stands one more piece
-pub contents_last : (slices later : List (Bor (List ℕ))) (slice : Bor (List ℕ)) (bytes ends : List ℕ) (start index : ℕ) →
+pub contents_last : (slices later : List (Bor (List ℕ))) (slice : Bor (List ℕ)) (bytes ends : List ℕ)
+    (start index : ℕ) →
     index ≡ length ends → length ends < most_pieces → length slices ≡ most_pieces →
     later ≡ set slices (length ends) slice → slice.now ≡ drop start bytes →
     contents (take index slices) ++ cut_at start bytes (drop index ends) ≡ cut_at 0 bytes ends →
@@ -29,5 +30,6 @@ pub contents_all : (slices : List (Bor (List ℕ))) (bytes ends : List ℕ) (sta
 contents_all slices bytes ends start index at_end many all cut =
     let left = length-map (take index slices) (λ (slice : Bor (List ℕ)). slice.now) in
     let counted = length-take index slices in
-    let first = take_at (contents (take index slices)) (cut_at start bytes (drop index ends)) most_pieces (omega arith) in
+    let first =
+    take_at (contents (take index slices)) (cut_at start bytes (drop index ends)) most_pieces (omega arith) in
     rw (← at_end) (sym first ∙ ap (take most_pieces) cut)

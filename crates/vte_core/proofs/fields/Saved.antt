@@ -7,15 +7,22 @@ use Rattle.vte_core.specs.machine.Saved.{HasSaved, IsInHead, IsRestored}
 use Rattle.vte_core.specs.Saved.{HasReadSaved}
 use Rattle.vte_core.proofs.fields.Standing.{keeps-same, stands-by}
 
-holds-saved : {B C : Type 0} {saved : Saved} {old : Machine B} {new : Machine C} {ints : List ℕ} → HasSaved saved old → IsRestored saved new
+holds-saved : {B C : Type 0} {saved : Saved} {old : Machine B} {new : Machine C} {ints : List ℕ} → HasSaved saved old
+    → IsRestored saved new
     → Holds old.collected ints → Holds new.collected ints
-holds-saved h r holds = record { kept = r.intermediates ∙ (h.intermediates ∙ holds.kept); too_many = r.too_many ∙ (h.too_many ∙ holds.too_many) }
+holds-saved h r holds =
+    record {
+      kept = r.intermediates ∙ (h.intermediates ∙ holds.kept);
+      too_many = r.too_many ∙ (h.too_many ∙ holds.too_many);
+    }
 
-same_collected : {B C : Type 0} {saved : Saved} {old : Machine B} {new : Machine C} → HasSaved saved old → IsRestored saved new → IsInHead old.state
+same_collected : {B C : Type 0} {saved : Saved} {old : Machine B} {new : Machine C} → HasSaved saved old
+    → IsRestored saved new → IsInHead old.state
     → IsInHead new.state → old.collected ≡ new.collected
 same_collected h r in_old in_new = grind (arith, r.params in_new _ (h.params in_old))
 
-same_items : {B C : Type 0} {saved : Saved} {old : Machine B} {new : Machine C} → HasSaved saved old → IsRestored saved new → old.state ≡ SystemCommand
+same_items : {B C : Type 0} {saved : Saved} {old : Machine B} {new : Machine C} → HasSaved saved old
+    → IsRestored saved new → old.state ≡ SystemCommand
     → new.state ≡ SystemCommand → SameItems old.command new.command
 same_items h r old_is new_is = record {
   bytes = r.bytes new_is ∙ h.bytes old_is;
@@ -23,7 +30,8 @@ same_items h r old_is new_is = record {
   dropped = r.dropped new_is ∙ h.dropped old_is;
 }
 
-by_saved : {B C : Type 0} (limit : Option ℕ) {saved : Saved} (state : State) (old : Machine B) (new : Machine C) (place : Place) → HasSaved saved old → IsRestored saved new
+by_saved : {B C : Type 0} (limit : Option ℕ) {saved : Saved} (state : State) (old : Machine B) (new : Machine C)
+    (place : Place) → HasSaved saved old → IsRestored saved new
     → old.state ≡ state → new.state ≡ state → StandsBy limit state old place → StandsBy limit state new place
 by_saved limit (Text unfinished) old new (InText u) h r o n s = s
 by_saved limit Escape old new AtEscape h r o n s = holds-saved h r s
@@ -33,7 +41,8 @@ by_saved limit (ControlSequence part) old new (InControlSequence head) h r o n s
 by_saved limit (DeviceControl part) old new (InDeviceControl head) h r o n s =
     subst (λ collected. StandsInHead collected part head) (same_collected h r (rw o tt) (rw n tt)) s
 by_saved limit DeviceData old new InData h r o n s = tt
-by_saved limit SystemCommand old new (InSystemCommand items) h r o n s = keeps-same limit old.command new.command items (same_items h r o n) s
+by_saved limit SystemCommand old new (InSystemCommand items) h r o n s =
+    keeps-same limit old.command new.command items (same_items h r o n) s
 by_saved limit IgnoredString old new InIgnoredString h r o n s = tt
 by_saved limit _ old new _ h r o n s = absurd s
 

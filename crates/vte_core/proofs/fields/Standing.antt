@@ -7,20 +7,26 @@ use Rattle.vte_core.specs.machine.Place.{control_sequence_behind, device_control
 use Rattle.vte_core.proofs.shapes.TextLemmas.{text_end, text_nothing}
 
 -- a parser in a state by name: what that state says of the place
-pub stands-in : {B : Type 0} {limit : Option ℕ} {state : State} {parser : Machine B} {place : Place} → parser.state ≡ state → Stands limit parser place
+pub stands-in : {B : Type 0} {limit : Option ℕ} {state : State} {parser : Machine B} {place : Place}
+    → parser.state ≡ state → Stands limit parser place
     → StandsBy limit state parser place
-stands-in {limit = limit} {parser = parser} {place = place} e s = subst (λ state. StandsBy limit state parser place) e s.by
+stands-in {limit = limit} {parser = parser} {place = place} e s =
+    subst (λ state. StandsBy limit state parser place) e s.by
 
 -- .. and back
-pub stands-by : {B : Type 0} {limit : Option ℕ} {state : State} {parser : Machine B} {place : Place} → parser.state ≡ state → StandsBy limit state parser place
+pub stands-by : {B : Type 0} {limit : Option ℕ} {state : State} {parser : Machine B} {place : Place}
+    → parser.state ≡ state → StandsBy limit state parser place
     → Stands limit parser place
-stands-by {limit = limit} {parser = parser} {place = place} e by = record { by = subst (λ state. StandsBy limit state parser place) (sym e) by }
+stands-by {limit = limit} {parser = parser} {place = place} e by =
+    record { by = subst (λ state. StandsBy limit state parser place) (sym e) by }
 
-by_escape : {B : Type 0} (limit : Option ℕ) (state : State) (parser : Machine B) → StandsBy limit state parser AtEscape → Holds parser.collected []
+by_escape : {B : Type 0} (limit : Option ℕ) (state : State) (parser : Machine B) → StandsBy limit state parser AtEscape
+    → Holds parser.collected []
 by_escape limit Escape parser s = s
 by_escape limit _ parser s = absurd s
 
-pub stands-escape : {B : Type 0} {limit : Option ℕ} (parser : Machine B) → Stands limit parser AtEscape → Holds parser.collected []
+pub stands-escape : {B : Type 0} {limit : Option ℕ} (parser : Machine B) → Stands limit parser AtEscape
+    → Holds parser.collected []
 stands-escape {limit = limit} parser s = by_escape limit parser.state parser s.by
 
 -- in that state there is one shape of places
@@ -29,11 +35,13 @@ pub record InCommandAt {B : Type 0} (limit : Option ℕ) (parser : Machine B) (p
   pub same : place ≡ InSystemCommand items
   pub keeps : Keeps limit parser.command items
 
-by_items : {B : Type 0} (limit : Option ℕ) (parser : Machine B) (place : Place) → StandsBy limit SystemCommand parser place → InCommandAt limit parser place
+by_items : {B : Type 0} (limit : Option ℕ) (parser : Machine B) (place : Place)
+    → StandsBy limit SystemCommand parser place → InCommandAt limit parser place
 by_items limit parser (InSystemCommand items) s = record { items = items; same = refl; keeps = s }
 by_items limit parser _ s = absurd s
 
-pub in_command : {B : Type 0} {limit : Option ℕ} (parser : Machine B) (place : Place) → parser.state ≡ SystemCommand → Stands limit parser place → InCommandAt limit parser place
+pub in_command : {B : Type 0} {limit : Option ℕ} (parser : Machine B) (place : Place) → parser.state ≡ SystemCommand
+    → Stands limit parser place → InCommandAt limit parser place
 in_command {limit = limit} parser place e s = by_items limit parser place (stands-in e s)
 
 -- what is true of a place where some parser stands
@@ -41,30 +49,36 @@ abbrev pub IsPlace : Place → Type 0
 IsPlace (InText u) = is_open u ≡ true
 IsPlace _ = Unit {0}
 
-by_place : {B : Type 0} (limit : Option ℕ) (state : State) (parser : Machine B) (place : Place) → StandsBy limit state parser place → IsPlace place
+by_place : {B : Type 0} (limit : Option ℕ) (state : State) (parser : Machine B) (place : Place)
+    → StandsBy limit state parser place → IsPlace place
 by_place limit (Text unfinished) parser (InText u) s = s.1
 by_place limit _ parser (InText u) s = absurd s
 by_place limit _ parser _ s = tt
 
-pub stands-place : {B : Type 0} {limit : Option ℕ} (parser : Machine B) (place : Place) → Stands limit parser place → IsPlace place
+pub stands-place : {B : Type 0} {limit : Option ℕ} (parser : Machine B) (place : Place) → Stands limit parser place
+    → IsPlace place
 stands-place {limit = limit} parser place s = by_place limit parser.state parser place s.by
 
 pub is_open-truncated : (u : List ℕ) → is_truncated u ≡ true → is_open u ≡ true
 is_open-truncated [] more = refl
 is_open-truncated (a ∷ u) more = more
 
-text_open : (limit : Option ℕ) (u : List ℕ) → is_open u ≡ true → text_outcome (u ++ []) ≡ leaves (left_at limit (InText u))
+text_open : (limit : Option ℕ) (u : List ℕ) → is_open u ≡ true
+    → text_outcome (u ++ []) ≡ leaves (left_at limit (InText u))
 text_open limit [] o = text_nothing
 text_open limit (a ∷ u) o = rw append-nil (text_end (a ∷ u) o)
 
 -- nothing more tells nothing, and leaves open what is open at the place
-pub rest_outcome-nothing : (limit : Option ℕ) (place : Place) → IsPlace place → rest_outcome limit place [] ≡ leaves (left_at limit place)
-unfolding body_outcome executed escape_behind control_sequence_behind device_control_behind data_outcome system_command_behind ignored_string_outcome
+pub rest_outcome-nothing : (limit : Option ℕ) (place : Place) → IsPlace place
+    → rest_outcome limit place [] ≡ leaves (left_at limit place)
+unfolding body_outcome executed escape_behind control_sequence_behind device_control_behind data_outcome
+    system_command_behind ignored_string_outcome
 rest_outcome-nothing limit (InText u) is = text_open limit u is
 rest_outcome-nothing limit (InSystemCommand items) is = simp append-nil
 rest_outcome-nothing limit _ is = refl
 
-pub outcome_behind-nothing : (limit : Option ℕ) (place : Place) → IsPlace place → outcome_behind limit place [] ≡ leaves (left_at limit place)
+pub outcome_behind-nothing : (limit : Option ℕ) (place : Place) → IsPlace place
+    → outcome_behind limit place [] ≡ leaves (left_at limit place)
 unfolding outcome_behind
 outcome_behind-nothing limit place is = rest_outcome-nothing limit place is
 
@@ -81,10 +95,12 @@ open_at-between (InText u) none = none
 open_at-between _ none = refl
 
 -- between characters
-pub stands-text_begun : {B : Type 0} {limit : Option ℕ} (parser : Machine B) → parser.state ≡ Text Nothing → Stands limit parser (InText [])
+pub stands-text_begun : {B : Type 0} {limit : Option ℕ} (parser : Machine B) → parser.state ≡ Text Nothing
+    → Stands limit parser (InText [])
 stands-text_begun parser e = stands-by e (refl, refl)
 
-pub keeps-same : (limit : Option ℕ) (old new : Held) (items : List ℕ) → SameItems old new → Keeps limit old items → Keeps limit new items
+pub keeps-same : (limit : Option ℕ) (old new : Held) (items : List ℕ) → SameItems old new → Keeps limit old items
+    → Keeps limit new items
 keeps-same limit old new items same keeps = record {
   goes_on = rw (same.bytes, same.ends) keeps.goes_on;
   end = rw (same.bytes, same.ends) keeps.end;

@@ -15,7 +15,8 @@ module _ (limit : Option ℕ) (bytes ends : List ℕ) where
   behind_nothing = rw (append-nil bytes, append-nil ends) refl
 
   -- without room nothing is kept
-  pub behind_full : has_room limit (length bytes) ≡ false → (more : List ℕ) → pieces_behind limit bytes ends more ≡ cut_pieces bytes ends
+  pub behind_full : has_room limit (length bytes) ≡ false → (more : List ℕ)
+      → pieces_behind limit bytes ends more ≡ cut_pieces bytes ends
   behind_full full [] = behind_nothing
   behind_full full (item ∷ more) = rw (full, append-nil bytes, append-nil ends) refl
 
@@ -24,7 +25,13 @@ module _ (limit : Option ℕ) (bytes ends : List ℕ) where
   behind_byte room item other more =
       let is_byte = ne_eqb item semicolon other in
       let kept = kept_after limit (length bytes + 1) more in
-      rw (room, is_byte, length-append bytes (item ∷ []), append_assoc bytes (item ∷ []) (filter is_data_byte kept)) refl
+      rw (
+        room,
+        is_byte,
+        length-append bytes (item ∷ []),
+        append_assoc bytes (item ∷ [])
+            (filter is_data_byte kept),
+      ) refl
 
   behind_end : has_room limit (length bytes) ≡ true → (more : List ℕ) →
       pieces_behind limit bytes ends (semicolon ∷ more) ≡ pieces_behind limit bytes (ends ++ length bytes ∷ []) more
@@ -34,18 +41,22 @@ fitting-nothing : (limit : Option ℕ) (count : ℕ) → fitting limit count [] 
 fitting-nothing None count = refl
 fitting-nothing (Some limit) count = take-nil (limit - count)
 
-fitting-room : (limit : Option ℕ) (count b : ℕ) (run : List ℕ) → has_room limit count ≡ true → fitting limit count (b ∷ run) ≡ b ∷ fitting limit (count + 1) run
+fitting-room : (limit : Option ℕ) (count b : ℕ) (run : List ℕ) → has_room limit count ≡ true
+    → fitting limit count (b ∷ run) ≡ b ∷ fitting limit (count + 1) run
 fitting-room None count b run room = refl
 fitting-room (Some limit) count b run room =
     let next : limit - count ≡ suc (limit - (count + 1)) = omega (arith, ltb-true count limit room) in rw next refl
 
-fitting-full : (limit : Option ℕ) (count : ℕ) (run : List ℕ) → has_room limit count ≡ false → fitting limit count run ≡ []
+fitting-full : (limit : Option ℕ) (count : ℕ) (run : List ℕ) → has_room limit count ≡ false
+    → fitting limit count run ≡ []
 fitting-full None count run full = cc
-fitting-full (Some limit) count run full = let none : limit - count ≡ 0 = omega (arith, ltb-false count limit full) in rw none refl
+fitting-full (Some limit) count run full =
+    let none : limit - count ≡ 0 = omega (arith, ltb-false count limit full) in rw none refl
 
 -- data bytes are kept as far as there is room
 behind_run : (limit : Option ℕ) (bytes ends run more : List ℕ) → All (λ b. b ≢ semicolon) run →
-    pieces_behind limit bytes ends (run ++ more) ≡ pieces_behind limit (bytes ++ fitting limit (length bytes) run) ends more
+    pieces_behind limit bytes ends (run ++ more)
+    ≡ pieces_behind limit (bytes ++ fitting limit (length bytes) run) ends more
 behind_run limit bytes ends [] more none = rw (fitting-nothing limit (length bytes), append-nil bytes) refl
 behind_run limit bytes ends (b ∷ run) more none =
     let rest = behind_run limit (bytes ++ b ∷ []) ends run more (All-tail (λ b. b ≢ semicolon) b run none) in
@@ -53,23 +64,28 @@ behind_run limit bytes ends (b ∷ run) more none =
       | inl room ↦
           let one = behind_byte limit bytes ends room b (All-head (λ b. b ≢ semicolon) b run none) (run ++ more) in
           let kept = fitting-room limit (length bytes) b run room in
-          let same : bytes ++ fitting limit (length bytes) (b ∷ run) ≡ (bytes ++ b ∷ []) ++ fitting limit (length (bytes ++ b ∷ [])) run =
+          let same : bytes ++ fitting limit (length bytes) (b ∷ run)
+          ≡ (bytes ++ b ∷ []) ++ fitting limit (length (bytes ++ b ∷ [])) run =
           rw (kept, length-append bytes (b ∷ []), append_assoc bytes (b ∷ [])) refl in
           rw same (one ∙ rest)
       | inr full ↦
           let same = behind_full limit bytes ends full in
-          rw (fitting-full limit (length bytes) (b ∷ run) full, append-nil bytes) (same ((b ∷ run) ++ more) ∙ sym (same more))
+          rw (fitting-full limit (length bytes) (b ∷ run) full, append-nil bytes)
+          (same ((b ∷ run) ++ more) ∙ sym (same more))
     ]
 
 -- ---- where pieces end
 
 -- a data byte belongs to the piece after the last end
-ends-more : (left start : ℕ) (ends : List ℕ) (count more : ℕ) → length ends < left → PiecesEnd left start ends count → PiecesEnd left start ends (count + more)
+ends-more : (left start : ℕ) (ends : List ℕ) (count more : ℕ) → length ends < left → PiecesEnd left start ends count
+    → PiecesEnd left start ends (count + more)
 ends-more zero start ends count more few are = absurd (omega arith)
 ends-more (suc left) start [] count more few are = omega arith
-ends-more (suc left) start (end ∷ ends) count more few are = (are.0, ends-more left end ends count more (omega arith) are.1)
+ends-more (suc left) start (end ∷ ends) count more few are =
+    (are.0, ends-more left end ends count more (omega arith) are.1)
 
-ends-push : (left start : ℕ) (ends : List ℕ) (count : ℕ) → length ends < left → PiecesEnd left start ends count → PiecesEnd left start (ends ++ count ∷ []) count
+ends-push : (left start : ℕ) (ends : List ℕ) (count : ℕ) → length ends < left → PiecesEnd left start ends count
+    → PiecesEnd left start (ends ++ count ∷ []) count
 ends-push zero start ends count few are = absurd (omega arith)
 ends-push (suc zero) start [] count few are = (are, refl)
 ends-push (suc (suc left)) start [] count few are = (are, omega arith)
@@ -95,7 +111,8 @@ ends-stored (suc left) start bytes (end ∷ ends) are =
     let counted = length-append (slice_range bytes start end) (concat (take left (cut_at end bytes ends))) in
     omega (arith, are.0, within, rest, counted, length-take (end - start) (drop start bytes), length-drop start bytes)
 
-pub slice_within : (start end : ℕ) (bytes more : List ℕ) → start ≤ end → end ≤ length bytes → slice_range (bytes ++ more) start end ≡ slice_range bytes start end
+pub slice_within : (start end : ℕ) (bytes more : List ℕ) → start ≤ end → end ≤ length bytes
+    → slice_range (bytes ++ more) start end ≡ slice_range bytes start end
 slice_within start end bytes more order within =
     let from = drop-append-le start bytes more (omega arith) in
     let to = take-append-le (end - start) (drop start bytes) more (omega (arith, length-drop start bytes)) in
@@ -114,16 +131,25 @@ ends-complete start bytes (end ∷ ends) more later are =
 data-run : (run : List ℕ) → All (λ b. b ≢ semicolon) run → filter is_data_byte run ≡ run
 data-run [] none = refl
 data-run (b ∷ run) none =
-    rw (ne_eqb b semicolon (All-head (λ b. b ≢ semicolon) b run none), data-run run (All-tail (λ b. b ≢ semicolon) b run none)) refl
+    rw (
+      ne_eqb b semicolon (All-head (λ b. b ≢ semicolon) b run none),
+      data-run run
+          (All-tail (λ b. b ≢ semicolon) b run none),
+    ) refl
 
-pub count-run : (items run : List ℕ) → All (λ b. b ≢ semicolon) run → length (filter is_data_byte (items ++ run)) ≡ length (filter is_data_byte items) + length run
-count-run items run none = rw (filter-append is_data_byte items run, data-run run none) (length-append (filter is_data_byte items) run)
+pub count-run : (items run : List ℕ) → All (λ b. b ≢ semicolon) run
+    → length (filter is_data_byte (items ++ run)) ≡ length (filter is_data_byte items) + length run
+count-run items run none =
+    rw (filter-append is_data_byte items run, data-run run none) (length-append (filter is_data_byte items) run)
 
-count-end : (items : List ℕ) → length (filter is_data_byte (items ++ semicolon ∷ [])) ≡ length (filter is_data_byte items)
+count-end : (items : List ℕ)
+    → length (filter is_data_byte (items ++ semicolon ∷ [])) ≡ length (filter is_data_byte items)
 count-end items = rw (filter-append is_data_byte items (semicolon ∷ []), append-nil (filter is_data_byte items)) refl
 
--- The flag of a store that held so many of so many data bytes, and now holds more after n more came.
-drops-more : (before after count n : ℕ) (old new : Bool) → before ≤ count → before ≤ after → after ≤ before + n → old ≡ nat_lt before count
+-- The flag of a store that held so many of so many data bytes, and now holds more after n more
+-- came.
+drops-more : (before after count n : ℕ) (old new : Bool) → before ≤ count → before ≤ after → after ≤ before + n
+    → old ≡ nat_lt before count
     → new ≡ (old || nat_lt (after - before) n) → new ≡ nat_lt after (count + n)
 drops-more before after count n old new some low high was is = grind (arith, nat_tests, some, low, high, was, is)
 
@@ -133,7 +159,8 @@ length-fitting (Some limit) count run = omega (arith, length-take (limit - count
 
 -- ---- a store
 
-pub keeps-nothing : (limit : Option ℕ) (held : Held) → held.bytes ≡ [] → held.ends ≡ [] → held.dropped ≡ false → Keeps limit held []
+pub keeps-nothing : (limit : Option ℕ) (held : Held) → held.bytes ≡ [] → held.ends ≡ [] → held.dropped ≡ false
+    → Keeps limit held []
 unfolding pieces_of kept_items
 keeps-nothing limit held no_bytes no_ends none_dropped = record {
   goes_on = λ more. rw (no_bytes, no_ends) (ap (take most_pieces) (cut_at_ends (kept_after limit 0 more)));
@@ -147,29 +174,39 @@ abbrev pub IsDone : Option ℕ → Held → Type 0
 IsDone limit held = (more : List ℕ) → pieces_behind limit held.bytes held.ends more ≡ cut_pieces held.bytes held.ends
 
 -- after 16 ends
-pub done-complete : (limit : Option ℕ) (held : Held) (items : List ℕ) → length held.ends ≡ most_pieces → Keeps limit held items → IsDone limit held
+pub done-complete : (limit : Option ℕ) (held : Held) (items : List ℕ) → length held.ends ≡ most_pieces
+    → Keeps limit held items → IsDone limit held
 done-complete limit held items complete keeps more =
     let kept = kept_after limit (length held.bytes) more in
-    rw complete at (ends-complete 0 held.bytes held.ends (filter is_data_byte kept) (ends_behind (length held.bytes) kept) (rw complete keeps.end))
+    rw complete at (ends-complete 0 held.bytes held.ends (filter is_data_byte kept)
+    (ends_behind (length held.bytes) kept) (rw complete keeps.end))
 
 none-counts : (limit : Option ℕ) (held : Held) (items more : List ℕ) → IsDone limit held → Keeps limit held items
     → (later : List ℕ) → pieces_of limit ((items ++ more) ++ later) ≡ pieces_behind limit held.bytes held.ends later
-none-counts limit held items more done keeps later = rw (append_assoc items more later) (keeps.goes_on (more ++ later) ∙ done (more ++ later) ∙ sym (done later))
+none-counts limit held items more done keeps later =
+    rw (append_assoc items more later) (keeps.goes_on (more ++ later) ∙ done (more ++ later) ∙ sym (done later))
 
 -- then data bytes are dropped
-pub keeps-later : (limit : Option ℕ) (old new : Held) (items run : List ℕ) → length old.ends ≡ most_pieces → All (λ b. b ≢ semicolon) run
-    → new.bytes ≡ old.bytes → new.ends ≡ old.ends → new.dropped ≡ (old.dropped || nat_lt (length new.bytes - length old.bytes) (length run))
+pub keeps-later : (limit : Option ℕ) (old new : Held) (items run : List ℕ) → length old.ends ≡ most_pieces
+    → All (λ b. b ≢ semicolon) run
+    → new.bytes ≡ old.bytes → new.ends ≡ old.ends
+    → new.dropped ≡ (old.dropped || nat_lt (length new.bytes - length old.bytes) (length run))
     → Keeps limit old items → Keeps limit new (items ++ run)
 keeps-later limit old new items run complete none bytes ends dropped keeps = record {
-  goes_on = λ more. rw (bytes, ends) (none-counts limit old items run (done-complete limit old items complete keeps) keeps more);
+  goes_on =
+      λ more.
+      rw (bytes, ends) (none-counts limit old items run (done-complete limit old items complete keeps) keeps more);
   end = rw (bytes, ends) keeps.end;
   fewer = rw (bytes, count-run items run none) (omega (arith, keeps.fewer));
-  dropped = rw (bytes, count-run items run none) (drops-more (length old.bytes) (length old.bytes) _ (length run) old.dropped new.dropped
+  dropped =
+      rw (bytes, count-run items run none)
+      (drops-more (length old.bytes) (length old.bytes) _ (length run) old.dropped new.dropped
       keeps.fewer (omega arith) (omega arith) keeps.dropped (rw bytes at dropped));
 }
 
 -- .. and so is a `;`
-pub keeps-done : (limit : Option ℕ) (held : Held) (items : List ℕ) → IsDone limit held → Keeps limit held items → Keeps limit held (items ++ semicolon ∷ [])
+pub keeps-done : (limit : Option ℕ) (held : Held) (items : List ℕ) → IsDone limit held → Keeps limit held items
+    → Keeps limit held (items ++ semicolon ∷ [])
 keeps-done limit held items done keeps = record {
   goes_on = none-counts limit held items (semicolon ∷ []) done keeps;
   end = keeps.end;
@@ -178,42 +215,58 @@ keeps-done limit held items done keeps = record {
 }
 
 -- data bytes more
-pub keeps-run : (limit : Option ℕ) (old new : Held) (items run : List ℕ) → length old.ends < most_pieces → All (λ b. b ≢ semicolon) run
+pub keeps-run : (limit : Option ℕ) (old new : Held) (items run : List ℕ) → length old.ends < most_pieces
+    → All (λ b. b ≢ semicolon) run
     → new.bytes ≡ old.bytes ++ fitting limit (length old.bytes) run → new.ends ≡ old.ends
-    → new.dropped ≡ (old.dropped || nat_lt (length new.bytes - length old.bytes) (length run)) → Keeps limit old items → Keeps limit new (items ++ run)
+    → new.dropped ≡ (old.dropped || nat_lt (length new.bytes - length old.bytes) (length run)) → Keeps limit old items
+    → Keeps limit new (items ++ run)
 keeps-run limit old new items run few none bytes ends dropped keeps =
     let kept : List ℕ = fitting limit (length old.bytes) run in
     let end = ends-more most_pieces 0 old.ends (length old.bytes) (length kept) few keeps.end in
     let size : length new.bytes ≡ length old.bytes + length kept = rw bytes (length-append old.bytes kept) in
     let fit = length-fitting limit (length old.bytes) run in
     record {
-      goes_on = λ more. rw (append_assoc items run more, bytes, ends) (keeps.goes_on (run ++ more) ∙ behind_run limit old.bytes old.ends run more none);
+      goes_on =
+          λ more.
+          rw (append_assoc items run more, bytes, ends)
+          (keeps.goes_on (run ++ more) ∙ behind_run limit old.bytes old.ends run more none);
       end = rw (bytes, ends, length-append old.bytes kept) end;
       fewer = omega (arith, size, keeps.fewer, fit, count-run items run none);
-      dropped = rw (count-run items run none) (drops-more (length old.bytes) (length new.bytes) _ (length run) old.dropped new.dropped
+      dropped =
+          rw (count-run items run none)
+          (drops-more (length old.bytes) (length new.bytes) _ (length run) old.dropped new.dropped
           keeps.fewer (omega (arith, size)) (omega (arith, size, fit)) keeps.dropped dropped);
     }
 
 -- a `;` more
-pub keeps-end : (limit : Option ℕ) (old new : Held) (items : List ℕ) → length old.ends < most_pieces → has_room limit (length old.bytes) ≡ true
-    → new.bytes ≡ old.bytes → new.ends ≡ old.ends ++ length old.bytes ∷ [] → new.dropped ≡ old.dropped → Keeps limit old items
+pub keeps-end : (limit : Option ℕ) (old new : Held) (items : List ℕ) → length old.ends < most_pieces
+    → has_room limit (length old.bytes) ≡ true
+    → new.bytes ≡ old.bytes → new.ends ≡ old.ends ++ length old.bytes ∷ [] → new.dropped ≡ old.dropped
+    → Keeps limit old items
     → Keeps limit new (items ++ semicolon ∷ [])
 keeps-end limit old new items few room bytes ends dropped keeps = record {
-  goes_on = λ more. rw (append_assoc items (semicolon ∷ []) more, bytes, ends) (keeps.goes_on (semicolon ∷ more) ∙ behind_end limit old.bytes old.ends room more);
+  goes_on =
+      λ more.
+      rw (append_assoc items (semicolon ∷ []) more, bytes, ends)
+      (keeps.goes_on (semicolon ∷ more) ∙ behind_end limit old.bytes old.ends room more);
   end = rw (bytes, ends) (ends-push most_pieces 0 old.ends (length old.bytes) few keeps.end);
   fewer = rw (bytes, count-end items) keeps.fewer;
   dropped = rw (bytes, count-end items) (dropped ∙ keeps.dropped);
 }
 
 -- the pieces, by what a store holds
-pub pieces_held : (limit : Option ℕ) (held : Held) (items : List ℕ) → Keeps limit held items → pieces_of limit items ≡ cut_pieces held.bytes held.ends
+pub pieces_held : (limit : Option ℕ) (held : Held) (items : List ℕ) → Keeps limit held items
+    → pieces_of limit items ≡ cut_pieces held.bytes held.ends
 pieces_held limit held items keeps = rw append-nil at (keeps.goes_on [] ∙ behind_nothing limit held.bytes held.ends)
 
 -- all bytes are in them
-pub pieces_stored : (limit : Option ℕ) (held : Held) (items : List ℕ) → Keeps limit held items → length held.bytes ≡ length (concat (pieces_of limit items))
-pieces_stored limit held items keeps = rw (pieces_held limit held items keeps) (omega (arith, ends-stored most_pieces 0 held.bytes held.ends keeps.end))
+pub pieces_stored : (limit : Option ℕ) (held : Held) (items : List ℕ) → Keeps limit held items
+    → length held.bytes ≡ length (concat (pieces_of limit items))
+pieces_stored limit held items keeps =
+    rw (pieces_held limit held items keeps) (omega (arith, ends-stored most_pieces 0 held.bytes held.ends keeps.end))
 
 -- .. and whether others were dropped
-pub drops_held : (limit : Option ℕ) (held : Held) (items : List ℕ) → Keeps limit held items → drops_data limit items ≡ held.dropped
+pub drops_held : (limit : Option ℕ) (held : Held) (items : List ℕ) → Keeps limit held items
+    → drops_data limit items ≡ held.dropped
 unfolding drops_data
 drops_held limit held items keeps = rw (pieces_stored limit held items keeps) at (sym keeps.dropped)

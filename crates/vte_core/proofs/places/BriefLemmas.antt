@@ -16,20 +16,25 @@ two_at_most bytes = omega (arith, length-take 2 bytes)
 pub bounded-csi : (limit : Option ℕ) (head : Head) (final : ℕ) → (0x40 ≤ final) × (final < 0x7f)
     → IsBounded limit (dispatched CsiDispatch head final)
 unfolding dispatched
-bounded-csi limit head final is = (AreGroups-groups_of head.parameters, two_at_most (collected head), is.1, is.0, some_group head.parameters)
+bounded-csi limit head final is =
+    (AreGroups-groups_of head.parameters, two_at_most (collected head), is.1, is.0, some_group head.parameters)
 
 pub bounded-hook : (limit : Option ℕ) (head : Head) (final : ℕ) → (0x40 ≤ final) × (final < 0x7f)
     → IsBounded limit (dispatched Hook head final)
 unfolding dispatched
-bounded-hook limit head final is = (AreGroups-groups_of head.parameters, two_at_most (collected head), is.1, is.0, some_group head.parameters)
+bounded-hook limit head final is =
+    (AreGroups-groups_of head.parameters, two_at_most (collected head), is.1, is.0, some_group head.parameters)
 
-short-chosen : (t : Bool) (b c : ℕ) → (t ≡ true → IsExecuted b) → (t ≡ false → IsPrintable c) → IsShort (cond t (Execute b) (Print c))
+short-chosen : (t : Bool) (b c : ℕ) → (t ≡ true → IsExecuted b) → (t ≡ false → IsPrintable c)
+    → IsShort (cond t (Execute b) (Print c))
 short-chosen true b c e p = e refl
 short-chosen false b c e p = p refl
 
 pub short-character : (piece : List ℕ) → is_well_formed piece ≡ true → IsShort (character_event (scalar_of piece))
 unfolding character_event
-short-character piece whole = short-chosen (is_control_character (scalar_of piece)) (scalar_of piece) (scalar_of piece) (λ control. control) (λ plain. (well_formed_is_scalar piece whole, plain))
+short-character piece whole =
+    short-chosen (is_control_character (scalar_of piece)) (scalar_of piece) (scalar_of piece) (λ control. control)
+    (λ plain. (well_formed_is_scalar piece whole, plain))
 
 pub short-malformed : (b : ℕ) → IsShort (malformed_event (b ∷ []))
 unfolding malformed_event
@@ -45,7 +50,8 @@ tiny_brief limit [] tiny = tt
 tiny_brief limit (event ∷ []) tiny = short_bounded limit event tiny
 tiny_brief limit (event ∷ next ∷ told) tiny = absurd tiny
 
-pub tiny-both : (limit : Option ℕ) (front rest : List Event) → IsTiny front → IsTiny rest → IsBrief limit (front ++ rest)
+pub tiny-both : (limit : Option ℕ) (front rest : List Event) → IsTiny front → IsTiny rest
+    → IsBrief limit (front ++ rest)
 tiny-both limit [] rest t s = tiny_brief limit rest s
 tiny-both limit (e ∷ []) [] t s = short_bounded limit e t
 tiny-both limit (e ∷ []) (f ∷ []) t s = (short_bounded limit e t, s)

@@ -22,7 +22,8 @@ drops InData = false
 drops (InSystemCommand items) = false
 drops _ = true
 
-pub byte-dropped : (limit : Option ℕ) (place : Place) (b : ℕ) (k : Class) → drops place ≡ true → class_of b ≡ k → is_dropped k ≡ true → Leads limit place b [] place
+pub byte-dropped : (limit : Option ℕ) (place : Place) (b : ℕ) (k : Class) → drops place ≡ true → class_of b ≡ k
+    → is_dropped k ≡ true → Leads limit place b [] place
 unfolding body_outcome escape_behind control_sequence_behind device_control_behind ignored_string_outcome executed
 byte-dropped limit (InText u) b k at e h = cc
 byte-dropped limit InData b k at e h = cc
@@ -33,41 +34,52 @@ byte-dropped limit _ b _ at e h = cc
 
 -- ---- after ESC
 
-pub escape-control : (limit : Option ℕ) (b : ℕ) → class_of b ≡ Control → Leads limit AtEscape b (Execute b ∷ []) AtEscape
+pub escape-control : (limit : Option ℕ) (b : ℕ) → class_of b ≡ Control
+    → Leads limit AtEscape b (Execute b ∷ []) AtEscape
 unfolding body_outcome executed
 escape-control limit b e = record { leads = λ rest. simp e }
 
-pub escape-intermediate : (limit : Option ℕ) (b : ℕ) → class_of b ≡ Intermediate → Leads limit AtEscape b [] (InEscape (b ∷ []))
+pub escape-intermediate : (limit : Option ℕ) (b : ℕ) → class_of b ≡ Intermediate
+    → Leads limit AtEscape b [] (InEscape (b ∷ []))
 unfolding body_outcome executed escape_outcome escape_behind
-escape-intermediate limit b e = let s : Spans Intermediate b = spans b Intermediate e in record { leads = λ rest. simp (e, below_finals b (omega arith)) }
+escape-intermediate limit b e =
+    let s : Spans Intermediate b =
+    spans b Intermediate e in record { leads = λ rest. simp (e, below_finals b (omega arith)) }
 
-pub escape-control_sequence : (limit : Option ℕ) (b : ℕ) → class_of b ≡ Final → key_of b ≡ ControlSequence → Leads limit AtEscape b [] (InControlSequence [])
+pub escape-control_sequence : (limit : Option ℕ) (b : ℕ) → class_of b ≡ Final → key_of b ≡ ControlSequence
+    → Leads limit AtEscape b [] (InControlSequence [])
 unfolding body_outcome executed control_sequence_outcome control_sequence_behind
 escape-control_sequence limit b e k = record { leads = λ rest. simp (e, k) }
 
-pub escape-device_control : (limit : Option ℕ) (b : ℕ) → class_of b ≡ Final → key_of b ≡ DeviceControl → Leads limit AtEscape b [] (InDeviceControl [])
+pub escape-device_control : (limit : Option ℕ) (b : ℕ) → class_of b ≡ Final → key_of b ≡ DeviceControl
+    → Leads limit AtEscape b [] (InDeviceControl [])
 unfolding body_outcome executed device_control_outcome device_control_behind
 escape-device_control limit b e k = record { leads = λ rest. simp (e, k) }
 
-pub escape-system_command : (limit : Option ℕ) (b : ℕ) → class_of b ≡ Final → key_of b ≡ SystemCommand → Leads limit AtEscape b [] (InSystemCommand [])
+pub escape-system_command : (limit : Option ℕ) (b : ℕ) → class_of b ≡ Final → key_of b ≡ SystemCommand
+    → Leads limit AtEscape b [] (InSystemCommand [])
 unfolding body_outcome executed system_command_outcome system_command_behind
 escape-system_command limit b e k = record { leads = λ rest. simp (e, k) }
 
-pub escape-ignored_string : (limit : Option ℕ) (b : ℕ) → class_of b ≡ Final → key_of b ≡ IgnoredString → Leads limit AtEscape b [] InIgnoredString
+pub escape-ignored_string : (limit : Option ℕ) (b : ℕ) → class_of b ≡ Final → key_of b ≡ IgnoredString
+    → Leads limit AtEscape b [] InIgnoredString
 unfolding body_outcome executed
 escape-ignored_string limit b e k = record { leads = λ rest. simp (e, k) }
 
 -- ---- after ESC and intermediates
 
-pub intermediate-control : (limit : Option ℕ) (ints : List ℕ) (b : ℕ) → class_of b ≡ Control → Leads limit (InEscape ints) b (Execute b ∷ []) (InEscape ints)
+pub intermediate-control : (limit : Option ℕ) (ints : List ℕ) (b : ℕ) → class_of b ≡ Control
+    → Leads limit (InEscape ints) b (Execute b ∷ []) (InEscape ints)
 unfolding escape_behind executed
 intermediate-control limit ints b e = record { leads = λ rest. simp e }
 
-pub intermediate-more : (limit : Option ℕ) (ints : List ℕ) (b : ℕ) → class_of b ≡ Intermediate → Leads limit (InEscape ints) b [] (InEscape (ints ++ b ∷ []))
+pub intermediate-more : (limit : Option ℕ) (ints : List ℕ) (b : ℕ) → class_of b ≡ Intermediate
+    → Leads limit (InEscape ints) b [] (InEscape (ints ++ b ∷ []))
 unfolding escape_behind executed
 intermediate-more limit ints b e = record { leads = λ rest. simp (e, append_assoc) }
 
-pub intermediate-end : (limit : Option ℕ) (ints : List ℕ) (b : ℕ) (k : Class) → class_of b ≡ k → dispatches_escape k ≡ true
+pub intermediate-end : (limit : Option ℕ) (ints : List ℕ) (b : ℕ) (k : Class) → class_of b ≡ k
+    → dispatches_escape k ≡ true
     → Leads limit (InEscape ints) b (EscDispatch (first_two ints) (are_too_many ints) b ∷ []) (InText [])
 unfolding escape_behind executed
 intermediate-end limit ints b Digit e h = record { leads = λ rest. simp (e, append-nil) }
@@ -78,7 +90,8 @@ intermediate-end limit ints b Final e h = record { leads = λ rest. simp (e, app
 intermediate-end limit ints b _ e h = cc
 
 -- where it has no other meaning after ESC
-pub escape-end : (limit : Option ℕ) (b : ℕ) (k : Class) → class_of b ≡ k → dispatches_escape k ≡ true → key_of b ≡ Dispatch
+pub escape-end : (limit : Option ℕ) (b : ℕ) (k : Class) → class_of b ≡ k → dispatches_escape k ≡ true
+    → key_of b ≡ Dispatch
     → Leads limit AtEscape b (EscDispatch [] false b ∷ []) (InText [])
 unfolding body_outcome executed escape_outcome
 escape-end limit b Digit e h key = record { leads = λ rest. simp (e, key) }
@@ -90,40 +103,52 @@ escape-end limit b _ e h key = cc
 
 -- ---- in the head of a control sequence
 
-pub control-control : (limit : Option ℕ) (head : List ℕ) (b : ℕ) → class_of b ≡ Control → Leads limit (InControlSequence head) b (Execute b ∷ []) (InControlSequence head)
+pub control-control : (limit : Option ℕ) (head : List ℕ) (b : ℕ) → class_of b ≡ Control
+    → Leads limit (InControlSequence head) b (Execute b ∷ []) (InControlSequence head)
 unfolding control_sequence_behind executed
 control-control limit head b e = record { leads = λ rest. simp e }
 
-pub control-head : (limit : Option ℕ) (head : List ℕ) (b : ℕ) → is_head (class_of b) ≡ true → Leads limit (InControlSequence head) b [] (InControlSequence (head ++ b ∷ []))
+pub control-head : (limit : Option ℕ) (head : List ℕ) (b : ℕ) → is_head (class_of b) ≡ true
+    → Leads limit (InControlSequence head) b [] (InControlSequence (head ++ b ∷ []))
 unfolding control_sequence_behind executed
-control-head limit head b is = record { leads = λ rest. simp (is, head_is_no_control (class_of b) is, head_is_no_end (class_of b) is, append_assoc) }
+control-head limit head b is =
+    record {
+      leads = λ rest.
+          simp (is, head_is_no_control (class_of b) is, head_is_no_end (class_of b) is, append_assoc);
+    }
 
-pub control-dispatched : (limit : Option ℕ) (head : List ℕ) (b : ℕ) → class_of b ≡ Final → is_well_shaped (head_of head) ≡ true
+pub control-dispatched : (limit : Option ℕ) (head : List ℕ) (b : ℕ) → class_of b ≡ Final
+    → is_well_shaped (head_of head) ≡ true
     → Leads limit (InControlSequence head) b (dispatched CsiDispatch (head_of head) b ∷ []) (InText [])
 unfolding control_sequence_behind control_sequence_end executed
 control-dispatched limit head b e well = record { leads = λ rest. simp (e, append-nil, well) }
 
-pub control-silent : (limit : Option ℕ) (head : List ℕ) (b : ℕ) → class_of b ≡ Final → is_well_shaped (head_of head) ≡ false → Leads limit (InControlSequence head) b [] (InText [])
+pub control-silent : (limit : Option ℕ) (head : List ℕ) (b : ℕ) → class_of b ≡ Final
+    → is_well_shaped (head_of head) ≡ false → Leads limit (InControlSequence head) b [] (InText [])
 unfolding control_sequence_behind control_sequence_end executed
 control-silent limit head b e ill = record { leads = λ rest. simp (e, append-nil, ill) }
 
 -- ---- in the head of a device control string
 
-pub device-dropped : (limit : Option ℕ) (head : List ℕ) (b : ℕ) (k : Class) → class_of b ≡ k → is_dropped_in_head k ≡ true → Leads limit (InDeviceControl head) b [] (InDeviceControl head)
+pub device-dropped : (limit : Option ℕ) (head : List ℕ) (b : ℕ) (k : Class) → class_of b ≡ k
+    → is_dropped_in_head k ≡ true → Leads limit (InDeviceControl head) b [] (InDeviceControl head)
 unfolding device_control_behind
 device-dropped limit head b Control e h = record { leads = λ rest. simp e }
 device-dropped limit head b k e h = byte-dropped limit (InDeviceControl head) b k refl e h
 
-pub device-head : (limit : Option ℕ) (head : List ℕ) (b : ℕ) → is_head (class_of b) ≡ true → Leads limit (InDeviceControl head) b [] (InDeviceControl (head ++ b ∷ []))
+pub device-head : (limit : Option ℕ) (head : List ℕ) (b : ℕ) → is_head (class_of b) ≡ true
+    → Leads limit (InDeviceControl head) b [] (InDeviceControl (head ++ b ∷ []))
 unfolding device_control_behind
 device-head limit head b is = record { leads = λ rest. simp (is, head_is_no_end (class_of b) is, append_assoc) }
 
-pub device-well_shaped : (limit : Option ℕ) (head : List ℕ) (b : ℕ) → class_of b ≡ Final → is_well_shaped (head_of head) ≡ true
+pub device-well_shaped : (limit : Option ℕ) (head : List ℕ) (b : ℕ) → class_of b ≡ Final
+    → is_well_shaped (head_of head) ≡ true
     → Leads limit (InDeviceControl head) b (dispatched Hook (head_of head) b ∷ []) InData
 unfolding device_control_behind device_control_end
 device-well_shaped limit head b e well = record { leads = λ rest. simp (e, append-nil, well) }
 
-pub device-ill_shaped : (limit : Option ℕ) (head : List ℕ) (b : ℕ) → class_of b ≡ Final → is_well_shaped (head_of head) ≡ false → Leads limit (InDeviceControl head) b [] InIgnoredString
+pub device-ill_shaped : (limit : Option ℕ) (head : List ℕ) (b : ℕ) → class_of b ≡ Final
+    → is_well_shaped (head_of head) ≡ false → Leads limit (InDeviceControl head) b [] InIgnoredString
 unfolding device_control_behind device_control_end
 device-ill_shaped limit head b e ill = record { leads = λ rest. simp (e, append-nil, ill) }
 
@@ -138,11 +163,13 @@ pub data-put : (limit : Option ℕ) (b : ℕ) → is_data (class_of b) ≡ true 
 unfolding data_outcome
 data-put limit b is = record { leads = λ rest. simp (is, data_is_no_end b is) }
 
-pub data-dropped : (limit : Option ℕ) (b : ℕ) → ends_data b ≡ false → is_data (class_of b) ≡ false → Leads limit InData b [] InData
+pub data-dropped : (limit : Option ℕ) (b : ℕ) → ends_data b ≡ false → is_data (class_of b) ≡ false
+    → Leads limit InData b [] InData
 unfolding data_outcome
 data-dropped limit b on none = record { leads = λ rest. simp (on, none) }
 
-pub data-terminator : (limit : Option ℕ) (b : ℕ) → class_of b ≡ High → eqb b 0x9c ≡ true → Leads limit InData b (Unhook ∷ []) (InText [])
+pub data-terminator : (limit : Option ℕ) (b : ℕ) → class_of b ≡ High → eqb b 0x9c ≡ true
+    → Leads limit InData b (Unhook ∷ []) (InText [])
 unfolding data_outcome
 data-terminator limit b e is = record { leads = λ rest. simp (e, is) }
 
@@ -152,13 +179,16 @@ item_is_no_end : (b : ℕ) → 0x20 ≤ b → ends_command b ≡ false
 unfolding class_of
 item_is_no_end b low = grind (arith, nat_tests)
 
-pub command-item : (limit : Option ℕ) (items : List ℕ) (b : ℕ) → 0x20 ≤ b → Leads limit (InSystemCommand items) b [] (InSystemCommand (items ++ b ∷ []))
+pub command-item : (limit : Option ℕ) (items : List ℕ) (b : ℕ) → 0x20 ≤ b
+    → Leads limit (InSystemCommand items) b [] (InSystemCommand (items ++ b ∷ []))
 unfolding system_command_behind
 command-item limit items b low =
-    let is : nat_le 0x20 b ≡ true = grind (arith, nat_tests) in record { leads = λ rest. simp (item_is_no_end b low, is, append_assoc) }
+    let is : nat_le 0x20 b ≡ true =
+    grind (arith, nat_tests) in record { leads = λ rest. simp (item_is_no_end b low, is, append_assoc) }
 
 -- C0 but BEL is dropped
-pub command-control : (limit : Option ℕ) (items : List ℕ) (b : ℕ) → class_of b ≡ Control → eqb b bell ≡ false → Leads limit (InSystemCommand items) b [] (InSystemCommand items)
+pub command-control : (limit : Option ℕ) (items : List ℕ) (b : ℕ) → class_of b ≡ Control → eqb b bell ≡ false
+    → Leads limit (InSystemCommand items) b [] (InSystemCommand items)
 unfolding system_command_behind
 command-control limit items b e other =
     let low : Spans Control b = spans b Control e in
@@ -172,7 +202,8 @@ command-bell limit items b e is = record { leads = λ rest. simp (e, is, append-
 
 -- ---- in a string that means nothing
 
-pub ignored-more : (limit : Option ℕ) (b : ℕ) → is_cancel (class_of b) ≡ false → Leads limit InIgnoredString b [] InIgnoredString
+pub ignored-more : (limit : Option ℕ) (b : ℕ) → is_cancel (class_of b) ≡ false
+    → Leads limit InIgnoredString b [] InIgnoredString
 unfolding ignored_string_outcome
 ignored-more limit b other = record { leads = λ rest. simp other }
 
@@ -181,8 +212,11 @@ ignored-more limit b other = record { leads = λ rest. simp other }
 pub text-unfinished : (limit : Option ℕ) (u : List ℕ) (b : ℕ) → Leads limit (InText u) b [] (InText (u ++ b ∷ []))
 text-unfinished limit u b = record { leads = λ rest. ap text_outcome (sym (append_assoc u (b ∷ []) rest)) }
 
-pub text-whole : (limit : Option ℕ) (u : List ℕ) (b : ℕ) → is_well_formed (u ++ b ∷ []) ≡ true → Leads limit (InText u) b (character_event (scalar_of (u ++ b ∷ [])) ∷ []) (InText [])
-text-whole limit u b whole = record { leads = λ rest. rw append_assoc at (text_outcome-well_formed (u ++ b ∷ []) rest whole) }
+pub text-whole : (limit : Option ℕ) (u : List ℕ) (b : ℕ) → is_well_formed (u ++ b ∷ []) ≡ true
+    → Leads limit (InText u) b (character_event (scalar_of (u ++ b ∷ [])) ∷ []) (InText [])
+text-whole limit u b whole =
+    record { leads = λ rest. rw append_assoc at (text_outcome-well_formed (u ++ b ∷ []) rest whole) }
 
-pub text-lone : (limit : Option ℕ) (b : ℕ) → is_well_formed (b ∷ []) ≡ false → is_truncated (b ∷ []) ≡ false → Leads limit (InText []) b (malformed_event (b ∷ []) ∷ []) (InText [])
+pub text-lone : (limit : Option ℕ) (b : ℕ) → is_well_formed (b ∷ []) ≡ false → is_truncated (b ∷ []) ≡ false
+    → Leads limit (InText []) b (malformed_event (b ∷ []) ∷ []) (InText [])
 text-lone limit b whole more = record { leads = λ rest. text_lone rest b whole more }

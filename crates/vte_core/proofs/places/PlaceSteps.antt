@@ -22,8 +22,11 @@ use Rattle.vte_core.proofs.streams.StreamLemmas.{reads-escape, no_escape, cancel
 use Rattle.vte_core.proofs.places.TextSteps.{AreOthers, FitsLeft, IsLittle, IsQuiet, IsText, Steps, leads_on, steps-text}
 
 -- a step between sequences and strings
-sequenced : {limit : Option ℕ} {place next : Place} {b : ℕ} {told : List Event} → (IsText place → ⊥) → open_at next ≡ [] → data_left (left_at limit next) ≡ 0
-    → eqb b escape ≡ false → Leads limit place b told next → IsPlace next → ((size : Option ℕ) → FitsLeft size (left_at limit place) → IsBrief size told) → (IsQuiet place b → AreOthers told) → Steps limit place b
+sequenced : {limit : Option ℕ} {place next : Place} {b : ℕ} {told : List Event} → (IsText place → ⊥) → open_at next ≡ []
+    → data_left (left_at limit next) ≡ 0
+    → eqb b escape ≡ false → Leads limit place b told next → IsPlace next
+    → ((size : Option ℕ) → FitsLeft size (left_at limit place) → IsBrief size told) → (IsQuiet place b → AreOthers told)
+    → Steps limit place b
 sequenced other closed none = leads_on (λ text. absurd (other text)) (inl closed) (λ _. omega (arith, none))
 
 -- a byte of the class, of which the class says that it is not ESC
@@ -34,65 +37,109 @@ plain b k e o = no_escape b (rw e o)
 
 step-final : (limit : Option ℕ) (b : ℕ) (k : Key) → class_of b ≡ Final → key_of b ≡ k → Steps limit AtEscape b
 unfolding pieces_of kept_items
-step-final limit b ControlSequence e k = sequenced absurd refl refl (plain b Final e refl) (escape-control_sequence limit b e k) tt (λ _ _. tt) (λ _. tt)
-step-final limit b DeviceControl e k = sequenced absurd refl refl (plain b Final e refl) (escape-device_control limit b e k) tt (λ _ _. tt) (λ _. tt)
-step-final limit b SystemCommand e k = sequenced absurd refl refl (plain b Final e refl) (escape-system_command limit b e k) tt (λ _ _. tt) (λ _. tt)
-step-final limit b IgnoredString e k = sequenced absurd refl refl (plain b Final e refl) (escape-ignored_string limit b e k) tt (λ _ _. tt) (λ _. tt)
+step-final limit b ControlSequence e k =
+    sequenced absurd refl refl (plain b Final e refl) (escape-control_sequence limit b e k) tt (λ _ _. tt) (λ _. tt)
+step-final limit b DeviceControl e k =
+    sequenced absurd refl refl (plain b Final e refl) (escape-device_control limit b e k) tt (λ _ _. tt) (λ _. tt)
+step-final limit b SystemCommand e k =
+    sequenced absurd refl refl (plain b Final e refl) (escape-system_command limit b e k) tt (λ _ _. tt) (λ _. tt)
+step-final limit b IgnoredString e k =
+    sequenced absurd refl refl (plain b Final e refl) (escape-ignored_string limit b e k) tt (λ _ _. tt) (λ _. tt)
 step-final limit b Dispatch e k =
-    let s : Spans Final b = spans b Final e in sequenced absurd refl refl (plain b Final e refl) (escape-end limit b Final e refl k) refl (λ _ _. (omega arith, s.1, omega arith)) (λ _. tt)
+    let s : Spans Final b =
+    spans b Final e in
+    sequenced absurd refl refl (plain b Final e refl) (escape-end limit b Final e refl k) refl
+    (λ _ _. (omega arith, s.1, omega arith)) (λ _. tt)
 
 step-escape : (limit : Option ℕ) (b : ℕ) (k : Class) → class_of b ≡ k → ends_all k ≡ false → Steps limit AtEscape b
-step-escape limit b Control e o = sequenced absurd refl refl (plain b Control e o) (escape-control limit b e) tt (λ _ _. executed_low b (spans b Control e)) (λ _. tt)
-step-escape limit b Intermediate e o = sequenced absurd refl refl (plain b Intermediate e o) (escape-intermediate limit b e) tt (λ _ _. tt) (λ _. tt)
+step-escape limit b Control e o =
+    sequenced absurd refl refl (plain b Control e o) (escape-control limit b e) tt
+    (λ _ _. executed_low b (spans b Control e)) (λ _. tt)
+step-escape limit b Intermediate e o =
+    sequenced absurd refl refl (plain b Intermediate e o) (escape-intermediate limit b e) tt (λ _ _. tt) (λ _. tt)
 step-escape limit b Final e o = step-final limit b (key_of b) e refl
-step-escape limit b Delete e o = sequenced absurd refl refl (plain b Delete e o) (byte-dropped limit AtEscape b Delete refl e refl) tt (λ _ _. tt) (λ _. tt)
-step-escape limit b High e o = sequenced absurd refl refl (plain b High e o) (byte-dropped limit AtEscape b High refl e refl) tt (λ _ _. tt) (λ _. tt)
+step-escape limit b Delete e o =
+    sequenced absurd refl refl (plain b Delete e o) (byte-dropped limit AtEscape b Delete refl e refl) tt
+    (λ _ _. tt) (λ _. tt)
+step-escape limit b High e o =
+    sequenced absurd refl refl (plain b High e o) (byte-dropped limit AtEscape b High refl e refl) tt
+    (λ _ _. tt) (λ _. tt)
 step-escape limit b Cancel e o = cc
 step-escape limit b Escape e o = cc
 step-escape limit b k e o =
     let s : Spans k b = spans b k e in
-    sequenced absurd refl refl (plain b k e o) (escape-end limit b k e refl (below_finals b (omega arith))) refl (λ _ _. (omega arith, omega arith, omega arith)) (λ _. tt)
+    sequenced absurd refl refl (plain b k e o) (escape-end limit b k e refl (below_finals b (omega arith))) refl
+    (λ _ _. (omega arith, omega arith, omega arith)) (λ _. tt)
 
 -- ---- after ESC and intermediates
 
-step-intermediate : (limit : Option ℕ) (ints : List ℕ) (b : ℕ) (k : Class) → class_of b ≡ k → ends_all k ≡ false → Steps limit (InEscape ints) b
-step-intermediate limit ints b Control e o = sequenced absurd refl refl (plain b Control e o) (intermediate-control limit ints b e) tt (λ _ _. executed_low b (spans b Control e)) (λ _. tt)
-step-intermediate limit ints b Intermediate e o = sequenced absurd refl refl (plain b Intermediate e o) (intermediate-more limit ints b e) tt (λ _ _. tt) (λ _. tt)
-step-intermediate limit ints b Delete e o = sequenced absurd refl refl (plain b Delete e o) (byte-dropped limit (InEscape ints) b Delete refl e refl) tt (λ _ _. tt) (λ _. tt)
-step-intermediate limit ints b High e o = sequenced absurd refl refl (plain b High e o) (byte-dropped limit (InEscape ints) b High refl e refl) tt (λ _ _. tt) (λ _. tt)
+step-intermediate : (limit : Option ℕ) (ints : List ℕ) (b : ℕ) (k : Class) → class_of b ≡ k → ends_all k ≡ false
+    → Steps limit (InEscape ints) b
+step-intermediate limit ints b Control e o =
+    sequenced absurd refl refl (plain b Control e o) (intermediate-control limit ints b e) tt
+    (λ _ _. executed_low b (spans b Control e)) (λ _. tt)
+step-intermediate limit ints b Intermediate e o =
+    sequenced absurd refl refl (plain b Intermediate e o) (intermediate-more limit ints b e) tt (λ _ _. tt) (λ _. tt)
+step-intermediate limit ints b Delete e o =
+    sequenced absurd refl refl (plain b Delete e o) (byte-dropped limit (InEscape ints) b Delete refl e refl) tt
+    (λ _ _. tt) (λ _. tt)
+step-intermediate limit ints b High e o =
+    sequenced absurd refl refl (plain b High e o) (byte-dropped limit (InEscape ints) b High refl e refl) tt
+    (λ _ _. tt) (λ _. tt)
 step-intermediate limit ints b Cancel e o = cc
 step-intermediate limit ints b Escape e o = cc
 step-intermediate limit ints b k e o =
     let s : Spans k b = spans b k e in
-    sequenced absurd refl refl (plain b k e o) (intermediate-end limit ints b k e refl) refl (λ _ _. (two_at_most ints, omega arith, omega arith)) (λ _. tt)
+    sequenced absurd refl refl (plain b k e o) (intermediate-end limit ints b k e refl) refl
+    (λ _ _. (two_at_most ints, omega arith, omega arith)) (λ _. tt)
 
 -- ---- in the head of a control sequence
 
-step-control : (limit : Option ℕ) (head : List ℕ) (b : ℕ) (k : Class) → class_of b ≡ k → ends_all k ≡ false → Steps limit (InControlSequence head) b
-step-control limit head b Control e o = sequenced absurd refl refl (plain b Control e o) (control-control limit head b e) tt (λ _ _. executed_low b (spans b Control e)) (λ _. tt)
+step-control : (limit : Option ℕ) (head : List ℕ) (b : ℕ) (k : Class) → class_of b ≡ k → ends_all k ≡ false
+    → Steps limit (InControlSequence head) b
+step-control limit head b Control e o =
+    sequenced absurd refl refl (plain b Control e o) (control-control limit head b e) tt
+    (λ _ _. executed_low b (spans b Control e)) (λ _. tt)
 step-control limit head b Final e o = elim (cases_Bool (is_well_shaped (head_of head))) [
-  | inl well ↦ sequenced absurd refl refl (plain b Final e o) (control-dispatched limit head b e well) refl (λ size _. bounded-csi size (head_of head) b (spans b Final e)) (λ _. other-csi (head_of head) b)
-  | inr ill ↦ sequenced absurd refl refl (plain b Final e o) (control-silent limit head b e ill) refl (λ _ _. tt) (λ _. tt)
+  | inl well ↦
+      sequenced absurd refl refl (plain b Final e o) (control-dispatched limit head b e well) refl
+      (λ size _. bounded-csi size (head_of head) b (spans b Final e)) (λ _. other-csi (head_of head) b)
+  | inr ill ↦
+      sequenced absurd refl refl (plain b Final e o) (control-silent limit head b e ill) refl (λ _ _. tt) (λ _. tt)
 ]
-step-control limit head b Delete e o = sequenced absurd refl refl (plain b Delete e o) (byte-dropped limit (InControlSequence head) b Delete refl e refl) tt (λ _ _. tt) (λ _. tt)
-step-control limit head b High e o = sequenced absurd refl refl (plain b High e o) (byte-dropped limit (InControlSequence head) b High refl e refl) tt (λ _ _. tt) (λ _. tt)
+step-control limit head b Delete e o =
+    sequenced absurd refl refl (plain b Delete e o)
+    (byte-dropped limit (InControlSequence head) b Delete refl e refl) tt (λ _ _. tt) (λ _. tt)
+step-control limit head b High e o =
+    sequenced absurd refl refl (plain b High e o) (byte-dropped limit (InControlSequence head) b High refl e refl) tt
+    (λ _ _. tt) (λ _. tt)
 step-control limit head b Cancel e o = cc
 step-control limit head b Escape e o = cc
-step-control limit head b k e o = sequenced absurd refl refl (plain b k e o) (control-head limit head b (rw e refl)) tt (λ _ _. tt) (λ _. tt)
+step-control limit head b k e o =
+    sequenced absurd refl refl (plain b k e o) (control-head limit head b (rw e refl)) tt (λ _ _. tt) (λ _. tt)
 
 -- ---- in a device control string
 
-step-device : (limit : Option ℕ) (head : List ℕ) (b : ℕ) (k : Class) → class_of b ≡ k → ends_all k ≡ false → Steps limit (InDeviceControl head) b
-step-device limit head b Control e o = sequenced absurd refl refl (plain b Control e o) (device-dropped limit head b Control e refl) tt (λ _ _. tt) (λ _. tt)
+step-device : (limit : Option ℕ) (head : List ℕ) (b : ℕ) (k : Class) → class_of b ≡ k → ends_all k ≡ false
+    → Steps limit (InDeviceControl head) b
+step-device limit head b Control e o =
+    sequenced absurd refl refl (plain b Control e o) (device-dropped limit head b Control e refl) tt
+    (λ _ _. tt) (λ _. tt)
 step-device limit head b Final e o = elim (cases_Bool (is_well_shaped (head_of head))) [
-  | inl well ↦ sequenced absurd refl refl (plain b Final e o) (device-well_shaped limit head b e well) tt (λ size _. bounded-hook size (head_of head) b (spans b Final e)) (λ _. other-hook (head_of head) b)
-  | inr ill ↦ sequenced absurd refl refl (plain b Final e o) (device-ill_shaped limit head b e ill) tt (λ _ _. tt) (λ _. tt)
+  | inl well ↦
+      sequenced absurd refl refl (plain b Final e o) (device-well_shaped limit head b e well) tt
+      (λ size _. bounded-hook size (head_of head) b (spans b Final e)) (λ _. other-hook (head_of head) b)
+  | inr ill ↦
+      sequenced absurd refl refl (plain b Final e o) (device-ill_shaped limit head b e ill) tt (λ _ _. tt) (λ _. tt)
 ]
-step-device limit head b Delete e o = sequenced absurd refl refl (plain b Delete e o) (device-dropped limit head b Delete e refl) tt (λ _ _. tt) (λ _. tt)
-step-device limit head b High e o = sequenced absurd refl refl (plain b High e o) (device-dropped limit head b High e refl) tt (λ _ _. tt) (λ _. tt)
+step-device limit head b Delete e o =
+    sequenced absurd refl refl (plain b Delete e o) (device-dropped limit head b Delete e refl) tt (λ _ _. tt) (λ _. tt)
+step-device limit head b High e o =
+    sequenced absurd refl refl (plain b High e o) (device-dropped limit head b High e refl) tt (λ _ _. tt) (λ _. tt)
 step-device limit head b Cancel e o = cc
 step-device limit head b Escape e o = cc
-step-device limit head b k e o = sequenced absurd refl refl (plain b k e o) (device-head limit head b (rw e refl)) tt (λ _ _. tt) (λ _. tt)
+step-device limit head b k e o =
+    sequenced absurd refl refl (plain b k e o) (device-head limit head b (rw e refl)) tt (λ _ _. tt) (λ _. tt)
 
 -- ---- in its data
 
@@ -108,24 +155,34 @@ step-data limit b Delete e o =
     (data-dropped limit b (rw e (delete_is_no_terminator b (spans b Delete e))) (rw e refl)) tt (λ _ _. tt) (λ _. tt)
 step-data limit b High e o = elim (cases_Bool (eqb b 0x9c)) [
   | inl is ↦ sequenced absurd refl refl (plain b High e o) (data-terminator limit b e is) refl (λ _ _. tt) (λ _. tt)
-  | inr other ↦ sequenced absurd refl refl (plain b High e o) (data-dropped limit b (rw e other) (rw e refl)) tt (λ _ _. tt) (λ _. tt)
+  | inr other ↦
+      sequenced absurd refl refl (plain b High e o) (data-dropped limit b (rw e other) (rw e refl)) tt
+      (λ _ _. tt) (λ _. tt)
 ]
 step-data limit b Cancel e o = cc
 step-data limit b Escape e o = cc
-step-data limit b k e o = sequenced absurd refl refl (plain b k e o) (data-put limit b (rw e refl)) tt (λ _ _. rw e refl) (λ quiet. absurd (data_quiet b k e refl quiet))
+step-data limit b k e o =
+    sequenced absurd refl refl (plain b k e o) (data-put limit b (rw e refl)) tt (λ _ _. rw e refl)
+    (λ quiet. absurd (data_quiet b k e refl quiet))
 
 -- ---- in an operating system command
 
-step-command : (limit : Option ℕ) (items : List ℕ) (b : ℕ) (k : Class) → class_of b ≡ k → ends_all k ≡ false → Steps limit (InSystemCommand items) b
+step-command : (limit : Option ℕ) (items : List ℕ) (b : ℕ) (k : Class) → class_of b ≡ k → ends_all k ≡ false
+    → Steps limit (InSystemCommand items) b
 step-command limit items b Control e o = elim (cases_Bool (eqb b bell)) [
-  | inl is ↦ sequenced absurd refl refl (plain b Control e o) (command-bell limit items b e is) refl (λ _ fits. (few_pieces limit items, fits, some_pieces limit items)) (λ _. tt)
-  | inr other ↦ leads_on absurd (inl refl) (λ _. omega arith) (plain b Control e o) (command-control limit items b e other) tt (λ _ _. tt) (λ _. tt)
+  | inl is ↦
+      sequenced absurd refl refl (plain b Control e o) (command-bell limit items b e is) refl
+      (λ _ fits. (few_pieces limit items, fits, some_pieces limit items)) (λ _. tt)
+  | inr other ↦
+      leads_on absurd (inl refl) (λ _. omega arith) (plain b Control e o) (command-control limit items b e other) tt
+      (λ _ _. tt) (λ _. tt)
 ]
 step-command limit items b Cancel e o = cc
 step-command limit items b Escape e o = cc
 step-command limit items b k e o =
     let s : Spans k b = spans b k e in
-    leads_on absurd (inl refl) (λ none. rw none (pieces_push items b)) (plain b k e o) (command-item limit items b (omega arith)) tt (λ _ _. tt) (λ _. tt)
+    leads_on absurd (inl refl) (λ none. rw none (pieces_push items b)) (plain b k e o)
+    (command-item limit items b (omega arith)) tt (λ _ _. tt) (λ _. tt)
 
 -- ---- any place
 
@@ -140,10 +197,12 @@ step-ordinary limit (InDeviceControl head) b k is e o = step-device limit head b
 step-ordinary limit InData b k is e o = step-data limit b k e o
 step-ordinary limit (InSystemCommand items) b k is e o = step-command limit items b k e o
 step-ordinary limit InIgnoredString b k is e o =
-    sequenced absurd refl refl (plain b k e o) (ignored-more limit b (rw e (ends_not_cancel k o))) tt (λ _ _. tt) (λ _. tt)
+    sequenced absurd refl refl (plain b k e o) (ignored-more limit b (rw e (ends_not_cancel k o))) tt
+    (λ _ _. tt) (λ _. tt)
 
 -- ESC breaks a character
-escape_little : (limit : Option ℕ) (place : Place) → IsPlace place → IsText place → breaks (open_at place) (escape ∷ []) ≡ false → IsLittle AtEscape (closing_at limit place)
+escape_little : (limit : Option ℕ) (place : Place) → IsPlace place → IsText place
+    → breaks (open_at place) (escape ∷ []) ≡ false → IsLittle AtEscape (closing_at limit place)
 escape_little limit (InText []) is text unbroken = inl refl
 escape_little limit (InText (a ∷ u)) is text unbroken =
     let tests : Tests (a ∷ u ++ escape ∷ []) false false = ascii_breaks (a ∷ u) escape is (omega arith) in
@@ -156,7 +215,8 @@ closing_others limit InData b quiet = tt
 closing_others limit (InSystemCommand items) b quiet = tt
 closing_others limit _ b quiet = tt
 
-cancel_others : (limit : Option ℕ) (place : Place) (b : ℕ) → IsQuiet place b → AreOthers (closing_at limit place ++ Execute b ∷ [])
+cancel_others : (limit : Option ℕ) (place : Place) (b : ℕ) → IsQuiet place b
+    → AreOthers (closing_at limit place ++ Execute b ∷ [])
 cancel_others limit (InText u) b quiet = absurd quiet
 cancel_others limit InData b quiet = (tt, tt)
 cancel_others limit (InSystemCommand items) b quiet = (tt, tt)
@@ -178,7 +238,8 @@ by_class limit place b Escape is e =
     })
 by_class limit (InText u) b Cancel is e = steps-text limit u b (cancel_is_no_escape b e) is
 by_class limit place b Cancel is e =
-    sequenced absurd refl refl (cancel_is_no_escape b e) (cancel limit place b is e) refl (λ size fits. closing_brief limit size place b fits (spans b Cancel e)) (cancel_others limit place b)
+    sequenced absurd refl refl (cancel_is_no_escape b e) (cancel limit place b is e) refl
+    (λ size fits. closing_brief limit size place b fits (spans b Cancel e)) (cancel_others limit place b)
 by_class limit place b k is e = step-ordinary limit place b k is e refl
 
 -- each byte tells something little after each place, and leads to a next place

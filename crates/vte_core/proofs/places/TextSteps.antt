@@ -58,9 +58,12 @@ pub record Steps (limit : Option ℕ) (place : Place) (b : ℕ) : Type 0 where
   pub others : IsQuiet place b → AreOthers told
 
 -- a step of a byte that is not ESC
-pub leads_on : {limit : Option ℕ} {place next : Place} {b : ℕ} {told : List Event} → (IsText place → IsLittle next told) → LeavesOpen next told
-    → (limit ≡ None → data_left (left_at limit next) ≤ data_left (left_at limit place) + 1) → eqb b escape ≡ false → Leads limit place b told next → IsPlace next
-    → ((size : Option ℕ) → FitsLeft size (left_at limit place) → IsBrief size told) → (IsQuiet place b → AreOthers told) → Steps limit place b
+pub leads_on : {limit : Option ℕ} {place next : Place} {b : ℕ} {told : List Event} → (IsText place → IsLittle next told)
+    → LeavesOpen next told
+    → (limit ≡ None → data_left (left_at limit next) ≤ data_left (left_at limit place) + 1) → eqb b escape ≡ false
+    → Leads limit place b told next → IsPlace next
+    → ((size : Option ℕ) → FitsLeft size (left_at limit place) → IsBrief size told) → (IsQuiet place b → AreOthers told)
+    → Steps limit place b
 leads_on {limit} {place} {next} {b} {told} little leaves grows e l is brief others = record {
   told = told;
   next = next;
@@ -76,15 +79,18 @@ leads_on {limit} {place} {next} {b} {told} little leaves grows e l is brief othe
 tiny_of : (next : Place) (told : List Event) → IsLittle next told → IsTiny told
 tiny_of next told little = elim little [ inl nothing ↦ subst IsTiny (sym nothing) tt | inr closed ↦ closed.1 ]
 
-leads_little : {limit : Option ℕ} {u v : List ℕ} {b : ℕ} {told : List Event} → IsLittle (InText v) told → eqb b escape ≡ false → Leads limit (InText u) b told (InText v)
+leads_little : {limit : Option ℕ} {u v : List ℕ} {b : ℕ} {told : List Event} → IsLittle (InText v) told
+    → eqb b escape ≡ false → Leads limit (InText u) b told (InText v)
     → IsPlace (InText v) → Steps limit (InText u) b
 leads_little {limit} {v = v} {told = told} little e l is =
-    leads_on (λ _. little) (elim little [ inl nothing ↦ inr (inl nothing) | inr closed ↦ inl closed.0 ]) (λ _. omega (arith, text_left limit v)) e l is
+    leads_on (λ _. little) (elim little [ inl nothing ↦ inr (inl nothing) | inr closed ↦ inl closed.0 ])
+    (λ _. omega (arith, text_left limit v)) e l is
     (λ size _. tiny_brief size told (tiny_of (InText v) told little)) (λ quiet. absurd quiet)
 
 -- the byte ends the character, or belongs to it, or neither
 by_tests : (limit : Option ℕ) (u : List ℕ) (b : ℕ) → eqb b escape ≡ false
-    → (is_well_formed (u ++ b ∷ []) ≡ false → is_truncated (u ++ b ∷ []) ≡ false → Steps limit (InText u) b) → Steps limit (InText u) b
+    → (is_well_formed (u ++ b ∷ []) ≡ false → is_truncated (u ++ b ∷ []) ≡ false → Steps limit (InText u) b)
+    → Steps limit (InText u) b
 by_tests limit u b e neither = elim (cases_Bool (is_well_formed (u ++ b ∷ []))) [
   | inl whole ↦ leads_little (inr (refl, short-character (u ++ b ∷ []) whole)) e (text-whole limit u b whole) refl
   | inr part ↦ elim (cases_Bool (is_truncated (u ++ b ∷ []))) [
@@ -94,7 +100,9 @@ by_tests limit u b e neither = elim (cases_Bool (is_well_formed (u ++ b ∷ []))
 ]
 
 between : (limit : Option ℕ) (b : ℕ) → eqb b escape ≡ false → Steps limit (InText []) b
-between limit b e = by_tests limit [] b e (λ part none. leads_little (inr (refl, short-malformed b)) e (text-lone limit b part none) refl)
+between limit b e =
+    by_tests limit [] b e
+    (λ part none. leads_little (inr (refl, short-malformed b)) e (text-lone limit b part none) refl)
 
 -- the byte belongs to no character with those before it
 broken : (limit : Option ℕ) (u : List ℕ) (b : ℕ) → eqb b escape ≡ false → is_truncated u ≡ true
@@ -113,11 +121,16 @@ broken limit u b e more part none =
       };
       brief = λ size _. tiny-both size (Print replacement ∷ []) s.told (refl, refl) (tiny_of s.next s.told little);
       grows = λ none. omega (arith, s.grows none);
-      leaves = elim little [ inl nothing ↦ inr (inr (ap (λ es. Print replacement ∷ es) nothing)) | inr closed ↦ inl closed.0 ];
+      leaves =
+          elim little [
+            | inl nothing ↦ inr (inr (ap (λ es. Print replacement ∷ es) nothing))
+            | inr closed ↦ inl closed.0
+          ];
       little = λ _ unbroken. absurd (false≢true (sym unbroken ∙ breaks-broken u b more part none));
       others = λ quiet. absurd quiet;
     }
 
-pub steps-text : (limit : Option ℕ) (u : List ℕ) (b : ℕ) → eqb b escape ≡ false → is_open u ≡ true → Steps limit (InText u) b
+pub steps-text : (limit : Option ℕ) (u : List ℕ) (b : ℕ) → eqb b escape ≡ false → is_open u ≡ true
+    → Steps limit (InText u) b
 steps-text limit [] b e begun = between limit b e
 steps-text limit (a ∷ u) b e more = by_tests limit (a ∷ u) b e (λ part none. broken limit (a ∷ u) b e more part none)

@@ -14,7 +14,9 @@ Completes b ranges = (u : List ℕ) → fits ranges u ≡ true → AreRun true (
 
 -- the row of Unicode's table that the byte has
 row : (b : ℕ) (ranges : List Range) → 0xc3 ≤ b → wanted_behind b utf8_rows ≡ ranges ∷ [] → Completes b ranges
-row b ranges low same u fit = printable b u (omega (arith, low)) (λ e. absurd (omega (arith, e, low))) ((tests_row b ranges same u).is_whole ∙ fit)
+row b ranges low same u fit =
+    printable b u (omega (arith, low)) (λ e. absurd (omega (arith, e, low)))
+    ((tests_row b ranges same u).is_whole ∙ fit)
 
 -- ---- the first bytes
 
@@ -23,7 +25,8 @@ pub data Begins (b : ℕ) : Type 0 where
   fails : begun b ≡ Failed → Begins b
   opens : (t : State) → begun b ≡ t → t ≢ Between → t ≢ Failed → 0xc0 ≤ b → Completes b (still t) → Begins b
 
-opened : (b : ℕ) (t : State) → begun b ≡ t → t ≢ Between → t ≢ Failed → 0xc3 ≤ b → wanted_behind b utf8_rows ≡ still t ∷ [] → Begins b
+opened : (b : ℕ) (t : State) → begun b ≡ t → t ≢ Between → t ≢ Failed → 0xc3 ≤ b
+    → wanted_behind b utf8_rows ≡ still t ∷ [] → Begins b
 opened b t is not fine low same = opens t is not fine (omega (arith, low)) (row b (still t) low same)
 
 -- behind C2 the table also has controls
@@ -33,7 +36,8 @@ after_c2 [] fit = absurd (false≢true fit)
 after_c2 (c ∷ u) fit =
     let parts = and_parts (is_in (to 0xa0 0xbf) c) (fits [] u) fit in
     let high : 0xa0 ≤ c = leb-true 0xa0 c (and_parts (nat_le 0xa0 c) (nat_le c 0xbf) parts.0).0 in
-    printable 0xc2 (c ∷ u) (omega arith) (λ _. high) ((tests_two 0xc2 (omega arith) (omega arith) (c ∷ u)).is_whole ∙ rw parts.1 (grind (arith, nat_tests)))
+    printable 0xc2 (c ∷ u) (omega arith) (λ _. high)
+    ((tests_two 0xc2 (omega arith) (omega arith) (c ∷ u)).is_whole ∙ rw parts.1 (grind (arith, nat_tests)))
 
 pub begins : (b : ℕ) → Begins b
 unfolding utf8_rows
@@ -44,25 +48,32 @@ begins b =
           | inl layout ↦ prints (run-layout (b ∷ []) 0 b (omega arith) refl layout) (rw layout refl)
           | inr other ↦ fails (grind (arith, nat_tests))
         ]
-        | inr printed ↦ prints (run-ascii true (b ∷ []) 0 1 (each-one IsPrinted (b ∷ []) 0 (printed, ascii))) (grind (arith, nat_tests))
+        | inr printed ↦
+            prints (run-ascii true (b ∷ []) 0 1 (each-one IsPrinted (b ∷ []) 0 (printed, ascii))) (grind (arith, nat_tests))
       ]
       | inr from_80 ↦ elim (cases_lt b 0xc2) [
         | inl lone ↦ fails (grind (arith, nat_tests))
         | inr from_c2 ↦ elim (cases_eq b 0xc2) [
           | inl c2 ↦ subst Begins (sym c2) (opens AfterC2 refl (λ e. cc) (λ e. cc) (omega arith) after_c2)
           | inr past_c2 ↦ elim (cases_lt b 0xe0) [
-            | inl short ↦ opened b One (grind (arith, nat_tests)) (λ e. cc) (λ e. cc) (omega (arith, from_c2, past_c2)) (grind (arith, nat_tests))
+            | inl short ↦
+                opened b One (grind (arith, nat_tests)) (λ e. cc) (λ e. cc) (omega (arith, from_c2, past_c2))
+                (grind (arith, nat_tests))
             | inr from_e0 ↦ elim (cases_eq b 0xe0) [
               | inl e0 ↦ subst Begins (sym e0) (opened 0xe0 AfterE0 refl (λ e. cc) (λ e. cc) (omega arith) refl)
               | inr past_e0 ↦ elim (cases_lt b 0xf0) [
                 | inl middle ↦ elim (cases_eq b 0xed) [
                   | inl ed ↦ subst Begins (sym ed) (opened 0xed AfterED refl (λ e. cc) (λ e. cc) (omega arith) refl)
-                  | inr other ↦ opened b Two (grind (arith, nat_tests)) (λ e. cc) (λ e. cc) (omega (arith, from_e0)) (grind (arith, nat_tests))
+                  | inr other ↦
+                      opened b Two (grind (arith, nat_tests)) (λ e. cc) (λ e. cc) (omega (arith, from_e0))
+                      (grind (arith, nat_tests))
                 ]
                 | inr from_f0 ↦ elim (cases_eq b 0xf0) [
                   | inl f0 ↦ subst Begins (sym f0) (opened 0xf0 AfterF0 refl (λ e. cc) (λ e. cc) (omega arith) refl)
                   | inr past_f0 ↦ elim (cases_lt b 0xf4) [
-                    | inl long ↦ opened b Three (grind (arith, nat_tests)) (λ e. cc) (λ e. cc) (omega (arith, from_f0)) (grind (arith, nat_tests))
+                    | inl long ↦
+                        opened b Three (grind (arith, nat_tests)) (λ e. cc) (λ e. cc) (omega (arith, from_f0))
+                        (grind (arith, nat_tests))
                     | inr from_f4 ↦ elim (cases_eq b 0xf4) [
                       | inl f4 ↦ subst Begins (sym f4) (opened 0xf4 AfterF4 refl (λ e. cc) (λ e. cc) (omega arith) refl)
                       | inr past_f4 ↦ fails (grind (arith, nat_tests))

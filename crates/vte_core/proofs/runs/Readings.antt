@@ -17,21 +17,28 @@ is_between _ e = absurd (omega (arith, e))
 
 -- ---- readings
 
-pub has_read-more : (text more : List ℕ) (at n state after : ℕ) → HasRead text at state → at + n ≤ length text → more ≡ take n (drop at text)
+pub has_read-more : (text more : List ℕ) (at n state after : ℕ) → HasRead text at state → at + n ≤ length text
+    → more ≡ take n (drop at text)
     → ((s : State) → state ≡ code s → after ≡ code (state_after s more)) → after ≢ 54 → HasRead text (at + n) after
 has_read-more text more at n state after read within is steps fine =
     let here : State = state_after Between (take at text) in
     let joined : state_after Between (take (at + n) text) ≡ state_after here more =
-    ap (state_after Between) (take-add at n text ∙ ap (λ x. take at text ++ x) (sym is)) ∙ state_after-append Between (take at text) more in
+    ap (state_after Between) (take-add at n text ∙ ap (λ x. take at text ++ x) (sym is))
+    ∙ state_after-append Between (take at text) more in
     let same : after ≡ code (state_after Between (take (at + n) text)) = steps here read.is ∙ ap code (sym joined) in
     record { within = within; is = same; going = λ e. fine (same ∙ ap code e) }
 
 -- ---- the last end
 
-pub last_end-here : (text : List ℕ) (at : ℕ) → at ≤ length text → state_after Between (take at text) ≡ Between → LastEnd text at at
+pub last_end-here : (text : List ℕ) (at : ℕ) → at ≤ length text → state_after Between (take at text) ≡ Between
+    → LastEnd text at at
 last_end-here text at within is =
     let s = standing text at within (λ e. cc) in
-    record { before = omega arith; near = omega arith; run = subst (λ n. AreRun true (take n text)) (s.settled is) s.printable }
+    record {
+      before = omega arith;
+      near = omega arith;
+      run = subst (λ n. AreRun true (take n text)) (s.settled is) s.printable;
+    }
 
 still-some : (s : State) → s ≢ Between → s ≢ Failed → 1 ≤ length (still s)
 still-some s not going = elim (turn s) [
@@ -41,11 +48,13 @@ still-some s not going = elim (turn s) [
 ]
 
 -- a character that has not ended
-pub unended : (text : List ℕ) (at state : ℕ) → HasRead text at state → state ≢ 0 → (s : Standing text at (state_after Between (take at text))) → IsBegun text s.end at
+pub unended : (text : List ℕ) (at state : ℕ) → HasRead text at state → state ≢ 0
+    → (s : Standing text at (state_after Between (take at text))) → IsBegun text s.end at
 unended text at state read inside s = s.begun (λ e. inside (read.is ∙ ap code e))
 
 -- the place of its first byte is the last end
-pub last_end-first : (text : List ℕ) (at state end : ℕ) → HasRead text at state → state ≢ 0 → (s : Standing text at (state_after Between (take at text)))
+pub last_end-first : (text : List ℕ) (at state end : ℕ) → HasRead text at state → state ≢ 0
+    → (s : Standing text at (state_after Between (take at text)))
     → s.end ≤ end → end < at → 0xc0 ≤ slice_index text end → LastEnd text at end
 last_end-first text at state end read inside s from before high =
     let u = unended text at state read inside s in
@@ -61,7 +70,8 @@ last_end-first text at state end read inside s from before high =
 
 -- ---- a place among other bytes
 
-pub byte_from : (bytes : List ℕ) (from at b : ℕ) → b ≡ slice_index bytes (from + at) → b ≡ slice_index (drop from bytes) at
+pub byte_from : (bytes : List ℕ) (from at b : ℕ) → b ≡ slice_index bytes (from + at)
+    → b ≡ slice_index (drop from bytes) at
 byte_from bytes from at b is = is ∙ sym (get_or-drop from bytes at 0)
 
 -- ---- a text without HT, LF and CR
@@ -86,8 +96,10 @@ all_above : (cs : List ℕ) → AreAbove (encodes cs) → HoldsNone true cs → 
 all_above [] are all = All-nil (λ c. is_left_out false c ≡ false)
 all_above (c ∷ cs) are all =
     let rest : AreAbove (encodes cs) = λ k l.
-    subst (λ b. 0x20 ≤ b) (get_or-append-add (encode c) (encodes cs) k 0) (are (length (encode c) + k) (omega (arith, l, length-append (encode c) (encodes cs)))) in
-    All-cons (λ c. is_left_out false c ≡ false) c cs (above c (first_above c (encodes cs) are) (All-head (λ c. is_left_out true c ≡ false) c cs all))
+    subst (λ b. 0x20 ≤ b) (get_or-append-add (encode c) (encodes cs) k 0)
+    (are (length (encode c) + k) (omega (arith, l, length-append (encode c) (encodes cs)))) in
+    All-cons (λ c. is_left_out false c ≡ false) c cs
+    (above c (first_above c (encodes cs) are) (All-head (λ c. is_left_out true c ≡ false) c cs all))
     (all_above cs rest (All-tail (λ c. is_left_out true c ≡ false) c cs all))
 
 -- a run without bytes below 20 has none
@@ -97,5 +109,11 @@ run-kept true text at end low within run = run
 run-kept false text at end low within run =
     let are : AreAbove (take end text) = λ k l.
     let below : k < end = omega (arith, l, length-take end text) in
-    subst (λ b. 0x20 ≤ b) (sym (get_or-take end text k 0 below)) (low refl k (omega arith) (omega (arith, below, within))) in
-    record { utf8 = run.utf8; plain = all_above (chars (take end text)) (subst AreAbove (sym (encodes-chars (take end text) run.utf8)) are) run.plain }
+    subst (λ b. 0x20 ≤ b) (sym (get_or-take end text k 0 below))
+    (low refl k (omega arith) (omega (arith, below, within))) in
+    record {
+      utf8 = run.utf8;
+      plain =
+          all_above (chars (take end text))
+          (subst AreAbove (sym (encodes-chars (take end text) run.utf8)) are) run.plain;
+    }

@@ -1,4 +1,5 @@
--- What the automaton's state says of the text that it has read: characters that are printed, and then what has begun.
+-- What the automaton's state says of the text that it has read: characters that are printed, and
+-- then what has begun.
 use Rattle.vte_core.proofs.Common.{List, [], add-one, ap, append_assoc, arith, cond, drop, inl, inr, length, length-drop, nat_le, refl, subst, suc, sym, take, true, zero, ℕ, ◌&&◌, ◌++◌, ◌+◌, ◌-◌, ◌<◌}
 use Rattle.vte_core.proofs.Common.{◌∙◌, ◌∷◌, ◌≡◌, ◌≢◌, ◌≤◌, take-add, and_parts, cases_Bool, false≢true, leb-true, append-nil, get_or-drop, take_more, slice_index, Range, is_in, AreRun}
 use Rattle.vte_core.specs.machine.Between.{Each}
@@ -31,7 +32,8 @@ still-short _ = omega arith
 
 below_c0 : (range : Range) (b : ℕ) → range.last ≤ 0xbf → is_in range b ≡ true → b < 0xc0
 below_c0 range b last fit =
-    let high : b ≤ range.last = leb-true b range.last (and_parts (nat_le range.first b) (nat_le b range.last) fit).1 in omega (arith, last, high)
+    let high : b ≤ range.last = leb-true b range.last (and_parts (nat_le range.first b) (nat_le b range.last) fit).1 in
+    omega (arith, last, high)
 
 none-taken : (text : List ℕ) (at end : ℕ) → end ≡ at → take (at - end) (drop end text) ≡ []
 none-taken text at end same = let none : at - end ≡ 0 = omega (arith, same) in rw none refl
@@ -42,7 +44,13 @@ all_printed text at printed = record {
   end = at;
   before = omega arith;
   printable = printed;
-  completes = λ u fit. rw (none-taken text at at refl) (elim u as (λ v. fits [] v ≡ true → AreRun true v) [ [] ↦ λ _. printable-nil true | c ∷ v ↦ λ f. absurd (false≢true f) ] fit);
+  completes =
+      λ u fit.
+      rw (none-taken text at at refl)
+      (elim u as (λ v. fits [] v ≡ true → AreRun true v) [
+        | [] ↦ λ _. printable-nil true
+        | c ∷ v ↦ λ f. absurd (false≢true f)
+      ] fit);
   settled = λ _. refl;
   begun = λ not. absurd (not refl);
   short = omega arith;
@@ -59,7 +67,8 @@ module _ (text : List ℕ) (at : ℕ) (within : at < length text) (s : State) (o
   taken-more =
       let size : at + 1 - old.end ≡ at - old.end + 1 = omega (arith, old.before) in
       let place : old.end + (at - old.end) ≡ at = omega (arith, old.before) in
-      ap (λ n. take n (drop old.end text)) size ∙ take_more (drop old.end text) (at - old.end) 0 (omega (arith, length-drop old.end text, old.before, within))
+      ap (λ n. take n (drop old.end text)) size
+      ∙ take_more (drop old.end text) (at - old.end) 0 (omega (arith, length-drop old.end text, old.before, within))
       ∙ ap (λ x. taken ++ x ∷ []) (get_or-drop old.end text (at - old.end) 0 ∙ ap (slice_index text) place)
 
   -- A character ends.
@@ -67,8 +76,11 @@ module _ (text : List ℕ) (at : ℕ) (within : at < length text) (s : State) (o
   settles whole =
       let place : at + 1 ≡ old.end + (at + 1 - old.end) = omega (arith, old.before) in
       let joined : take (at + 1) text ≡ take old.end text ++ (taken ++ b ∷ []) =
-      ap (λ n. take n text) place ∙ take-add old.end (at + 1 - old.end) text ∙ ap (λ x. take old.end text ++ x) taken-more in
-      all_printed text (at + 1) (subst (AreRun true) (sym joined) (printable-append true (take old.end text) (taken ++ b ∷ []) old.printable whole))
+      ap (λ n. take n text) place ∙ take-add old.end (at + 1 - old.end) text
+      ∙ ap (λ x. take old.end text ++ x) taken-more in
+      all_printed text (at + 1)
+      (subst (AreRun true) (sym joined)
+      (printable-append true (take old.end text) (taken ++ b ∷ []) old.printable whole))
 
   -- A character begins or goes on.
   goes_on : (t : State) → t ≢ Between → IsBegun text old.end (at + 1) → at + 1 + length (still t) ≤ old.end + 4
@@ -91,15 +103,24 @@ module _ (text : List ℕ) (at : ℕ) (within : at < length text) (s : State) (o
       let here : old.end ≡ at = old.settled same in
       let none : taken ≡ [] = none-taken text at old.end here in
       elim (begins b) [
-        | prints printed is ↦ subst (Standing text (at + 1)) (sym (e ∙ is)) (settles (subst (λ x. AreRun true (x ++ b ∷ [])) (sym none) printed))
+        | prints printed is ↦
+            subst (Standing text (at + 1)) (sym (e ∙ is))
+            (settles (subst (λ x. AreRun true (x ++ b ∷ [])) (sym none) printed))
         | fails is ↦ absurd (ok (e ∙ is))
         | opens t is not fine low completes ↦ subst (Standing text (at + 1)) (sym (e ∙ is))
-            (goes_on t not (record { some = omega (arith, here); first = subst (λ n. 0xc0 ≤ slice_index text n) (sym here) low; later = λ k past below. absurd (omega (arith, here, past, below)) })
-            (omega (arith, here, still-short t)) (λ u fit. subst (λ x. AreRun true ((x ++ b ∷ []) ++ u)) (sym none) (completes u fit)))
+            (goes_on t not
+            (record {
+              some = omega (arith, here);
+              first = subst (λ n. 0xc0 ≤ slice_index text n) (sym here) low;
+              later = λ k past below. absurd (omega (arith, here, past, below));
+            })
+            (omega (arith, here, still-short t))
+            (λ u fit. subst (λ x. AreRun true ((x ++ b ∷ []) ++ u)) (sym none) (completes u fit)))
       ]
 
   -- a further one
-  later : (t : State) (range : Range) → s ≢ Between → range.last ≤ 0xbf → still s ≡ range ∷ still t → next s b ≡ over range t b → next s b ≢ Failed → Standing text (at + 1) (next s b)
+  later : (t : State) (range : Range) → s ≢ Between → range.last ≤ 0xbf → still s ≡ range ∷ still t
+      → next s b ≡ over range t b → next s b ≢ Failed → Standing text (at + 1) (next s b)
   later t range not last is steps ok = elim (cases_Bool (is_in range b)) [
     | inr misfits ↦ absurd (ok (steps ∙ ap (λ v. cond v t Failed) misfits))
     | inl fit ↦
@@ -110,11 +131,17 @@ module _ (text : List ℕ) (at : ℕ) (within : at < length text) (s : State) (o
         (ap (λ ranges. fits ranges (b ∷ u)) is ∙ ap (λ v. v && fits (still t) u) fit ∙ more)) in
         subst (Standing text (at + 1)) (sym e) (elim (turn t) [
           | between same ↦
-              let whole : AreRun true (taken ++ b ∷ []) = subst (AreRun true) (append-nil (taken ++ b ∷ [])) (completes [] (ap (λ v. fits (still v) []) same)) in
+              let whole : AreRun true (taken ++ b ∷ []) =
+              subst (AreRun true) (append-nil (taken ++ b ∷ [])) (completes [] (ap (λ v. fits (still v) []) same)) in
               subst (Standing text (at + 1)) (sym same) (settles whole)
           | gone same ↦ absurd (ok (e ∙ same))
           | waiting v r other _ _ _ ↦
-              goes_on t other (record { some = omega (arith, k.some); first = k.first; later = each-next (λ c. c < 0xc0) text (old.end + 1) at b k.later refl (below_c0 range b last fit) })
+              goes_on t other
+              (record {
+                some = omega (arith, k.some);
+                first = k.first;
+                later = each-next (λ c. c < 0xc0) text (old.end + 1) at b k.later refl (below_c0 range b last fit);
+              })
               (omega (arith, old.short, ap length is)) completes
         ])
   ]
@@ -127,16 +154,26 @@ module _ (text : List ℕ) (at : ℕ) (within : at < length text) (s : State) (o
     | waiting t range not last is steps ↦ later t range not last is (steps b) ok
   ]
 
-stepped : (text : List ℕ) (at : ℕ) → at < length text → state_after Between (take (at + 1) text) ≡ next (state_after Between (take at text)) (slice_index text at)
-stepped text at within = ap (state_after Between) (take_more text at 0 within) ∙ state_after-append Between (take at text) (slice_index text at ∷ [])
+stepped : (text : List ℕ) (at : ℕ) → at < length text
+    → state_after Between (take (at + 1) text) ≡ next (state_after Between (take at text)) (slice_index text at)
+stepped text at within =
+    ap (state_after Between) (take_more text at 0 within)
+    ∙ state_after-append Between (take at text) (slice_index text at ∷ [])
 
-further : (text : List ℕ) (at : ℕ) (within : at < length text) → Standing text at (state_after Between (take at text)) → state_after Between (take (at + 1) text) ≢ Failed
+further : (text : List ℕ) (at : ℕ) (within : at < length text) → Standing text at (state_after Between (take at text))
+    → state_after Between (take (at + 1) text) ≢ Failed
     → Standing text (at + 1) (state_after Between (take (at + 1) text))
-further text at within old ok = subst (Standing text (at + 1)) (sym (stepped text at within)) (one_more text at within _ old (λ e. ok (stepped text at within ∙ e)))
+further text at within old ok =
+    subst (Standing text (at + 1)) (sym (stepped text at within))
+    (one_more text at within _ old (λ e. ok (stepped text at within ∙ e)))
 
-pub standing : (text : List ℕ) (at : ℕ) → at ≤ length text → state_after Between (take at text) ≢ Failed → Standing text at (state_after Between (take at text))
+pub standing : (text : List ℕ) (at : ℕ) → at ≤ length text → state_after Between (take at text) ≢ Failed
+    → Standing text at (state_after Between (take at text))
 standing text zero within ok = all_printed text 0 (printable-nil true)
 standing text (suc at) within ok =
     let fine : state_after Between (take (at + 1) text) ≢ Failed = rw add-one ok in
-    let old = standing text at (omega arith) (λ e. fine (stepped text at (omega arith) ∙ ap (λ s. next s (slice_index text at)) e ∙ failed (slice_index text at))) in
+    let old =
+    standing text at (omega arith)
+    (λ e.
+    fine (stepped text at (omega arith) ∙ ap (λ s. next s (slice_index text at)) e ∙ failed (slice_index text at))) in
     rw add-one at (further text at (omega arith) old fine)

@@ -27,17 +27,21 @@ unfolding next
 failed b = refl
 
 -- Bytes that may each stand between two characters lead back there.
-pub stays_between : (bytes : List ℕ) → ((k : ℕ) → k < length bytes → begun (get_or bytes k 0) ≡ Between) → state_after Between bytes ≡ Between
+pub stays_between : (bytes : List ℕ) → ((k : ℕ) → k < length bytes → begun (get_or bytes k 0) ≡ Between)
+    → state_after Between bytes ≡ Between
 unfolding next
 stays_between [] all = refl
-stays_between (b ∷ bytes) all = ap (λ s. state_after s bytes) (all 0 (omega arith)) ∙ stays_between bytes (λ k low. all (suc k) (omega (arith, low)))
+stays_between (b ∷ bytes) all =
+    ap (λ s. state_after s bytes) (all 0 (omega arith))
+    ∙ stays_between bytes (λ k low. all (suc k) (omega (arith, low)))
 
 -- ---- what one more byte makes of a state
 
 pub data Turn (s : State) : Type 0 where
   between : s ≡ Between → Turn s
   gone : s ≡ Failed → Turn s
-  waiting : (t : State) (range : Range) → s ≢ Between → range.last ≤ 0xbf → still s ≡ range ∷ still t → ((b : ℕ) → next s b ≡ over range t b) → Turn s
+  waiting : (t : State) (range : Range) → s ≢ Between → range.last ≤ 0xbf → still s ≡ range ∷ still t
+      → ((b : ℕ) → next s b ≡ over range t b) → Turn s
 
 pub turn : (s : State) → Turn s
 unfolding next

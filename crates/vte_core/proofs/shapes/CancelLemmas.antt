@@ -27,25 +27,32 @@ text_cancel rest b low =
 -- what is closed comes first, then the byte is executed
 pub cancel : (limit : Option ℕ) (place : Place) (b : ℕ) → IsPlace place → class_of b ≡ Cancel
     → Leads limit place b (closing_at limit place ++ Execute b ∷ []) (InText [])
-unfolding body_outcome executed escape_behind control_sequence_behind control_sequence_end device_control_behind device_control_end data_outcome system_command_behind ignored_string_outcome
+unfolding body_outcome executed escape_behind control_sequence_behind control_sequence_end device_control_behind
+    device_control_end data_outcome system_command_behind ignored_string_outcome
 cancel limit (InText []) b is e = record { leads = λ rest. text_cancel rest b (spans b Cancel e) }
 cancel limit (InText (a ∷ u)) b is e =
     let low : b < 0x20 = spans b Cancel e in
     let tests : Tests (a ∷ u ++ b ∷ []) false false = ascii_breaks (a ∷ u) b is (omega arith) in
-    record { leads = λ rest. text_broken (a ∷ u) b is tests.is_whole tests.is_open rest ∙ ap (tell (Print replacement ∷ [])) (text_cancel rest b low) }
+    record {
+      leads = λ rest. text_broken (a ∷ u) b is tests.is_whole tests.is_open rest
+          ∙ ap (tell (Print replacement ∷ [])) (text_cancel rest b low);
+    }
 cancel limit (InSystemCommand items) b is e = record { leads = λ rest. simp (e, no_bell b e, append-nil) }
 cancel limit _ b is e = record { leads = λ rest. simp e }
 
 -- ---- both are little
 
-pub closing_brief : (limit size : Option ℕ) (place : Place) (b : ℕ) → FitsLeft size (left_at limit place) → b < 0x20 → IsBrief size (closing_at limit place ++ Execute b ∷ [])
+pub closing_brief : (limit size : Option ℕ) (place : Place) (b : ℕ) → FitsLeft size (left_at limit place) → b < 0x20
+    → IsBrief size (closing_at limit place ++ Execute b ∷ [])
 closing_brief limit size (InText []) b fits low = executed_low b low
 closing_brief limit size (InText (a ∷ u)) b fits low = ((refl, refl), executed_low b low)
 closing_brief limit size InData b fits low = (tt, executed_low b low)
-closing_brief limit size (InSystemCommand items) b fits low = ((few_pieces limit items, fits, some_pieces limit items), executed_low b low)
+closing_brief limit size (InSystemCommand items) b fits low =
+    ((few_pieces limit items, fits, some_pieces limit items), executed_low b low)
 closing_brief limit size _ b fits low = executed_low b low
 
-pub closing_alone_brief : (limit size : Option ℕ) (place : Place) → FitsLeft size (left_at limit place) → IsBrief size (closing_at limit place)
+pub closing_alone_brief : (limit size : Option ℕ) (place : Place) → FitsLeft size (left_at limit place)
+    → IsBrief size (closing_at limit place)
 closing_alone_brief limit size (InText []) fits = tt
 closing_alone_brief limit size (InText (a ∷ u)) fits = (refl, refl)
 closing_alone_brief limit size InData fits = tt

@@ -12,41 +12,56 @@ parameter_is_no_marker : (k : Class) → is_parameter k ≡ true → is_marker k
 parameter_is_no_marker Marker h = cc
 parameter_is_no_marker _ h = refl
 
-behind_marker-parts : (marker parameters rest : List ℕ) → AreOf is_parameter parameters → BeginsWithout is_parameter rest
-    → behind_marker marker (parameters ++ rest) ≡ record { marker = marker; parameters = parameters; intermediates = rest }
+behind_marker-parts : (marker parameters rest : List ℕ) → AreOf is_parameter parameters
+    → BeginsWithout is_parameter rest
+    → behind_marker marker (parameters ++ rest)
+    ≡ record { marker = marker; parameters = parameters; intermediates = rest }
 behind_marker-parts marker [] [] are none = refl
 behind_marker-parts marker [] (b ∷ rest) are none = rw none refl
 behind_marker-parts marker (p ∷ parameters) rest are none =
     let more = behind_marker-parts marker parameters rest are.1 none in
-    rw are.0 (ap (λ head. record { marker = marker; parameters = p ∷ head.parameters; intermediates = head.intermediates }) more)
+    rw are.0
+    (ap (λ head. record {
+      marker = marker;
+      parameters = p ∷ head.parameters;
+      intermediates = head.intermediates;
+    }) more)
 
 -- the parts of a head
-pub head_of-parts : (marker parameters rest : List ℕ) → IsMarker marker → AreOf is_parameter parameters → BeginsWithout is_parameter rest
+pub head_of-parts : (marker parameters rest : List ℕ) → IsMarker marker → AreOf is_parameter parameters
+    → BeginsWithout is_parameter rest
     → (marker ++ parameters ≡ [] → BeginsWithout is_marker rest)
-    → head_of (marker ++ (parameters ++ rest)) ≡ record { marker = marker; parameters = parameters; intermediates = rest }
+    → head_of (marker ++ (parameters ++ rest))
+    ≡ record { marker = marker; parameters = parameters; intermediates = rest }
 unfolding head_of
 head_of-parts [] [] [] is are none no_marker = refl
 head_of-parts [] [] (b ∷ rest) is are none no_marker = rw (no_marker refl, none) refl
-head_of-parts [] (p ∷ parameters) rest is are none _ = rw (parameter_is_no_marker (class_of p) are.0) (behind_marker-parts [] (p ∷ parameters) rest are none)
+head_of-parts [] (p ∷ parameters) rest is are none _ =
+    rw (parameter_is_no_marker (class_of p) are.0) (behind_marker-parts [] (p ∷ parameters) rest are none)
 head_of-parts (m ∷ []) parameters rest is are none _ = rw is.0 (behind_marker-parts (m ∷ []) parameters rest are none)
 head_of-parts (m ∷ n ∷ marker) parameters rest is are none _ = absurd is
 
-pub begins-intermediates : (has : Class → Bool) → has Intermediate ≡ false → (intermediates more : List ℕ) → AreOf is_intermediate intermediates
+pub begins-intermediates : (has : Class → Bool) → has Intermediate ≡ false → (intermediates more : List ℕ)
+    → AreOf is_intermediate intermediates
     → (intermediates ≡ [] → BeginsWithout has more) → BeginsWithout has (intermediates ++ more)
 begins-intermediates has h [] more are none = none refl
 begins-intermediates has h (b ∷ bytes) more are none = rw (intermediate (class_of b) are.0) h
 
-list_all-AreOf : (bytes : List ℕ) → AreOf is_intermediate bytes → list_all (λ b. is_intermediate (class_of b)) bytes ≡ true
+list_all-AreOf : (bytes : List ℕ) → AreOf is_intermediate bytes
+    → list_all (λ b. is_intermediate (class_of b)) bytes ≡ true
 list_all-AreOf [] are = refl
 list_all-AreOf (b ∷ bytes) are = rw are.0 (list_all-AreOf bytes are.1)
 
-pub list_all-not : (bytes : List ℕ) (b : ℕ) (more : List ℕ) → is_intermediate (class_of b) ≡ false → list_all (λ b. is_intermediate (class_of b)) (bytes ++ b ∷ more) ≡ false
+pub list_all-not : (bytes : List ℕ) (b : ℕ) (more : List ℕ) → is_intermediate (class_of b) ≡ false
+    → list_all (λ b. is_intermediate (class_of b)) (bytes ++ b ∷ more) ≡ false
 list_all-not [] b more h = rw h refl
 list_all-not (a ∷ bytes) b more h = grind (arith, nat_tests, list_all-not bytes b more h)
 
 -- the parts of a head that is well shaped so far
-pub held-parts : (marker parameters intermediates : List ℕ) → IsMarker marker → AreOf is_parameter parameters → AreOf is_intermediate intermediates
-    → head_of (marker ++ (parameters ++ intermediates)) ≡ record { marker = marker; parameters = parameters; intermediates = intermediates }
+pub held-parts : (marker parameters intermediates : List ℕ) → IsMarker marker → AreOf is_parameter parameters
+    → AreOf is_intermediate intermediates
+    → head_of (marker ++ (parameters ++ intermediates))
+    ≡ record { marker = marker; parameters = parameters; intermediates = intermediates }
 held-parts marker parameters intermediates is are these =
     let none = begins-intermediates is_parameter refl intermediates [] these (λ _. tt) in
     let no_marker = begins-intermediates is_marker refl intermediates [] these (λ _. tt) in
@@ -55,4 +70,5 @@ held-parts marker parameters intermediates is are these =
 pub held-well_shaped : (marker parameters intermediates : List ℕ) → IsMarker marker → AreOf is_parameter parameters
     → AreOf is_intermediate intermediates → is_well_shaped (head_of (marker ++ (parameters ++ intermediates))) ≡ true
 unfolding is_well_shaped
-held-well_shaped marker parameters intermediates is are these = rw (held-parts marker parameters intermediates is are these) (list_all-AreOf intermediates these)
+held-well_shaped marker parameters intermediates is are these =
+    rw (held-parts marker parameters intermediates is are these) (list_all-AreOf intermediates these)

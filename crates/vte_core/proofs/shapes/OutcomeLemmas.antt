@@ -5,8 +5,10 @@ pub tell-append : (es fs : List Event) (outcome : Outcome) → tell (es ++ fs) o
 tell-append es fs outcome =
     ap (λ (told : List Event). record { told = told; left = outcome.left }) (append_assoc es fs outcome.told)
 
-pub with_bodies-tell : (limit : Option ℕ) (es : List Event) (part : Outcome) (bodies : List (List ℕ)) → with_bodies limit (tell es part) bodies ≡ tell es (with_bodies limit part bodies)
+pub with_bodies-tell : (limit : Option ℕ) (es : List Event) (part : Outcome) (bodies : List (List ℕ))
+    → with_bodies limit (tell es part) bodies ≡ tell es (with_bodies limit part bodies)
 with_bodies-tell limit es part [] = refl
 with_bodies-tell limit es part (body ∷ bodies) =
     let rest = with_bodies limit (body_outcome limit body) bodies in
-    ap (λ (told : List Event). tell told rest) (append_assoc es part.told (closing part.left)) ∙ tell-append es (closed part) rest
+    ap (λ (told : List Event). tell told rest) (append_assoc es part.told (closing part.left))
+    ∙ tell-append es (closed part) rest

@@ -14,7 +14,8 @@ is_dropped_in_head Control = true
 is_dropped_in_head k = is_dropped k
 
 -- what other keys than [, P and ] begin
-pub other_key : (b : ℕ) → (b ≡ 0x5b → ⊥) → (b ≡ 0x50 → ⊥) → (b ≡ 0x5d → ⊥) → key_of b ≡ (if begins_ignored_string b then IgnoredString else Dispatch)
+pub other_key : (b : ℕ) → (b ≡ 0x5b → ⊥) → (b ≡ 0x50 → ⊥) → (b ≡ 0x5d → ⊥)
+    → key_of b ≡ (if begins_ignored_string b then IgnoredString else Dispatch)
 unfolding key_of
 other_key b c d o = simp (ne_eqb b 0x5b c, ne_eqb b 0x50 d, ne_eqb b 0x5d o)
 

@@ -28,7 +28,8 @@ unfolding is_well_formed further
 further_whole a u x whole = allowed_whole (wanted_behind a utf8_rows) u x (AtMostOne-first a) whole
 
 pub further_broken : (a : ℕ) (u : List ℕ) (b : ℕ) (x : List ℕ) → is_truncated (a ∷ u) ≡ true
-    → is_well_formed (a ∷ u ++ b ∷ []) ≡ false → is_truncated (a ∷ u ++ b ∷ []) ≡ false → further a (u ++ b ∷ x) ≡ length u
+    → is_well_formed (a ∷ u ++ b ∷ []) ≡ false → is_truncated (a ∷ u ++ b ∷ []) ≡ false
+    → further a (u ++ b ∷ x) ≡ length u
 unfolding is_well_formed is_truncated further
 further_broken a u b x more whole more_behind =
     allowed_broken (wanted_behind a utf8_rows) u b x more
@@ -38,7 +39,8 @@ pub further_end : (a : ℕ) (u : List ℕ) → is_truncated (a ∷ u) ≡ true �
 unfolding is_truncated further
 further_end a u more = allowed_end (wanted_behind a utf8_rows) u more
 
-pub further_lone : (b : ℕ) (x : List ℕ) → is_well_formed (b ∷ []) ≡ false → is_truncated (b ∷ []) ≡ false → further b x ≡ 0
+pub further_lone : (b : ℕ) (x : List ℕ) → is_well_formed (b ∷ []) ≡ false → is_truncated (b ∷ []) ≡ false
+    → further b x ≡ 0
 unfolding is_well_formed is_truncated further
 further_lone b x whole more = rw (neither_whole_nor_open (wanted_behind b utf8_rows) whole more) (allowed_none x)
 
@@ -48,7 +50,8 @@ segments_behind-length : (u x : List ℕ) → segments_behind (length u) (u ++ x
 segments_behind-length [] x = refl
 segments_behind-length (a ∷ u) x = segments_behind-length u x
 
-pub segments_first : (a : ℕ) (u x : List ℕ) → further a (u ++ x) ≡ length u → segments (a ∷ u ++ x) ≡ (a ∷ u) ∷ segments x
+pub segments_first : (a : ℕ) (u x : List ℕ) → further a (u ++ x) ≡ length u
+    → segments (a ∷ u ++ x) ≡ (a ∷ u) ∷ segments x
 segments_first a u x far = rw (far, take-append_seam u x, segments_behind-length u x) refl
 
 -- ---- its event
@@ -93,7 +96,8 @@ text_outcome-well_formed (a ∷ u) x whole =
     ∙ rw whole refl
 
 -- the byte that breaks a character begins anew
-pub text_broken : (u : List ℕ) (b : ℕ) → is_truncated u ≡ true → is_well_formed (u ++ b ∷ []) ≡ false → is_truncated (u ++ b ∷ []) ≡ false
+pub text_broken : (u : List ℕ) (b : ℕ) → is_truncated u ≡ true → is_well_formed (u ++ b ∷ []) ≡ false
+    → is_truncated (u ++ b ∷ []) ≡ false
     → (x : List ℕ) → text_outcome (u ++ b ∷ x) ≡ tell (Print replacement ∷ []) (text_outcome (b ∷ x))
 unfolding text_outcome is_truncated
 text_broken [] b more _ _ x = cc

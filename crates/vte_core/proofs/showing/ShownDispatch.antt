@@ -9,25 +9,36 @@ use Rattle.vte_core.proofs.showing.ShownGroups.{groups_of-shown, has_too_many_nu
 use Rattle.vte_core.proofs.streams.StreamLemmas.{no_escape, reads-append, reads-byte, reads-escape, reads-nothing}
 use Rattle.vte_core.proofs.streams.StreamSteps.{told_by_stream}
 
-reads-head : (limit : Option ℕ) (head bytes : List ℕ) → AreOf is_parameter bytes → Reads limit (InControlSequence head) bytes [] (InControlSequence (head ++ bytes))
+reads-head : (limit : Option ℕ) (head bytes : List ℕ) → AreOf is_parameter bytes
+    → Reads limit (InControlSequence head) bytes [] (InControlSequence (head ++ bytes))
 reads-head limit head [] are = rw append-nil (reads-nothing limit (InControlSequence head))
 reads-head limit head (b ∷ bytes) are =
     let is = parameter_is_head (class_of b) are.0 in
-    let one = reads-byte limit (InControlSequence head) _ b [] (no_escape b (head_ends_nothing (class_of b) is)) (control-head limit head b is) in
+    let one =
+    reads-byte limit (InControlSequence head) _ b [] (no_escape b (head_ends_nothing (class_of b) is))
+    (control-head limit head b is) in
     let rest = reads-head limit (head ++ b ∷ []) bytes are.1 in
     rw append_assoc at (reads-append limit (InControlSequence head) _ _ (b ∷ []) bytes [] [] one rest)
 
 -- ESC, `[`, the bytes and `m`
 reads-shown : (limit : Option ℕ) (bytes : List ℕ) → AreOf is_parameter bytes
-    → Reads limit (InText []) (0x1b ∷ 0x5b ∷ (bytes ++ 0x6d ∷ [])) (dispatched CsiDispatch (head_of bytes) 0x6d ∷ []) (InText [])
+    → Reads limit (InText []) (0x1b ∷ 0x5b ∷ (bytes ++ 0x6d ∷ []))
+    (dispatched CsiDispatch (head_of bytes) 0x6d ∷ []) (InText [])
 unfolding class_of key_of
 reads-shown limit bytes are =
-    let well_shaped : is_well_shaped (head_of bytes) ≡ true = rw append-nil at (held-well_shaped [] bytes [] tt are tt) in
-    let begun = reads-append limit (InText []) AtEscape (InControlSequence []) (escape ∷ []) (0x5b ∷ []) [] [] (reads-escape limit (InText []) refl)
+    let well_shaped : is_well_shaped (head_of bytes) ≡ true =
+    rw append-nil at (held-well_shaped [] bytes [] tt are tt) in
+    let begun =
+    reads-append limit (InText []) AtEscape (InControlSequence []) (escape ∷ []) (0x5b ∷ []) [] []
+    (reads-escape limit (InText []) refl)
     (reads-byte limit AtEscape _ 0x5b [] refl (escape-control_sequence limit 0x5b refl refl)) in
-    let last = reads-byte limit (InControlSequence bytes) _ 0x6d _ refl (control-dispatched limit bytes 0x6d refl well_shaped) in
-    let rest = reads-append limit (InControlSequence []) (InControlSequence bytes) (InText []) bytes (0x6d ∷ []) [] _ (reads-head limit [] bytes are) last in
-    reads-append limit (InText []) (InControlSequence []) (InText []) (0x1b ∷ 0x5b ∷ []) (bytes ++ 0x6d ∷ []) [] _ begun rest
+    let last =
+    reads-byte limit (InControlSequence bytes) _ 0x6d _ refl (control-dispatched limit bytes 0x6d refl well_shaped) in
+    let rest =
+    reads-append limit (InControlSequence []) (InControlSequence bytes) (InText []) bytes (0x6d ∷ []) [] _
+    (reads-head limit [] bytes are) last in
+    reads-append limit (InText []) (InControlSequence []) (InText []) (0x1b ∷ 0x5b ∷ []) (bytes ++ 0x6d ∷ [])
+    [] _ begun rest
 
 pub shown_dispatched : (limit : Option ℕ) (groups : List (List ℕ)) → AreParameters groups → DispatchesShown limit groups
 unfolding dispatched

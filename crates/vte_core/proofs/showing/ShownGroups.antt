@@ -32,7 +32,8 @@ no_separator : (b : ℕ) → IsDigit b → is_separator b ≡ false
 no_separator b digit = grind (arith, nat_tests)
 
 no_separators : (n : ℕ) → n ≤ greatest_number → All (λ b. is_separator b ≡ false) (decimal n)
-no_separators n small = All-weaker IsDigit (λ b. is_separator b ≡ false) no_separator (decimal n) (digits-decimal n small)
+no_separators n small =
+    All-weaker IsDigit (λ b. is_separator b ≡ false) no_separator (decimal n) (digits-decimal n small)
 
 -- ---- a text of numbers, each but the first with its separator before it
 
@@ -43,10 +44,12 @@ abbrev spelled : Number → List ℕ
 spelled n = separator n ∷ decimal n.value
 
 separates : (n : Number) → is_separator (separator n) ≡ true
-separates n = elim n.joined as (λ v. is_separator (if v then colon else semicolon) ≡ true) [ true ↦ refl | false ↦ refl ]
+separates n =
+    elim n.joined as (λ v. is_separator (if v then colon else semicolon) ≡ true) [ true ↦ refl | false ↦ refl ]
 
 is_colon-separator : (n : Number) → is_colon (separator n) ≡ n.joined
-is_colon-separator n = elim n.joined as (λ v. is_colon (if v then colon else semicolon) ≡ v) [ true ↦ refl | false ↦ refl ]
+is_colon-separator n =
+    elim n.joined as (λ v. is_colon (if v then colon else semicolon) ≡ v) [ true ↦ refl | false ↦ refl ]
 
 digits_behind : (joined : Bool) (digits more text : List ℕ) → All (λ b. is_separator b ≡ false) more
     → numbers_behind joined digits (more ++ text) ≡ numbers_behind joined (digits ++ more) text
@@ -61,7 +64,8 @@ spelled_behind joined digits [] all = refl
 spelled_behind joined digits (n ∷ ns) all =
     let small = All-head IsSmall n ns all in
     let rest = digits_behind n.joined [] (decimal n.value) (flat_map spelled ns) (no_separators n.value small)
-    ∙ spelled_behind n.joined (decimal n.value) ns (All-tail IsSmall n ns all) ∙ ap (λ value. numbered n.joined value ∷ ns) (number_of-decimal n.value small) in
+    ∙ spelled_behind n.joined (decimal n.value) ns (All-tail IsSmall n ns all)
+    ∙ ap (λ value. numbered n.joined value ∷ ns) (number_of-decimal n.value small) in
     rw (separates n, is_colon-separator n) (ap (λ (l : List Number). numbered joined (number_of digits) ∷ l) rest)
 
 -- ---- groups as such numbers
@@ -76,19 +80,30 @@ AreFilled groups = All (λ group. 0 < length group) groups
 spelled-joined : (ns : List ℕ) → flat_map spelled (map (numbered true) ns) ≡ flat_map behind_colon ns
 spelled-joined ns = flat_map-map spelled (numbered true) ns
 
-groups-spelled : (groups : List (List ℕ)) → AreFilled groups → flat_map spelled (flat_map in_group groups) ≡ flat_map behind_semicolon groups
+groups-spelled : (groups : List (List ℕ)) → AreFilled groups
+    → flat_map spelled (flat_map in_group groups) ≡ flat_map behind_semicolon groups
 unfolding in_group
 groups-spelled [] filled = refl
-groups-spelled ([] ∷ groups) filled = absurd (omega (arith, All-head (λ (group : List ℕ). 0 < length group) [] groups filled))
+groups-spelled ([] ∷ groups) filled =
+    absurd (omega (arith, All-head (λ (group : List ℕ). 0 < length group) [] groups filled))
 groups-spelled ((n ∷ ns) ∷ groups) filled =
     let rest = groups-spelled groups (All-tail (λ (group : List ℕ). 0 < length group) (n ∷ ns) groups filled) in
-    rw (flat_map-append spelled (map (numbered true) ns) (flat_map in_group groups), spelled-joined ns, group_text_from_front n ns, rest)
+    rw (
+      flat_map-append spelled (map (numbered true) ns)
+          (flat_map in_group groups),
+      spelled-joined ns,
+      group_text_from_front n ns,
+      rest,
+    )
     (simp append_assoc)
 
 -- their text, with a separator before it
-shown-spelled : (groups : List (List ℕ)) → AreParameters groups → semicolon ∷ shown groups ≡ flat_map spelled (flat_map in_group groups)
+shown-spelled : (groups : List (List ℕ)) → AreParameters groups
+    → semicolon ∷ shown groups ≡ flat_map spelled (flat_map in_group groups)
 shown-spelled [] ok = absurd (omega (arith, ok.some))
-shown-spelled (first ∷ groups) ok = ap (λ (l : List ℕ). semicolon ∷ l) (shown_from_front first groups) ∙ sym (groups-spelled (first ∷ groups) ok.groups_are.filled)
+shown-spelled (first ∷ groups) ok =
+    ap (λ (l : List ℕ). semicolon ∷ l) (shown_from_front first groups)
+    ∙ sym (groups-spelled (first ∷ groups) ok.groups_are.filled)
 
 IsSmall-in_group : (group : List ℕ) → All (λ value. value ≤ greatest_number) group → All IsSmall (in_group group)
 unfolding in_group
@@ -118,12 +133,14 @@ grouped-groups : (before groups : List (List ℕ)) → AreFilled groups
     → fold with_number before (flat_map in_group groups) ≡ before ++ groups
 unfolding in_group
 grouped-groups before [] filled = sym (append-nil before)
-grouped-groups before ([] ∷ groups) filled = absurd (omega (arith, All-head (λ (group : List ℕ). 0 < length group) [] groups filled))
+grouped-groups before ([] ∷ groups) filled =
+    absurd (omega (arith, All-head (λ (group : List ℕ). 0 < length group) [] groups filled))
 grouped-groups before ((n ∷ ns) ∷ groups) filled =
     let rest = All-tail (λ (group : List ℕ). 0 < length group) (n ∷ ns) groups filled in
     let more = flat_map in_group groups in
     fold-append with_number (with_number before (numbered false n)) (map (numbered true) ns) more
-    ∙ ap (λ (b : List (List ℕ)). fold with_number (fold with_number b (map (numbered true) ns)) more) (with_number-begins before n)
+    ∙ ap (λ (b : List (List ℕ)). fold with_number (fold with_number b (map (numbered true) ns)) more)
+    (with_number-begins before n)
     ∙ ap (λ (b : List (List ℕ)). fold with_number b more) (grouped-joined before (n ∷ []) ns)
     ∙ grouped-groups (before ++ (n ∷ ns) ∷ []) groups rest
     ∙ append_assoc before ((n ∷ ns) ∷ []) groups
@@ -132,12 +149,19 @@ grouped-groups before ((n ∷ ns) ∷ groups) filled =
 numbers-shown : (groups : List (List ℕ)) → AreParameters groups → numbers (shown groups) ≡ flat_map in_group groups
 numbers-shown groups ok =
     let all = IsSmall-groups groups ok.groups_are.small in
-    let behind = ap (numbers_behind false []) (shown-spelled groups ok) ∙ spelled_behind false [] (flat_map in_group groups) all in
+    let behind =
+    ap (numbers_behind false []) (shown-spelled groups ok) ∙ spelled_behind false [] (flat_map in_group groups) all in
     numbers_are (shown groups) ∙ ap (drop 1) behind
 
 few-groups : (groups : List (List ℕ)) → AreParameters groups → length (flat_map in_group groups) ≤ most_numbers
 few-groups groups ok =
-    omega (arith, ok.groups_are.few, ap count_of (grouped-groups [] groups ok.groups_are.filled), count_of-grouped (flat_map in_group groups))
+    omega (
+      arith,
+      ok.groups_are.few,
+      ap count_of (grouped-groups [] groups ok.groups_are.filled),
+      count_of-grouped
+          (flat_map in_group groups),
+    )
 
 -- the text of groups gives the groups back
 pub groups_of-shown : (groups : List (List ℕ)) → AreParameters groups → groups_of (shown groups) ≡ groups
@@ -147,7 +171,8 @@ groups_of-shown groups ok =
     ∙ ap grouped (take_all most_numbers (flat_map in_group groups) (few-groups groups ok))
     ∙ grouped-groups [] groups ok.groups_are.filled
 
-pub has_too_many_numbers-shown : (groups : List (List ℕ)) → AreParameters groups → has_too_many_numbers (shown groups) ≡ false
+pub has_too_many_numbers-shown : (groups : List (List ℕ)) → AreParameters groups
+    → has_too_many_numbers (shown groups) ≡ false
 unfolding has_too_many_numbers
 has_too_many_numbers-shown groups ok =
     let size : length (numbers (shown groups)) ≤ most_numbers =
@@ -162,18 +187,26 @@ digit_is_parameter b digit = grind (arith, nat_tests)
 
 separator_is_parameter : (n : Number) → is_parameter (class_of (separator n)) ≡ true
 unfolding class_of
-separator_is_parameter n = elim n.joined as (λ v. is_parameter (class_of (if v then colon else semicolon)) ≡ true) [ true ↦ refl | false ↦ refl ]
+separator_is_parameter n =
+    elim n.joined as (λ v. is_parameter (class_of (if v then colon else semicolon)) ≡ true) [
+      | true ↦ refl
+      | false ↦ refl
+    ]
 
 parameters-digits : (ds more : List ℕ) → All IsDigit ds → AreOf is_parameter more → AreOf is_parameter (ds ++ more)
 parameters-digits [] more digits are = are
-parameters-digits (d ∷ ds) more digits are = (digit_is_parameter d (All-head IsDigit d ds digits), parameters-digits ds more (All-tail IsDigit d ds digits) are)
+parameters-digits (d ∷ ds) more digits are =
+    (digit_is_parameter d (All-head IsDigit d ds digits), parameters-digits ds more (All-tail IsDigit d ds digits) are)
 
 parameters-spelled : (ns : List Number) → All IsSmall ns → AreOf is_parameter (flat_map spelled ns)
 parameters-spelled [] all = tt
 parameters-spelled (n ∷ ns) all =
-    let rest = parameters-digits (decimal n.value) (flat_map spelled ns) (digits-decimal n.value (All-head IsSmall n ns all)) (parameters-spelled ns (All-tail IsSmall n ns all)) in
+    let rest =
+    parameters-digits (decimal n.value) (flat_map spelled ns) (digits-decimal n.value (All-head IsSmall n ns all))
+    (parameters-spelled ns (All-tail IsSmall n ns all)) in
     (separator_is_parameter n, rest)
 
 pub parameters-shown : (groups : List (List ℕ)) → AreParameters groups → AreOf is_parameter (shown groups)
 parameters-shown groups ok =
-    (subst (AreOf is_parameter) (sym (shown-spelled groups ok)) (parameters-spelled (flat_map in_group groups) (IsSmall-groups groups ok.groups_are.small))).1
+    (subst (AreOf is_parameter) (sym (shown-spelled groups ok))
+    (parameters-spelled (flat_map in_group groups) (IsSmall-groups groups ok.groups_are.small))).1

@@ -2,12 +2,15 @@
 use Rattle.vte_core.proofs.Common.{ℕ, zero, suc, ◌+◌, ◌<◌, ◌≤◌, inl, inr, Option, List, [], ◌++◌, length, sym, subst, arith, IsBrief, IsStart, told, Event}
 use Rattle.vte_core.specs.Stops.{TellsUnit, TellsUnits}
 
--- P is to hold of what is told before each place. It holds of no events, and a unit keeps it. Before each unit Q holds, which is what the
--- performer answers when it is asked: at first, and at each start.
-module _ {limit : Option ℕ} (P Q : List Event → Type 0) (stream bytes : List ℕ) (units : TellsUnits limit) (at_first : P []) (asked_first : Q [])
+-- P is to hold of what is told before each place. It holds of no events, and a unit keeps it.
+-- Before each unit Q holds, which is what the performer answers when it is asked: at first, and at
+-- each start.
+module _ {limit : Option ℕ} (P Q : List Event → Type 0) (stream bytes : List ℕ) (units : TellsUnits limit)
+    (at_first : P []) (asked_first : Q [])
     (kept : (before unit : List Event) → P before → Q before → IsBrief limit unit → P (before ++ unit)) where
   -- by induction on m
-  kept_below : (m i : ℕ) → i < m → i ≤ length bytes → ((j : ℕ) → j < i → IsStart stream bytes j → Q (told limit stream bytes j))
+  kept_below : (m i : ℕ) → i < m → i ≤ length bytes
+      → ((j : ℕ) → j < i → IsStart stream bytes j → Q (told limit stream bytes j))
       → P (told limit stream bytes i)
   kept_below zero i below within asked = absurd (omega arith)
   kept_below (suc m) i below within asked =
@@ -17,8 +20,10 @@ module _ {limit : Option ℕ} (P Q : List Event → Type 0) (stream bytes : List
         | inr t ↦
             let earlier : t.start < i = t.earlier in
             let before = kept_below m t.start (omega arith) (omega arith) (λ j first. asked j (omega arith)) in
-            kept u.before u.unit (subst P (sym t.are) before) (subst Q (sym t.are) (asked t.start earlier t.starts)) u.brief
+            kept u.before u.unit (subst P (sym t.are) before)
+            (subst Q (sym t.are) (asked t.start earlier t.starts)) u.brief
       ])
 
-  pub kept_at : (i : ℕ) → i ≤ length bytes → ((j : ℕ) → j < i → IsStart stream bytes j → Q (told limit stream bytes j)) → P (told limit stream bytes i)
+  pub kept_at : (i : ℕ) → i ≤ length bytes → ((j : ℕ) → j < i → IsStart stream bytes j → Q (told limit stream bytes j))
+      → P (told limit stream bytes i)
   kept_at i within asked = kept_below (i + 1) i (omega arith) within asked

@@ -5,7 +5,8 @@ use Rattle.vte_core.proofs.shapes.TextLemmas.{well_formed_not_truncated}
 
 -- ---- whether a byte breaks the open character
 
-pub breaks-broken : (u : List ℕ) (b : ℕ) → is_truncated u ≡ true → is_well_formed (u ++ b ∷ []) ≡ false → is_truncated (u ++ b ∷ []) ≡ false → breaks u (b ∷ []) ≡ true
+pub breaks-broken : (u : List ℕ) (b : ℕ) → is_truncated u ≡ true → is_well_formed (u ++ b ∷ []) ≡ false
+    → is_truncated (u ++ b ∷ []) ≡ false → breaks u (b ∷ []) ≡ true
 unfolding is_truncated
 breaks-broken [] b more whole next = cc
 breaks-broken (a ∷ u) b more whole next = rw (whole, next) refl
@@ -27,30 +28,37 @@ breaks-next : (u : List ℕ) (b : ℕ) (rest : List ℕ) → breaks u (b ∷ res
 breaks-next [] b rest = refl
 breaks-next (a ∷ u) b rest = refl
 
-pub breaks_at-byte : (stream bytes u : List ℕ) (i b : ℕ) → i < length bytes → b ≡ slice_index bytes i → open_end (stream ++ take i bytes) ≡ u
+pub breaks_at-byte : (stream bytes u : List ℕ) (i b : ℕ) → i < length bytes → b ≡ slice_index bytes i
+    → open_end (stream ++ take i bytes) ≡ u
     → breaks_at stream bytes i ≡ breaks u (b ∷ [])
 unfolding breaks_at
-breaks_at-byte stream bytes u i b within is ends = rw (ends, drop_more bytes i 0 within, is) (breaks-next u (get_or bytes i 0) (drop (i + 1) bytes))
+breaks_at-byte stream bytes u i b within is ends =
+    rw (ends, drop_more bytes i 0 within, is) (breaks-next u (get_or bytes i 0) (drop (i + 1) bytes))
 
-pub breaks_at-between : (stream bytes : List ℕ) (i : ℕ) → open_end (stream ++ take i bytes) ≡ [] → breaks_at stream bytes i ≡ false
+pub breaks_at-between : (stream bytes : List ℕ) (i : ℕ) → open_end (stream ++ take i bytes) ≡ []
+    → breaks_at stream bytes i ≡ false
 unfolding breaks_at
 breaks_at-between stream bytes i ends = rw ends refl
 
 pub breaks_at-all : (stream bytes : List ℕ) (n : ℕ) → length bytes ≤ n → breaks_at stream bytes n ≡ false
 unfolding breaks_at
 breaks_at-all stream bytes n all =
-    ap (breaks (open_end (stream ++ take n bytes))) (drop_all n bytes all) ∙ breaks-no_byte (open_end (stream ++ take n bytes))
+    ap (breaks (open_end (stream ++ take n bytes))) (drop_all n bytes all)
+    ∙ breaks-no_byte (open_end (stream ++ take n bytes))
 
 -- ---- starts
 
-pub starts-between : (stream bytes : List ℕ) (i : ℕ) → i < length bytes → open_end (stream ++ take i bytes) ≡ [] → IsStart stream bytes i
+pub starts-between : (stream bytes : List ℕ) (i : ℕ) → i < length bytes → open_end (stream ++ take i bytes) ≡ []
+    → IsStart stream bytes i
 starts-between stream bytes i within ends = record { within = within; starts = inl ends }
 
-pub starts-broken : (stream bytes : List ℕ) (i : ℕ) → i < length bytes → breaks_at stream bytes i ≡ true → IsStart stream bytes i
+pub starts-broken : (stream bytes : List ℕ) (i : ℕ) → i < length bytes → breaks_at stream bytes i ≡ true
+    → IsStart stream bytes i
 starts-broken stream bytes i within broken = record { within = within; starts = inr broken }
 
 -- a byte of a character that was begun before it is none
-pub no_start : (stream bytes u : List ℕ) (i b : ℕ) → i < length bytes → b ≡ slice_index bytes i → open_end (stream ++ take i bytes) ≡ u
+pub no_start : (stream bytes u : List ℕ) (i b : ℕ) → i < length bytes → b ≡ slice_index bytes i
+    → open_end (stream ++ take i bytes) ≡ u
     → (u ≡ [] → ⊥) → breaks u (b ∷ []) ≡ false
     → IsStart stream bytes i → ⊥
 no_start stream bytes u i b within is ends some whole start = elim start.starts [
@@ -60,7 +68,8 @@ no_start stream bytes u i b within is ends some whole start = elim start.starts 
 
 -- ---- what is told
 
-pub told-between : (limit : Option ℕ) (stream bytes : List ℕ) (i : ℕ) → breaks_at stream bytes i ≡ false → told limit stream bytes i ≡ added limit stream (take i bytes)
+pub told-between : (limit : Option ℕ) (stream bytes : List ℕ) (i : ℕ) → breaks_at stream bytes i ≡ false
+    → told limit stream bytes i ≡ added limit stream (take i bytes)
 unfolding told
 told-between limit stream bytes i whole = rw whole (append-nil (added limit stream (take i bytes)))
 
@@ -69,12 +78,14 @@ pub told-broken : (limit : Option ℕ) (stream bytes : List ℕ) (i : ℕ) → b
 unfolding told
 told-broken limit stream bytes i broken = rw broken refl
 
-pub told-all : (limit : Option ℕ) (stream bytes : List ℕ) (n : ℕ) → n ≡ length bytes → told limit stream bytes n ≡ added limit stream bytes
+pub told-all : (limit : Option ℕ) (stream bytes : List ℕ) (n : ℕ) → n ≡ length bytes
+    → told limit stream bytes n ≡ added limit stream bytes
 told-all limit stream bytes n all =
     told-between limit stream bytes n (breaks_at-all stream bytes n (omega arith))
     ∙ ap (added limit stream) (take_all n bytes (omega arith))
 
-pub stream_at-between : (stream bytes : List ℕ) (n : ℕ) → breaks_at stream bytes n ≡ false → stream_at stream bytes n ≡ stream ++ take n bytes
+pub stream_at-between : (stream bytes : List ℕ) (n : ℕ) → breaks_at stream bytes n ≡ false
+    → stream_at stream bytes n ≡ stream ++ take n bytes
 unfolding stream_at
 stream_at-between stream bytes n whole = rw whole refl
 

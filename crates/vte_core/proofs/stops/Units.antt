@@ -1,4 +1,5 @@
--- What a byte tells by what it does to an open character, and what is told from one place to the next.
+-- What a byte tells by what it does to an open character, and what is told from one place to the
+-- next.
 use Rattle.vte_core.proofs.Common.{◌≡◌, ℕ, zero, suc, add-one, ◌+◌, ◌<◌, ◌≤◌, ◌⊎◌, inl, inr, Bool, true, false, if◌then◌else◌, Option, None, List, [], ◌∷◌, ◌++◌, length, take, drop, get_or}
 use Rattle.vte_core.proofs.Common.{refl, ap, sym, subst, ◌∙◌, append_assoc, arith, drop-append_seam, cases_Bool, false≢true, append-nil, take_more, take-append-drop, IsBrief, IsTiny, breaks}
 use Rattle.vte_core.proofs.Common.{breaks_at, told, stream_at, Event, Print, replacement, added, events, open_end, open_at, Place, IsAfter, IsStart}
@@ -14,12 +15,15 @@ use Rattle.vte_core.proofs.streams.StreamSteps.{Adds, adds, LeadsTo, leads_to, e
 
 -- it tells at most a short event, and nothing if it leaves the character open
 abbrev TellsLittle : Option ℕ → List ℕ → ℕ → Type 0
-TellsLittle limit stream b = IsTiny (added limit stream (b ∷ [])) × ((open_end (stream ++ b ∷ []) ≡ []) ⊎ (added limit stream (b ∷ []) ≡ []))
+TellsLittle limit stream b =
+    IsTiny (added limit stream (b ∷ [])) × ((open_end (stream ++ b ∷ []) ≡ []) ⊎ (added limit stream (b ∷ []) ≡ []))
 
-tells_little : (limit : Option ℕ) (stream : List ℕ) (b : ℕ) → (open_end stream ≡ [] → ⊥) → breaks (open_end stream) (b ∷ []) ≡ false → TellsLittle limit stream b
+tells_little : (limit : Option ℕ) (stream : List ℕ) (b : ℕ) → (open_end stream ≡ [] → ⊥)
+    → breaks (open_end stream) (b ∷ []) ≡ false → TellsLittle limit stream b
 tells_little limit stream b some unbroken =
     let a : Adds limit stream b = adds limit stream b in
-    let breaks_none : breaks (open_at a.place) (b ∷ []) ≡ false = ap (λ u. breaks u (b ∷ [])) (sym a.begun) ∙ unbroken in
+    let breaks_none : breaks (open_at a.place) (b ∷ []) ≡ false =
+    ap (λ u. breaks u (b ∷ [])) (sym a.begun) ∙ unbroken in
     elim (a.step.little (text_at a.place (λ none. some (a.begun ∙ none))) breaks_none) [
       | inl nothing ↦ (rw (a.told ∙ nothing) tt, inr (a.told ∙ nothing))
       | inr last ↦ (rw a.told last.1, inl (a.ends ∙ last.0))
@@ -27,31 +31,39 @@ tells_little limit stream b some unbroken =
 
 -- ---- what is told from one place to the next
 
-pub added_both : (limit : Option ℕ) (stream front rest : List ℕ) → added limit stream (front ++ rest) ≡ added limit stream front ++ added limit (stream ++ front) rest
+pub added_both : (limit : Option ℕ) (stream front rest : List ℕ)
+    → added limit stream (front ++ rest) ≡ added limit stream front ++ added limit (stream ++ front) rest
 added_both limit stream front rest =
     let es = events limit stream in
-    let all : es ++ added limit stream (front ++ rest) ≡ es ++ (added limit stream front ++ added limit (stream ++ front) rest) =
+    let all : es ++ added limit stream (front ++ rest)
+    ≡ es ++ (added limit stream front ++ added limit (stream ++ front) rest) =
     sym (events_grow limit stream (front ++ rest))
     ∙ ap (events limit) (sym (append_assoc stream front rest))
     ∙ events_grow limit (stream ++ front) rest
     ∙ ap (λ (told : List Event). told ++ added limit (stream ++ front) rest) (events_grow limit stream front)
     ∙ append_assoc es (added limit stream front) (added limit (stream ++ front) rest) in
-    sym (drop-append_seam es (added limit stream (front ++ rest))) ∙ ap (drop (length es)) all ∙ drop-append_seam es (added limit stream front ++ added limit (stream ++ front) rest)
+    sym (drop-append_seam es (added limit stream (front ++ rest))) ∙ ap (drop (length es)) all
+    ∙ drop-append_seam es (added limit stream front ++ added limit (stream ++ front) rest)
 
 replacement_tiny : IsTiny (Print replacement ∷ [])
 replacement_tiny = (refl, refl)
 
--- the bytes after a front add what they add to its stream or, behind a character that they break, to the empty one
-pub added_from : (limit : Option ℕ) (stream front rest : List ℕ) (broken : Bool) → (broken ≡ true → breaks (open_end (stream ++ front)) rest ≡ true)
+-- the bytes after a front add what they add to its stream or, behind a character that they break,
+-- to the empty one
+pub added_from : (limit : Option ℕ) (stream front rest : List ℕ) (broken : Bool)
+    → (broken ≡ true → breaks (open_end (stream ++ front)) rest ≡ true)
     → added limit stream (front ++ rest)
-    ≡ (added limit stream front ++ (if broken then Print replacement ∷ [] else [])) ++ added limit (if broken then [] else stream ++ front) rest
+    ≡ (added limit stream front ++ (if broken then Print replacement ∷ [] else []))
+    ++ added limit (if broken then [] else stream ++ front) rest
 added_from limit stream front rest true is =
     added_both limit stream front rest
-    ∙ ap (λ (es : List Event). added limit stream front ++ es) (rw append-nil at (added-broken limit (stream ++ front) rest [] (is refl)))
+    ∙ ap (λ (es : List Event). added limit stream front ++ es)
+    (rw append-nil at (added-broken limit (stream ++ front) rest [] (is refl)))
     ∙ sym (append_assoc (added limit stream front) (Print replacement ∷ []) (added limit [] rest))
 added_from limit stream front rest false is = rw append-nil (added_both limit stream front rest)
 
-pub after_from : (limit : Option ℕ) (stream rest : List ℕ) (place : Place) (broken : Bool) → (broken ≡ true → breaks (open_end stream) rest ≡ true)
+pub after_from : (limit : Option ℕ) (stream rest : List ℕ) (place : Place) (broken : Bool)
+    → (broken ≡ true → breaks (open_end stream) rest ≡ true)
     → IsAfter limit ((if broken then [] else stream) ++ rest) place → IsAfter limit (stream ++ rest) place
 after_from limit stream rest place true is a = resumes-after limit stream rest place (is refl) a
 after_from limit stream rest place false is a = a
@@ -60,7 +72,8 @@ ends_from : (stream rest : List ℕ) (broken : Bool) → (broken ≡ true → br
     → open_end (stream ++ rest) ≡ open_end ((if broken then [] else stream) ++ rest)
 ends_from stream rest broken is =
     let a : LeadsTo None ((if broken then [] else stream) ++ rest) = leads_to None _ in
-    after-open_end None (stream ++ rest) a.place (after_from None stream rest a.place broken is a.is_after) a.is_place ∙ sym (after-open_end None _ a.place a.is_after a.is_place)
+    after-open_end None (stream ++ rest) a.place (after_from None stream rest a.place broken is a.is_after) a.is_place
+    ∙ sym (after-open_end None _ a.place a.is_after a.is_place)
 
 -- what the bytes before a place add, by the last start before it
 record Added (limit : Option ℕ) (stream bytes : List ℕ) (i : ℕ) : Type 0 where
@@ -71,7 +84,8 @@ record Added (limit : Option ℕ) (stream bytes : List ℕ) (i : ℕ) : Type 0 w
   tiny : (open_end (stream ++ take i bytes) ≡ [] → ⊥) → IsTiny unit
   begun : (before ≡ []) ⊎ AreToldAtStart limit stream bytes i before
 
-opens_tiny : (limit : Option ℕ) (s : List ℕ) (b : ℕ) → (open_end (s ++ b ∷ []) ≡ [] → ⊥) → IsTiny (added limit s (b ∷ []))
+opens_tiny : (limit : Option ℕ) (s : List ℕ) (b : ℕ) → (open_end (s ++ b ∷ []) ≡ [] → ⊥)
+    → IsTiny (added limit s (b ∷ []))
 opens_tiny limit s b some = elim (opens_silently limit s b) [
   | inl none ↦ absurd (some none)
   | inr told ↦ elim told [
@@ -96,7 +110,8 @@ module _ (limit : Option ℕ) (stream bytes : List ℕ) (i : ℕ) (within : i < 
   one = take_more bytes i 0 within
 
   joined : open_end (stream ++ take (i + 1) bytes) ≡ open_end (here ++ b ∷ [])
-  joined = ap (λ (v : List ℕ). open_end (stream ++ v)) one ∙ ap open_end (sym (append_assoc stream (take i bytes) (b ∷ [])))
+  joined =
+      ap (λ (v : List ℕ). open_end (stream ++ v)) one ∙ ap open_end (sym (append_assoc stream (take i bytes) (b ∷ [])))
 
   breaks_here : breaks_at stream bytes i ≡ breaks (open_end here) (b ∷ [])
   breaks_here = breaks_at-byte stream bytes (open_end here) i b within refl refl
@@ -110,26 +125,42 @@ module _ (limit : Option ℕ) (stream bytes : List ℕ) (i : ℕ) (within : i < 
       record {
         before = told limit stream bytes i;
         unit = added limit from (b ∷ []);
-        parts = ap (added limit stream) one ∙ added_from limit stream (take i bytes) (b ∷ []) (breaks_at stream bytes i) is;
+        parts =
+            ap (added limit stream) one ∙ added_from limit stream (take i bytes) (b ∷ []) (breaks_at stream bytes i) is;
         brief = bytes_are_brief limit from b;
-        tiny = λ some. opens_tiny limit from b (λ e. some (joined ∙ ends_from here (b ∷ []) (breaks_at stream bytes i) is ∙ e));
+        tiny =
+            λ some.
+            opens_tiny limit from b (λ e. some (joined ∙ ends_from here (b ∷ []) (breaks_at stream bytes i) is ∙ e));
         begun = inr (record { start = i; earlier = omega arith; starts = starts; are = refl });
       }
 
   -- the byte belongs to an open character
-  from_carried : Added limit stream bytes i → (open_end here ≡ [] → ⊥) → breaks (open_end here) (b ∷ []) ≡ false → Added limit stream bytes (i + 1)
+  from_carried : Added limit stream bytes i → (open_end here ≡ [] → ⊥) → breaks (open_end here) (b ∷ []) ≡ false
+      → Added limit stream bytes (i + 1)
   from_carried a some unbroken =
       let little : TellsLittle limit here b = tells_little limit here b some unbroken in
       let last : List Event = added limit here (b ∷ []) in
       record {
         before = a.before;
         unit = a.unit ++ last;
-        parts = ap (added limit stream) one ∙ added_both limit stream (take i bytes) (b ∷ []) ∙ ap (λ (es : List Event). es ++ last) a.parts ∙ append_assoc a.before a.unit last;
+        parts =
+            ap (added limit stream) one ∙ added_both limit stream (take i bytes) (b ∷ [])
+            ∙ ap (λ (es : List Event). es ++ last) a.parts ∙ append_assoc a.before a.unit last;
         brief = tiny-both limit a.unit last (a.tiny some) little.0;
-        tiny = λ open_there. elim little.1 [ inl none ↦ absurd (open_there (joined ∙ none)) | inr nothing ↦ rw (nothing, append-nil) (a.tiny some) ];
+        tiny =
+            λ open_there. elim little.1 [
+              | inl none ↦ absurd (open_there (joined ∙ none))
+              | inr nothing ↦ rw (nothing, append-nil) (a.tiny some)
+            ];
         begun = elim a.begun [
           | inl none ↦ inl none
-          | inr t ↦ inr (record { start = t.start; earlier = (let h : t.start < i = t.earlier in omega arith); starts = t.starts; are = t.are })
+          | inr t ↦
+              inr (record {
+                start = t.start;
+                earlier = (let h : t.start < i = t.earlier in omega arith);
+                starts = t.starts;
+                are = t.are;
+              })
         ];
       }
 
@@ -152,7 +183,8 @@ added_to limit stream bytes zero within = record {
   begun = inl refl;
 }
 added_to limit stream bytes (suc i) within =
-    let b : Added limit stream bytes (i + 1) = added_further limit stream bytes i (omega arith) (added_to limit stream bytes i (omega arith)) in
+    let b : Added limit stream bytes (i + 1) =
+    added_further limit stream bytes i (omega arith) (added_to limit stream bytes i (omega arith)) in
     rw add-one at b
 
 pub tells_units : (limit : Option ℕ) → TellsUnits limit
@@ -160,7 +192,9 @@ unfolding told
 tells_units limit stream bytes i within = record {
   before = a.before;
   unit = a.unit ++ (if breaks_at stream bytes i then Print replacement ∷ [] else []);
-  parts = ap (λ (es : List Event). es ++ (if breaks_at stream bytes i then Print replacement ∷ [] else [])) a.parts ∙ append_assoc a.before a.unit _;
+  parts =
+      ap (λ (es : List Event). es ++ (if breaks_at stream bytes i then Print replacement ∷ [] else [])) a.parts
+      ∙ append_assoc a.before a.unit _;
   brief = by_break (breaks_at stream bytes i) refl;
   begun = a.begun;
 }
@@ -168,13 +202,17 @@ tells_units limit stream bytes i within = record {
     a : Added limit stream bytes i
     a = added_to limit stream bytes i within
 
-    by_break : (t : Bool) → breaks_at stream bytes i ≡ t → IsBrief limit (a.unit ++ (if t then Print replacement ∷ [] else []))
-    by_break true e = tiny-both limit a.unit (Print replacement ∷ []) (a.tiny (λ none. false≢true (sym (breaks_at-between stream bytes i none) ∙ e))) replacement_tiny
+    by_break : (t : Bool) → breaks_at stream bytes i ≡ t
+        → IsBrief limit (a.unit ++ (if t then Print replacement ∷ [] else []))
+    by_break true e =
+        tiny-both limit a.unit (Print replacement ∷ [])
+        (a.tiny (λ none. false≢true (sym (breaks_at-between stream bytes i none) ∙ e))) replacement_tiny
     by_break false e = rw append-nil a.brief
 
 -- ---- what the rest adds
 
-pub breaks_there : (stream bytes : List ℕ) (n : ℕ) → breaks_at stream bytes n ≡ true → breaks (open_end (stream ++ take n bytes)) (drop n bytes) ≡ true
+pub breaks_there : (stream bytes : List ℕ) (n : ℕ) → breaks_at stream bytes n ≡ true
+    → breaks (open_end (stream ++ take n bytes)) (drop n bytes) ≡ true
 unfolding breaks_at
 breaks_there stream bytes n broken = broken
 
@@ -187,5 +225,7 @@ breaks-more (a ∷ u) (b ∷ unread) more is = is
 pub goes_on_from : (limit : Option ℕ) → GoesOnFromPlaces limit
 unfolding told stream_at
 goes_on_from limit stream bytes more n =
-    ap (λ (v : List ℕ). added limit stream (v ++ more)) (sym (take-append-drop n bytes)) ∙ ap (added limit stream) (append_assoc (take n bytes) (drop n bytes) more)
-    ∙ added_from limit stream (take n bytes) (drop n bytes ++ more) (breaks_at stream bytes n) (λ e. breaks-more _ (drop n bytes) more (breaks_there stream bytes n e))
+    ap (λ (v : List ℕ). added limit stream (v ++ more)) (sym (take-append-drop n bytes))
+    ∙ ap (added limit stream) (append_assoc (take n bytes) (drop n bytes) more)
+    ∙ added_from limit stream (take n bytes) (drop n bytes ++ more) (breaks_at stream bytes n)
+    (λ e. breaks-more _ (drop n bytes) more (breaks_there stream bytes n e))

@@ -8,7 +8,9 @@ use Rattle.vte_core.proofs.streams.OpenEnds.{unfinished-any}
 use Rattle.vte_core.proofs.streams.StreamLemmas.{outcome-behind_nothing}
 
 pub added-nothing : (limit : Option ℕ) (stream : List ℕ) → added limit stream [] ≡ []
-added-nothing limit stream = ap (λ s. drop (length (events limit stream)) (events limit s)) (append-nil stream) ∙ drop_all (length (events limit stream)) (events limit stream) (omega arith)
+added-nothing limit stream =
+    ap (λ s. drop (length (events limit stream)) (events limit s)) (append-nil stream)
+    ∙ drop_all (length (events limit stream)) (events limit stream) (omega arith)
 
 pub events-told : (limit : Option ℕ) (stream : List ℕ) → events limit stream ≡ (outcome limit stream).told
 unfolding events
@@ -16,7 +18,9 @@ events-told limit stream = refl
 
 pub after-nothing : (limit : Option ℕ) → IsAfter limit [] (InText [])
 after-nothing limit = record {
-  goes_on = λ more. outcome-behind_nothing limit more ∙ ap (λ es. tell es (outcome_behind limit (InText []) more)) (sym (events-empty limit));
+  goes_on =
+      λ more. outcome-behind_nothing limit more
+      ∙ ap (λ es. tell es (outcome_behind limit (InText []) more)) (sym (events-empty limit));
 }
 
 pub after-events : (limit : Option ℕ) (stream more : List ℕ) (place : Place) → IsAfter limit stream place
@@ -24,21 +28,28 @@ pub after-events : (limit : Option ℕ) (stream more : List ℕ) (place : Place)
 after-events limit stream more place a = events-told limit (stream ++ more) ∙ ap (λ o. o.told) (a.goes_on more)
 
 -- what the stream leaves open is open at the place
-pub after-left : (limit : Option ℕ) (stream : List ℕ) (place : Place) → IsAfter limit stream place → IsPlace place → (outcome limit stream).left ≡ left_at limit place
+pub after-left : (limit : Option ℕ) (stream : List ℕ) (place : Place) → IsAfter limit stream place → IsPlace place
+    → (outcome limit stream).left ≡ left_at limit place
 after-left limit stream place a is =
-    ap (λ s. (outcome limit s).left) (sym (append-nil stream)) ∙ ap (λ o. o.left) (a.goes_on []) ∙ ap (λ o. o.left) (outcome_behind-nothing limit place is)
+    ap (λ s. (outcome limit s).left) (sym (append-nil stream)) ∙ ap (λ o. o.left) (a.goes_on [])
+    ∙ ap (λ o. o.left) (outcome_behind-nothing limit place is)
 
-pub after-open_end : (limit : Option ℕ) (stream : List ℕ) (place : Place) → IsAfter limit stream place → IsPlace place → open_end stream ≡ open_at place
-after-open_end limit stream place a is = sym (unfinished-any limit stream) ∙ ap unfinished (after-left limit stream place a is) ∙ unfinished-at limit place
+pub after-open_end : (limit : Option ℕ) (stream : List ℕ) (place : Place) → IsAfter limit stream place → IsPlace place
+    → open_end stream ≡ open_at place
+after-open_end limit stream place a is =
+    sym (unfinished-any limit stream) ∙ ap unfinished (after-left limit stream place a is) ∙ unfinished-at limit place
 
 -- the bytes lead from one place to another
-pub after-reads : (limit : Option ℕ) (stream bytes : List ℕ) (place next : Place) (these : List Event) → IsAfter limit stream place → Reads limit place bytes these next → IsPlace next
+pub after-reads : (limit : Option ℕ) (stream bytes : List ℕ) (place next : Place) (these : List Event)
+    → IsAfter limit stream place → Reads limit place bytes these next → IsPlace next
     → IsAfter limit (stream ++ bytes) next
 after-reads limit stream bytes place next these a r is = record {
   goes_on = λ more. go more ∙ ap (λ es. tell es (outcome_behind limit next more)) (sym all);
 }
   where
-    go : (more : List ℕ) → outcome limit ((stream ++ bytes) ++ more) ≡ tell (events limit stream ++ these) (outcome_behind limit next more)
+    go : (more : List ℕ)
+        → outcome limit ((stream ++ bytes) ++ more)
+        ≡ tell (events limit stream ++ these) (outcome_behind limit next more)
     go more =
         ap (outcome limit) (append_assoc stream bytes more)
         ∙ a.goes_on (bytes ++ more)
@@ -54,17 +65,22 @@ after-reads limit stream bytes place next these a r is = record {
         ∙ append-nil (events limit stream ++ these)
 
 -- what is added to a stream is what follows its place
-pub added-after : (limit : Option ℕ) (stream bytes : List ℕ) (place : Place) → IsAfter limit stream place → added limit stream bytes ≡ events_behind limit place bytes
+pub added-after : (limit : Option ℕ) (stream bytes : List ℕ) (place : Place) → IsAfter limit stream place
+    → added limit stream bytes ≡ events_behind limit place bytes
 added-after limit stream bytes place a =
-    ap (drop (length (events limit stream))) (after-events limit stream bytes place a) ∙ drop-append_seam (events limit stream) (events_behind limit place bytes)
+    ap (drop (length (events limit stream))) (after-events limit stream bytes place a)
+    ∙ drop-append_seam (events limit stream) (events_behind limit place bytes)
 
 -- .. and of bytes that lead to a place, what they tell
-pub added-reads : (limit : Option ℕ) (stream bytes : List ℕ) (place next : Place) (these : List Event) → IsAfter limit stream place → Reads limit place bytes these next → IsPlace next
+pub added-reads : (limit : Option ℕ) (stream bytes : List ℕ) (place next : Place) (these : List Event)
+    → IsAfter limit stream place → Reads limit place bytes these next → IsPlace next
     → added limit stream bytes ≡ these
 added-reads limit stream bytes place next these a r is =
     added-after limit stream bytes place a
-    ∙ ap (events_behind limit place) (sym (append-nil bytes)) ∙ ap (λ o. o.told) (r.reads []) ∙ ap (λ es. these ++ es) (events_behind-nothing limit next is) ∙ append-nil these
+    ∙ ap (events_behind limit place) (sym (append-nil bytes)) ∙ ap (λ o. o.told) (r.reads [])
+    ∙ ap (λ es. these ++ es) (events_behind-nothing limit next is) ∙ append-nil these
 
 -- a parser between characters of a text has read nothing
-pub begins : {B : Type 0} (limit : Option ℕ) (parser : Machine B) → Stands limit parser (InText []) → IsBehind limit parser []
+pub begins : {B : Type 0} (limit : Option ℕ) (parser : Machine B) → Stands limit parser (InText [])
+    → IsBehind limit parser []
 begins limit parser s = record { place = InText []; stands = s; is_after = after-nothing limit }

@@ -24,9 +24,17 @@ record Counts (n : ℕ) (place : Place) (bytes : List ℕ) : Type 0 where
   sent : All (IsBounded (Some n)) told
   kept : size_at next ≤ size_at place + length bytes
 
-counts : (n : ℕ) (place : Place) (bytes : List ℕ) → IsPlace place → size_at place + length bytes ≤ n → Counts n place bytes
+counts : (n : ℕ) (place : Place) (bytes : List ℕ) → IsPlace place → size_at place + length bytes ≤ n
+    → Counts n place bytes
 counts n place [] is within =
-    record { told = []; next = place; is_place = is; reads = reads-nothing None place; sent = All-nil (IsBounded (Some n)); kept = omega arith }
+    record {
+      told = [];
+      next = place;
+      is_place = is;
+      reads = reads-nothing None place;
+      sent = All-nil (IsBounded (Some n));
+      kept = omega arith;
+    }
 counts n place (b ∷ bytes) is within =
     let s : Steps None place b = steps None place b is in
     let grows : size_at s.next ≤ size_at place + 1 = s.grows refl in
@@ -36,7 +44,9 @@ counts n place (b ∷ bytes) is within =
       next = rest.next;
       is_place = rest.is_place;
       reads = reads-append None place s.next rest.next (b ∷ []) bytes s.told rest.told s.reads rest.reads;
-      sent = All-append (IsBounded (Some n)) s.told rest.told (brief_bounded (Some n) s.told (s.brief (Some n) (fits_by n (left_at None place) (omega arith)))) rest.sent;
+      sent =
+          All-append (IsBounded (Some n)) s.told rest.told
+          (brief_bounded (Some n) s.told (s.brief (Some n) (fits_by n (left_at None place) (omega arith)))) rest.sent;
       kept = omega (arith, grows, rest.kept);
     }
 
@@ -45,7 +55,10 @@ counts_data stream bytes =
     let a : LeadsTo None stream = leads_to None stream in
     let c = counts (size_at a.place + length bytes) a.place bytes a.is_place (omega arith) in
     let before = ap data_left (after-left None stream a.place a.is_after a.is_place) in
-    let behind = ap data_left (after-left None (stream ++ bytes) c.next (after-reads None stream bytes a.place c.next c.told a.is_after c.reads c.is_place) c.is_place) in
+    let behind =
+    ap data_left
+    (after-left None (stream ++ bytes) c.next
+    (after-reads None stream bytes a.place c.next c.told a.is_after c.reads c.is_place) c.is_place) in
     record {
       told = rw (before, added-reads None stream bytes a.place c.next c.told a.is_after c.reads c.is_place) c.sent;
       left = omega (arith, before, behind, c.kept);

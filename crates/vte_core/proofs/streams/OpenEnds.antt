@@ -4,27 +4,37 @@ use Rattle.vte_core.proofs.Common.{Outcome, unfinished, from_first, cut_at_escap
 use Rattle.vte_core.specs.Key.{SystemCommand}
 
 by_pieces : (pieces others : List (List ℕ)) (dropped other : Bool) (rest : List ℕ)
-    → unfinished (system_command_rest pieces dropped rest).left ≡ unfinished (system_command_rest others other rest).left
+    → unfinished (system_command_rest pieces dropped rest).left
+    ≡ unfinished (system_command_rest others other rest).left
 by_pieces pieces others dropped other [] = refl
 by_pieces pieces others dropped other (end ∷ text) = refl
 
-by_shape : (limit : Option ℕ) (k : Key) (key : ℕ) (bytes : List ℕ) → unfinished (shape_outcome limit k key bytes).left ≡ unfinished (shape_outcome None k key bytes).left
+by_shape : (limit : Option ℕ) (k : Key) (key : ℕ) (bytes : List ℕ)
+    → unfinished (shape_outcome limit k key bytes).left ≡ unfinished (shape_outcome None k key bytes).left
 unfolding system_command_outcome
 by_shape limit SystemCommand key bytes = by_pieces _ _ _ _ (from_first ends_command bytes)
 by_shape limit _ key bytes = refl
 
-by_rest : (limit : Option ℕ) (rest : List ℕ) → unfinished (body_rest limit rest).left ≡ unfinished (body_rest None rest).left
+by_rest : (limit : Option ℕ) (rest : List ℕ)
+    → unfinished (body_rest limit rest).left ≡ unfinished (body_rest None rest).left
 by_rest limit [] = refl
-by_rest limit (key ∷ bytes) = elim (cases_Bool (is_cancel (class_of key))) [ inl cancels ↦ rw cancels refl | inr other ↦ rw other (by_shape limit (key_of key) key bytes) ]
+by_rest limit (key ∷ bytes) =
+    elim (cases_Bool (is_cancel (class_of key))) [
+      | inl cancels ↦ rw cancels refl
+      | inr other ↦ rw other (by_shape limit (key_of key) key bytes)
+    ]
 
-by_body : (limit : Option ℕ) (body : List ℕ) → unfinished (body_outcome limit body).left ≡ unfinished (body_outcome None body).left
+by_body : (limit : Option ℕ) (body : List ℕ)
+    → unfinished (body_outcome limit body).left ≡ unfinished (body_outcome None body).left
 unfolding body_outcome
 by_body limit body = by_rest limit (from_first (λ b. is_key (class_of b)) body)
 
-by_bodies : (limit : Option ℕ) (part other : Outcome) (bodies : List (List ℕ)) → unfinished part.left ≡ unfinished other.left
+by_bodies : (limit : Option ℕ) (part other : Outcome) (bodies : List (List ℕ))
+    → unfinished part.left ≡ unfinished other.left
     → unfinished (with_bodies limit part bodies).left ≡ unfinished (with_bodies None other bodies).left
 by_bodies limit part other [] e = e
-by_bodies limit part other (body ∷ bodies) e = by_bodies limit (body_outcome limit body) (body_outcome None body) bodies (by_body limit body)
+by_bodies limit part other (body ∷ bodies) e =
+    by_bodies limit (body_outcome limit body) (body_outcome None body) bodies (by_body limit body)
 
 pub unfinished-any : (limit : Option ℕ) (stream : List ℕ) → unfinished (outcome limit stream).left ≡ open_end stream
 unfolding outcome open_end

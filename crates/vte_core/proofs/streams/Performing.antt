@@ -7,12 +7,14 @@ use Rattle.vte_core.proofs.shapes.TextLemmas.{text_broken}
 use Rattle.vte_core.proofs.fields.Standing.{is_open-truncated, events_behind-nothing}
 use Rattle.vte_core.proofs.streams.StreamLemmas.{events-behind_nothing, reads-byte, waits-byte, outcome_behind-escape}
 
-pub after-append : {V : Type 0} (step : V → Event → V) (value : V) (xs ys : List Event) → after step value (xs ++ ys) ≡ after step (after step value xs) ys
+pub after-append : {V : Type 0} (step : V → Event → V) (value : V) (xs ys : List Event)
+    → after step value (xs ++ ys) ≡ after step (after step value xs) ys
 after-append step value [] ys = refl
 after-append step value (x ∷ xs) ys = after-append step (step value x) xs ys
 
 -- one byte that is no ESC
-pub takes-performs : {V B : Type 0} (step : V → Event → V) (old new : V) (limit : Option ℕ) (place : Place) (byte : ℕ) (parser : Machine B) → eqb byte escape ≡ false
+pub takes-performs : {V B : Type 0} (step : V → Event → V) (old new : V) (limit : Option ℕ) (place : Place) (byte : ℕ)
+    (parser : Machine B) → eqb byte escape ≡ false
     → Takes step old new limit place byte parser → Performs step old new limit place (byte ∷ []) parser
 takes-performs step old new limit place byte parser e t = record {
   told = t.told;
@@ -25,7 +27,8 @@ takes-performs step old new limit place byte parser e t = record {
 -- ---- a byte that is offered to an open character
 
 -- a byte that belongs to an open character is no ESC
-pub carried_is_no_escape : (u : List ℕ) (b : ℕ) → is_truncated u ≡ true → (is_well_formed (u ++ b ∷ []) ≡ true) ⊎ (is_truncated (u ++ b ∷ []) ≡ true) → eqb b escape ≡ false
+pub carried_is_no_escape : (u : List ℕ) (b : ℕ) → is_truncated u ≡ true
+    → (is_well_formed (u ++ b ∷ []) ≡ true) ⊎ (is_truncated (u ++ b ∷ []) ≡ true) → eqb b escape ≡ false
 carried_is_no_escape u b more carried = elim (cases_Bool (eqb b escape)) [
   | inl is ↦
       let e : b ≡ escape = eqb-true b escape is in
@@ -38,19 +41,24 @@ pub open_truncated : (u : List ℕ) → is_open u ≡ true → (u ≡ [] → ⊥
 open_truncated [] o n = absurd (n refl)
 open_truncated (a ∷ u) o n = o
 
-closing-unfinished : (limit : Option ℕ) (u : List ℕ) → is_truncated u ≡ true → closing_at limit (InText u) ≡ Print replacement ∷ []
+closing-unfinished : (limit : Option ℕ) (u : List ℕ) → is_truncated u ≡ true
+    → closing_at limit (InText u) ≡ Print replacement ∷ []
 unfolding is_truncated
 closing-unfinished limit [] more = cc
 closing-unfinished limit (a ∷ u) more = refl
 
 -- a byte that breaks a character is still to be read, ESC too
-pub waits-broken : (limit : Option ℕ) (u : List ℕ) (b : ℕ) (more : List ℕ) → is_truncated u ≡ true → is_well_formed (u ++ b ∷ []) ≡ false → is_truncated (u ++ b ∷ []) ≡ false
-    → outcome_behind limit (InText u) (b ∷ more) ≡ tell (Print replacement ∷ []) (outcome_behind limit (InText []) (b ∷ more))
+pub waits-broken : (limit : Option ℕ) (u : List ℕ) (b : ℕ) (more : List ℕ) → is_truncated u ≡ true
+    → is_well_formed (u ++ b ∷ []) ≡ false → is_truncated (u ++ b ∷ []) ≡ false
+    → outcome_behind limit (InText u) (b ∷ more)
+    ≡ tell (Print replacement ∷ []) (outcome_behind limit (InText []) (b ∷ more))
 waits-broken limit u b more begun whole next = elim (cases_Bool (eqb b escape)) [
-  | inr other ↦ waits-byte limit (InText u) (InText []) b (Print replacement ∷ []) more other (text_broken u b begun whole next)
+  | inr other ↦
+      waits-byte limit (InText u) (InText []) b (Print replacement ∷ []) more other (text_broken u b begun whole next)
   | inl e ↦
       let is : b ≡ escape = eqb-true b escape e in
-      let there : outcome_behind limit (InText []) (escape ∷ more) ≡ outcome_behind limit AtEscape more = outcome_behind-escape limit (InText []) more refl in
+      let there : outcome_behind limit (InText []) (escape ∷ more) ≡ outcome_behind limit AtEscape more =
+      outcome_behind-escape limit (InText []) more refl in
       rw is (
       outcome_behind-escape limit (InText u) more (is_open-truncated u begun)
       ∙ ap (λ es. tell es (outcome_behind limit AtEscape more)) (closing-unfinished limit u begun)

@@ -10,8 +10,10 @@ use Rattle.vte_core.proofs.streams.StreamSteps.{LeadsTo, leads_to}
 use Rattle.vte_core.proofs.streams.After.{after-open_end, events-told}
 
 -- the next byte is the first of those that are unread
-broken_at : (limit : Option ℕ) (place : Place) (b : ℕ) (unread more : List ℕ) → IsPlace place → breaks (open_at place) (b ∷ unread) ≡ true
-    → outcome_behind limit place (b ∷ more) ≡ tell (Print replacement ∷ []) (outcome_behind limit (InText []) (b ∷ more))
+broken_at : (limit : Option ℕ) (place : Place) (b : ℕ) (unread more : List ℕ) → IsPlace place
+    → breaks (open_at place) (b ∷ unread) ≡ true
+    → outcome_behind limit place (b ∷ more)
+    ≡ tell (Print replacement ∷ []) (outcome_behind limit (InText []) (b ∷ more))
 broken_at limit (InText []) b unread more is broken = absurd (false≢true broken)
 broken_at limit (InText (a ∷ u)) b unread more is broken =
     let parts = and_parts _ _ broken in
@@ -20,19 +22,25 @@ broken_at limit _ b unread more is broken = absurd (false≢true broken)
 
 -- the stream goes on as one that begins with what is unread
 resumes : (limit : Option ℕ) (stream unread more : List ℕ) → breaks (open_end stream) unread ≡ true
-    → outcome limit (stream ++ (unread ++ more)) ≡ tell (events limit stream ++ Print replacement ∷ []) (outcome limit (unread ++ more))
+    → outcome limit (stream ++ (unread ++ more))
+    ≡ tell (events limit stream ++ Print replacement ∷ []) (outcome limit (unread ++ more))
 resumes limit stream [] more broken = absurd (false≢true (sym (breaks-no_byte (open_end stream)) ∙ broken))
 resumes limit stream (b ∷ unread) more broken =
     let a : LeadsTo limit stream = leads_to limit stream in
     let here : breaks (open_at a.place) (b ∷ unread) ≡ true =
-    ap (λ (u : List ℕ). breaks u (b ∷ unread)) (sym (after-open_end limit stream a.place a.is_after a.is_place)) ∙ broken in
+    ap (λ (u : List ℕ). breaks u (b ∷ unread))
+    (sym (after-open_end limit stream a.place a.is_after a.is_place)) ∙ broken in
     a.is_after.goes_on (b ∷ (unread ++ more))
     ∙ ap (tell (events limit stream)) (broken_at limit a.place b unread (unread ++ more) a.is_place here)
-    ∙ sym (tell-append (events limit stream) (Print replacement ∷ []) (outcome_behind limit (InText []) (b ∷ (unread ++ more))))
-    ∙ ap (tell (events limit stream ++ Print replacement ∷ [])) (sym (outcome-behind_nothing limit (b ∷ (unread ++ more))))
+    ∙ sym
+    (tell-append (events limit stream) (Print replacement ∷ [])
+    (outcome_behind limit (InText []) (b ∷ (unread ++ more))))
+    ∙ ap (tell (events limit stream ++ Print replacement ∷ []))
+    (sym (outcome-behind_nothing limit (b ∷ (unread ++ more))))
 
 events-broken : (limit : Option ℕ) (stream unread more : List ℕ) → breaks (open_end stream) unread ≡ true
-    → events limit (stream ++ (unread ++ more)) ≡ (events limit stream ++ Print replacement ∷ []) ++ events limit (unread ++ more)
+    → events limit (stream ++ (unread ++ more))
+    ≡ (events limit stream ++ Print replacement ∷ []) ++ events limit (unread ++ more)
 events-broken limit stream unread more broken =
     events-told limit (stream ++ (unread ++ more)) ∙ ap (λ o. o.told) (resumes limit stream unread more broken)
     ∙ ap (λ es. (events limit stream ++ Print replacement ∷ []) ++ es) (sym (events-told limit (unread ++ more)))
@@ -42,15 +50,19 @@ pub added-broken : (limit : Option ℕ) (stream unread more : List ℕ) → brea
 added-broken limit stream unread more broken =
     let told : List Event = events limit stream in
     let behind : List Event = events limit (unread ++ more) in
-    ap (drop (length told)) (events-broken limit stream unread more broken ∙ append_assoc told (Print replacement ∷ []) behind)
-    ∙ drop-append_seam told (Print replacement ∷ behind) ∙ ap (λ n. Print replacement ∷ drop n behind) (sym (ap length (events-empty limit)))
+    ap (drop (length told))
+    (events-broken limit stream unread more broken ∙ append_assoc told (Print replacement ∷ []) behind)
+    ∙ drop-append_seam told (Print replacement ∷ behind)
+    ∙ ap (λ n. Print replacement ∷ drop n behind) (sym (ap length (events-empty limit)))
 
-pub resumes-after : (limit : Option ℕ) (stream unread : List ℕ) (place : Place) → breaks (open_end stream) unread ≡ true → IsAfter limit unread place
+pub resumes-after : (limit : Option ℕ) (stream unread : List ℕ) (place : Place) → breaks (open_end stream) unread ≡ true
+    → IsAfter limit unread place
     → IsAfter limit (stream ++ unread) place
 resumes-after limit stream unread place broken a = record {
   goes_on = λ more.
       let told = events limit stream ++ Print replacement ∷ [] in
-      let all : events limit (stream ++ unread) ≡ told ++ events limit unread = rw append-nil at (events-broken limit stream unread [] broken) in
+      let all : events limit (stream ++ unread) ≡ told ++ events limit unread =
+      rw append-nil at (events-broken limit stream unread [] broken) in
       ap (outcome limit) (append_assoc stream unread more)
       ∙ resumes limit stream unread more broken
       ∙ ap (tell told) (a.goes_on more)

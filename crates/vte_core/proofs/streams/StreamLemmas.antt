@@ -5,21 +5,25 @@ use Rattle.vte_core.proofs.shapes.OutcomeLemmas.{tell-append, with_bodies-tell}
 use Rattle.vte_core.proofs.fields.Standing.{IsPlace, rest_outcome-nothing}
 
 -- a stream is what more bytes give after nothing
-pub outcome-behind_nothing : (limit : Option ℕ) (stream : List ℕ) → outcome limit stream ≡ outcome_behind limit (InText []) stream
+pub outcome-behind_nothing : (limit : Option ℕ) (stream : List ℕ)
+    → outcome limit stream ≡ outcome_behind limit (InText []) stream
 unfolding outcome outcome_behind
 outcome-behind_nothing limit stream = refl
 
-pub events-behind_nothing : (limit : Option ℕ) (stream : List ℕ) → events limit stream ≡ events_behind limit (InText []) stream
+pub events-behind_nothing : (limit : Option ℕ) (stream : List ℕ)
+    → events limit stream ≡ events_behind limit (InText []) stream
 unfolding events
 events-behind_nothing limit stream = ap (λ outcome. outcome.told) (outcome-behind_nothing limit stream)
 
 outcome_behind-byte : (limit : Option ℕ) (place : Place) (b : ℕ) (more : List ℕ) → eqb b escape ≡ false
-    → outcome_behind limit place (b ∷ more) ≡ with_bodies limit (rest_outcome limit place (b ∷ (cut_at_escape more).text)) (cut_at_escape more).bodies
+    → outcome_behind limit place (b ∷ more)
+    ≡ with_bodies limit (rest_outcome limit place (b ∷ (cut_at_escape more).text)) (cut_at_escape more).bodies
 unfolding outcome_behind
 outcome_behind-byte limit place b more e = simp e
 
 -- what a byte does in a text or a body, it does in the stream
-pub reads-byte : (limit : Option ℕ) (place next : Place) (b : ℕ) (told : List Event) → eqb b escape ≡ false → Leads limit place b told next → Reads limit place (b ∷ []) told next
+pub reads-byte : (limit : Option ℕ) (place next : Place) (b : ℕ) (told : List Event) → eqb b escape ≡ false
+    → Leads limit place b told next → Reads limit place (b ∷ []) told next
 unfolding outcome_behind
 reads-byte limit place next b told e l = record {
   reads = λ more.
@@ -30,7 +34,8 @@ reads-byte limit place next b told e l = record {
 }
 
 -- the same where the byte is still to be read
-pub waits-byte : (limit : Option ℕ) (place next : Place) (b : ℕ) (told : List Event) (more : List ℕ) → eqb b escape ≡ false
+pub waits-byte : (limit : Option ℕ) (place next : Place) (b : ℕ) (told : List Event) (more : List ℕ)
+    → eqb b escape ≡ false
     → ((rest : List ℕ) → rest_outcome limit place (b ∷ rest) ≡ tell told (rest_outcome limit next (b ∷ rest)))
     → outcome_behind limit place (b ∷ more) ≡ tell told (outcome_behind limit next (b ∷ more))
 waits-byte limit place next b told more e l =
@@ -47,14 +52,16 @@ unfolding outcome_behind
 outcome_behind-escape limit place more is =
     ap (λ part. tell (closed part) (outcome_behind limit AtEscape more)) (rest_outcome-nothing limit place is)
 
-pub reads-escape : (limit : Option ℕ) (place : Place) → IsPlace place → Reads limit place (escape ∷ []) (closing_at limit place) AtEscape
+pub reads-escape : (limit : Option ℕ) (place : Place) → IsPlace place
+    → Reads limit place (escape ∷ []) (closing_at limit place) AtEscape
 reads-escape limit place is = record { reads = λ more. outcome_behind-escape limit place more is }
 
 pub reads-nothing : (limit : Option ℕ) (place : Place) → Reads limit place [] [] place
 reads-nothing limit place = record { reads = λ more. refl }
 
 pub reads-append : (limit : Option ℕ) (place next last : Place) (bytes these : List ℕ) (told more_told : List Event)
-    → Reads limit place bytes told next → Reads limit next these more_told last → Reads limit place (bytes ++ these) (told ++ more_told) last
+    → Reads limit place bytes told next → Reads limit next these more_told last
+    → Reads limit place (bytes ++ these) (told ++ more_told) last
 reads-append limit place next last bytes these told more_told r s = record {
   reads = λ more.
       ap (outcome_behind limit place) (append_assoc bytes these more)

@@ -1,4 +1,5 @@
--- A stream of any bytes, from its front: what it gives stays as it is whatever follows, and where it begins anew.
+-- A stream of any bytes, from its front: what it gives stays as it is whatever follows, and where
+-- it begins anew.
 use Rattle.vte_core.proofs.Common.{◌≡◌, ℕ, inl, inr, Option, List, [], ◌∷◌, ◌++◌, drop, length, refl, ap, sym, ◌∙◌, append_assoc, All, All-append, All-cons, All-nil, Cancel, class_of}
 use Rattle.vte_core.proofs.Common.{IsBounded, IsBrief, Event, Grows, BeginsAnewBehind, BeginsAnew, OpensSilently, Place, InText, AtEscape, open_at, events_behind, IsAfter, added, events}
 use Rattle.vte_core.proofs.Common.{open_end, escape, Reads, InSystemCommand, left_at}
@@ -35,7 +36,14 @@ brief_bounded limit (event ∷ last ∷ []) brief =
 brief_bounded limit (_ ∷ _ ∷ _ ∷ _) brief = absurd brief
 
 pub arrives : (limit : Option ℕ) (place : Place) (bytes : List ℕ) → IsPlace place → Arrives limit place bytes
-arrives limit place [] is = record { told = []; next = place; is_place = is; reads = reads-nothing limit place; bounded = All-nil (IsBounded limit) }
+arrives limit place [] is =
+    record {
+      told = [];
+      next = place;
+      is_place = is;
+      reads = reads-nothing limit place;
+      bounded = All-nil (IsBounded limit);
+    }
 arrives limit place (b ∷ bytes) is =
     let first : Steps limit place b = steps limit place b is in
     let rest : Arrives limit first.next bytes = arrives limit first.next bytes first.is_place in
@@ -44,7 +52,9 @@ arrives limit place (b ∷ bytes) is =
       next = rest.next;
       is_place = rest.is_place;
       reads = reads-append limit place first.next rest.next (b ∷ []) bytes first.told rest.told first.reads rest.reads;
-      bounded = All-append (IsBounded limit) first.told rest.told (brief_bounded limit first.told (first.brief limit (left_fits limit place))) rest.bounded;
+      bounded =
+          All-append (IsBounded limit) first.told rest.told
+          (brief_bounded limit first.told (first.brief limit (left_fits limit place))) rest.bounded;
     }
 
 -- ---- the events of a stream from the events that it tells
@@ -52,7 +62,8 @@ arrives limit place (b ∷ bytes) is =
 pub told_by_stream : (limit : Option ℕ) (next : Place) (stream : List ℕ) (told : List Event) → IsPlace next
     → Reads limit (InText []) stream told next → events limit stream ≡ told
 told_by_stream limit next stream told is r =
-    ap (λ es. drop (length es) (events limit stream)) (sym (events-empty limit)) ∙ added-reads limit [] stream (InText []) next told (after-nothing limit) r is
+    ap (λ es. drop (length es) (events limit stream)) (sym (events-empty limit))
+    ∙ added-reads limit [] stream (InText []) next told (after-nothing limit) r is
 
 -- each stream leads to a place
 pub record LeadsTo (limit : Option ℕ) (stream : List ℕ) : Type 0 where
@@ -76,19 +87,24 @@ leads_to limit stream =
 pub events_grow : (limit : Option ℕ) → Grows limit
 events_grow limit stream more =
     let a : LeadsTo limit stream = leads_to limit stream in
-    after-events limit stream more a.place a.is_after ∙ ap (λ es. events limit stream ++ es) (sym (added-after limit stream more a.place a.is_after))
+    after-events limit stream more a.place a.is_after
+    ∙ ap (λ es. events limit stream ++ es) (sym (added-after limit stream more a.place a.is_after))
 
-grows_behind : (limit : Option ℕ) (stream bytes more : List ℕ) (a : LeadsTo limit stream) (next : Place) (told : List Event) → IsPlace next
-    → Reads limit a.place bytes told next → events limit (stream ++ (bytes ++ more)) ≡ events limit (stream ++ bytes) ++ events_behind limit next more
+grows_behind : (limit : Option ℕ) (stream bytes more : List ℕ) (a : LeadsTo limit stream) (next : Place)
+    (told : List Event) → IsPlace next
+    → Reads limit a.place bytes told next
+    → events limit (stream ++ (bytes ++ more)) ≡ events limit (stream ++ bytes) ++ events_behind limit next more
 grows_behind limit stream bytes more a next told is reads =
     ap (events limit) (sym (append_assoc stream bytes more))
-    ∙ after-events limit (stream ++ bytes) more next (after-reads limit stream bytes a.place next told a.is_after reads is)
+    ∙ after-events limit (stream ++ bytes) more next
+    (after-reads limit stream bytes a.place next told a.is_after reads is)
 
 -- where the byte leads to a text between characters, what follows begins as a new stream
 begins_anew : (limit : Option ℕ) (end : ℕ) → class_of end ≡ Cancel → BeginsAnewBehind limit end
 begins_anew limit end e stream more =
     let a : LeadsTo limit stream = leads_to limit stream in
-    let last = reads-byte limit a.place (InText []) end _ (cancel_is_no_escape end e) (cancel limit a.place end a.is_place e) in
+    let last =
+    reads-byte limit a.place (InText []) end _ (cancel_is_no_escape end e) (cancel limit a.place end a.is_place e) in
     grows_behind limit stream (end ∷ []) more a (InText []) _ refl last
     ∙ ap (λ es. events limit (stream ++ end ∷ []) ++ es) (sym (events-behind_nothing limit more))
 
@@ -131,7 +147,8 @@ adds limit stream b =
     }
 
 pub bytes_are_brief : (limit : Option ℕ) (stream : List ℕ) (b : ℕ) → IsBrief limit (added limit stream (b ∷ []))
-bytes_are_brief limit stream b = let a : Adds limit stream b = adds limit stream b in rw a.told (a.step.brief limit (left_fits limit a.place))
+bytes_are_brief limit stream b =
+    let a : Adds limit stream b = adds limit stream b in rw a.told (a.step.brief limit (left_fits limit a.place))
 
 pub opens_silently : (limit : Option ℕ) → OpensSilently limit
 opens_silently limit stream b =

@@ -4,8 +4,8 @@ use Rattle.vte_core.specs.machine.Run.{AreRun}
 use Rattle.vte_core.specs.Text.{is_layout}
 use Rattle.vte_core.specs.Utf8.{Range, to, is_in}
 
--- Between two characters; before one, two or three more bytes 80..BF; after a first byte whose second is bound more closely; and
--- after a byte that fits nowhere, for good.
+-- Between two characters; before one, two or three more bytes 80..BF; after a first byte whose
+-- second is bound more closely; and after a byte that fits nowhere, for good.
 pub data State : Type 0 where
   Between : State
   One : State

@@ -5,9 +5,13 @@ use Rattle.vte_core.specs.machine.Place.{Place, rest_outcome, outcome_behind}
 use Rattle.vte_core.specs.Outcome.{tell}
 
 -- The byte gives these events and leads to the next place, whatever follows.
-pub record Leads (limit : Option ℕ) (place : Place) (byte : ℕ) (told : List Event) (next : Place) : Type 0 where
-  pub leads : (rest : List ℕ) → rest_outcome limit place (byte ∷ rest) ≡ tell told (rest_outcome limit next rest)
+pub record Leads (limit : Option ℕ) (place : Place) (byte : ℕ) (told : List Event)
+    (next : Place) : Type 0 where
+  pub leads : (rest : List ℕ)
+      → rest_outcome limit place (byte ∷ rest) ≡ tell told (rest_outcome limit next rest)
 
 -- The bytes, which may include ESC, give these events and lead to the next place.
-pub record Reads (limit : Option ℕ) (place : Place) (bytes : List ℕ) (told : List Event) (next : Place) : Type 0 where
-  pub reads : (more : List ℕ) → outcome_behind limit place (bytes ++ more) ≡ tell told (outcome_behind limit next more)
+pub record Reads (limit : Option ℕ) (place : Place) (bytes : List ℕ) (told : List Event)
+    (next : Place) : Type 0 where
+  pub reads : (more : List ℕ)
+      → outcome_behind limit place (bytes ++ more) ≡ tell told (outcome_behind limit next more)

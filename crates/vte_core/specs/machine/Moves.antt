@@ -7,9 +7,11 @@ use Rattle.vte_core.specs.Event.{Event}
 use Rattle.vte_core.specs.Looks.{looked}
 use Rattle.vte_core.specs.machine.Progress.{IsRefusedAt, IsSettled, MayGoOn}
 
--- The bounds of each state's function, which reads from place i to place j, and gives back no memory. It takes at least one look for
--- each byte and at most so many, of which the caller took those seen.
-pub record Moves (rate seen : ℕ) {B : Type 0} (bytes : List ℕ) (i j : ℕ) (parser next : Machine B) (before after : Looks B) : Type 0 where
+-- The bounds of each state's function, which reads from place i to place j, and gives back no
+-- memory. It takes at least one look for each byte and at most so many, of which the caller took
+-- those seen.
+pub record Moves (rate seen : ℕ) {B : Type 0} (bytes : List ℕ) (i j : ℕ) (parser next : Machine B)
+    (before after : Looks B) : Type 0 where
   pub low : i ≤ j
   pub further : i < length bytes → i < j
   pub high : j ≤ length bytes
@@ -18,29 +20,36 @@ pub record Moves (rate seen : ℕ) {B : Type 0} (bytes : List ℕ) (i j : ℕ) (
   pub memory : parser.command.capacity ≤ next.command.capacity
 
 -- .. of one that may read nothing, as its loop, and may have looked at so many bytes ahead
-pub record Spends (rate seen ahead : ℕ) {B : Type 0} (bytes : List ℕ) (i j : ℕ) (parser next : Machine B) (before after : Looks B) : Type 0 where
+pub record Spends (rate seen ahead : ℕ) {B : Type 0} (bytes : List ℕ) (i j : ℕ)
+    (parser next : Machine B) (before after : Looks B) : Type 0 where
   pub low : i ≤ j
   pub high : j ≤ length bytes
   pub count : looked after + rate * i + seen ≤ looked before + rate * j + ahead
   pub least : looked before + j ≤ looked after + i + seen
   pub memory : parser.command.capacity ≤ next.command.capacity
 
--- .. of one that handles a byte which was looked at: no character is open then, and it counts so many at most
-pub record Handles (most : ℕ) {V B : Type 0} (step : V → Event → V) (old new : V) (parser next : Machine B) (before after : Looks B) : Type 0 where
+-- .. of one that handles a byte which was looked at: no character is open then, and it counts so
+-- many at most
+pub record Handles (most : ℕ) {V B : Type 0} (step : V → Event → V) (old new : V)
+    (parser next : Machine B) (before after : Looks B) : Type 0 where
   pub settled : IsSettled next.state
   pub count : looked after ≤ looked before + most
   pub least : looked before ≤ looked after
   pub memory : parser.command.capacity ≤ next.command.capacity
 
--- .. of a whole call with this result, which read n of its bytes. If memory was refused, only all bytes bound the looks.
-pub record Costs (rate : ℕ) {Answer B : Type 0} (bytes : List ℕ) (result : Result Answer Refused) (n : ℕ) (parser next : Machine B) (before after : Looks B) : Type 0 where
+-- .. of a whole call with this result, which read n of its bytes. If memory was refused, only all
+-- bytes bound the looks.
+pub record Costs (rate : ℕ) {Answer B : Type 0} (bytes : List ℕ) (result : Result Answer Refused)
+    (n : ℕ) (parser next : Machine B) (before after : Looks B) : Type 0 where
   pub count : looked after ≤ looked before + rate * length bytes + 8
   pub paid : IfOk result (λ _. looked after ≤ looked before + rate * n + 8)
   pub least : looked before + n ≤ looked after
   pub memory : parser.command.capacity ≤ next.command.capacity
 
--- .. of one that reads nothing at place i, because memory was refused. It searched for the end of the data.
-pub record Refuses {V B : Type 0} (asks : Bool) (is_terminated : V → Bool) (value : V) (limit : Option ℕ) (bytes : List ℕ) (i read : ℕ)
+-- .. of one that reads nothing at place i, because memory was refused. It searched for the end of
+-- the data.
+pub record Refuses {V B : Type 0} (asks : Bool) (is_terminated : V → Bool) (value : V)
+    (limit : Option ℕ) (bytes : List ℕ) (i read : ℕ)
     (parser next : Machine B) (before after : Looks B) : Type 0 where
   pub stays : read ≡ i
   pub refused : IsRefusedAt limit next.state next.command bytes read

@@ -23,14 +23,17 @@ pub record Holds (collected : Collected) (intermediates : List ℕ) : Type 0 whe
 abbrev pub numbers_behind : Bool → List ℕ → List ℕ → List Number
 numbers_behind joined digits [] = record { joined = joined; value = number_of digits } ∷ []
 numbers_behind joined digits (b ∷ text) =
-    if is_separator b then record { joined = joined; value = number_of digits } ∷ numbers_behind (is_colon b) [] text
+    if is_separator b
+    then record { joined = joined; value = number_of digits }
+    ∷ numbers_behind (is_colon b) [] text
     else numbers_behind joined (digits ++ b ∷ []) text
 
 -- The last number of the text is being read; of those before it the first 32 are held.
 pub record Counts (collected : Collected) (text : List ℕ) : Type 0 where
   pub front : List Number
   pub digits : List ℕ
-  pub goes_on : (more : List ℕ) → numbers (text ++ more) ≡ front ++ numbers_behind collected.joined digits more
+  pub goes_on : (more : List ℕ)
+      → numbers (text ++ more) ≡ front ++ numbers_behind collected.joined digits more
   pub params : collected.params ≡ grouped (take most_numbers front)
   pub number : collected.number ≡ number_of digits
 
@@ -58,8 +61,10 @@ IsMarker _ = ⊥
 
 -- How far a head with these parts has come.
 abbrev pub Reaches : HeadPart → List ℕ → List ℕ → List ℕ → Type 0
-Reaches Entry marker parameters intermediates = (marker ≡ []) × (parameters ≡ []) × (intermediates ≡ [])
-Reaches Parameters marker parameters intermediates = (0 < length (marker ++ parameters)) × (intermediates ≡ [])
+Reaches Entry marker parameters intermediates =
+    (marker ≡ []) × (parameters ≡ []) × (intermediates ≡ [])
+Reaches Parameters marker parameters intermediates =
+    (0 < length (marker ++ parameters)) × (intermediates ≡ [])
 Reaches Intermediates marker parameters intermediates = 0 < length intermediates
 Reaches IllShaped marker parameters intermediates = ⊥
 
@@ -86,22 +91,28 @@ StandsInHead collected part head = HoldsHead collected part head
 
 -- What the state says of the place.
 abbrev pub StandsBy : {B : Type 0} → Option ℕ → State → Machine B → Place → Type 0
-StandsBy limit (Text unfinished) parser (InText bytes) = (bytes_of unfinished ≡ bytes) × (is_open bytes ≡ true)
+StandsBy limit (Text unfinished) parser (InText bytes) =
+    (bytes_of unfinished ≡ bytes) × (is_open bytes ≡ true)
 StandsBy limit Escape parser AtEscape = Holds parser.collected []
-StandsBy limit EscapeIntermediate parser (InEscape intermediates) = Holds parser.collected intermediates
-StandsBy limit (ControlSequence part) parser (InControlSequence head) = StandsInHead parser.collected part head
-StandsBy limit (DeviceControl part) parser (InDeviceControl head) = StandsInHead parser.collected part head
+StandsBy limit EscapeIntermediate parser (InEscape intermediates) =
+    Holds parser.collected intermediates
+StandsBy limit (ControlSequence part) parser (InControlSequence head) =
+    StandsInHead parser.collected part head
+StandsBy limit (DeviceControl part) parser (InDeviceControl head) =
+    StandsInHead parser.collected part head
 StandsBy limit DeviceData parser InData = Unit {0}
 StandsBy limit SystemCommand parser (InSystemCommand items) = Keeps limit parser.command items
 StandsBy limit IgnoredString parser InIgnoredString = Unit {0}
 StandsBy limit _ parser _ = ⊥
 
-pub record Stands {B : Type 0} (limit : Option ℕ) (parser : Machine B) (place : Place) : Type 0 where
+pub record Stands {B : Type 0} (limit : Option ℕ) (parser : Machine B)
+    (place : Place) : Type 0 where
   pub by : StandsBy limit parser.state parser place
 
--- The parser continues as one that has read the stream: with more bytes, the stream gives its own events and then what
--- those bytes give after a place at which the parser stands.
-pub record IsBehind {B : Type 0} (limit : Option ℕ) (parser : Machine B) (stream : List ℕ) : Type 0 where
+-- The parser continues as one that has read the stream: with more bytes, the stream gives its own
+-- events and then what those bytes give after a place at which the parser stands.
+pub record IsBehind {B : Type 0} (limit : Option ℕ) (parser : Machine B)
+    (stream : List ℕ) : Type 0 where
   pub place : Place
   pub stands : Stands limit parser place
   pub is_after : IsAfter limit stream place

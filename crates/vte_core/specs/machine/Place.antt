@@ -54,12 +54,15 @@ escape_behind intermediates bytes =
 unfoldable pub control_sequence_behind : List ℕ → List ℕ → Outcome
 control_sequence_behind head bytes =
     let inside = before (λ b. ends_head (class_of b)) bytes in
-    tell (executed inside) (control_sequence_rest (head ++ head_bytes inside) (from_first (λ b. ends_head (class_of b)) bytes))
+    tell (executed inside)
+    (control_sequence_rest (head ++ head_bytes inside)
+    (from_first (λ b. ends_head (class_of b)) bytes))
 
 -- .. after that of a device control string ..
 unfoldable pub device_control_behind : List ℕ → List ℕ → Outcome
 device_control_behind head bytes =
-    device_control_rest (head ++ head_bytes (before (λ b. ends_head (class_of b)) bytes)) (from_first (λ b. ends_head (class_of b)) bytes)
+    device_control_rest (head ++ head_bytes (before (λ b. ends_head (class_of b)) bytes))
+    (from_first (λ b. ends_head (class_of b)) bytes)
 
 -- .. and after the items of an operating system command
 unfoldable pub system_command_behind : Option ℕ → List ℕ → List ℕ → Outcome
@@ -100,4 +103,5 @@ events_behind limit place more = (outcome_behind limit place more).told
 
 -- What follows the stream gives what it gives after the place.
 pub record IsAfter (limit : Option ℕ) (stream : List ℕ) (place : Place) : Type 0 where
-  pub goes_on : (more : List ℕ) → outcome limit (stream ++ more) ≡ tell (events limit stream) (outcome_behind limit place more)
+  pub goes_on : (more : List ℕ)
+      → outcome limit (stream ++ more) ≡ tell (events limit stream) (outcome_behind limit place more)

@@ -22,13 +22,17 @@ abbrev pub part_after : HeadPart → ℕ → ℕ → HeadPart
 part_after reached from to = if from == to then reached else Parameters
 
 -- The bytes from place i to place j are read as part of a head, in all shapes alike.
-pub record ReadsHead (bytes : List ℕ) (i j : ℕ) (reached part : HeadPart) (old new : Collected) : Type 0 where
+pub record ReadsHead (bytes : List ℕ) (i j : ℕ) (reached part : HeadPart)
+    (old new : Collected) : Type 0 where
   pub low : i ≤ j
   pub high : j ≤ length bytes
   pub are : AreOf is_head (take (j - i) (drop i bytes))
-  pub stands : (head : List ℕ) → StandsInHead old reached head → StandsInHead new part (head ++ take (j - i) (drop i bytes))
+  pub stands : (head : List ℕ) → StandsInHead old reached head
+      → StandsInHead new part (head ++ take (j - i) (drop i bytes))
 
 -- They are read up to this end, and the byte there, if any, was looked at.
-pub record ReadsHeadUpTo (bytes : List ℕ) (i : ℕ) (reached : HeadPart) (end : HeadEnd) (old new : Collected) : Type 0 where
+pub record ReadsHeadUpTo (bytes : List ℕ) (i : ℕ) (reached : HeadPart) (end : HeadEnd)
+    (old new : Collected) : Type 0 where
   pub head : ReadsHead bytes i end.position reached end.part old new
-  pub next : MatchOption end.next (end.position ≡ length bytes) (λ byte. (end.position < length bytes) × (byte ≡ slice_index bytes end.position))
+  pub next : MatchOption end.next (end.position ≡ length bytes)
+      (λ byte. (end.position < length bytes) × (byte ≡ slice_index bytes end.position))

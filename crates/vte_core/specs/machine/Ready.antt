@@ -10,4 +10,5 @@ pub record IsReady (held : Collected) (ignored : Bool) (head : List ℕ) : Type 
   pub well_shaped : is_well_shaped (head_of head) ≡ true
   pub groups : held.params ≡ groups_of (head_of head).parameters
   pub intermediates : held.intermediates.items ≡ first_two (collected (head_of head))
-  pub ignore : ignored ≡ (are_too_many (collected (head_of head)) || has_too_many_numbers (head_of head).parameters)
+  pub ignore : ignored
+      ≡ (are_too_many (collected (head_of head)) || has_too_many_numbers (head_of head).parameters)

@@ -17,10 +17,12 @@ ArePrinted = Each IsPrinted
 
 -- The character of a well-formed sequence at the place, if one stands there, isn't one of a run.
 abbrev pub EndsRun : Bool → List ℕ → ℕ → Type 0
-EndsRun keeps bytes place = (n : ℕ) → place + n ≤ length bytes → is_well_formed (take n (drop place bytes)) ≡ true
+EndsRun keeps bytes place =
+    (n : ℕ) → place + n ≤ length bytes → is_well_formed (take n (drop place bytes)) ≡ true
     → is_left_out keeps (scalar_of (take n (drop place bytes))) ≡ true
 
--- The bytes are characters, and none of these is a control, but for HT, LF and CR if these are kept.
+-- The bytes are characters, and none of these is a control, but for HT, LF and CR if these are
+-- kept.
 pub record AreRun (keeps : Bool) (bytes : List ℕ) : Type 0 where
   pub utf8 : IsUtf8 bytes
   pub plain : IsRunText keeps bytes
@@ -35,6 +37,8 @@ abbrev pub IsRun : Bool → List ℕ → ℕ → ℕ → Type 0
 IsRun keeps bytes from to = AreRun keeps (take (to - from) (drop from bytes))
 
 -- The performer has received the characters from `from` up to `to`, which are a run.
-pub record PrintsRun {V : Type 0} (keeps : Bool) (step : V → Event → V) (old new : V) (bytes : List ℕ) (from to : ℕ) : Type 0 where
+pub record PrintsRun {V : Type 0} (keeps : Bool) (step : V → Event → V) (old new : V)
+    (bytes : List ℕ) (from to : ℕ) : Type 0 where
   pub run : IsRun keeps bytes from to
-  pub printed : new ≡ after step old (map (run_event keeps) (chars (take (to - from) (drop from bytes))))
+  pub printed : new
+      ≡ after step old (map (run_event keeps) (chars (take (to - from) (drop from bytes))))

@@ -42,26 +42,37 @@ IsInHead _ = ⊥
 -- Everything that counts of a machine is saved: in a head the numbers, in a command its pieces.
 pub record HasSaved {B : Type 0} (saved : Saved) (machine : Machine B) : Type 0 where
   pub state : saved.state ≡ state_bytes machine.state
-  pub intermediates : take saved.intermediate_count saved.intermediates ≡ machine.collected.intermediates.items
+  pub intermediates : take saved.intermediate_count saved.intermediates
+      ≡ machine.collected.intermediates.items
   pub too_many : flag_of saved.too_many ≡ machine.collected.too_many
-  pub params : IsInHead machine.state → AreParts (take saved.group_count saved.lengths) (take saved.number_count saved.numbers) machine.collected.params
+  pub params : IsInHead machine.state
+      → AreParts (take saved.group_count saved.lengths)
+      (take saved.number_count saved.numbers) machine.collected.params
   pub number : saved.number ≡ machine.collected.number
   pub joined : flag_of saved.joined ≡ machine.collected.joined
-  pub bytes : machine.state ≡ SystemCommand → take saved.byte_count saved.bytes ≡ machine.command.bytes
+  pub bytes : machine.state ≡ SystemCommand
+      → take saved.byte_count saved.bytes ≡ machine.command.bytes
   pub ends : machine.state ≡ SystemCommand → take saved.end_count saved.ends ≡ machine.command.ends
   pub dropped : machine.state ≡ SystemCommand → flag_of saved.dropped ≡ machine.command.dropped
-  pub are_ends : machine.state ≡ SystemCommand → ArePieceEnds machine.command.bytes machine.command.ends
+  pub are_ends : machine.state ≡ SystemCommand
+      → ArePieceEnds machine.command.bytes machine.command.ends
 
 -- The machine was restored from `saved`.
 pub record IsRestored {B : Type 0} (saved : Saved) (machine : Machine B) : Type 0 where
   pub state : (state : State) → saved.state ≡ state_bytes state → machine.state ≡ state
-  pub intermediates : machine.collected.intermediates.items ≡ take saved.intermediate_count saved.intermediates
+  pub intermediates : machine.collected.intermediates.items
+      ≡ take saved.intermediate_count saved.intermediates
   pub too_many : machine.collected.too_many ≡ flag_of saved.too_many
-  pub params : IsInHead machine.state → (groups : List (List ℕ)) → AreParts (take saved.group_count saved.lengths) (take saved.number_count saved.numbers) groups → machine.collected.params ≡ groups
+  pub params : IsInHead machine.state → (groups : List (List ℕ))
+      → AreParts (take saved.group_count saved.lengths) (take saved.number_count saved.numbers) groups
+      → machine.collected.params ≡ groups
   pub number : machine.collected.number ≡ saved.number
   pub joined : machine.collected.joined ≡ flag_of saved.joined
-  pub bytes : machine.state ≡ SystemCommand → machine.command.bytes ≡ take saved.byte_count saved.bytes
-  pub ends : machine.state ≡ SystemCommand → ArePieceEnds (take saved.byte_count saved.bytes) (take saved.end_count saved.ends) → machine.command.ends ≡ take saved.end_count saved.ends
+  pub bytes : machine.state ≡ SystemCommand
+      → machine.command.bytes ≡ take saved.byte_count saved.bytes
+  pub ends : machine.state ≡ SystemCommand
+      → ArePieceEnds (take saved.byte_count saved.bytes) (take saved.end_count saved.ends)
+      → machine.command.ends ≡ take saved.end_count saved.ends
   pub dropped : machine.state ≡ SystemCommand → machine.command.dropped ≡ flag_of saved.dropped
 
 abbrev pub zeros_of : ℕ → List ℕ

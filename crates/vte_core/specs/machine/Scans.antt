@@ -9,16 +9,19 @@ pub record IsRange (bytes : List ℕ) (from to : ℕ) : Type 0 where
   pub in_order : from ≤ to
   pub within : to ≤ length bytes
 
--- A search from one place ends at another, takes at least one look for each byte between, and has found out what these are.
-pub record Scans {B : Type 0} (Are : List ℕ → ℕ → ℕ → Type 0) (bytes : List ℕ) (from to : ℕ) (before after : Looks B) : Type 0 where
+-- A search from one place ends at another, takes at least one look for each byte between, and has
+-- found out what these are.
+pub record Scans {B : Type 0} (Are : List ℕ → ℕ → ℕ → Type 0) (bytes : List ℕ) (from to : ℕ)
+    (before after : Looks B) : Type 0 where
   pub low : from ≤ to
   pub high : to ≤ length bytes
   pub are : Are bytes from to
   pub least : looked before + to ≤ looked after + from
 
--- A search from one place ends at another: at the first byte that isn't such a one, or with the bytes. It looks once at each byte up to
--- there, and at the byte there.
-pub record FindsEnd {B : Type 0} (Is : ℕ → Type 0) (bytes : List ℕ) (from to : ℕ) (before after : Looks B) : Type 0 where
+-- A search from one place ends at another: at the first byte that isn't such a one, or with the
+-- bytes. It looks once at each byte up to there, and at the byte there.
+pub record FindsEnd {B : Type 0} (Is : ℕ → Type 0) (bytes : List ℕ) (from to : ℕ)
+    (before after : Looks B) : Type 0 where
   pub low : from ≤ to
   pub high : to ≤ length bytes
   pub are : Each Is bytes from to

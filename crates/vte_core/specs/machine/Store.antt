@@ -12,7 +12,8 @@ ends_behind count [] = []
 ends_behind count (item ∷ items) =
     if item == semicolon then count ∷ ends_behind count items else ends_behind (count + 1) items
 
--- The capacity for data bytes, the data bytes, where the first 16 pieces end, and whether data bytes were dropped.
+-- The capacity for data bytes, the data bytes, where the first 16 pieces end, and whether data
+-- bytes were dropped.
 pub record Held : Type 0 where
   pub capacity : ℕ
   pub bytes : List ℕ
@@ -29,7 +30,8 @@ abbrev pub HasMemory : Option ℕ → ℕ → ℕ → ℕ → Type 0
 HasMemory None capacity count more = count + more ≤ capacity
 HasMemory (Some limit) capacity count more = Unit {0}
 
--- The answer of what takes memory for more bytes after `count` of them, if there had been so much memory, and now is.
+-- The answer of what takes memory for more bytes after `count` of them, if there had been so much
+-- memory, and now is.
 pub record Reserves (limit : Option ℕ) (count more had has : ℕ) (answer : Bool) : Type 0 where
   pub grows : had ≤ has
   pub suffices : answer ≡ true → HasMemory limit has count more
@@ -51,16 +53,19 @@ pieces_behind limit bytes ends more =
     let kept = kept_after limit (length bytes) more in
     cut_pieces (bytes ++ filter is_data_byte kept) (ends ++ ends_behind (length bytes) kept)
 
--- The ends of at most `left` pieces of `count` bytes, in order, from `start` on. If there are so many, no byte follows the last.
+-- The ends of at most `left` pieces of `count` bytes, in order, from `start` on. If there are so
+-- many, no byte follows the last.
 abbrev pub PiecesEnd : ℕ → ℕ → List ℕ → ℕ → Type 0
 PiecesEnd zero start [] count = start ≡ count
 PiecesEnd zero start (end ∷ ends) count = ⊥
 PiecesEnd (suc left) start [] count = start ≤ count
 PiecesEnd (suc left) start (end ∷ ends) count = (start ≤ end) × PiecesEnd left end ends count
 
--- The store continues as one that has taken the items: whatever follows, the pieces are the same. Each byte is in one of the first 16.
+-- The store continues as one that has taken the items: whatever follows, the pieces are the same.
+-- Each byte is in one of the first 16.
 pub record Keeps (limit : Option ℕ) (held : Held) (items : List ℕ) : Type 0 where
-  pub goes_on : (more : List ℕ) → pieces_of limit (items ++ more) ≡ pieces_behind limit held.bytes held.ends more
+  pub goes_on : (more : List ℕ)
+      → pieces_of limit (items ++ more) ≡ pieces_behind limit held.bytes held.ends more
   pub end : PiecesEnd most_pieces 0 held.ends (length held.bytes)
   pub fewer : length held.bytes ≤ length (filter is_data_byte items)
   pub dropped : held.dropped ≡ nat_lt (length held.bytes) (length (filter is_data_byte items))

@@ -1,4 +1,5 @@
--- What the parser did with a byte, or several: the events that it reported, and the place at which it then stands.
+-- What the parser did with a byte, or several: the events that it reported, and the place at which
+-- it then stands.
 use Rattle.std.specs.Prelude.{◌≡◌, ◌≤◌, ℕ, List, Option}
 use Rattle.vte_core.specs.declared.looks.Looks.{Looks}
 use Rattle.vte_core.specs.declared.parser.machine.Machine.{Machine}
@@ -11,22 +12,27 @@ use Rattle.vte_core.specs.machine.Place.{Place}
 use Rattle.vte_core.specs.machine.Tells.{Tells}
 use Rattle.vte_core.specs.Perform.{after}
 
--- The performer received the events of the byte, and the parser stands at the place to which it leads.
-pub record Takes {V B : Type 0} (step : V → Event → V) (old new : V) (limit : Option ℕ) (place : Place) (byte : ℕ) (parser : Machine B) : Type 0 where
+-- The performer received the events of the byte, and the parser stands at the place to which it
+-- leads.
+pub record Takes {V B : Type 0} (step : V → Event → V) (old new : V) (limit : Option ℕ)
+    (place : Place) (byte : ℕ) (parser : Machine B) : Type 0 where
   pub told : List Event
   pub next : Place
   pub performed : new ≡ after step old told
   pub stands : Stands limit parser next
   pub leads : Leads limit place byte told next
 
--- The performer received a sequence, as one event. The parser stands in a text then, and gave back no memory.
-pub record Dispatches {V B : Type 0} (step : V → Event → V) (old new : V) (event : Event) (parser next : Machine B) (before after : Looks B) : Type 0 where
+-- The performer received a sequence, as one event. The parser stands in a text then, and gave back
+-- no memory.
+pub record Dispatches {V B : Type 0} (step : V → Event → V) (old new : V) (event : Event)
+    (parser next : Machine B) (before after : Looks B) : Type 0 where
   pub tells : Tells step old new event before after
   pub text : next.state ≡ Text Nothing
   pub memory : parser.command.capacity ≤ next.command.capacity
 
 -- The performer received the events of the bytes, which may include ESC.
-pub record Performs {V B : Type 0} (step : V → Event → V) (old new : V) (limit : Option ℕ) (place : Place) (bytes : List ℕ) (parser : Machine B) : Type 0 where
+pub record Performs {V B : Type 0} (step : V → Event → V) (old new : V) (limit : Option ℕ)
+    (place : Place) (bytes : List ℕ) (parser : Machine B) : Type 0 where
   pub told : List Event
   pub next : Place
   pub performed : new ≡ after step old told

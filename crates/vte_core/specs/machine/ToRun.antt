@@ -56,22 +56,28 @@ kind_events Empty bytes = []
 -- Nothing of the kind stands where the run ends. A run isn't empty.
 abbrev pub IsWholeAt : List ℕ → RunPlace → RunKind → Type 0
 IsWholeAt bytes place OfText = (place.start < place.end) × EndsRun false bytes place.end
-IsWholeAt bytes place OfData = (place.start < place.end) × (place.end < length bytes → IsPut (slice_index bytes place.end) → ⊥)
+IsWholeAt bytes place OfData =
+    (place.start < place.end) × (place.end < length bytes → IsPut (slice_index bytes place.end) → ⊥)
 IsWholeAt bytes place Empty = place.start ≡ place.end
 
 -- A run stands there, adds its events to what the parser has read, and leaves the parser as it is.
-pub record HasRun {B : Type 0} (limit : Option ℕ) (bytes : List ℕ) (place : RunPlace) (parser : Machine B) : Type 0 where
+pub record HasRun {B : Type 0} (limit : Option ℕ) (bytes : List ℕ) (place : RunPlace)
+    (parser : Machine B) : Type 0 where
   pub range : IsRange bytes place.start place.end
   pub kind : AreOfKind place.kind (bytes_at bytes place)
   pub whole : IsWholeAt bytes place place.kind
-  pub adds : (stream : List ℕ) → IsBehind limit parser stream → added limit stream (bytes_at bytes place) ≡ kind_events place.kind (bytes_at bytes place)
-  pub reads : (stream : List ℕ) → IsBehind limit parser stream → IsBehind limit parser (stream ++ bytes_at bytes place)
+  pub adds : (stream : List ℕ) → IsBehind limit parser stream
+      → added limit stream (bytes_at bytes place) ≡ kind_events place.kind (bytes_at bytes place)
+  pub reads : (stream : List ℕ) → IsBehind limit parser stream
+      → IsBehind limit parser (stream ++ bytes_at bytes place)
 
 -- The call came to a run, to its end or to a stop.
-pub record ComesToRun {V B : Type 0} (step : V → Event → V) (is_terminated : V → Bool) (old new : V) (limit : Option ℕ) (bytes : List ℕ)
+pub record ComesToRun {V B : Type 0} (step : V → Event → V) (is_terminated : V → Bool) (old new : V)
+    (limit : Option ℕ) (bytes : List ℕ)
     (place : RunPlace) (before parser : Machine B) : Type 0 where
   pub has : HasRun limit bytes place parser
-  pub stands_at : (stream : List ℕ) → IsBehind limit before stream → StandsAt true step is_terminated old new limit stream bytes place.start parser
+  pub stands_at : (stream : List ℕ) → IsBehind limit before stream
+      → StandsAt true step is_terminated old new limit stream bytes place.start parser
   pub may_go_on : place.start < place.end → is_terminated new ≡ false
   pub stops : place.end ≡ place.start → place.start < length bytes → is_terminated new ≡ true
 

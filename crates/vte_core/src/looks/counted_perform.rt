@@ -25,27 +25,32 @@ pub(crate) trait CountedPerform<B, G> {
 
     fn print_char(&mut self, looks: &mut Looks<B>, c: char)
         requires { is_control_character c ≡ false }
-        ensures { Tells step (value_of self.old) (value_of self.new) (Print c) looks.old looks.new };
+        ensures { Tells step (value_of self.old) (value_of self.new)
+            (Print c) looks.old looks.new };
 
     /// Counts a text's bytes, which are no fewer than its characters.
     fn print_text(&mut self, looks: &mut Looks<B>, text: &str)
         requires { IsTextRun keeps text.now }
-        ensures { TellsAll step (value_of self.old) (value_of self.new) (map (run_event keeps) (chars text.now)) (length text.now) looks.old looks.new };
+        ensures { TellsAll step (value_of self.old) (value_of self.new)
+            (map (run_event keeps) (chars text.now)) (length text.now) looks.old looks.new };
 
     fn execute_control(&mut self, looks: &mut Looks<B>, byte: u8)
-        ensures { Tells step (value_of self.old) (value_of self.new) (Execute byte) looks.old looks.new };
+        ensures { Tells step (value_of self.old) (value_of self.new)
+            (Execute byte) looks.old looks.new };
 
     fn hook(&mut self, looks: &mut Looks<B>, held: &Collected, ignore: bool, byte: u8)
         ensures { Tells step (value_of self.old) (value_of self.new)
             (Hook held.now.params held.now.intermediates.items ignore byte) looks.old looks.new };
 
     fn put_byte(&mut self, looks: &mut Looks<B>, byte: u8)
-        ensures { Tells step (value_of self.old) (value_of self.new) (Put byte) looks.old looks.new };
+        ensures { Tells step (value_of self.old) (value_of self.new)
+            (Put byte) looks.old looks.new };
 
     /// Counts each byte.
     fn put_slice(&mut self, looks: &mut Looks<B>, bytes: &[u8])
         requires some { 0 < length bytes.now }
-        ensures { TellsAll step (value_of self.old) (value_of self.new) (map Put bytes.now) (length bytes.now) looks.old looks.new };
+        ensures { TellsAll step (value_of self.old) (value_of self.new) (map Put bytes.now)
+            (length bytes.now) looks.old looks.new };
 
     fn unhook(&mut self, looks: &mut Looks<B>)
         ensures { Tells step (value_of self.old) (value_of self.new) Unhook looks.old looks.new };

@@ -55,12 +55,14 @@ pub(crate) trait PerformAs<G>: Perform {
     /// Receives characters to print, at least one.
     fn print_text(&mut self, text: &str)
         requires { IsTextRun keeps text.now }
-        ensures { Self.value_of self.new ≡ after Self.step (Self.value_of self.old) (map (run_event keeps) (chars text.now)) };
+        ensures { Self.value_of self.new
+            ≡ after Self.step (Self.value_of self.old) (map (run_event keeps) (chars text.now)) };
 
     /// Receives data of a device control string, at least one byte.
     fn put_slice(&mut self, bytes: &[u8])
         requires some { 0 < length bytes.now }
-        ensures { Self.value_of self.new ≡ after Self.step (Self.value_of self.old) (map Put bytes.now) };
+        ensures { Self.value_of self.new
+            ≡ after Self.step (Self.value_of self.old) (map Put bytes.now) };
 }
 
 impl<P: Perform> PerformAs<Singly> for P {

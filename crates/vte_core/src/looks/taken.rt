@@ -2,8 +2,8 @@
 ghost use Rattle.std.specs.Prelude.{◌≡◌};
 ghost use Rattle.vte_core.specs.machine.Words.{Empty};
 
-/// What a call of [`advance_to_run`](crate::Parser::advance_to_run) read: bytes whose events it performed, and the run after them,
-/// if there is one.
+/// What a call of [`advance_to_run`](crate::Parser::advance_to_run) read: bytes whose events it
+/// performed, and the run after them, if there is one.
 #[derive(Clone, Copy, Debug, PartialEq, Eq)]
 pub struct Run<'a> {
     /// How many bytes were read before the run: its place in the bytes of the call.

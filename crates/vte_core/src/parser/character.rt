@@ -11,8 +11,8 @@ use crate::utf8::{
 };
 
 impl<B: Buffer> Machine<B> {
-    /// Reads the character or the malformed sequence that begins with a lead byte, which was looked at. A byte that breaks it is left
-    /// unread, and U+FFFD is printed for those before it.
+    /// Reads the character or the malformed sequence that begins with a lead byte, which was looked
+    /// at. A byte that breaks it is left unread, and U+FFFD is printed for those before it.
     #[inline(always)]
     pub(crate) fn read_character<P: CountedPerform<B, G>, G: Grain, const ASKS: bool>(
         &mut self,
@@ -22,13 +22,17 @@ impl<B: Buffer> Machine<B> {
         from: usize,
         first: u8,
     ) -> usize
-        requires may_read { MayReadByte ASKS P.is_terminated (P.value_of performer.old) (Text Nothing) self.old input.bytes.now from first }
+        requires may_read { MayReadByte ASKS P.is_terminated (P.value_of performer.old)
+            (Text Nothing) self.old input.bytes.now from first }
         requires lead { 0xc2 ≤ first }
         requires fits { first < 0xf5 }
-        ensures advances { Advances (EndsRun false input.entry.bytes.now from) ASKS P.step P.is_terminated (P.value_of performer.old)
+        ensures advances { Advances
+            (EndsRun false input.entry.bytes.now from) ASKS P.step P.is_terminated
+            (P.value_of performer.old)
             (P.value_of performer.new) B.limit input.entry.bytes.now from result self.old self.new }
         ensures text { result < length input.entry.bytes.now → self.new.state ≡ Text Nothing }
-        ensures moves { Moves 3 1 input.entry.bytes.now from result self.old self.new looks.old looks.new }
+        ensures moves { Moves 3 1 input.entry.bytes.now from result self.old self.new
+            looks.old looks.new }
     {
         let next = from + 1;
         if next >= input.len() {
@@ -62,10 +66,14 @@ impl<B: Buffer> Machine<B> {
         input: Input<'_, B>,
         from: usize,
     ) -> usize
-        requires may_read { MayReadByte ASKS P.is_terminated (P.value_of performer.old) (Text Nothing) self.old input.bytes.now from second }
+        requires may_read { MayReadByte ASKS P.is_terminated (P.value_of performer.old)
+            (Text Nothing) self.old input.bytes.now from second }
         requires lead { BeginsThree first }
-        ensures completes { Completes ASKS P.step P.is_terminated (P.value_of performer.old) (P.value_of performer.new) B.limit input.entry.bytes.now from result (One first) self.new }
-        ensures spends { Spends 2 1 2 input.entry.bytes.now from result self.old self.new looks.old looks.new }
+        ensures completes { Completes ASKS P.step P.is_terminated (P.value_of performer.old)
+            (P.value_of performer.new) B.limit input.entry.bytes.now from result
+            (One first) self.new }
+        ensures spends { Spends 2 1 2 input.entry.bytes.now from result self.old self.new
+            looks.old looks.new }
     {
         if !may_begin_three(first, second) {
             performer.print_char(looks, char::REPLACEMENT_CHARACTER);
@@ -95,10 +103,14 @@ impl<B: Buffer> Machine<B> {
         input: Input<'_, B>,
         from: usize,
     ) -> usize
-        requires may_read { MayReadByte ASKS P.is_terminated (P.value_of performer.old) (Text Nothing) self.old input.bytes.now from second }
+        requires may_read { MayReadByte ASKS P.is_terminated (P.value_of performer.old)
+            (Text Nothing) self.old input.bytes.now from second }
         requires lead { BeginsFour first }
-        ensures completes { Completes ASKS P.step P.is_terminated (P.value_of performer.old) (P.value_of performer.new) B.limit input.entry.bytes.now from result (One first) self.new }
-        ensures spends { Spends 2 1 2 input.entry.bytes.now from result self.old self.new looks.old looks.new }
+        ensures completes { Completes ASKS P.step P.is_terminated (P.value_of performer.old)
+            (P.value_of performer.new) B.limit input.entry.bytes.now from result
+            (One first) self.new }
+        ensures spends { Spends 2 1 2 input.entry.bytes.now from result self.old self.new
+            looks.old looks.new }
     {
         if !may_begin_four(first, second) {
             performer.print_char(looks, char::REPLACEMENT_CHARACTER);

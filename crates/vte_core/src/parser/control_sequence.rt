@@ -9,9 +9,11 @@ use crate::looks::{CountedPerform, Grain, Input, Looks};
 use crate::parser::{Machine, State, Unfinished};
 
 impl<B: Buffer> Machine<B> {
-    /// Goes on with a control sequence whose head has come so far: by digits, by separators too if there may be `several` numbers, and
-    /// by a final byte right after them. After `ESC [` most sequences have at most one number: for them this calls nothing before the
-    /// dispatch, so it saves no registers. Where calls have one byte each, most bytes of long sequences come this way.
+    /// Goes on with a control sequence whose head has come so far: by digits, by separators too if
+    /// there may be `several` numbers, and by a final byte right after them. After `ESC [` most
+    /// sequences have at most one number: for them this calls nothing before the dispatch, so it
+    /// saves no registers. Where calls have one byte each, most bytes of long sequences come this
+    /// way.
     #[inline(always)]
     pub(crate) fn continue_control_sequence<P: CountedPerform<B, G>, G: Grain, const ASKS: bool>(
         &mut self,
@@ -22,9 +24,13 @@ impl<B: Buffer> Machine<B> {
         several: bool,
         from: usize,
     ) -> usize
-        requires { MayRead ASKS P.is_terminated (P.value_of performer.old) (State.ControlSequence reached) self.old input.bytes.now from }
-        ensures advances { Advances (Unit {0}) ASKS P.step P.is_terminated (P.value_of performer.old) (P.value_of performer.new) B.limit input.entry.bytes.now from result self.old self.new }
-        ensures moves { Moves 5 0 input.entry.bytes.now from result self.old self.new looks.old looks.new }
+        requires { MayRead ASKS P.is_terminated (P.value_of performer.old)
+            (State.ControlSequence reached) self.old input.bytes.now from }
+        ensures advances { Advances (Unit {0}) ASKS P.step P.is_terminated
+            (P.value_of performer.old)
+            (P.value_of performer.new) B.limit input.entry.bytes.now from result self.old self.new }
+        ensures moves { Moves 5 0 input.entry.bytes.now from result self.old self.new
+            looks.old looks.new }
     {
         if !reached.may_have_parameters() {
             return self.read_control_sequence::<P, G, ASKS>(looks, performer, input, reached, from);
@@ -54,9 +60,13 @@ impl<B: Buffer> Machine<B> {
         reached: HeadPart,
         from: usize,
     ) -> usize
-        requires { MayRead ASKS P.is_terminated (P.value_of performer.old) (State.ControlSequence reached) self.old input.bytes.now from }
-        ensures advances { Advances (Unit {0}) ASKS P.step P.is_terminated (P.value_of performer.old) (P.value_of performer.new) B.limit input.entry.bytes.now from result self.old self.new }
-        ensures moves { Moves 3 0 input.entry.bytes.now from result self.old self.new looks.old looks.new }
+        requires { MayRead ASKS P.is_terminated (P.value_of performer.old)
+            (State.ControlSequence reached) self.old input.bytes.now from }
+        ensures advances { Advances (Unit {0}) ASKS P.step P.is_terminated
+            (P.value_of performer.old)
+            (P.value_of performer.new) B.limit input.entry.bytes.now from result self.old self.new }
+        ensures moves { Moves 3 0 input.entry.bytes.now from result self.old self.new
+            looks.old looks.new }
     {
         let head = self.collected.read_head(looks, reached, input, from);
         self.state = State::ControlSequence(head.part);
@@ -75,7 +85,8 @@ impl<B: Buffer> Machine<B> {
         head.position
     }
 
-    /// Ends a control sequence at its final byte: dispatches it, unless its head is malformed. Returns the next place.
+    /// Ends a control sequence at its final byte: dispatches it, unless its head is malformed.
+    /// Returns the next place.
     #[inline(always)]
     fn end_control_sequence<P: CountedPerform<B, G>, G: Grain>(
         &mut self,
@@ -89,8 +100,10 @@ impl<B: Buffer> Machine<B> {
         requires room { position < 18446744073709551615 }
         ensures next { result ≡ position + 1 }
         ensures takes { (head : List ℕ) → StandsInHead self.old.collected part head
-            → Takes P.step (P.value_of performer.old) (P.value_of performer.new) B.limit (InControlSequence head) byte self.new }
-        ensures handles { Handles 1 P.step (P.value_of performer.old) (P.value_of performer.new) self.old self.new looks.old looks.new }
+            → Takes P.step (P.value_of performer.old) (P.value_of performer.new) B.limit
+            (InControlSequence head) byte self.new }
+        ensures handles { Handles 1 P.step (P.value_of performer.old)
+            (P.value_of performer.new) self.old self.new looks.old looks.new }
     {
         if let HeadPart::IllShaped = part {
             self.state = State::Text(Unfinished::Nothing);
@@ -100,7 +113,8 @@ impl<B: Buffer> Machine<B> {
         self.dispatch_control_sequence(looks, performer, ignore, byte, position)
     }
 
-    /// Dispatches a control sequence at its final byte, and returns the next place, so that callers need not keep it.
+    /// Dispatches a control sequence at its final byte, and returns the next place, so that callers
+    /// need not keep it.
     #[inline(never)]
     fn dispatch_control_sequence<P: CountedPerform<B, G>, G: Grain>(
         &mut self,

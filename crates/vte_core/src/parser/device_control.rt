@@ -12,7 +12,8 @@ use crate::parser::{Machine, State, Unfinished};
 const STRING_TERMINATOR: u8 = 0x9c;
 
 impl<B: Buffer> Machine<B> {
-    /// Reads the head of a device control string, which has come so far, and its final byte. Controls in it are dropped.
+    /// Reads the head of a device control string, which has come so far, and its final byte.
+    /// Controls in it are dropped.
     pub(crate) fn read_device_control<P: CountedPerform<B, G>, G: Grain, const ASKS: bool>(
         &mut self,
         looks: &mut Looks<B>,
@@ -21,9 +22,13 @@ impl<B: Buffer> Machine<B> {
         reached: HeadPart,
         from: usize,
     ) -> usize
-        requires { MayRead ASKS P.is_terminated (P.value_of performer.old) (State.DeviceControl reached) self.old input.bytes.now from }
-        ensures advances { Advances (Unit {0}) ASKS P.step P.is_terminated (P.value_of performer.old) (P.value_of performer.new) B.limit input.entry.bytes.now from result self.old self.new }
-        ensures moves { Moves 5 0 input.entry.bytes.now from result self.old self.new looks.old looks.new }
+        requires { MayRead ASKS P.is_terminated (P.value_of performer.old)
+            (State.DeviceControl reached) self.old input.bytes.now from }
+        ensures advances { Advances (Unit {0}) ASKS P.step P.is_terminated
+            (P.value_of performer.old)
+            (P.value_of performer.new) B.limit input.entry.bytes.now from result self.old self.new }
+        ensures moves { Moves 5 0 input.entry.bytes.now from result self.old self.new
+            looks.old looks.new }
     {
         let head = self.collected.read_head(looks, reached, input, from);
         self.state = State::DeviceControl(head.part);
@@ -49,8 +54,10 @@ impl<B: Buffer> Machine<B> {
     )
         requires { is_final (class_of byte) ≡ true }
         ensures takes { (head : List ℕ) → StandsInHead self.old.collected part head
-            → Takes P.step (P.value_of performer.old) (P.value_of performer.new) B.limit (InDeviceControl head) byte self.new }
-        ensures handles { Handles 1 P.step (P.value_of performer.old) (P.value_of performer.new) self.old self.new looks.old looks.new }
+            → Takes P.step (P.value_of performer.old) (P.value_of performer.new) B.limit
+            (InDeviceControl head) byte self.new }
+        ensures handles { Handles 1 P.step (P.value_of performer.old)
+            (P.value_of performer.new) self.old self.new looks.old looks.new }
     {
         if let HeadPart::IllShaped = part {
             self.state = State::IgnoredString;
@@ -61,8 +68,8 @@ impl<B: Buffer> Machine<B> {
         self.state = State::DeviceData;
     }
 
-    /// Reads the data of a device control string, and the byte that ends them; for a performer that takes slices, and that nobody asks,
-    /// data up to a byte that isn't put, or that byte.
+    /// Reads the data of a device control string, and the byte that ends them; for a performer that
+    /// takes slices, and that nobody asks, data up to a byte that isn't put, or that byte.
     pub(crate) fn read_device_data<P: CountedPerform<B, G>, G: Grain, const ASKS: bool>(
         &mut self,
         looks: &mut Looks<B>,
@@ -70,9 +77,12 @@ impl<B: Buffer> Machine<B> {
         input: Input<'_, B>,
         from: usize,
     ) -> usize
-        requires { MayRead ASKS P.is_terminated (P.value_of performer.old) DeviceData self.old input.bytes.now from }
-        ensures advances { Advances ⊥ ASKS P.step P.is_terminated (P.value_of performer.old) (P.value_of performer.new) B.limit input.entry.bytes.now from result self.old self.new }
-        ensures moves { Moves 5 0 input.entry.bytes.now from result self.old self.new looks.old looks.new }
+        requires { MayRead ASKS P.is_terminated
+            (P.value_of performer.old) DeviceData self.old input.bytes.now from }
+        ensures advances { Advances ⊥ ASKS P.step P.is_terminated (P.value_of performer.old)
+            (P.value_of performer.new) B.limit input.entry.bytes.now from result self.old self.new }
+        ensures moves { Moves 5 0 input.entry.bytes.now from result self.old self.new
+            looks.old looks.new }
     {
         for position in from..input.len() {
             let byte = looks.at(input, position);
@@ -102,10 +112,14 @@ impl<B: Buffer> Machine<B> {
         from: usize,
         byte: u8,
     ) -> usize
-        requires may_read { MayReadByte ASKS P.is_terminated (P.value_of performer.old) DeviceData self.old input.bytes.now from byte }
+        requires may_read { MayReadByte ASKS P.is_terminated
+            (P.value_of performer.old) DeviceData self.old input.bytes.now from byte }
         requires other { is_data (class_of byte) ≡ false }
-        ensures advances { Advances (Unit {0}) ASKS P.step P.is_terminated (P.value_of performer.old) (P.value_of performer.new) B.limit input.entry.bytes.now from result self.old self.new }
-        ensures moves { Moves 5 1 input.entry.bytes.now from result self.old self.new looks.old looks.new }
+        ensures advances { Advances (Unit {0}) ASKS P.step P.is_terminated
+            (P.value_of performer.old)
+            (P.value_of performer.new) B.limit input.entry.bytes.now from result self.old self.new }
+        ensures moves { Moves 5 1 input.entry.bytes.now from result self.old self.new
+            looks.old looks.new }
     {
         if ends_all(byte) {
             return self.read_end::<P, G, ASKS>(looks, performer, input, from, byte);

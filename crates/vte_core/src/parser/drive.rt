@@ -8,19 +8,26 @@ use crate::looks::{CountedPerform, Grain, Input, Looks};
 use crate::parser::{Machine, Refused, State};
 
 impl<B: Buffer> Machine<B> {
-    /// Reads the bytes of a call, as many as there is memory for, and returns how many: all of them, or up to a stop if `ASKS`.
+    /// Reads the bytes of a call, as many as there is memory for, and returns how many: all of
+    /// them, or up to a stop if `ASKS`.
     pub(crate) fn drive<P: CountedPerform<B, G>, G: Grain, const ASKS: bool>(
         &mut self,
         looks: &mut Looks<B>,
         performer: &mut P,
         input: Input<'_, B>,
     ) -> Result<usize, Refused>
-        requires no_stop { G.IN_RUNS ≡ true → ASKS ≡ true → NoCharacterStops P.keeps P.step P.is_terminated }
-        ensures reads { IfOk result (λ read. ReadsUpTo ASKS P.step P.is_terminated (P.value_of performer.old) (P.value_of performer.new)
+        requires no_stop { G.IN_RUNS ≡ true → ASKS ≡ true
+            → NoCharacterStops P.keeps P.step P.is_terminated }
+        ensures reads { IfOk result
+            (λ read. ReadsUpTo ASKS P.step P.is_terminated (P.value_of performer.old)
+            (P.value_of performer.new)
             B.limit input.entry.bytes.now read self.old self.new) }
-        ensures refuses { IfErr result (λ refused. RefusesAt ASKS P.step P.is_terminated (P.value_of performer.old) (P.value_of performer.new)
+        ensures refuses { IfErr result
+            (λ refused. RefusesAt ASKS P.step P.is_terminated (P.value_of performer.old)
+            (P.value_of performer.new)
             B.limit input.entry.bytes.now refused.read self.old self.new) }
-        ensures costs { Costs 5 input.entry.bytes.now result (read_count result) self.old self.new looks.old looks.new }
+        ensures costs { Costs 5 input.entry.bytes.now result
+            (read_count result) self.old self.new looks.old looks.new }
     {
         let mut position = self.finish_character::<P, G, ASKS>(looks, performer, input);
         while position < input.len() {
@@ -43,8 +50,10 @@ impl<B: Buffer> Machine<B> {
             StandsAt ASKS P.step P.is_terminated (P.value_of performer.old) (P.value_of performer.new) B.limit stream
             input.entry.bytes.now result self.new }
         ensures settled { result < length input.entry.bytes.now → IsSettled self.new.state }
-        ensures spends { Spends 2 0 2 input.entry.bytes.now 0 result self.old self.new looks.old looks.new }
-        ensures others { (stream : List ℕ) → IsBehind B.limit self.old stream → TellsOthers B.limit stream input.entry.bytes.now result }
+        ensures spends { Spends 2 0 2 input.entry.bytes.now 0 result self.old self.new
+            looks.old looks.new }
+        ensures others { (stream : List ℕ) → IsBehind B.limit self.old stream
+            → TellsOthers B.limit stream input.entry.bytes.now result }
     {
         match self.state {
             State::Text(begun) => {
@@ -57,7 +66,8 @@ impl<B: Buffer> Machine<B> {
         }
     }
 
-    /// Reads at least one byte, before which the performer was asked, or none if memory is refused for it.
+    /// Reads at least one byte, before which the performer was asked, or none if memory is refused
+    /// for it.
     #[inline]
     pub(crate) fn read_run<P: CountedPerform<B, G>, G: Grain, const ASKS: bool>(
         &mut self,
@@ -66,13 +76,20 @@ impl<B: Buffer> Machine<B> {
         input: Input<'_, B>,
         from: usize,
     ) -> Result<usize, Refused>
-        requires may_read { MayReadAt ASKS P.is_terminated (P.value_of performer.old) self.old.state self.old input.bytes.now from }
+        requires may_read { MayReadAt ASKS P.is_terminated
+            (P.value_of performer.old) self.old.state self.old input.bytes.now from }
         requires settled { IsSettled self.old.state }
-        requires no_stop { G.IN_RUNS ≡ true → ASKS ≡ true → NoCharacterStops P.keeps P.step P.is_terminated }
-        ensures advances { Advances (IsOutside self.old.state) ASKS P.step P.is_terminated (P.value_of performer.old) (P.value_of performer.new) B.limit
+        requires no_stop { G.IN_RUNS ≡ true → ASKS ≡ true
+            → NoCharacterStops P.keeps P.step P.is_terminated }
+        ensures advances { Advances (IsOutside self.old.state) ASKS P.step P.is_terminated
+            (P.value_of performer.old) (P.value_of performer.new) B.limit
             input.entry.bytes.now from (read_count result) self.old self.new }
-        ensures moves { IfOk result (λ read. Moves 5 0 input.entry.bytes.now from read self.old self.new looks.old looks.new) }
-        ensures refuses { IfErr result (λ refused. Refuses ASKS P.is_terminated (P.value_of performer.new) B.limit input.entry.bytes.now
+        ensures moves { IfOk result
+            (λ read.
+            Moves 5 0 input.entry.bytes.now from read self.old self.new looks.old looks.new) }
+        ensures refuses { IfErr result
+            (λ refused.
+            Refuses ASKS P.is_terminated (P.value_of performer.new) B.limit input.entry.bytes.now
             from refused.read self.old self.new looks.old looks.new) }
     {
         // By a comparison, because the table of the match is a jump that is hard to predict.

@@ -17,10 +17,12 @@ impl<B: Buffer> Machine<B> {
         byte: u8,
     )
         requires { ends_all (class_of byte) ≡ true }
-        ensures performs { (place : Place) → Stands B.limit self.old place → IsBetween place → Performs P.step (P.value_of performer.old)
+        ensures performs { (place : Place) → Stands B.limit self.old place → IsBetween place
+            → Performs P.step (P.value_of performer.old)
             (P.value_of performer.new) B.limit place (byte ∷ []) self.new }
         ensures escape { byte ≡ 0x1b → self.new.state ≡ Escape }
-        ensures handles { Handles 2 P.step (P.value_of performer.old) (P.value_of performer.new) self.old self.new looks.old looks.new }
+        ensures handles { Handles 2 P.step (P.value_of performer.old)
+            (P.value_of performer.new) self.old self.new looks.old looks.new }
     {
         self.close(looks, performer);
         if byte == ESCAPE {
@@ -41,11 +43,15 @@ impl<B: Buffer> Machine<B> {
         from: usize,
         byte: u8,
     ) -> usize
-        requires may_read { MayReadByte ASKS P.is_terminated (P.value_of performer.old) self.old.state self.old input.bytes.now from byte }
+        requires may_read { MayReadByte ASKS P.is_terminated
+            (P.value_of performer.old) self.old.state self.old input.bytes.now from byte }
         requires ends { ends_all (class_of byte) ≡ true }
         requires quiet { IsQuietIn self.old.state byte }
-        ensures advances { Advances (Unit {0}) ASKS P.step P.is_terminated (P.value_of performer.old) (P.value_of performer.new) B.limit input.entry.bytes.now from result self.old self.new }
-        ensures moves { Moves 3 1 input.entry.bytes.now from result self.old self.new looks.old looks.new }
+        ensures advances { Advances (Unit {0}) ASKS P.step P.is_terminated
+            (P.value_of performer.old)
+            (P.value_of performer.new) B.limit input.entry.bytes.now from result self.old self.new }
+        ensures moves { Moves 3 1 input.entry.bytes.now from result self.old self.new
+            looks.old looks.new }
     {
         self.end_body(looks, performer, byte);
         if byte != ESCAPE || (ASKS && performer.terminated()) {
@@ -56,7 +62,8 @@ impl<B: Buffer> Machine<B> {
 
     /// Reports the end of a string: `unhook`, or the operating system command.
     fn close<P: CountedPerform<B, G>, G: Grain>(&self, looks: &mut Looks<B>, performer: &mut P)
-        ensures told { (place : Place) → Stands B.limit self.now place → IsBetween place → P.value_of performer.new
+        ensures told { (place : Place) → Stands B.limit self.now place → IsBetween place
+            → P.value_of performer.new
             ≡ after P.step (P.value_of performer.old) (closing_at B.limit place) }
         ensures few { TakesFew 1 looks.old looks.new }
     {

@@ -13,7 +13,8 @@ use crate::looks::{CountedPerform, Grain, Input, Looks};
 use crate::parser::{Machine, State, Unfinished};
 
 impl<B: Buffer> Machine<B> {
-    /// Begins an escape sequence at an ESC in a text, which was looked at, and reads the bytes after it.
+    /// Begins an escape sequence at an ESC in a text, which was looked at, and reads the bytes
+    /// after it.
     #[inline(never)]
     pub(crate) fn read_sequence<P: CountedPerform<B, G>, G: Grain, const ASKS: bool>(
         &mut self,
@@ -22,10 +23,14 @@ impl<B: Buffer> Machine<B> {
         input: Input<'_, B>,
         from: usize,
     ) -> usize
-        requires may_read { MayReadAt ASKS P.is_terminated (P.value_of performer.old) (Text Nothing) self.old input.bytes.now from }
+        requires may_read { MayReadAt ASKS P.is_terminated (P.value_of performer.old)
+            (Text Nothing) self.old input.bytes.now from }
         requires is { slice_index input.bytes.now from ≡ 0x1b }
-        ensures advances { Advances (Unit {0}) ASKS P.step P.is_terminated (P.value_of performer.old) (P.value_of performer.new) B.limit input.entry.bytes.now from result self.old self.new }
-        ensures moves { Moves 5 1 input.entry.bytes.now from result self.old self.new looks.old looks.new }
+        ensures advances { Advances (Unit {0}) ASKS P.step P.is_terminated
+            (P.value_of performer.old)
+            (P.value_of performer.new) B.limit input.entry.bytes.now from result self.old self.new }
+        ensures moves { Moves 5 1 input.entry.bytes.now from result self.old self.new
+            looks.old looks.new }
         // ESC, at which the caller looked, leaves its other looks to the search that found it.
         ensures count { looked looks.new + 5 * from + 5 ≤ looked looks.old + 5 * result }
     {
@@ -47,7 +52,8 @@ impl<B: Buffer> Machine<B> {
         self.read_escape::<P, G, ASKS>(looks, performer, input, next)
     }
 
-    /// Reads bytes after ESC, up to the one that says what begins; after `[` the control sequence too.
+    /// Reads bytes after ESC, up to the one that says what begins; after `[` the control sequence
+    /// too.
     #[inline(never)]
     pub(crate) fn read_escape<P: CountedPerform<B, G>, G: Grain, const ASKS: bool>(
         &mut self,
@@ -56,9 +62,13 @@ impl<B: Buffer> Machine<B> {
         input: Input<'_, B>,
         from: usize,
     ) -> usize
-        requires { MayRead ASKS P.is_terminated (P.value_of performer.old) Escape self.old input.bytes.now from }
-        ensures advances { Advances (Unit {0}) ASKS P.step P.is_terminated (P.value_of performer.old) (P.value_of performer.new) B.limit input.entry.bytes.now from result self.old self.new }
-        ensures moves { Moves 3 0 input.entry.bytes.now from result self.old self.new looks.old looks.new }
+        requires { MayRead ASKS P.is_terminated
+            (P.value_of performer.old) Escape self.old input.bytes.now from }
+        ensures advances { Advances (Unit {0}) ASKS P.step P.is_terminated
+            (P.value_of performer.old)
+            (P.value_of performer.new) B.limit input.entry.bytes.now from result self.old self.new }
+        ensures moves { Moves 3 0 input.entry.bytes.now from result self.old self.new
+            looks.old looks.new }
     {
         for position in from..input.len() {
             let byte = looks.at(input, position);
@@ -93,9 +103,11 @@ impl<B: Buffer> Machine<B> {
     )
         requires begun { self.old.state ≡ Escape }
         requires other { byte ≢ 0x5b }
-        ensures performs { (place : Place) → Stands B.limit self.old place → IsBetween place → Performs P.step
+        ensures performs { (place : Place) → Stands B.limit self.old place → IsBetween place
+            → Performs P.step
             (P.value_of performer.old) (P.value_of performer.new) B.limit place (byte ∷ []) self.new }
-        ensures handles { Handles 2 P.step (P.value_of performer.old) (P.value_of performer.new) self.old self.new looks.old looks.new }
+        ensures handles { Handles 2 P.step (P.value_of performer.old)
+            (P.value_of performer.new) self.old self.new looks.old looks.new }
     {
         if is_final(byte) {
             self.begin_body(looks, performer, byte);
@@ -112,7 +124,8 @@ impl<B: Buffer> Machine<B> {
         // DEL and 80..FF are dropped.
     }
 
-    /// Begins the string that a byte 40..7E other than `[` begins after ESC, or dispatches an escape sequence that ends with it.
+    /// Begins the string that a byte 40..7E other than `[` begins after ESC, or dispatches an
+    /// escape sequence that ends with it.
     #[inline(never)]
     fn begin_body<P: CountedPerform<B, G>, G: Grain>(
         &mut self,
@@ -122,9 +135,11 @@ impl<B: Buffer> Machine<B> {
     )
         requires ends { is_final (class_of byte) ≡ true }
         requires other { byte ≢ 0x5b }
-        ensures takes { Stands B.limit self.old AtEscape → Takes P.step (P.value_of performer.old) (P.value_of performer.new)
+        ensures takes { Stands B.limit self.old AtEscape
+            → Takes P.step (P.value_of performer.old) (P.value_of performer.new)
             B.limit AtEscape byte self.new }
-        ensures handles { Handles 1 P.step (P.value_of performer.old) (P.value_of performer.new) self.old self.new looks.old looks.new }
+        ensures handles { Handles 1 P.step (P.value_of performer.old)
+            (P.value_of performer.new) self.old self.new looks.old looks.new }
     {
         if byte == b'P' {
             self.collected.begin_head();
@@ -147,9 +162,13 @@ impl<B: Buffer> Machine<B> {
         input: Input<'_, B>,
         from: usize,
     ) -> usize
-        requires { MayRead ASKS P.is_terminated (P.value_of performer.old) EscapeIntermediate self.old input.bytes.now from }
-        ensures advances { Advances (Unit {0}) ASKS P.step P.is_terminated (P.value_of performer.old) (P.value_of performer.new) B.limit input.entry.bytes.now from result self.old self.new }
-        ensures moves { Moves 5 0 input.entry.bytes.now from result self.old self.new looks.old looks.new }
+        requires { MayRead ASKS P.is_terminated
+            (P.value_of performer.old) EscapeIntermediate self.old input.bytes.now from }
+        ensures advances { Advances (Unit {0}) ASKS P.step P.is_terminated
+            (P.value_of performer.old)
+            (P.value_of performer.new) B.limit input.entry.bytes.now from result self.old self.new }
+        ensures moves { Moves 5 0 input.entry.bytes.now from result self.old self.new
+            looks.old looks.new }
     {
         for position in from..input.len() {
             let byte = looks.at(input, position);

@@ -1,7 +1,7 @@
 //! Ignored strings: SOS, PM, APC, and device control strings with a malformed head.
 //!
-//! They may hold megabytes, so blocks are taken. A block counts 16 looks, and a short string can't pay for one: the first bytes are read
-//! one by one.
+//! They may hold megabytes, so blocks are taken. A block counts 16 looks, and a short string can't
+//! pay for one: the first bytes are read one by one.
 ghost use Rattle.std.specs.Prelude.{◌≡◌, ◌+◌, ◌*◌, ◌<◌, ◌≤◌, IsTrue, true, length, min, slice_index};
 ghost use Rattle.vte_core.specs.machine.Words.{Advances, AreIgnored, IgnoredString, IsRange, MayReadAt, Moves, Scans, class_of, ends_all, looked};
 
@@ -19,9 +19,13 @@ impl<B: Buffer> Machine<B> {
         input: Input<'_, B>,
         from: usize,
     ) -> usize
-        requires { MayReadAt ASKS P.is_terminated (P.value_of performer.old) IgnoredString self.old input.bytes.now from }
-        ensures advances { Advances (Unit {0}) ASKS P.step P.is_terminated (P.value_of performer.old) (P.value_of performer.new) B.limit input.entry.bytes.now from result self.old self.new }
-        ensures moves { Moves 5 0 input.entry.bytes.now from result self.old self.new looks.old looks.new }
+        requires { MayReadAt ASKS P.is_terminated
+            (P.value_of performer.old) IgnoredString self.old input.bytes.now from }
+        ensures advances { Advances (Unit {0}) ASKS P.step P.is_terminated
+            (P.value_of performer.old)
+            (P.value_of performer.new) B.limit input.entry.bytes.now from result self.old self.new }
+        ensures moves { Moves 5 0 input.entry.bytes.now from result self.old self.new
+            looks.old looks.new }
     {
         let end = looks.find_string_end(input, from);
         if end == input.len() {
@@ -37,7 +41,8 @@ impl<B> Looks<B> {
     fn find_string_end(&mut self, input: Input<'_, B>, from: usize) -> usize
         requires { from ≤ length input.bytes.now }
         ensures scans { Scans AreIgnored input.entry.bytes.now from result self.old self.new }
-        ensures ended { result < length input.entry.bytes.now → ends_all (class_of (slice_index input.entry.bytes.now result)) ≡ true }
+        ensures ended { result < length input.entry.bytes.now
+            → ends_all (class_of (slice_index input.entry.bytes.now result)) ≡ true }
         ensures count { looked self.new + 4 * from ≤ looked self.old + 4 * result + 1 }
     {
         let near = input.len().min(from + 8);
@@ -61,7 +66,8 @@ impl<B> Looks<B> {
         ensures low { from ≤ result }
         ensures high { result ≤ to }
         ensures ignored { AreIgnored input.entry.bytes.now from result }
-        ensures ended { result < to → ends_all (class_of (slice_index input.entry.bytes.now result)) ≡ true }
+        ensures ended { result < to
+            → ends_all (class_of (slice_index input.entry.bytes.now result)) ≡ true }
         ensures count { looked self.new + from ≡ looked self.old + min (result + 1) to }
     {
         for end in from..to {
@@ -73,7 +79,8 @@ impl<B> Looks<B> {
     }
 }
 
-/// Returns whether none of 16 bytes can end a string. Compilers make vector instructions of the loop.
+/// Returns whether none of 16 bytes can end a string. Compilers make vector instructions of the
+/// loop.
 #[inline(always)]
 fn is_ignored_block(block: &[u8; 16]) -> bool
     ensures { IsTrue result → AreIgnored block.now 0 16 }

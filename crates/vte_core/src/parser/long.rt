@@ -14,9 +14,11 @@ use crate::parser::{Machine, Refused, State};
 use crate::perform::{Perform, PerformText};
 use std::alloc::Allocator;
 
-/// A [`Parser`](crate::Parser) that keeps operating system commands of any length, and whose calls can be refused memory.
+/// A [`Parser`](crate::Parser) that keeps operating system commands of any length, and whose calls
+/// can be refused memory.
 ///
-/// Where memory for it is refused, the call stops before the byte that needs it, and the rest can be handed in again:
+/// Where memory for it is refused, the call stops before the byte that needs it, and the rest can
+/// be handed in again:
 ///
 /// ```
 /// let mut parser = LongParser::new(alloc);
@@ -26,7 +28,8 @@ use std::alloc::Allocator;
 /// }
 /// ```
 ///
-/// The limit of 16 pieces stays. What stands after the sixteenth `;` needs no memory. The memory of one command serves the next.
+/// The limit of 16 pieces stays. What stands after the sixteenth `;` needs no memory. The memory of
+/// one command serves the next.
 #[derive(Drop)]
 pub struct LongParser<A: Allocator> {
     machine: Machine<Vec<u8, A>>,
@@ -75,16 +78,19 @@ impl<A: Allocator> LongParser<A> {
         self.machine.command_lost_data()
     }
 
-    /// Takes memory for this many more data bytes of an operating system command, and returns whether it is there. Calls with no
-    /// more bytes than that are then never refused memory.
+    /// Takes memory for this many more data bytes of an operating system command, and returns
+    /// whether it is there. Calls with no more bytes than that are then never refused memory.
     pub fn reserve(&mut self, more: usize) -> bool
-        ensures reads { (stream : List ℕ) → HasReadLong self.old stream → HasReadLong self.new stream }
+        ensures reads { (stream : List ℕ) → HasReadLong self.old stream
+            → HasReadLong self.new stream }
         // The memory is for the bytes of an open command and for those that come.
-        ensures room { result ≡ true → (stream : List ℕ) → HasReadLong self.new stream → open_size stream + more ≤ memory_of self.new }
+        ensures room { result ≡ true → (stream : List ℕ) → HasReadLong self.new stream
+            → open_size stream + more ≤ memory_of self.new }
         ensures memory { memory_of self.old ≤ memory_of self.new }
         ensures lacks { result ≡ false → LacksRoom self.new more }
         // It is refused only where they don't fit: of a command that has ended nothing counts.
-        ensures lacks_open { result ≡ false → (stream : List ℕ) → HasReadLong self.new stream → memory_of self.new < open_size stream + more }
+        ensures lacks_open { result ≡ false → (stream : List ℕ) → HasReadLong self.new stream
+            → memory_of self.new < open_size stream + more }
         ensures count { looks_long self.new ≡ looks_long self.old }
     {
         // A command that has ended needs no memory.
@@ -96,9 +102,11 @@ impl<A: Allocator> LongParser<A> {
 
     /// Gives back the memory that an open operating system command doesn't need.
     pub fn shrink(&mut self)
-        ensures reads { (stream : List ℕ) → HasReadLong self.old stream → HasReadLong self.new stream }
+        ensures reads { (stream : List ℕ) → HasReadLong self.old stream
+            → HasReadLong self.new stream }
         // It keeps none if no data byte is stored.
-        ensures frees { (stream : List ℕ) → HasReadLong self.old stream → open_size stream ≡ 0 → memory_of self.new ≡ 0 }
+        ensures frees { (stream : List ℕ) → HasReadLong self.old stream → open_size stream ≡ 0
+            → memory_of self.new ≡ 0 }
         ensures count { looks_long self.new ≡ looks_long self.old }
     {
         // A command that has ended needs no memory.
@@ -108,67 +116,77 @@ impl<A: Allocator> LongParser<A> {
         self.machine.command.shrink_to_fit();
     }
 
-    /// Reads the next bytes of the stream, and performs the events that they add to it: all of them, or as many as there is
-    /// memory for.
+    /// Reads the next bytes of the stream, and performs the events that they add to it: all of
+    /// them, or as many as there is memory for.
     pub fn advance<P: Perform>(&mut self, performer: &mut P, bytes: &[u8]) -> Result<(), Refused>
-        ensures { ReadsBytesLong P.step (P.value_of performer.old) (P.value_of performer.new) bytes.now result self.old self.new }
+        ensures { ReadsBytesLong P.step (P.value_of performer.old)
+            (P.value_of performer.new) bytes.now result self.old self.new }
     {
         self.machine
             .drive::<P, Singly, false>(&mut self.looks, performer, Input::new(bytes))?;
         Ok(())
     }
 
-    /// Reads the next bytes of the stream as [`advance`](Self::advance) does, and passes characters to print in
-    /// [runs](crate::PerformText), and the data of device control strings in [slices](crate::PerformText::put_slice).
+    /// Reads the next bytes of the stream as [`advance`](Self::advance) does, and passes characters
+    /// to print in [runs](crate::PerformText), and the data of device control strings in
+    /// [slices](crate::PerformText::put_slice).
     pub fn advance_text<P: PerformText>(
         &mut self,
         performer: &mut P,
         bytes: &[u8],
     ) -> Result<(), Refused>
-        ensures { ReadsBytesLong P.step (P.value_of performer.old) (P.value_of performer.new) bytes.now result self.old self.new }
+        ensures { ReadsBytesLong P.step (P.value_of performer.old)
+            (P.value_of performer.new) bytes.now result self.old self.new }
     {
         self.machine
             .drive::<P, InRuns, false>(&mut self.looks, performer, Input::new(bytes))?;
         Ok(())
     }
 
-    /// Reads bytes until the performer is terminated or memory is refused, and returns how many were read.
+    /// Reads bytes until the performer is terminated or memory is refused, and returns how many
+    /// were read.
     ///
-    /// The performer is asked as by [`Parser::advance_until_terminated`](crate::Parser::advance_until_terminated), and before
+    /// The performer is asked as by
+    /// [`Parser::advance_until_terminated`](crate::Parser::advance_until_terminated), and before
     /// memory is taken: a stop needs none.
     pub fn advance_until_terminated<P: Perform>(
         &mut self,
         performer: &mut P,
         bytes: &[u8],
     ) -> Result<usize, Refused>
-        ensures { ReadsUntilTerminatedLong P.step P.is_terminated (P.value_of performer.old) (P.value_of performer.new) bytes.now result self.old self.new }
+        ensures { ReadsUntilTerminatedLong P.step P.is_terminated (P.value_of performer.old)
+            (P.value_of performer.new) bytes.now result self.old self.new }
     {
         self.machine
             .drive::<P, Singly, true>(&mut self.looks, performer, Input::new(bytes))
     }
 
-    /// Reads bytes as [`advance_until_terminated`](Self::advance_until_terminated) does, and passes characters to print in
-    /// [runs](crate::PerformText). Only for performers that nothing in a run terminates: they aren't asked there.
+    /// Reads bytes as [`advance_until_terminated`](Self::advance_until_terminated) does, and passes
+    /// characters to print in [runs](crate::PerformText). Only for performers that nothing in a run
+    /// terminates: they aren't asked there.
     pub fn advance_text_until_terminated<P: PerformText>(
         &mut self,
         performer: &mut P,
         bytes: &[u8],
     ) -> Result<usize, Refused>
         requires no_stop { NoCharacterStops P.keeps P.step P.is_terminated }
-        ensures { ReadsUntilTerminatedLong P.step P.is_terminated (P.value_of performer.old) (P.value_of performer.new) bytes.now result self.old self.new }
+        ensures { ReadsUntilTerminatedLong P.step P.is_terminated (P.value_of performer.old)
+            (P.value_of performer.new) bytes.now result self.old self.new }
     {
         self.machine
             .drive::<P, InRuns, true>(&mut self.looks, performer, Input::new(bytes))
     }
 
-    /// Reads bytes up to a run of text, or of data of a device control string, and the run itself, which it returns instead of
-    /// performing it, as [`Parser::advance_to_run`](crate::Parser::advance_to_run) does.
+    /// Reads bytes up to a run of text, or of data of a device control string, and the run itself,
+    /// which it returns instead of performing it, as
+    /// [`Parser::advance_to_run`](crate::Parser::advance_to_run) does.
     pub fn advance_to_run<'a, P: Perform>(
         &mut self,
         performer: &mut P,
         bytes: &'a [u8],
     ) -> Result<Run<'a>, Refused>
-        ensures { ReadsToRunLong P.step P.is_terminated (P.value_of performer.old) (P.value_of performer.new) bytes.now result self.old self.new }
+        ensures { ReadsToRunLong P.step P.is_terminated (P.value_of performer.old)
+            (P.value_of performer.new) bytes.now result self.old self.new }
     {
         let input = Input::new(bytes);
         let place = self

@@ -10,7 +10,8 @@ use crate::params::Params;
 use crate::parser::{MAX_OSC_RAW, Parser, State, Unfinished};
 use arrayvec::ArrayVec;
 
-/// A parser as plain data, laid out as a C struct. All zeros is a new parser, and any other bytes are some parser.
+/// A parser as plain data, laid out as a C struct. All zeros is a new parser, and any other bytes
+/// are some parser.
 #[repr(C)]
 #[derive(Clone, Copy)]
 pub struct Saved {
@@ -21,7 +22,8 @@ pub struct Saved {
     lengths: [u8; 32],
     number_count: usize,
     numbers: [u16; 32],
-    // the number that is being read, whether it stands after a colon, and whether there were more intermediates
+    // the number that is being read, whether it stands after a colon, and whether there were more
+    // intermediates
     number: u16,
     joined: u8,
     too_many: u8,

@@ -10,8 +10,8 @@ use crate::parser::{Machine, Refused, State, Unfinished};
 const BELL: u8 = 0x07;
 
 impl<B: Buffer> Machine<B> {
-    /// Reads data bytes of an operating system command, and the byte after them. It takes memory for the data, or else reads
-    /// nothing.
+    /// Reads data bytes of an operating system command, and the byte after them. It takes memory
+    /// for the data, or else reads nothing.
     pub(crate) fn read_system_command<P: CountedPerform<B, G>, G: Grain, const ASKS: bool>(
         &mut self,
         looks: &mut Looks<B>,
@@ -19,11 +19,17 @@ impl<B: Buffer> Machine<B> {
         input: Input<'_, B>,
         from: usize,
     ) -> Result<usize, Refused>
-        requires { MayReadAt ASKS P.is_terminated (P.value_of performer.old) SystemCommand self.old input.bytes.now from }
-        ensures advances { Advances (Unit {0}) ASKS P.step P.is_terminated (P.value_of performer.old) (P.value_of performer.new) B.limit
+        requires { MayReadAt ASKS P.is_terminated
+            (P.value_of performer.old) SystemCommand self.old input.bytes.now from }
+        ensures advances { Advances (Unit {0}) ASKS P.step P.is_terminated
+            (P.value_of performer.old) (P.value_of performer.new) B.limit
             input.entry.bytes.now from (read_count result) self.old self.new }
-        ensures moves { IfOk result (λ read. Moves 5 0 input.entry.bytes.now from read self.old self.new looks.old looks.new) }
-        ensures refuses { IfErr result (λ refused. Refuses ASKS P.is_terminated (P.value_of performer.new) B.limit input.entry.bytes.now
+        ensures moves { IfOk result
+            (λ read.
+            Moves 5 0 input.entry.bytes.now from read self.old self.new looks.old looks.new) }
+        ensures refuses { IfErr result
+            (λ refused.
+            Refuses ASKS P.is_terminated (P.value_of performer.new) B.limit input.entry.bytes.now
             from refused.read self.old self.new looks.old looks.new) }
     {
         let end = looks.find_data_end(input, from);

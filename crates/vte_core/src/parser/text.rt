@@ -8,11 +8,13 @@ use crate::looks::{CountedPerform, Grain, Input, Looks};
 use crate::parser::{Machine, State};
 use crate::utf8::{Carried, Unfinished, is_lead, is_printed_ascii};
 
-/// The bytes of a text that are read before it is searched for ESC. Shorter texts, and so most, cost no search.
+/// The bytes of a text that are read before it is searched for ESC. Shorter texts, and so most,
+/// cost no search.
 const SHORT_TEXT: usize = 128;
 
 impl<B> Looks<B> {
-    /// Returns up to where a text is read next: to the byte after the next ESC, or to the end of what was searched.
+    /// Returns up to where a text is read next: to the byte after the next ESC, or to the end of
+    /// what was searched.
     fn search_text<const ASKS: bool>(
         &mut self,
         input: Input<'_, B>,
@@ -23,7 +25,8 @@ impl<B> Looks<B> {
         requires within { at < length input.bytes.now }
         ensures further { at < result }
         ensures high { result ≤ length input.entry.bytes.now }
-        ensures first { (k : ℕ) → at ≤ k → k + 1 < result → slice_index input.entry.bytes.now k ≢ 0x1b }
+        ensures first { (k : ℕ) → at ≤ k → k + 1 < result
+            → slice_index input.entry.bytes.now k ≢ 0x1b }
         ensures count { looked self.new + at ≡ looked self.old + result }
         ensures near { ASKS ≡ true → result + from ≤ at + at }
     {
@@ -45,7 +48,8 @@ struct AsciiRun {
     next: Option<u8>,
 }
 
-/// Prints the run of ASCII that stands at a place, whose first byte was looked at. If it is short, that is the first byte alone.
+/// Prints the run of ASCII that stands at a place, whose first byte was looked at. If it is short,
+/// that is the first byte alone.
 #[inline(always)]
 fn print_ascii<B, P: CountedPerform<B, G>, G: Grain>(
     looks: &mut Looks<B>,
@@ -57,8 +61,10 @@ fn print_ascii<B, P: CountedPerform<B, G>, G: Grain>(
     requires within { from < length input.bytes.now }
     requires is { first ≡ slice_index input.bytes.now from }
     requires printed { IsPrinted first }
-    ensures prints { PrintsRun P.keeps P.step (P.value_of performer.old) (P.value_of performer.new) input.entry.bytes.now from result.end }
-    ensures next { IfSome result.next (λ byte. (result.end < length input.entry.bytes.now) × (byte ≡ slice_index input.entry.bytes.now result.end)) }
+    ensures prints { PrintsRun P.keeps P.step (P.value_of performer.old)
+        (P.value_of performer.new) input.entry.bytes.now from result.end }
+    ensures next { IfSome result.next (λ byte. (result.end < length input.entry.bytes.now)
+        × (byte ≡ slice_index input.entry.bytes.now result.end)) }
     ensures other { IfSome result.next (λ byte. IsPrinted byte → ⊥) }
     ensures further { from < result.end }
     ensures high { result.end ≤ length input.entry.bytes.now }
@@ -88,14 +94,19 @@ impl<B: Buffer> Machine<B> {
         input: Input<'_, B>,
         from: usize,
     ) -> usize
-        requires may_read { MayReadAt ASKS P.is_terminated (P.value_of performer.old) (Text Nothing) self.old input.bytes.now from }
-        requires no_stop { G.IN_RUNS ≡ true → ASKS ≡ true → NoCharacterStops P.keeps P.step P.is_terminated }
-        ensures advances { Advances ⊥ ASKS P.step P.is_terminated (P.value_of performer.old) (P.value_of performer.new) B.limit
+        requires may_read { MayReadAt ASKS P.is_terminated (P.value_of performer.old)
+            (Text Nothing) self.old input.bytes.now from }
+        requires no_stop { G.IN_RUNS ≡ true → ASKS ≡ true
+            → NoCharacterStops P.keeps P.step P.is_terminated }
+        ensures advances { Advances ⊥ ASKS P.step P.is_terminated (P.value_of performer.old)
+            (P.value_of performer.new) B.limit
             input.entry.bytes.now from result self.old self.new }
-        ensures moves { Moves 5 0 input.entry.bytes.now from result self.old self.new looks.old looks.new }
+        ensures moves { Moves 5 0 input.entry.bytes.now from result self.old self.new
+            looks.old looks.new }
     {
         let mut position = from;
-        // Its length bounds the place, so that the loop has no test of the index. Runs are read by words, which find an ESC too.
+        // Its length bounds the place, so that the loop has no test of the index. Runs are read by
+        // words, which find an ESC too.
         let mut front = if G::IN_RUNS {
             input
         } else {
@@ -119,7 +130,8 @@ impl<B: Buffer> Machine<B> {
                     let next = self.read_longer::<P, G, ASKS>(
                         looks, performer, input, position, byte,
                     );
-                    // A path of its own takes fewer instructions if the call may stop after a character, and more otherwise.
+                    // A path of its own takes fewer instructions if the call may stop after a
+                    // character, and more otherwise.
                     if ASKS && !G::IN_RUNS {
                         if performer.terminated() {
                             return next;
@@ -145,7 +157,8 @@ impl<B: Buffer> Machine<B> {
         position
     }
 
-    /// Reads what begins with a lead byte, which was looked at: a run if text is taken in runs, a character or a malformed sequence.
+    /// Reads what begins with a lead byte, which was looked at: a run if text is taken in runs, a
+    /// character or a malformed sequence.
     #[inline(always)]
     fn read_longer<P: CountedPerform<B, G>, G: Grain, const ASKS: bool>(
         &mut self,
@@ -155,15 +168,20 @@ impl<B: Buffer> Machine<B> {
         from: usize,
         first: u8,
     ) -> usize
-        requires may_read { MayReadByte ASKS P.is_terminated (P.value_of performer.old) (Text Nothing) self.old input.bytes.now from first }
+        requires may_read { MayReadByte ASKS P.is_terminated (P.value_of performer.old)
+            (Text Nothing) self.old input.bytes.now from first }
         requires lead { 0xc2 ≤ first }
         requires fits { first < 0xf5 }
-        requires no_stop { G.IN_RUNS ≡ true → ASKS ≡ true → NoCharacterStops P.keeps P.step P.is_terminated }
-        ensures advances { Advances ⊥ ASKS P.step P.is_terminated (P.value_of performer.old) (P.value_of performer.new) B.limit
+        requires no_stop { G.IN_RUNS ≡ true → ASKS ≡ true
+            → NoCharacterStops P.keeps P.step P.is_terminated }
+        ensures advances { Advances ⊥ ASKS P.step P.is_terminated (P.value_of performer.old)
+            (P.value_of performer.new) B.limit
             input.entry.bytes.now from result self.old self.new }
         ensures text { result < length input.entry.bytes.now → self.new.state ≡ Text Nothing }
-        ensures moves { Moves 5 1 input.entry.bytes.now from result self.old self.new looks.old looks.new }
-        ensures few { G.IN_RUNS ≡ false → looked looks.new + 3 * from + 1 ≤ looked looks.old + 3 * result }
+        ensures moves { Moves 5 1 input.entry.bytes.now from result self.old self.new
+            looks.old looks.new }
+        ensures few { G.IN_RUNS ≡ false
+            → looked looks.new + 3 * from + 1 ≤ looked looks.old + 3 * result }
     {
         if G::IN_RUNS {
             let end = looks.find_longer_run_end(performer, input, from, first);
@@ -175,8 +193,8 @@ impl<B: Buffer> Machine<B> {
         self.read_character::<P, G, ASKS>(looks, performer, input, from, first)
     }
 
-    /// Reads the bytes that an unfinished character continues with. A byte that breaks it is left unread, and U+FFFD is
-    /// printed for those before it.
+    /// Reads the bytes that an unfinished character continues with. A byte that breaks it is left
+    /// unread, and U+FFFD is printed for those before it.
     #[inline(always)]
     pub(crate) fn continue_character<P: CountedPerform<B, G>, G: Grain, const ASKS: bool>(
         &mut self,
@@ -188,8 +206,10 @@ impl<B: Buffer> Machine<B> {
     ) -> usize
         requires in_order { from ≤ length input.bytes.now }
         requires inside { bytes_of begun ≢ [] }
-        ensures completes { Completes ASKS P.step P.is_terminated (P.value_of performer.old) (P.value_of performer.new) B.limit input.entry.bytes.now from result begun self.new }
-        ensures spends { Spends 2 0 2 input.entry.bytes.now from result self.old self.new looks.old looks.new }
+        ensures completes { Completes ASKS P.step P.is_terminated (P.value_of performer.old)
+            (P.value_of performer.new) B.limit input.entry.bytes.now from result begun self.new }
+        ensures spends { Spends 2 0 2 input.entry.bytes.now from result self.old self.new
+            looks.old looks.new }
     {
         let mut unfinished = begun;
         for position in from..input.len() {

@@ -11,8 +11,8 @@ use crate::perform::Perform;
 use crate::utf8::{is_lead, is_printed_ascii};
 
 impl<const OSC_RAW_BUF_SIZE: usize> Parser<OSC_RAW_BUF_SIZE> {
-    /// Reads bytes up to a run of text, or of data of a device control string, and the run itself, which it returns instead of
-    /// performing it.
+    /// Reads bytes up to a run of text, or of data of a device control string, and the run itself,
+    /// which it returns instead of performing it.
     ///
     /// A caller can take text from its own input in this way, with its place and without a copy:
     ///
@@ -24,12 +24,14 @@ impl<const OSC_RAW_BUF_SIZE: usize> Parser<OSC_RAW_BUF_SIZE> {
     /// parser.advance(&mut performer, &bytes[run.end..]); // performs CR and LF
     /// ```
     ///
-    /// A run begins where nothing is open and a character stands in the bytes that is printed as it is, or at a data byte that is
-    /// put. It ends before the first control, malformed sequence, unfinished character or byte that isn't put. What an earlier call
-    /// began is performed. Without a run the call ends with the bytes, or if the performer is terminated, which is asked as by
-    /// [`advance_until_terminated`](Self::advance_until_terminated).
+    /// A run begins where nothing is open and a character stands in the bytes that is printed as it
+    /// is, or at a data byte that is put. It ends before the first control, malformed sequence,
+    /// unfinished character or byte that isn't put. What an earlier call began is performed.
+    /// Without a run the call ends with the bytes, or if the performer is terminated, which is
+    /// asked as by [`advance_until_terminated`](Self::advance_until_terminated).
     pub fn advance_to_run<'a, P: Perform>(&mut self, performer: &mut P, bytes: &'a [u8]) -> Run<'a>
-        ensures { ReadsToRun P.step P.is_terminated (P.value_of performer.old) (P.value_of performer.new) bytes.now result self.old self.new }
+        ensures { ReadsToRun P.step P.is_terminated (P.value_of performer.old)
+            (P.value_of performer.new) bytes.now result self.old self.new }
     {
         let input = Input::new(bytes);
         match self.machine.drive_to_run(&mut self.looks, performer, input) {
@@ -41,19 +43,26 @@ impl<const OSC_RAW_BUF_SIZE: usize> Parser<OSC_RAW_BUF_SIZE> {
 }
 
 impl<B: Buffer> Machine<B> {
-    /// Reads bytes up to a run, and finds the run. It stays in the state of the run, which changes nothing.
+    /// Reads bytes up to a run, and finds the run. It stays in the state of the run, which changes
+    /// nothing.
     pub(crate) fn drive_to_run<P: CountedPerform<B, Singly>>(
         &mut self,
         looks: &mut Looks<B>,
         performer: &mut P,
         input: Input<'_, B>,
     ) -> Result<RunPlace, Refused>
-        ensures comes { IfOk result (λ place. ComesToRun P.step P.is_terminated (P.value_of performer.old) (P.value_of performer.new)
+        ensures comes { IfOk result
+            (λ place. ComesToRun P.step P.is_terminated (P.value_of performer.old)
+            (P.value_of performer.new)
             B.limit input.entry.bytes.now place self.old self.new) }
-        ensures refuses { IfErr result (λ refused. RefusesAt true P.step P.is_terminated (P.value_of performer.old) (P.value_of performer.new)
+        ensures refuses { IfErr result
+            (λ refused. RefusesAt true P.step P.is_terminated (P.value_of performer.old)
+            (P.value_of performer.new)
             B.limit input.entry.bytes.now refused.read self.old self.new) }
-        ensures costs { Costs 7 input.entry.bytes.now result (place_count result) self.old self.new looks.old looks.new }
-        ensures others { (stream : List ℕ) → IsBehind B.limit self.old stream → TellsOthers B.limit stream input.entry.bytes.now (start_count result) }
+        ensures costs { Costs 7 input.entry.bytes.now result
+            (place_count result) self.old self.new looks.old looks.new }
+        ensures others { (stream : List ℕ) → IsBehind B.limit self.old stream
+            → TellsOthers B.limit stream input.entry.bytes.now (start_count result) }
     {
         let mut position = self.finish_character::<P, Singly, true>(looks, performer, input);
         while position < input.len() && !performer.terminated() {
@@ -87,8 +96,8 @@ impl<B: Buffer> Machine<B> {
         Ok(RunPlace::empty(position))
     }
 
-    /// Reads a character that isn't printed or a malformed sequence, or controls and what is malformed up to where a run may begin, or an
-    /// escape sequence.
+    /// Reads a character that isn't printed or a malformed sequence, or controls and what is
+    /// malformed up to where a run may begin, or an escape sequence.
     fn read_unprinted<P: CountedPerform<B, Singly>>(
         &mut self,
         looks: &mut Looks<B>,
@@ -96,11 +105,14 @@ impl<B: Buffer> Machine<B> {
         input: Input<'_, B>,
         from: usize,
     ) -> usize
-        requires may_read { MayReadAt true P.is_terminated (P.value_of performer.old) (Text Nothing) self.old input.bytes.now from }
+        requires may_read { MayReadAt true P.is_terminated (P.value_of performer.old)
+            (Text Nothing) self.old input.bytes.now from }
         requires other { EndsRun false input.bytes.now from }
-        ensures advances { Advances (Unit {0}) true P.step P.is_terminated (P.value_of performer.old) (P.value_of performer.new) B.limit
+        ensures advances { Advances (Unit {0}) true P.step P.is_terminated
+            (P.value_of performer.old) (P.value_of performer.new) B.limit
             input.entry.bytes.now from result self.old self.new }
-        ensures moves { Moves 7 0 input.entry.bytes.now from result self.old self.new looks.old looks.new }
+        ensures moves { Moves 7 0 input.entry.bytes.now from result self.old self.new
+            looks.old looks.new }
         ensures saves { looked looks.new + 7 * from + 4 ≤ looked looks.old + 7 * result }
     {
         let mut position = from;

@@ -9,5 +9,10 @@ use Rattle.event_lines.proofs.EventLinesPerformText.print_text.Goals as goal
 
 pub returns : goal.returns
 returns c =
-    let all = YieldsList-end (YieldsList-from_chars c.args.text.now c.utf8.text cc) c.loop-c.yielded _ c.loop-c.yielded_by _ _ c.in-None.is c.next.ensures.steps in
-    c.loop-c.invariant ∙ ap (λ cs. after stop_after c.args.self.now.stop (map (run_event false) cs)) (sym (map-id c.loop-c.yielded) ∙ all.0)
+    let all =
+    YieldsList-end
+    (YieldsList-from_chars c.args.text.now c.utf8.text cc) c.loop-c.yielded _ c.loop-c.yielded_by _ _ c.in-None.is
+    c.next.ensures.steps in
+    c.loop-c.invariant
+    ∙ ap (λ cs. after stop_after c.args.self.now.stop (map (run_event false) cs))
+    (sym (map-id c.loop-c.yielded) ∙ all.0)

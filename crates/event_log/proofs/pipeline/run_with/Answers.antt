@@ -16,7 +16,8 @@ loop-init g c = record {
 
 pub returns-in_default-clause-texts : goal.returns-in_default-clause-texts
 returns-in_default-clause-texts g c = λ input held e f.
-    come_to_front (c.loop.invariant.come input held e f) c.in_default.ensures.none_taken (inl (sym c.in_default.ensures.fails))
+    come_to_front (c.loop.invariant.come input held e f) c.in_default.ensures.none_taken
+    (inl (sym c.in_default.ensures.fails))
 
 pub returns-then-count-eq0-clause-texts : goal.returns-then-count-eq0-clause-texts
 returns-then-count-eq0-clause-texts g c = λ input held e f.

@@ -5,7 +5,8 @@ abbrev pub invariant-loop-unread : goal.invariant-loop-unread
 invariant-loop-unread g l = record {
   reads : HasReadSome l.parser;
   empty : g.C.Collector.record_of l.collector ≡ empty_record;
-  written : (whole : List ℕ → List ℕ) → HasWritten g.C.Collector.text_of whole (g.W.Sink.taken l.fn.writer) l.fn.parser [] →
+  written : (whole : List ℕ → List ℕ)
+      → HasWritten g.C.Collector.text_of whole (g.W.Sink.taken l.fn.writer) l.fn.parser [] →
       HasWritten g.C.Collector.text_of (λ more. whole (l.fn.piece ++ more)) (g.W.Sink.taken l.writer) l.parser l.unread;
 }
 

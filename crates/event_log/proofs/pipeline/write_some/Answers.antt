@@ -9,4 +9,5 @@ returns-clause-reads g c =
 
 pub returns-clause-writes : goal.returns-clause-writes
 returns-clause-writes g c = λ whole h.
-    written_more h (λ part before. (c.collect-unread.ensures.collects part before).adds_up) c.in_ok-write_out.ensures.appends
+    written_more h
+    (λ part before. (c.collect-unread.ensures.collects part before).adds_up) c.in_ok-write_out.ensures.appends

@@ -15,8 +15,10 @@ stays_all : (events : List Event) → after rung_after true events ≡ true
 stays_all [] = refl
 stays_all (event ∷ events) = ap (λ rung. after rung_after rung events) (stays event) ∙ stays_all events
 
--- Where the call stopped early the bell has rung, and the bytes behind can't change that; else all was read.
-as_all : (rung : Bool) (n : ℕ) (bytes : List ℕ) → StopsExactly rung_after (λ has_rung. has_rung) false rung (Some 1024) [] bytes n
+-- Where the call stopped early the bell has rung, and the bytes behind can't change that; else all
+-- was read.
+as_all : (rung : Bool) (n : ℕ) (bytes : List ℕ)
+    → StopsExactly rung_after (λ has_rung. has_rung) false rung (Some 1024) [] bytes n
     → rung ≡ after rung_after false (added (Some 1024) [] bytes)
 as_all true n bytes s = sym (stays_all (added (Some 1024) (stream_at [] bytes n) (drop n bytes))) ∙ s.comes.goes_on
 as_all false n bytes s = s.all (grind (arith, s.comes.within, s.stops))
@@ -25,5 +27,7 @@ as_all false n bytes s = s.all (grind (arith, s.comes.within, s.stops))
 pub returns : goal.returns
 returns c =
     let bytes = c.args.stream.now in
-    as_all c.advance_until_terminated.new.performer.has_rung c.advance_until_terminated.result bytes (c.advance_until_terminated.ensures.stops [] c.new.ensures)
-    ∙ ap (λ nothing. after rung_after false (drop (length nothing) (events (Some 1024) bytes))) (c.empty_stream.ensures (Some 1024))
+    as_all c.advance_until_terminated.new.performer.has_rung c.advance_until_terminated.result bytes
+    (c.advance_until_terminated.ensures.stops [] c.new.ensures)
+    ∙ ap (λ nothing. after rung_after false (drop (length nothing) (events (Some 1024) bytes)))
+    (c.empty_stream.ensures (Some 1024))

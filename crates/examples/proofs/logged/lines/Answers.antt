@@ -3,7 +3,8 @@ use Rattle.examples.specs.Logged.{told_unless}
 use Rattle.examples.proofs.logged.lines.Goals as goal
 
 -- a new device tells what it has inside
-tells : (failed : Bool) (inside given : Bor (List ℕ)) → failed ≡ false → inside ≡ given → told_unless failed inside.now ≡ Some given.now
+tells : (failed : Bool) (inside given : Bor (List ℕ)) → failed ≡ false → inside ≡ given
+    → told_unless failed inside.now ≡ Some given.now
 tells true inside given works same = cc
 tells false inside given works same = ap (λ bytes. Some bytes.now) same
 
@@ -15,5 +16,7 @@ are_told false bytes written e = cc
 -- src/logged.rt:34:1
 pub returns-in-Ok : goal.returns-in-Ok
 returns-in-Ok c =
-    let input = tells c.new-2.result.failed c.new-2.result.inner c.args.stream c.new-2.ensures.works c.new-2.ensures.same in
-    are_told c.run.new.writer.refused c.run.new.writer.bytes.items _ (c.in-Ok.ensures.lines c.args.stream.now [] input (ap (λ items. Some items) c.new.ensures.items)).written
+    let input =
+    tells c.new-2.result.failed c.new-2.result.inner c.args.stream c.new-2.ensures.works c.new-2.ensures.same in
+    are_told c.run.new.writer.refused c.run.new.writer.bytes.items _
+    (c.in-Ok.ensures.lines c.args.stream.now [] input (ap (λ items. Some items) c.new.ensures.items)).written

@@ -31,14 +31,17 @@ pub struct RefusedStep {
 
 /// Calls the processor once per step.
 ///
-/// The bytes that were held and those that the steps give are parsed or still held afterwards, each once and in order. The
-/// handler receives the calls of the parsed bytes, and one more call after each stop.
+/// The bytes that were held and those that the steps give are parsed or still held afterwards, each
+/// once and in order. The handler receives the calls of the parsed bytes, and one more call after
+/// each stop.
 pub fn replay<H: Handler, T: Timeout + Drop, A: Allocator>(
     processor: &mut Processor<T, A>,
     handler: &mut H,
     steps: &[Step<'_>],
 )
-    ensures { Replays T.value_of (meaning (Some 1024) H.step T.set T.clear T.allows) processor.old processor.new (H.value_of handler.old) (H.value_of handler.new) steps.now }
+    ensures { Replays T.value_of
+        (meaning (Some 1024) H.step T.set T.clear T.allows) processor.old processor.new
+        (H.value_of handler.old) (H.value_of handler.new) steps.now }
 {
     for step in steps {
         match step {
@@ -48,17 +51,23 @@ pub fn replay<H: Handler, T: Timeout + Drop, A: Allocator>(
     }
 }
 
-/// Calls a processor without a limit once per step, as [`replay`] does, and stops at the first call that is refused memory.
+/// Calls a processor without a limit once per step, as [`replay`] does, and stops at the first call
+/// that is refused memory.
 pub fn replay_long<H: Handler, T: Timeout + Drop, A: Allocator>(
     processor: &mut LongProcessor<T, A>,
     handler: &mut H,
     steps: &[Step<'_>],
 ) -> Result<(), RefusedStep>
-    ensures replays { IfOk result (λ all. ReplaysLong T.value_of (meaning None H.step T.set T.clear T.allows) processor.old processor.new
+    ensures replays { IfOk result
+        (λ all.
+        ReplaysLong T.value_of
+        (meaning None H.step T.set T.clear T.allows) processor.old processor.new
         (H.value_of handler.old) (H.value_of handler.new) steps.now) }
-    ensures refuses { IfErr result (λ refused. (s : State H.Value T.Value) → IsAtLong T.value_of processor.old (H.value_of handler.old) s →
+    ensures refuses { IfErr result (λ refused. (s : State H.Value T.Value)
+        → IsAtLong T.value_of processor.old (H.value_of handler.old) s →
         ReplayedUntil (meaning None H.step T.set T.clear T.allows) s steps.now refused (IsAtLong T.value_of processor.new (H.value_of handler.new))) }
-    ensures lacks { IfErr result (λ refused. (s : State H.Value T.Value) → IsAtLong T.value_of processor.old (H.value_of handler.old) s →
+    ensures lacks { IfErr result (λ refused. (s : State H.Value T.Value)
+        → IsAtLong T.value_of processor.old (H.value_of handler.old) s →
         LacksMemoryFor T.value_of processor.new (left_by steps.now refused)) }
 {
     for (index, step) in steps.iter().enumerate() {

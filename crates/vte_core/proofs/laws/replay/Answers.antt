@@ -11,7 +11,9 @@ new_with_size-parser-requires g c = omega arith
 
 pub loop-piece-init : goal.loop-piece-init
 loop-piece-init g c = record {
-  performed = ap (after g.P.Perform.step (g.P.Perform.value_of c.args.performer.now)) (sym (events-empty (Some g.row.OSC_RAW_BUF_SIZE)));
+  performed =
+      ap (after g.P.Perform.step (g.P.Perform.value_of c.args.performer.now))
+      (sym (events-empty (Some g.row.OSC_RAW_BUF_SIZE)));
   has_read = c.new_with_size-parser.ensures;
 }
 
@@ -23,11 +25,23 @@ loop-piece-preserved g c =
     let before = c.loop-piece.invariant in
     let stream = flat_map now_of (take i pieces) in
     let piece = get_or pieces i (record { ref_ptr = (0, 0); now = [] }) in
-    rw (take_more pieces i (record { ref_ptr = (0, 0); now = [] }) c.loop-piece-test.true, flat_map-append now_of (take i pieces) (piece ∷ []), append-nil piece.now) (record {
-      performed = rw (events_grow limit stream piece.now, after-append g.P.Perform.step (g.P.Perform.value_of c.args.performer.now) (events limit stream), ← before.performed)
+    rw (
+      take_more pieces i (record { ref_ptr = (0, 0); now = [] }) c.loop-piece-test.true,
+      flat_map-append now_of
+          (take i pieces) (piece ∷ []),
+      append-nil piece.now,
+    ) (record {
+      performed =
+          rw (
+            events_grow limit stream piece.now,
+            after-append g.P.Perform.step
+                (g.P.Perform.value_of c.args.performer.now) (events limit stream),
+            ← before.performed,
+          )
           (c.advance.ensures.performs stream before.has_read);
       has_read = c.advance.ensures.reads stream before.has_read;
     })
 
 pub returns : goal.returns
-returns g c = rw (take_all c.loop-piece.piece-index c.args.pieces.now c.loop-piece-test.false) at c.loop-piece.invariant.performed
+returns g c =
+    rw (take_all c.loop-piece.piece-index c.args.pieces.now c.loop-piece-test.false) at c.loop-piece.invariant.performed

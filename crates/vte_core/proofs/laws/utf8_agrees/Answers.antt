@@ -2,4 +2,5 @@ use Rattle.vte_core.proofs.dividing.Utf8Agrees.{encoded_is_well_formed, scalar_o
 use Rattle.vte_core.proofs.laws.utf8_agrees.Goals as goal
 
 pub returns-clause-character : goal.returns-clause-character
-returns-clause-character c = λ character is. record { well_formed = encoded_is_well_formed character is; same = scalar_of-encoded character is }
+returns-clause-character c =
+    λ character is. record { well_formed = encoded_is_well_formed character is; same = scalar_of-encoded character is }

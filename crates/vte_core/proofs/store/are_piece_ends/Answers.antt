@@ -9,5 +9,8 @@ returns-then-is_sorted c =
 
 pub returns-else-is_sorted : goal.returns-else-is_sorted
 returns-else-is_sorted c =
-    let unsorted = rw c.if-is_sorted.false at (non_decreasing_from_is_sorted _ _ c.is_sorted.ensures.cases) in
-    (λ is. absurd (search rules), λ h. absurd (omega (arith, h.0 unsorted.0 (unsorted.0 + 1) 0 (omega arith) unsorted.1, unsorted.2 0)))
+    let unsorted = rw c.if-is_sorted.false at (non_decreasing_from_is_sorted _ _ c.is_sorted.ensures.cases) in (
+      λ is. absurd (search rules),
+      λ h.
+          absurd (omega (arith, h.0 unsorted.0 (unsorted.0 + 1) 0 (omega arith) unsorted.1, unsorted.2 0)),
+    )

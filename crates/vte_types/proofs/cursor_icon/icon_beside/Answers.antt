@@ -3,7 +3,11 @@ use Rattle.vte_types.proofs.Words.{from_row}
 use Rattle.vte_types.proofs.cursor_icon.icon_beside.Goals as goal
 
 pub loop-keyword-preserved : goal.loop-keyword-preserved
-loop-keyword-preserved c = sym (from_row c.args.rows.now _ _ c.args.text.now _ c.loop-keyword-test.true (sym c.if-eq.false ∙ c.eq.ensures)) ∙ c.loop-keyword.invariant
+loop-keyword-preserved c =
+    sym (from_row c.args.rows.now _ _ c.args.text.now _ c.loop-keyword-test.true (sym c.if-eq.false ∙ c.eq.ensures))
+    ∙ c.loop-keyword.invariant
 
 pub returns-then-eq : goal.returns-then-eq
-returns-then-eq c = sym (from_row c.args.rows.now _ _ c.args.text.now _ c.loop-keyword-test.true (sym c.if-eq.true ∙ c.eq.ensures)) ∙ c.loop-keyword.invariant
+returns-then-eq c =
+    sym (from_row c.args.rows.now _ _ c.args.text.now _ c.loop-keyword-test.true (sym c.if-eq.true ∙ c.eq.ensures))
+    ∙ c.loop-keyword.invariant

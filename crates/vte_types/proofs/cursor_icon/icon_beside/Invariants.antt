@@ -5,4 +5,5 @@ use Rattle.vte_types.specs.Words.{beside_word}
 
 -- the rows that are left give what all give
 abbrev pub invariant-loop-keyword : goal.invariant-loop-keyword
-invariant-loop-keyword l = beside_word (rows_of (drop l.keyword-index l.rows)) l.text ≡ beside_word (rows_of l.rows) l.text
+invariant-loop-keyword l =
+    beside_word (rows_of (drop l.keyword-index l.rows)) l.text ≡ beside_word (rows_of l.rows) l.text

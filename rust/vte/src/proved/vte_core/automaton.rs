@@ -1,15 +1,16 @@
 // Written by tools/erase from crates/vte_core/src/automaton.rt. Don't edit this file: edit that one, and run the tool.
 //! The automaton of text in runs.
 //!
-//! It is based on shifts: a byte's row in the table holds for each state the one that comes next, in six bits at the place that the
-//! state's number gives. So a step is a load and a shift, without a branch. But the block in which a run ends is read in vain, so
-//! only long runs come here.
+//! It is based on shifts: a byte's row in the table holds for each state the one that comes next,
+//! in six bits at the place that the state's number gives. So a step is a load and a shift, without
+//! a branch. But the block in which a run ends is read in vain, so only long runs come here.
 
 use crate::proved::vte_core::scan::get_block;
 use crate::proved::vte_core::utf8::is_printed_ascii;
 
-// States: between two characters; before one, two or three more bytes 80..BF; after a first byte whose second is bound more closely
-// (Unicode, table 3-7; behind C2, 80..9F are controls); and after a byte that fits nowhere, for good.
+// States: between two characters; before one, two or three more bytes 80..BF; after a first byte
+// whose second is bound more closely (Unicode, table 3-7; behind C2, 80..9F are controls); and
+// after a byte that fits nowhere, for good.
 const BETWEEN: u64 = 0;
 
 const ONE: u64 = 6;
@@ -30,7 +31,8 @@ const AFTER_C2: u64 = 48;
 
 const FAILED: u64 = 54;
 
-// Rows of bytes that fit nowhere and of those that begin a character: these fit between two characters alone, the state at place 0.
+// Rows of bytes that fit nowhere and of those that begin a character: these fit between two
+// characters alone, the state at place 0.
 const FAIL: u64 = FAILED
     | FAILED << ONE
     | FAILED << TWO
@@ -111,8 +113,9 @@ fn step(state: u64, byte: u8) -> u64 {
     TABLE[byte as usize] >> (state % 64)
 }
 
-/// Skips blocks of a run, and returns where the last character ended. If it `keeps` them, the run may hold HT, LF and CR.
-/// A block with a byte that fits nowhere, or with a control that isn't kept, is read in vain.
+/// Skips blocks of a run, and returns where the last character ended. If it `keeps` them, the
+/// run may hold HT, LF and CR. A block with a byte that fits nowhere, or with a control that
+/// isn't kept, is read in vain.
 #[inline(never)]
 pub(crate) fn skip_run_blocks(input: &[u8], from: usize, keeps: bool) -> usize {
     let mut at = 0;
@@ -144,7 +147,8 @@ fn last_end(input: &[u8], from: usize, at: usize, state: u64) -> usize {
     end
 }
 
-/// The state after 16 bytes. Between two characters they are tested first for printed ASCII, HT, LF and CR.
+/// The state after 16 bytes. Between two characters they are tested first for printed ASCII, HT, LF
+/// and CR.
 #[inline(always)]
 fn state_after_block(state: u64, block: &[u8; 16]) -> u64 {
     if state == BETWEEN && is_ascii_block(block) {
@@ -157,7 +161,8 @@ fn state_after_block(state: u64, block: &[u8; 16]) -> u64 {
     next % 64
 }
 
-/// Returns whether all 16 bytes are printed ASCII, HT, LF or CR. Compilers make vector instructions of the loop.
+/// Returns whether all 16 bytes are printed ASCII, HT, LF or CR. Compilers make vector instructions
+/// of the loop.
 #[inline(always)]
 fn is_ascii_block(block: &[u8; 16]) -> bool {
     let mut all = true;
@@ -167,7 +172,8 @@ fn is_ascii_block(block: &[u8; 16]) -> bool {
     all
 }
 
-/// Returns whether any of 16 bytes is a control of ASCII. Compilers make vector instructions of the loop.
+/// Returns whether any of 16 bytes is a control of ASCII. Compilers make vector instructions of the
+/// loop.
 #[inline(always)]
 fn has_control(block: &[u8; 16]) -> bool {
     let mut any = false;

@@ -68,7 +68,8 @@ pub(crate) fn dispatches_escape(byte: u8) -> bool {
     matches!(byte, 0x30..=0x7e)
 }
 
-/// Whether a byte begins a string that means nothing after ESC: `X`, `^` and `_` for SOS, PM and APC.
+/// Whether a byte begins a string that means nothing after ESC: `X`, `^` and `_` for SOS, PM and
+/// APC.
 pub(crate) fn begins_ignored_string(byte: u8) -> bool {
     byte == b'X' || byte == b'^' || byte == b'_'
 }

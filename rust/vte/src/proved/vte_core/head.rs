@@ -1,5 +1,6 @@
 // Written by tools/erase from crates/vte_core/src/head.rt. Don't edit this file: edit that one, and run the tool.
-//! What is collected of an escape sequence, and of the head of a control sequence or a device control string.
+//! What is collected of an escape sequence, and of the head of a control sequence or a device
+//! control string.
 
 use crate::adapter::array_vec::ArrayVec;
 use crate::proved::vte_core::class::{
@@ -90,7 +91,8 @@ impl Collected {
         false
     }
 
-    /// Collects an intermediate or a marker, or finds the head malformed. Returns how far the head has been read then.
+    /// Collects an intermediate or a marker, or finds the head malformed. Returns how far the head
+    /// has been read then.
     #[inline(always)]
     fn collect_head_byte(&mut self, part: HeadPart, byte: u8) -> HeadPart {
         if let HeadPart::IllShaped = part {
@@ -108,7 +110,8 @@ impl Collected {
         HeadPart::IllShaped
     }
 
-    /// Reads the digits at a place of a head, if any, and the separators too if there may be `several` numbers.
+    /// Reads the digits at a place of a head, if any, and the separators too if there may be
+    /// `several` numbers.
     #[inline(always)]
     pub(crate) fn read_numbers(
         &mut self,
@@ -117,7 +120,8 @@ impl Collected {
         input: &[u8],
         from: usize,
     ) -> HeadEnd {
-        // In a local, because a field would be stored at each digit, and as wide as the sum that each digit makes.
+        // In a local, because a field would be stored at each digit, and as wide as the sum that
+        // each digit makes.
         let mut number = u32::from(self.number);
         let mut position = from;
         let mut next = None;
@@ -178,7 +182,8 @@ impl Collected {
         }
     }
 
-    /// Moves the last number into the parameters, and returns whether there were too many numbers or intermediates.
+    /// Moves the last number into the parameters, and returns whether there were too many numbers
+    /// or intermediates.
     #[inline(always)]
     pub(crate) fn end_head(&mut self) -> bool {
         let too_many_numbers = self.settle_number(self.number);

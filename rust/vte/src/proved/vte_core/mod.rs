@@ -1,6 +1,7 @@
 // Written by tools/erase from crates/vte_core/src/lib.rt. Don't edit this file: edit that one, and run the tool.
-//! The parser of the bytes that programs send to a terminal: text in UTF-8, controls, escape and control sequences,
-//! device control strings and operating system commands (ECMA-48, ECMA-35, the VT500 parser).
+//! The parser of the bytes that programs send to a terminal: text in UTF-8, controls, escape and
+//! control sequences, device control strings and operating system commands (ECMA-48, ECMA-35, the
+//! VT500 parser).
 //!
 //! [`Parser`] reads a stream in pieces of any length and calls a [`Perform`] for each of its events. [`LongParser`] is
 //! a parser without a limit on the text of operating system commands.

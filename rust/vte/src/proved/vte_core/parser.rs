@@ -33,7 +33,8 @@ pub use refused::Refused;
 #[cfg(all(feature = "saved", not(feature = "std")))]
 pub use saved::Saved;
 
-/// How many data bytes of an operating system command are kept, unless a parser is given another number.
+/// How many data bytes of an operating system command are kept, unless a parser is given another
+/// number.
 #[cfg(not(feature = "std"))]
 pub(crate) const MAX_OSC_RAW: usize = 1024;
 
@@ -60,7 +61,8 @@ pub(crate) enum State {
 
 /// A parser of the bytes that programs send to a terminal.
 ///
-/// It reads a stream in pieces of any length, and calls a [`Perform`](crate::Perform) for each event.
+/// It reads a stream in pieces of any length, and calls a [`Perform`](crate::Perform) for each
+/// event.
 ///
 /// ```
 /// # use vte::{Parser, Perform};
@@ -107,14 +109,15 @@ impl<const OSC_RAW_BUF_SIZE: usize> Parser<OSC_RAW_BUF_SIZE> {
 
     /// Reads the next bytes of the stream, and performs the events that they add to it.
     ///
-    /// However calls split the stream, the events are the same. An unfinished character or sequence at the end waits for more
-    /// bytes.
+    /// However calls split the stream, the events are the same. An unfinished character or sequence
+    /// at the end waits for more bytes.
     pub fn advance<P: Perform>(&mut self, performer: &mut P, bytes: &[u8]) {
         self.drive::<P, Singly, false>(performer, bytes);
     }
 
-    /// Reads the next bytes of the stream as [`advance`](Self::advance) does, and passes characters to print in
-    /// [runs](crate::PerformText), and the data of device control strings in [slices](crate::PerformText::put_slice).
+    /// Reads the next bytes of the stream as [`advance`](Self::advance) does, and passes characters
+    /// to print in [runs](crate::PerformText), and the data of device control strings in
+    /// [slices](crate::PerformText::put_slice).
     pub fn advance_text<P: PerformText>(&mut self, performer: &mut P, bytes: &[u8]) {
         self.drive::<P, InRuns, false>(performer, bytes);
     }
@@ -134,8 +137,9 @@ impl<const OSC_RAW_BUF_SIZE: usize> Parser<OSC_RAW_BUF_SIZE> {
         self.drive::<P, Singly, true>(performer, bytes)
     }
 
-    /// Reads bytes as [`advance_until_terminated`](Self::advance_until_terminated) does, and passes characters to print in
-    /// [runs](crate::PerformText). Only for performers that nothing in a run terminates: they aren't asked there.
+    /// Reads bytes as [`advance_until_terminated`](Self::advance_until_terminated) does, and passes
+    /// characters to print in [runs](crate::PerformText). Only for performers that nothing in a run
+    /// terminates: they aren't asked there.
     #[must_use = "the bytes after the stop are still to be read"]
     pub fn advance_text_until_terminated<P: PerformText>(
         &mut self,
@@ -156,7 +160,8 @@ impl<const OSC_RAW_BUF_SIZE: usize> Parser<OSC_RAW_BUF_SIZE> {
         self.machine.command_lost_data()
     }
 
-    /// Reads the bytes of a call, all of them or, if it `ASKS`, until the performer is terminated, and returns how many were read.
+    /// Reads the bytes of a call, all of them or, if it `ASKS`, until the performer is terminated,
+    /// and returns how many were read.
     fn drive<P: PerformAs<G>, G: Grain, const ASKS: bool>(
         &mut self,
         performer: &mut P,

@@ -9,7 +9,8 @@ use crate::proved::vte_core::params::Params;
 #[allow(unused_variables)]
 #[doc = include_str!("../../docs/perform.md")]
 pub trait Perform {
-    /// A character to print, which is never a control: neither U+0000 to U+001F nor U+0080 to U+009F.
+    /// A character to print, which is never a control: neither U+0000 to U+001F nor U+0080 to
+    /// U+009F.
     fn print(&mut self, c: char) {}
 
     /// A control function of one byte, 00 to 1F or 80 to 9F.
@@ -17,8 +18,8 @@ pub trait Perform {
 
     /// The start of a device control string with the final byte `action`.
     ///
-    /// There are at most two intermediates, a private marker `<` to `?` among them. `ignore` says that there were more, or more
-    /// than 32 numbers.
+    /// There are at most two intermediates, a private marker `<` to `?` among them. `ignore` says
+    /// that there were more, or more than 32 numbers.
     fn hook(&mut self, params: &Params, intermediates: &[u8], ignore: bool, action: char) {}
 
     /// A data byte of the device control string.
@@ -30,10 +31,12 @@ pub trait Perform {
     /// An operating system command: its pieces, which are 1 to 16, and whether BEL ended it.
     fn osc_dispatch(&mut self, params: &[&[u8]], bell_terminated: bool) {}
 
-    /// A control sequence with the final byte `action`. `intermediates` and `ignore` are as in [`hook`](Self::hook).
+    /// A control sequence with the final byte `action`. `intermediates` and `ignore` are as in
+    /// [`hook`](Self::hook).
     fn csi_dispatch(&mut self, params: &Params, intermediates: &[u8], ignore: bool, action: char) {}
 
-    /// An escape sequence with the final byte `byte`. There are at most two intermediates; `ignore` says that there were more.
+    /// An escape sequence with the final byte `byte`. There are at most two intermediates; `ignore`
+    /// says that there were more.
     fn esc_dispatch(&mut self, intermediates: &[u8], ignore: bool, byte: u8) {}
 
     /// Returns whether `advance_until_terminated` stops. It is asked after events, and not before each byte: the answer
@@ -43,22 +46,25 @@ pub trait Perform {
     }
 }
 
-/// Takes text in runs, from `advance_text`: there [`print`](Perform::print) and [`put`](Perform::put) aren't called.
+/// Takes text in runs, from `advance_text`: there [`print`](Perform::print) and
+/// [`put`](Perform::put) aren't called.
 ///
 /// How text and data are cut into runs may change from version to version.
 #[doc = include_str!("../../docs/perform_text.md")]
 pub trait PerformText: Perform {
-    /// Returns whether HT (09), LF (0A) and CR (0D) come by `print_text` instead of [`execute`](Perform::execute), always the same
-    /// answer. A filter, which keeps these three as they are, is faster with longer runs.
+    /// Returns whether HT (09), LF (0A) and CR (0D) come by `print_text` instead of
+    /// [`execute`](Perform::execute), always the same answer. A filter, which keeps these three as
+    /// they are, is faster with longer runs.
     fn keeps_layout(&self) -> bool {
         false
     }
 
-    /// Characters to print, at least one, in order. None is a control, except HT, LF and CR if the performer
-    /// [keeps](Self::keeps_layout) these.
+    /// Characters to print, at least one, in order. None is a control, except HT, LF and CR if the
+    /// performer [keeps](Self::keeps_layout) these.
     fn print_text(&mut self, text: &str);
 
-    /// Data bytes of the device control string, at least one, in order. By default each comes by [`put`](Perform::put).
+    /// Data bytes of the device control string, at least one, in order. By default each comes by
+    /// [`put`](Perform::put).
     ///
     /// ```
     /// # use vte::{Parser, Perform, PerformText};

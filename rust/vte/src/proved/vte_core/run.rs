@@ -13,7 +13,8 @@ use crate::proved::vte_core::utf8::{
 /// After how many bytes a run is left to the automaton.
 const LONG: usize = 48;
 
-/// Returns whether printed ASCII begins a run at a place: four bytes of it, of which the first was looked at, and `next` too.
+/// Returns whether printed ASCII begins a run at a place: four bytes of it, of which the first
+/// was looked at, and `next` too.
 #[inline(always)]
 pub(crate) fn begins_ascii(input: &[u8], at: usize, next: Option<u8>) -> bool {
     matches!(next, Some(second) if is_printed_ascii(second))
@@ -32,11 +33,12 @@ pub(crate) fn find_ascii_run_end<P: PerformAs<G>, G: Grain>(
     find_rest_end(input, end, performer.keeps_layout())
 }
 
-/// Finds where the run ends that begins at a place with a character of two or three bytes, whose first was looked at; at that
-/// place if none does.
+/// Finds where the run ends that begins at a place with a character of two or three bytes,
+/// whose first was looked at; at that place if none does.
 ///
-/// Two bytes are tested before anything else, because malformed text seldom has them: after a first byte of two, the second and
-/// that another character follows; after one of three, the second and the third.
+/// Two bytes are tested before anything else, because malformed text seldom has them: after a
+/// first byte of two, the second and that another character follows; after one of three, the
+/// second and the third.
 #[inline(always)]
 pub(crate) fn find_longer_run_end<P: PerformAs<G>, G: Grain>(
     performer: &P,
@@ -70,7 +72,8 @@ fn find_run_end<P: PerformAs<G>, G: Grain>(performer: &P, input: &[u8], from: us
     find_rest_end(input, from, performer.keeps_layout())
 }
 
-/// Finds where the run ends that has come to a place. If it `keeps` them, HT, LF and CR don't end it.
+/// Finds where the run ends that has come to a place. If it `keeps` them, HT, LF and CR don't
+/// end it.
 #[inline(always)]
 pub(crate) fn find_rest_end(input: &[u8], from: usize, keeps: bool) -> usize {
     let to = input.len().min(from + LONG);
@@ -107,7 +110,8 @@ fn find_long_end(input: &[u8], from: usize, keeps: bool) -> usize {
     find_end_before(input, end, input.len(), keeps)
 }
 
-/// Finds where the character ends that stands at a place and is no printed ASCII, whose byte was looked at, if a run may hold it.
+/// Finds where the character ends that stands at a place and is no printed ASCII, whose byte
+/// was looked at, if a run may hold it.
 #[inline(always)]
 fn find_other_end(input: &[u8], from: usize, first: u8, keeps: bool) -> Option<usize> {
     if !is_lead(first) {
@@ -134,7 +138,8 @@ fn find_other_end(input: &[u8], from: usize, first: u8, keeps: bool) -> Option<u
     None
 }
 
-/// Finds where the printed ASCII ends that has come to a place by a byte. Two more are read alone, then words are taken.
+/// Finds where the printed ASCII ends that has come to a place by a byte. Two more are read
+/// alone, then words are taken.
 #[inline(always)]
 fn find_ascii_end(input: &[u8], from: usize) -> usize {
     match get(input, from) {
@@ -146,7 +151,8 @@ fn find_ascii_end(input: &[u8], from: usize) -> usize {
     }
 }
 
-/// Finds the first byte from a place on that is no printed ASCII, or where fewer than eight bytes are left.
+/// Finds the first byte from a place on that is no printed ASCII, or where fewer than eight
+/// bytes are left.
 #[inline(always)]
 fn find_end_by_words(input: &[u8], from: usize) -> usize {
     let mut end = from;
@@ -162,8 +168,8 @@ fn find_end_by_words(input: &[u8], from: usize) -> usize {
 /// Returns the place of the first of eight bytes that is no printed ASCII, or of a space before it.
 #[inline(always)]
 fn first_unprinted(word: &[u8; 8]) -> Option<usize> {
-    // Bit 7 of each eight marks a byte: from 80 on it is set, and below 20 it is after a subtraction of 20. What that borrows from the
-    // next byte may mark a space there.
+    // Bit 7 of each eight marks a byte: from 80 on it is set, and below 20 it is after a
+    // subtraction of 20. What that borrows from the next byte may mark a space there.
     let digits = u64::from_le_bytes(*word);
     let marks = (digits.wrapping_sub(0x2020_2020_2020_2020) | digits) & 0x8080_8080_8080_8080;
     if marks == 0 {
@@ -172,7 +178,8 @@ fn first_unprinted(word: &[u8; 8]) -> Option<usize> {
     Some(marks.trailing_zeros() as usize / 8)
 }
 
-/// Returns whether two bytes are a character that is no control, if the first begins one of two bytes.
+/// Returns whether two bytes are a character that is no control, if the first begins one of two
+/// bytes.
 #[inline(always)]
 fn is_printed_pair(first: u8, second: u8) -> bool {
     // U+0080 to U+009F are controls.

@@ -45,8 +45,8 @@ impl<B: Buffer> Store<B> {
         self.bytes.reserve(more)
     }
 
-    /// Takes memory for this many more data bytes, unless they are dropped because 16 pieces have ended. Returns whether it is
-    /// there.
+    /// Takes memory for this many more data bytes, unless they are dropped because 16 pieces have
+    /// ended. Returns whether it is there.
     pub(crate) fn make_room(&mut self, more: usize) -> bool {
         self.ends.is_full() || self.reserve(more)
     }
@@ -58,7 +58,8 @@ impl<B: Buffer> Store<B> {
         }
     }
 
-    /// Adds the data bytes of an input from one place to another, as many as there is room for; none after 16 pieces.
+    /// Adds the data bytes of an input from one place to another, as many as there is room for;
+    /// none after 16 pieces.
     pub(crate) fn push_data(&mut self, input: &[u8], from: usize, to: usize) {
         let before = self.bytes.bytes().len();
         if !self.ends.is_full() {
@@ -100,7 +101,8 @@ impl<B: Buffer> Store<B> {
 
 #[cfg(all(feature = "saved", not(feature = "std")))]
 impl<const N: usize> Store<ArrayVec<u8, N>> {
-    /// Returns the data bytes, the ends of the first 16 pieces in them, and whether data bytes were dropped.
+    /// Returns the data bytes, the ends of the first 16 pieces in them, and whether data bytes were
+    /// dropped.
     pub(crate) fn parts(&self) -> (&[u8], &[usize], bool) {
         (self.bytes.as_slice(), self.ends.as_slice(), self.dropped)
     }
@@ -139,7 +141,8 @@ impl Store<Vec<u8>> {
     }
 }
 
-/// Whether pieces with this many bytes in all can end at these places, of which there are at most 16.
+/// Whether pieces with this many bytes in all can end at these places, of which there are at most
+/// 16.
 #[cfg(all(feature = "saved", not(feature = "std")))]
 fn are_piece_ends(ends: &[usize], count: usize) -> bool {
     ends.windows(2).all(|pair| pair[0] <= pair[1]) && ends.iter().all(|end| *end <= count)

@@ -60,15 +60,16 @@ fn may_be_second(first: u8, byte: u8) -> bool {
     }
 }
 
-/// Whether a sequence of three bytes may begin with these two: with a number that is no overlong form's and no surrogate's.
+/// Whether a sequence of three bytes may begin with these two: with a number that is no overlong
+/// form's and no surrogate's.
 #[inline(always)]
 pub(crate) fn may_begin_three(first: u8, second: u8) -> bool {
     let number = u32::from(first & 0xf) * 0x1000 + u32::from(second & 0x3f) * 0x40;
     is_continuation(second) && number >= 0x800 && number / 0x800 != 0xd800 / 0x800
 }
 
-/// Whether a sequence of four bytes may begin with these two: with a number that is no overlong form's, and not past the last
-/// character's.
+/// Whether a sequence of four bytes may begin with these two: with a number that is no overlong
+/// form's, and not past the last character's.
 #[inline(always)]
 pub(crate) fn may_begin_four(first: u8, second: u8) -> bool {
     let number = u32::from(first & 0x7) * 0x40000 + u32::from(second & 0x3f) * 0x1000;
@@ -154,7 +155,8 @@ pub(crate) fn tell_character<P: PerformAs<G>, G>(performer: &mut P, c: char) {
     }
 }
 
-/// Tells a byte that is neither printed nor a lead byte: a control, or a malformed sequence alone.
+/// Tells a byte that is neither printed nor a lead byte: a control, or a malformed sequence
+/// alone.
 #[inline(always)]
 pub(crate) fn tell_single<P: PerformAs<G>, G>(performer: &mut P, byte: u8) {
     match byte {

@@ -193,8 +193,8 @@ pub trait TakeCall {
 
 /// Takes characters to show in runs, and the other calls of a handler as values.
 pub trait TakeText: TakeCall {
-    /// Takes characters to show, one after another: the same as [`HandlerCall::Input`] for each. The text is never empty and has
-    /// no control: neither U+0000..U+001F nor U+0080..U+009F.
+    /// Takes characters to show, one after another: the same as [`HandlerCall::Input`] for each.
+    /// The text is never empty and has no control: neither U+0000..U+001F nor U+0080..U+009F.
     fn take_text(&mut self, text: &str) {
         for c in text.chars() {
             self.take(HandlerCall::Input(c));
@@ -202,7 +202,8 @@ pub trait TakeText: TakeCall {
     }
 }
 
-/// A [`Handler`] that passes each call on as a value. It takes text in runs if the inner value is [`TakeText`].
+/// A [`Handler`] that passes each call on as a value. It takes text in runs if the inner value is
+/// [`TakeText`].
 #[derive(Clone, Copy, Debug)]
 pub struct ByCall<T>(pub T);
 

@@ -13,16 +13,17 @@ use crate::proved::vte_types::{
 handlers! {
     /// Receives the calls of a processor, in order.
     ///
-    /// A number that a sequence omits or gives as 0 arrives as 1 if it is a count, and as 0 if it selects something. No number
-    /// exceeds 65,535.
+    /// A number that a sequence omits or gives as 0 arrives as 1 if it is a count, and as 0 if it
+    /// selects something. No number exceeds 65,535.
     ///
-    /// The standards: ECMA-48, fifth edition; DEC's VT510 manual; xterm's control sequences; kitty's keyboard protocol.
+    /// The standards: ECMA-48, fifth edition; DEC's VT510 manual; xterm's control sequences; kitty's
+    /// keyboard protocol.
     pub trait Handler;
 
     // ---- Characters and format effectors
 
-    /// A character to show: neither U+0000..U+001F nor U+0080..U+009F. REP, `CSI b`, repeats the last one (ECMA-48
-    /// 8.3.103).
+    /// A character to show: neither U+0000..U+001F nor U+0080..U+009F. REP, `CSI b`, repeats the
+    /// last one (ECMA-48 8.3.103).
     fn input(&mut self, c: char) {}
 
     /// BEL, 07, outside an operating system command: ring or blink (ECMA-48 8.3.3).
@@ -34,28 +35,33 @@ handlers! {
     /// HT, 09: to the next tab stop, with `count` 1 (ECMA-48 8.3.60).
     fn put_tab(&mut self, count: u16) {}
 
-    /// LF, VT and FF, 0A to 0C, and IND, `ESC D`: one line down, and at the bottom of the scrolling region the text scrolls
-    /// up (ECMA-48 8.3.74; DEC VT510, IND). With `NamedMode::LineFeedNewLine` set it goes to the first column too.
+    /// LF, VT and FF, 0A to 0C, and IND, `ESC D`: one line down, and at the bottom of the scrolling
+    /// region the text scrolls up (ECMA-48 8.3.74; DEC VT510, IND). With
+    /// `NamedMode::LineFeedNewLine` set it goes to the first column too.
     fn linefeed(&mut self) {}
 
     /// CR, 0D, and a part of NEL, `ESC E`: to the first column of the line (ECMA-48 8.3.15).
     fn carriage_return(&mut self) {}
 
-    /// A line feed and a carriage return in one. No sequence calls it: NEL calls `linefeed` and `carriage_return`.
+    /// A line feed and a carriage return in one. No sequence calls it: NEL calls `linefeed` and
+    /// `carriage_return`.
     fn newline(&mut self) {}
 
-    /// SUB, 1A: a character that was lost. It also cancels the sequence that it interrupts (ECMA-48 8.3.148).
+    /// SUB, 1A: a character that was lost. It also cancels the sequence that it interrupts (ECMA-48
+    /// 8.3.148).
     fn substitute(&mut self) {}
 
     // ---- Cursor position
 
-    /// CUP, `CSI H`, and HVP, `CSI f`: to a line and a column, both counted from 0, up to 65,534 (ECMA-48 8.3.21, 8.3.63).
+    /// CUP, `CSI H`, and HVP, `CSI f`: to a line and a column, both counted from 0, up to 65,534
+    /// (ECMA-48 8.3.21, 8.3.63).
     fn goto(&mut self, line: i32, column: usize) {}
 
     /// VPA, `CSI d`: to a line, counted from 0, up to 65,534 (ECMA-48 8.3.158).
     fn goto_line(&mut self, line: i32) {}
 
-    /// CHA, `CSI G`, and HPA, `` CSI ` ``: to a column of the line, counted from 0, up to 65,534 (ECMA-48 8.3.9, 8.3.57).
+    /// CHA, `CSI G`, and HPA, `` CSI ` ``: to a column of the line, counted from 0, up to 65,534
+    /// (ECMA-48 8.3.9, 8.3.57).
     fn goto_col(&mut self, column: usize) {}
 
     /// CUU, `CSI A`: `count` lines up, 1 to 65,535 (ECMA-48 8.3.22).
@@ -64,7 +70,8 @@ handlers! {
     /// CUD, `CSI B`, and VPR, `CSI e`: `count` lines down, 1 to 65,535 (ECMA-48 8.3.19, 8.3.160).
     fn move_down(&mut self, count: usize) {}
 
-    /// CUF, `CSI C`, and HPR, `CSI a`: `count` columns to the right, 1 to 65,535 (ECMA-48 8.3.20, 8.3.59).
+    /// CUF, `CSI C`, and HPR, `CSI a`: `count` columns to the right, 1 to 65,535 (ECMA-48 8.3.20,
+    /// 8.3.59).
     fn move_forward(&mut self, count: usize) {}
 
     /// CUB, `CSI D`: `count` columns to the left, 1 to 65,535 (ECMA-48 8.3.18).
@@ -76,7 +83,8 @@ handlers! {
     /// CPL, `CSI F`: to the first column, `count` lines up, 1 to 65,535 (ECMA-48 8.3.13).
     fn move_up_and_cr(&mut self, count: usize) {}
 
-    /// DECSC, `ESC 7`, and SCOSC, `CSI s`: save the cursor's position, rendition and character sets (DEC VT510; xterm).
+    /// DECSC, `ESC 7`, and SCOSC, `CSI s`: save the cursor's position, rendition and character sets
+    /// (DEC VT510; xterm).
     fn save_cursor_position(&mut self) {}
 
     /// DECRC, `ESC 8`, and SCORC, `CSI u`: restore what was saved last (DEC VT510; xterm).
@@ -84,17 +92,20 @@ handlers! {
 
     // ---- Scrolling
 
-    /// RI, `ESC M`: one line up, and at the top of the scrolling region the text scrolls down (ECMA-48 8.3.104).
+    /// RI, `ESC M`: one line up, and at the top of the scrolling region the text scrolls down
+    /// (ECMA-48 8.3.104).
     fn reverse_index(&mut self) {}
 
-    /// SU, `CSI S`: the text of the scrolling region moves up `count` lines, 1 to 65,535 (ECMA-48 8.3.147).
+    /// SU, `CSI S`: the text of the scrolling region moves up `count` lines, 1 to 65,535 (ECMA-48
+    /// 8.3.147).
     fn scroll_up(&mut self, count: usize) {}
 
-    /// SD, `CSI T`: the text of the scrolling region moves down `count` lines, 1 to 65,535 (ECMA-48 8.3.113).
+    /// SD, `CSI T`: the text of the scrolling region moves down `count` lines, 1 to 65,535 (ECMA-48
+    /// 8.3.113).
     fn scroll_down(&mut self, count: usize) {}
 
-    /// DECSTBM, `CSI Pt ; Pb r`: the lines that scroll, counted from 1, up to 65,535 (DEC VT510). Without a bottom they
-    /// reach to the last. The bottom may be above the top.
+    /// DECSTBM, `CSI Pt ; Pb r`: the lines that scroll, counted from 1, up to 65,535 (DEC VT510).
+    /// Without a bottom they reach to the last. The bottom may be above the top.
     fn set_scrolling_region(&mut self, top: usize, bottom: Option<usize>) {}
 
     // ---- Tab stops
@@ -116,25 +127,31 @@ handlers! {
 
     // ---- Editing
 
-    /// ICH, `CSI @`: `count` blanks at the cursor, 1 to 65,535; the rest of the line moves right (ECMA-48 8.3.64).
+    /// ICH, `CSI @`: `count` blanks at the cursor, 1 to 65,535; the rest of the line moves right
+    /// (ECMA-48 8.3.64).
     fn insert_blank(&mut self, count: usize) {}
 
-    /// IL, `CSI L`: `count` blank lines at the cursor's line, 1 to 65,535; those below move down (ECMA-48 8.3.67).
+    /// IL, `CSI L`: `count` blank lines at the cursor's line, 1 to 65,535; those below move down
+    /// (ECMA-48 8.3.67).
     fn insert_blank_lines(&mut self, count: usize) {}
 
-    /// DCH, `CSI P`: `count` characters from the cursor on are deleted, 1 to 65,535; the rest moves left (ECMA-48 8.3.26).
+    /// DCH, `CSI P`: `count` characters from the cursor on are deleted, 1 to 65,535; the rest moves
+    /// left (ECMA-48 8.3.26).
     fn delete_chars(&mut self, count: usize) {}
 
-    /// DL, `CSI M`: `count` lines from the cursor's on are deleted, 1 to 65,535; those below move up (ECMA-48 8.3.32).
+    /// DL, `CSI M`: `count` lines from the cursor's on are deleted, 1 to 65,535; those below move
+    /// up (ECMA-48 8.3.32).
     fn delete_lines(&mut self, count: usize) {}
 
-    /// ECH, `CSI X`: `count` characters from the cursor on become blank, 1 to 65,535; none moves (ECMA-48 8.3.38).
+    /// ECH, `CSI X`: `count` characters from the cursor on become blank, 1 to 65,535; none moves
+    /// (ECMA-48 8.3.38).
     fn erase_chars(&mut self, count: usize) {}
 
     /// EL, `CSI K`: a part of the line becomes blank (ECMA-48 8.3.41).
     fn clear_line(&mut self, part: LineClearMode) {}
 
-    /// ED, `CSI J`: a part of the screen becomes blank, or the scrollback is cleared (ECMA-48 8.3.39; xterm).
+    /// ED, `CSI J`: a part of the screen becomes blank, or the scrollback is cleared (ECMA-48
+    /// 8.3.39; xterm).
     fn clear_screen(&mut self, part: ClearMode) {}
 
     /// DECALN, `ESC # 8`: fill the screen with `E` (DEC VT510).
@@ -142,26 +159,29 @@ handlers! {
 
     // ---- Appearance
 
-    /// SGR, `CSI m`: one attribute of the characters that follow; one call per attribute (ECMA-48 8.3.117; xterm).
+    /// SGR, `CSI m`: one attribute of the characters that follow; one call per attribute (ECMA-48
+    /// 8.3.117; xterm).
     fn terminal_attribute(&mut self, attribute: Attr) {}
 
-    /// OSC 4, 10, 11, 12: the colour of an index (xterm). 0 to 255 are the palette, 256 the foreground, 257 the background,
-    /// 258 the cursor.
+    /// OSC 4, 10, 11, 12: the colour of an index (xterm). 0 to 255 are the palette, 256 the
+    /// foreground, 257 the background, 258 the cursor.
     fn set_color(&mut self, index: usize, color: Rgb) {}
 
-    /// OSC 104, 110, 111, 112: the colour of an index is reset to its first value (xterm). 0 to 255 are the palette, 256 the
-    /// foreground, 257 the background, 258 the cursor.
+    /// OSC 104, 110, 111, 112: the colour of an index is reset to its first value (xterm). 0 to 255
+    /// are the palette, 256 the foreground, 257 the background, 258 the cursor.
     fn reset_color(&mut self, index: usize) {}
 
-    /// OSC 4, 10, 11, 12 with `?`: report the colour of an index, 0 to 258 as those of `set_color` (xterm). The answer is
-    /// `ESC ]`, the prefix, `;`, the colour and the terminator: `4;7` or `11`, and BEL or `ESC \\` as the question ended.
+    /// OSC 4, 10, 11, 12 with `?`: report the colour of an index, 0 to 258 as those of `set_color`
+    /// (xterm). The answer is `ESC ]`, the prefix, `;`, the colour and the terminator: `4;7` or
+    /// `11`, and BEL or `ESC \\` as the question ended.
     fn dynamic_color_sequence(&mut self, prefix: &str as String = prefix.into(), index: usize, terminator: &str) {}
 
-    /// OSC 8: the characters that follow are a link; `None` ends it (the hyperlinks proposal of VTE and iTerm2).
+    /// OSC 8: the characters that follow are a link; `None` ends it (the hyperlinks proposal of VTE
+    /// and iTerm2).
     fn set_hyperlink(&mut self, link: Option<Hyperlink<'_>> as Option<Hyperlink> = link.map(Into::into)) {}
 
-    /// DECSCUSR, `CSI Ps SP q`: the cursor's shape, and whether it blinks (DEC VT510; xterm). `None`, for 0, is the
-    /// terminal's own style.
+    /// DECSCUSR, `CSI Ps SP q`: the cursor's shape, and whether it blinks (DEC VT510; xterm).
+    /// `None`, for 0, is the terminal's own style.
     fn set_cursor_style(&mut self, style: Option<CursorStyle>) {}
 
     /// OSC 50, `CursorShape=`: the cursor's shape alone (Konsole): block, beam or underline.
@@ -175,10 +195,12 @@ handlers! {
     /// SI, 0F, and SO, 0E: characters come from the set G0 or G1 (ECMA-48 8.3.119, 8.3.126).
     fn set_active_charset(&mut self, index: CharsetIndex) {}
 
-    /// SCS, `ESC (`, `)`, `*` or `+` and then `B` or `0`: what the set G0, G1, G2 or G3 is (ECMA-35; DEC VT510).
+    /// SCS, `ESC (`, `)`, `*` or `+` and then `B` or `0`: what the set G0, G1, G2 or G3 is
+    /// (ECMA-35; DEC VT510).
     fn configure_charset(&mut self, index: CharsetIndex, charset: StandardCharset) {}
 
-    /// SCP, `CSI Ps1 ; Ps2 SP k`: the direction of characters, and how what is shown follows it (ECMA-48 8.3.111).
+    /// SCP, `CSI Ps1 ; Ps2 SP k`: the direction of characters, and how what is shown follows it
+    /// (ECMA-48 8.3.111).
     fn set_scp(&mut self, path: ScpCharPath, update: ScpUpdateMode) {}
 
     // ---- Modes
@@ -201,7 +223,8 @@ handlers! {
     /// DECRQM, `CSI ? Ps $ p`: report whether a private mode is set (DEC VT510).
     fn report_private_mode(&mut self, mode: PrivateMode) {}
 
-    /// RIS, `ESC c`: reset everything to its state when the terminal was switched on (ECMA-48 8.3.105).
+    /// RIS, `ESC c`: reset everything to its state when the terminal was switched on (ECMA-48
+    /// 8.3.105).
     fn reset_state(&mut self) {}
 
     // ---- Keyboard
@@ -212,15 +235,16 @@ handlers! {
     /// DECKPNM, `ESC >`: the keypad's keys send digits (DEC VT510).
     fn unset_keypad_application_mode(&mut self) {}
 
-    /// `CSI > u`: push these keyboard modes onto their stack, and set them (kitty's keyboard protocol). All 32 values are
-    /// possible.
+    /// `CSI > u`: push these keyboard modes onto their stack, and set them (kitty's keyboard
+    /// protocol). All 32 values are possible.
     fn push_keyboard_mode(&mut self, mode: KeyboardModes) {}
 
-    /// `CSI < u`: pop this many keyboard modes off their stack, 1 to 65,535 (kitty's keyboard protocol).
+    /// `CSI < u`: pop this many keyboard modes off their stack, 1 to 65,535 (kitty's keyboard
+    /// protocol).
     fn pop_keyboard_modes(&mut self, count: u16) {}
 
-    /// `CSI = u`: replace the keyboard modes, add to them, or remove some (kitty's keyboard protocol). All 32 values are
-    /// possible.
+    /// `CSI = u`: replace the keyboard modes, add to them, or remove some (kitty's keyboard
+    /// protocol). All 32 values are possible.
     fn set_keyboard_mode(&mut self, mode: KeyboardModes, behavior: KeyboardModesApplyBehavior) {}
 
     /// `CSI ? u`: report the keyboard modes that are set (kitty's keyboard protocol).
@@ -249,16 +273,17 @@ handlers! {
     /// `std` they have at most 1,022 bytes.
     fn clipboard_store(&mut self, clipboard: u8, bytes: &[u8]) {}
 
-    /// OSC 52 with `?`: report what a clipboard holds, by its letter as in `clipboard_store` (xterm). The answer ends with
-    /// the terminator, BEL or `ESC \\` as the question did.
+    /// OSC 52 with `?`: report what a clipboard holds, by its letter as in `clipboard_store`
+    /// (xterm). The answer ends with the terminator, BEL or `ESC \\` as the question did.
     fn clipboard_load(&mut self, clipboard: u8, terminator: &str) {}
 
-    /// DSR, `CSI n`: a report by its number, up to 65,535. 5 asks for the status, 6 for the cursor's position (ECMA-48
-    /// 8.3.35).
+    /// DSR, `CSI n`: a report by its number, up to 65,535. 5 asks for the status, 6 for the
+    /// cursor's position (ECMA-48 8.3.35).
     fn device_status(&mut self, kind: usize) {}
 
-    /// DA, `CSI c` and `ESC Z`: report what terminal this is, by the intermediate: `None` for the primary, `Some('>')` for
-    /// the secondary, `Some('=')` for the tertiary attributes (ECMA-48 8.3.24; DEC VT510; xterm).
+    /// DA, `CSI c` and `ESC Z`: report what terminal this is, by the intermediate: `None` for the
+    /// primary, `Some('>')` for the secondary, `Some('=')` for the tertiary attributes (ECMA-48
+    /// 8.3.24; DEC VT510; xterm).
     fn identify_terminal(&mut self, intermediate: Option<char>) {}
 
     /// XTWINOPS 14, `CSI 14 t`: report the text area's size in pixels (xterm).
@@ -268,10 +293,12 @@ handlers! {
     fn text_area_size_chars(&mut self) {}
 }
 
-/// Receives text in runs, from a processor's `advance_text` and `stop_sync_text`: there [`input`](Handler::input) isn't called.
+/// Receives text in runs, from a processor's `advance_text` and `stop_sync_text`: there
+/// [`input`](Handler::input) isn't called.
 ///
 /// How a text is cut into runs may change from version to version.
 pub trait HandlerText: Handler {
-    /// Characters to show, at least one, in order. None is a control: neither U+0000..U+001F nor U+0080..U+009F.
+    /// Characters to show, at least one, in order. None is a control: neither U+0000..U+001F nor
+    /// U+0080..U+009F.
     fn input_text(&mut self, text: &str);
 }

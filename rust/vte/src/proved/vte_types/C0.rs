@@ -1,5 +1,6 @@
 // Written by tools/erase from crates/vte_types/src/C0.rt. Don't edit this file: edit that one, and run the tool.
-//! The controls of the set C0, one byte each (ECMA-48, section 8.2; ISO 646), by the names of ASCII; and DEL.
+//! The controls of the set C0, one byte each (ECMA-48, section 8.2; ISO 646), by the names of
+//! ASCII; and DEL.
 
 /// Null.
 pub const NUL: u8 = 0x00;

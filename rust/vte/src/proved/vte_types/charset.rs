@@ -1,8 +1,8 @@
 // Written by tools/erase from crates/vte_types/src/charset.rt. Don't edit this file: edit that one, and run the tool.
 //! Character sets (ECMA-35).
 
-/// One of the four character sets that a terminal keeps ready (ECMA-35). `ESC (` to `ESC +` designate them; SI and SO invoke
-/// the first two.
+/// One of the four character sets that a terminal keeps ready (ECMA-35). `ESC (` to `ESC +`
+/// designate them; SI and SO invoke the first two.
 #[derive(Clone, Copy, Debug, Default, Eq, PartialEq)]
 pub enum CharsetIndex {
     /// The set that is invoked initially.
@@ -36,7 +36,8 @@ pub enum StandardCharset {
 impl StandardCharset {
     /// Returns the character that is shown for `c` while this set is invoked.
     ///
-    /// ASCII shows `c` itself. DEC Special Graphics replaces each of `_` to `~`, and shows any other character as it is.
+    /// ASCII shows `c` itself. DEC Special Graphics replaces each of `_` to `~`, and shows any
+    /// other character as it is.
     pub fn map(self, c: char) -> char {
         match self {
             StandardCharset::Ascii => c,

@@ -9,8 +9,8 @@ use serde::{Deserialize, Serialize};
 
 /// A colour of red, green and blue. The default is black.
 ///
-/// It is displayed as `#` and two lowercase hex digits per part, and parsed from `#` or `0x` and six hex digits of either
-/// case.
+/// It is displayed as `#` and two lowercase hex digits per part, and parsed from `#` or `0x` and
+/// six hex digits of either case.
 ///
 /// ```
 /// # use vte::ansi::Rgb;
@@ -55,7 +55,8 @@ impl Sub<Rgb> for Rgb {
     }
 }
 
-/// A named colour. `as usize` gives its number: its index in a palette, or 256 and up for a colour that isn't in it.
+/// A named colour. `as usize` gives its number: its index in a palette, or 256 and up for a colour
+/// that isn't in it.
 #[derive(Debug, Copy, Clone, PartialEq, Eq, PartialOrd, Ord)]
 #[cfg_attr(feature = "serde", derive(Serialize, Deserialize))]
 pub enum NamedColor {
@@ -120,7 +121,8 @@ pub enum NamedColor {
 }
 
 impl NamedColor {
-    /// Returns the colour one shade brighter: a plain colour's bright form, a dim colour's plain form, any other itself.
+    /// Returns the colour one shade brighter: a plain colour's bright form, a dim colour's plain
+    /// form, any other itself.
     #[must_use]
     pub fn to_bright(self) -> Self {
         match self {
@@ -146,7 +148,8 @@ impl NamedColor {
         }
     }
 
-    /// Returns the colour one shade dimmer: a plain colour's dim form, a bright colour's plain form, any other itself.
+    /// Returns the colour one shade dimmer: a plain colour's dim form, a bright colour's plain
+    /// form, any other itself.
     #[must_use]
     pub fn to_dim(self) -> Self {
         match self {
@@ -185,7 +188,8 @@ pub enum Color {
     Indexed(u8),
 }
 
-/// An attribute of the characters that follow (ECMA-48, SGR; kitty for the styles and colours of underlines).
+/// An attribute of the characters that follow (ECMA-48, SGR; kitty for the styles and colours of
+/// underlines).
 #[derive(Debug, Eq, PartialEq, Clone, Copy)]
 pub enum Attr {
     /// SGR 0.

@@ -8,7 +8,8 @@ pub(crate) type RunParser = Parser<1024>;
 
 /// Collects a text for each event.
 pub(crate) trait Collector {
-    /// Parses bytes and collects their text until it is time to write it. Nothing is lost. Returns the unread bytes.
+    /// Parses bytes and collects their text until it is time to write it. Nothing is lost. Returns
+    /// the unread bytes.
     fn collect<'a>(&mut self, parser: &mut RunParser, bytes: &'a [u8]) -> &'a [u8];
 
     /// Returns the collected text.

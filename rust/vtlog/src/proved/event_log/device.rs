@@ -7,7 +7,8 @@ use std::io::{Read, Write};
 ///
 /// A source that has failed stays failed.
 pub trait Source {
-    /// Moves the next bytes to the front of `room` and returns their number, which is 0 for a non-empty `room` only at the end.
+    /// Moves the next bytes to the front of `room` and returns their number, which is 0 for a
+    /// non-empty `room` only at the end.
     ///
     /// # Errors
     ///
@@ -36,8 +37,8 @@ pub trait Sink {
 
 /// A [`Read`] or [`Write`] of std as a [`Source`] or [`Sink`].
 ///
-/// After the first error of the reader or writer inside, it has failed: every further call is an error, and nothing is known of
-/// its bytes.
+/// After the first error of the reader or writer inside, it has failed: every further call is an
+/// error, and nothing is known of its bytes.
 pub struct Device<D> {
     inner: D,
     failed: bool,

@@ -12,8 +12,8 @@ const PIECE: usize = 4096;
 
 /// Reads to the end, and writes one line per event.
 ///
-/// The reader is read in pieces of up to 4,096 bytes, and the lines of each piece are written and flushed before the next read. A
-/// sequence that is unfinished at the end gives no line.
+/// The reader is read in pieces of up to 4,096 bytes, and the lines of each piece are written and
+/// flushed before the next read. A sequence that is unfinished at the end gives no line.
 ///
 /// # Errors
 ///
@@ -24,7 +24,8 @@ pub fn run<R: Source, W: Sink>(reader: &mut R, writer: &mut W) -> Result<(), Fau
 
 /// Reads to the end, and writes the text without its sequences.
 ///
-/// It reads, writes, flushes and fails as [`run`] does. A character that is unfinished at the end gives no text.
+/// It reads, writes, flushes and fails as [`run`] does. A character that is unfinished at the end
+/// gives no text.
 pub fn run_text<R: Source, W: Sink>(reader: &mut R, writer: &mut W) -> Result<(), Fault> {
     run_with(&mut Plain::new(), reader, writer)
 }

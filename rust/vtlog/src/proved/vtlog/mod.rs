@@ -1,5 +1,6 @@
 // Written by tools/erase from crates/vtlog/src/main.rt. Don't edit this file: edit that one, and run the tool.
-//! `vtlog` reads what is sent to a terminal, and prints one line per event, or with the argument `text` only the text.
+//! `vtlog` reads what is sent to a terminal, and prints one line per event, or with the argument
+//! `text` only the text.
 
 mod output;
 
@@ -44,7 +45,8 @@ pub(crate) fn main(rt: HostRuntime) -> ExitCode {
     ExitCode::from(status)
 }
 
-/// Does what the arguments ask for, over the standard streams. Returns the exit status and the message for standard error.
+/// Does what the arguments ask for, over the standard streams. Returns the exit status and the
+/// message for standard error.
 ///
 /// # Errors
 ///
@@ -58,7 +60,8 @@ fn log_streams(rt: &HostRuntime) -> io::Result<(u8, &'static str)> {
     Ok(if output.is_closed() { (141, "") } else { end })
 }
 
-/// Does what the arguments ask for. Returns the exit status and the message for standard error, which is empty if there is none.
+/// Does what the arguments ask for. Returns the exit status and the message for standard error,
+/// which is empty if there is none.
 fn log<R: Source, W: Sink>(args: &[&str], reader: &mut R, writer: &mut W) -> (u8, &'static str) {
     if let Some(page) = page_of(args) {
         return end(&print(page, writer));

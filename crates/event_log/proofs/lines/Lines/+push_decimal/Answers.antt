@@ -13,10 +13,18 @@ returns-in-10-to-99 t c =
 pub returns-in-100-to-999 : goal.returns-in-100-to-999
 returns-in-100-to-999 t c =
     rw (three_digits c.args.number (omega arith) (omega arith))
-    (rw (c.digit-in-100-to-999.ensures, c.digit-in-100-to-999-2.ensures, c.digit-in-100-to-999-3.ensures) at c.push-in-100-to-999.ensures)
+    (rw (
+      c.digit-in-100-to-999.ensures,
+      c.digit-in-100-to-999-2.ensures,
+      c.digit-in-100-to-999-3.ensures,
+    ) at c.push-in-100-to-999.ensures)
 
 pub returns-in_default : goal.returns-in_default
 returns-in_default t c =
     rw (three_more c.args.number (omega arith) (omega arith))
     (extends_then c.push_decimal.ensures
-    (rw (c.digit-in_default.ensures, c.digit-in_default-2.ensures, c.digit-in_default-3.ensures) at c.push-in_default.ensures))
+    (rw (
+      c.digit-in_default.ensures,
+      c.digit-in_default-2.ensures,
+      c.digit-in_default-3.ensures,
+    ) at c.push-in_default.ensures))

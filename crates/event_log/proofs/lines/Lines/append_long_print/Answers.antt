@@ -9,4 +9,5 @@ returns-in-65536-to-1048575 c =
 
 pub returns-in_default : goal.returns-in_default
 unfolding six_hex_digits hex_byte
-returns-in_default c = rw (line_of_six c.args.number (omega arith)) (rw c.six_hex_digits.ensures at c.append-in_default.ensures)
+returns-in_default c =
+    rw (line_of_six c.args.number (omega arith)) (rw c.six_hex_digits.ensures at c.append-in_default.ensures)

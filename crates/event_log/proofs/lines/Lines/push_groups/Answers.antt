@@ -35,7 +35,8 @@ returns c =
       | in-Some+in-None w ↦
           let h = w.loop-group.invariant in
           let passed = map (λ (group : Bor (List ℕ)). group.now) w.loop-group.yielded in
-          let all : group_text (get_or c.args.params.now 0 []) ++ flat_map behind_semicolon passed ≡ shown c.args.params.now =
+          let all : group_text (get_or c.args.params.now 0 []) ++ flat_map behind_semicolon passed
+          ≡ shown c.args.params.now =
           groups_written c.args.params.now _ _ passed _ h.along refl w.in-None.ensures.steps.0 in
           extends_then (rw all at h.pushed) (rw w.self-is at bracket)
       | in_default w ↦

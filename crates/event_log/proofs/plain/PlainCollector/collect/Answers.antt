@@ -15,7 +15,10 @@ loop-self-preserved c =
       none = λ e. absurd (omega arith);
       keeps = λ whole before.
           let h = c.loop-self.invariant.keeps whole before in
-          kept_text chunk c.split_at.result.1.now (c.events_grow.ensures (Some 1024)) (c.bytes_are_brief.ensures (Some 1024)) h
-          (rw (c.split_at.ensures.front, c.split_at.ensures.back) (take-append-drop c.min.result c.loop-self.unread.now)) (omega arith)
-          (c.advance_text.ensures.performs h.adds_up.since h.adds_up.parsed) (c.advance_text.ensures.reads h.adds_up.since h.adds_up.parsed);
+          kept_text chunk c.split_at.result.1.now (c.events_grow.ensures (Some 1024))
+          (c.bytes_are_brief.ensures (Some 1024)) h
+          (rw (c.split_at.ensures.front, c.split_at.ensures.back)
+          (take-append-drop c.min.result c.loop-self.unread.now)) (omega arith)
+          (c.advance_text.ensures.performs h.adds_up.since h.adds_up.parsed)
+          (c.advance_text.ensures.reads h.adds_up.since h.adds_up.parsed);
     }

@@ -5,7 +5,8 @@ abbrev pub invariant-loop-self : goal.invariant-loop-self
 invariant-loop-self l = record {
   within : length l.unread ≤ length l.bytes;
   none : length l.unread ≡ length l.bytes → l.self ≡ empty_record;
-  keeps : (whole : List ℕ → List ℕ) → AddsUpTo plain_text_of whole [] l.fn.parser l.bytes → HasKept plain_text_of whole l.self l.parser l.unread;
+  keeps : (whole : List ℕ → List ℕ) → AddsUpTo plain_text_of whole [] l.fn.parser l.bytes
+      → HasKept plain_text_of whole l.self l.parser l.unread;
 }
 
 abbrev pub decreases-loop-self : goal.decreases-loop-self

@@ -9,7 +9,8 @@ pub returns-then-text-room : goal.returns-then-text-room
 returns-then-text-room c =
     let appended = rw c.as_bytes.ensures.value at c.append.ensures in
     rw (← c.self.view_is) (appended
-    ∙ takes_run (held_in c.self.inside.texts) c.args.text.now c.utf8.text (omega (arith, c.room.ensures, c.if-text-room.true)))
+    ∙ takes_run (held_in c.self.inside.texts) c.args.text.now c.utf8.text
+    (omega (arith, c.room.ensures, c.if-text-room.true)))
 
 pub loop-c-preserved : goal.loop-c-preserved
 loop-c-preserved c =
@@ -19,6 +20,10 @@ loop-c-preserved c =
 
 pub returns : goal.returns
 returns c =
-    let all = YieldsList-end (YieldsList-from_chars c.args.text.now c.utf8.text cc) c.loop-c.yielded _ c.loop-c.yielded_by _ _ c.in-None.is c.next.ensures.steps in
+    let all =
+    YieldsList-end
+    (YieldsList-from_chars c.args.text.now c.utf8.text cc) c.loop-c.yielded _ c.loop-c.yielded_by _ _ c.in-None.is
+    c.next.ensures.steps in
     rw (← c.self.view_is) (c.loop-c.invariant
-    ∙ ap (λ cs. after (with_event plain_text_of) (held_in c.self.inside.texts) (map (run_event true) cs)) (sym (map-id c.loop-c.yielded) ∙ all.0))
+    ∙ ap (λ cs. after (with_event plain_text_of) (held_in c.self.inside.texts) (map (run_event true) cs))
+    (sym (map-id c.loop-c.yielded) ∙ all.0))

@@ -12,5 +12,7 @@ returns-clause-further c = λ some.
 pub returns-clause-collects : goal.returns-clause-collects
 returns-clause-collects c = λ whole before.
     let call = c.advance_until_terminated-read in
-    rw cut_from (kept_lines c.args.bytes.now (c.early_stops.ensures.goes_on (Some 1024)) (c.early_stops.ensures.units (Some 1024))
-    c.requires.empty before (call.ensures.stops before.since before.parsed) (call.ensures.reads before.since before.parsed))
+    rw cut_from
+    (kept_lines c.args.bytes.now (c.early_stops.ensures.goes_on (Some 1024)) (c.early_stops.ensures.units (Some 1024))
+    c.requires.empty before (call.ensures.stops before.since before.parsed)
+    (call.ensures.reads before.since before.parsed))

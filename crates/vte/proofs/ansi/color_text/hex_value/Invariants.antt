@@ -4,4 +4,5 @@ use Rattle.vte.proofs.ansi.color_text.hex_value.Given as goal
 
 -- the digits that are left give what all give
 abbrev pub invariant-loop-byte : goal.invariant-loop-byte
-invariant-loop-byte l = (hex_behind l.number (drop l.byte-index l.digits) ≡ hex_number l.digits) × (l.number < 16 ^ l.byte-index)
+invariant-loop-byte l =
+    (hex_behind l.number (drop l.byte-index l.digits) ≡ hex_number l.digits) × (l.number < 16 ^ l.byte-index)

@@ -14,8 +14,10 @@ use Rattle.vte_core.specs.Utf8.{utf8_rows, is_well_formed, is_truncated, further
 use Rattle.vte.proofs.ansi.laws.worked_examples.Goals as goal
 
 pub returns : goal.returns
-unfolding events outcome text_outcome segment_event character_event malformed_event utf8_rows is_well_formed is_truncated further body_outcome key_of
-    class_of executed escape_outcome control_sequence_outcome control_sequence_end head_of is_well_shaped dispatched numbers groups_of has_too_many_numbers
+unfolding events outcome text_outcome segment_event character_event malformed_event utf8_rows is_well_formed
+    is_truncated further body_outcome key_of
+    class_of executed escape_outcome control_sequence_outcome control_sequence_end head_of is_well_shaped dispatched
+    numbers groups_of has_too_many_numbers
     system_command_outcome pieces_of kept_items digits chars is_utf8 trim_start trim_end encode_utf8 all_reset
 returns c = record {
   executed = refl;

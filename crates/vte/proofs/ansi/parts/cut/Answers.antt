@@ -5,10 +5,14 @@ use Rattle.vte.proofs.ansi.parts.cut.Goals as goal
 pub returns-in-Some-clause-parts : goal.returns-in-Some-clause-parts
 returns-in-Some-clause-parts c =
     let text = c.args.text.now in
-    let found = position_or_len_is (λ (b : ℕ). b == c.args.separator) text c.in-Some.place 0 (search rules) (search rules) (search rules) in
+    let found =
+    position_or_len_is (λ (b : ℕ). b == c.args.separator) text c.in-Some.place 0 (search rules) (search rules)
+    (search rules) in
     rw (take_rest text (c.in-Some.place + 1)) (first_part _ text c.in-Some.place found (search rules))
 
 pub returns-in-None-clause-parts : goal.returns-in-None-clause-parts
 returns-in-None-clause-parts c =
     let text = c.args.text.now in
-    whole_part _ text (position_or_len_is (λ (b : ℕ). b == c.args.separator) text (length text) 0 (omega arith) (search rules) (search rules))
+    whole_part _ text
+    (position_or_len_is (λ (b : ℕ). b == c.args.separator) text (length text) 0 (omega arith) (search rules)
+    (search rules))

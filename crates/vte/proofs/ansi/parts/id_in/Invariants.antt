@@ -4,7 +4,8 @@ use Rattle.vte.proofs.ansi.parts.id_in.Given as goal
 
 -- the parts that are left have the first that all have
 abbrev pub invariant-loop-left : goal.invariant-loop-left
-invariant-loop-left l = first_behind (codes "id=") (parts_left 0x3a l.left) ≡ first_behind (codes "id=") (parts_of 0x3a l.parameters)
+invariant-loop-left l =
+    first_behind (codes "id=") (parts_left 0x3a l.left) ≡ first_behind (codes "id=") (parts_of 0x3a l.parameters)
 
 abbrev pub decreases-loop-left : goal.decreases-loop-left
 decreases-loop-left l = left_size l.left

@@ -4,5 +4,7 @@ use Rattle.vte.proofs.ansi.performer.fit.Given as goal
 -- the pieces that are left fit what room is left exactly where all fit
 abbrev pub invariant-loop-piece : goal.invariant-loop-piece
 invariant-loop-piece l =
-    nat_le (length (concat (map (λ piece. piece.now) (drop l.piece-index l.pieces))) + length (map (λ piece. piece.now) (drop l.piece-index l.pieces))) l.room
+    nat_le
+    (length (concat (map (λ piece. piece.now) (drop l.piece-index l.pieces)))
+    + length (map (λ piece. piece.now) (drop l.piece-index l.pieces))) l.room
     ≡ fits_room l.size (map (λ piece. piece.now) l.pieces)

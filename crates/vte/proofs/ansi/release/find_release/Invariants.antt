@@ -5,7 +5,8 @@ use Rattle.vte.proofs.ansi.release.find_release.Given as goal
 abbrev pub invariant-loop-place : goal.invariant-loop-place
 invariant-loop-place l = record {
   few : l.begins + l.unread ≤ length l.text;
-  seen : (held more : List ℕ) → IsEnd held more l.text l.start → HasSeen (held ++ more) (length more) (l.start + l.unread) l.begin l.begins;
+  seen : (held more : List ℕ) → IsEnd held more l.text l.start
+      → HasSeen (held ++ more) (length more) (l.start + l.unread) l.begin l.begins;
 }
 
 abbrev pub decreases-loop-place : goal.decreases-loop-place

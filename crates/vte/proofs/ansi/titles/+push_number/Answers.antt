@@ -11,4 +11,10 @@ push-requires-else-number-lt10-clause-fits g t c =
 pub returns-else-number-lt10-clause-pushed : goal.returns-else-number-lt10-clause-pushed
 returns-else-number-lt10-clause-pushed g t c =
     let digits = decimal_step c.args.number c.if-number-lt10.false (let h = c.ranges.number.fits in omega (arith, h)) in
-    rw (c.push-else-number-lt10.ensures.pushed, c.push_number.ensures.pushed, c.from-else-number-lt10.ensures, digits, append_assoc)
+    rw (
+      c.push-else-number-lt10.ensures.pushed,
+      c.push_number.ensures.pushed,
+      c.from-else-number-lt10.ensures,
+      digits,
+      append_assoc,
+    )

@@ -8,20 +8,27 @@ loop-piece-init g c = record { joins = joins-begin c.clear.ensures.empty c.requi
 
 pub push_part-requires : goal.push_part-requires
 push_part-requires g c =
-    let fits = joins-room c.args.keeps_all c.args.pieces.now c.loop-piece.piece-index _ c.loop-piece-test.true c.loop-piece.invariant.joins c.in-Some.part.now c.in-Some.ensures in
+    let fits =
+    joins-room c.args.keeps_all c.args.pieces.now c.loop-piece.piece-index _ c.loop-piece-test.true
+    c.loop-piece.invariant.joins c.in-Some.part.now c.in-Some.ensures in
     omega (arith, fits, c.loop-piece.invariant.same)
 
 pub loop-piece-preserved : goal.loop-piece-preserved
 loop-piece-preserved g c = elim c.match-text_in.branch [
   | in-Some w ↦
-      let more = joins-more c.args.keeps_all c.args.pieces.now c.loop-piece.piece-index _ c.loop-piece-test.true c.loop-piece.invariant.joins w.in-Some.part.now w.in-Some.ensures in
+      let more =
+      joins-more c.args.keeps_all c.args.pieces.now c.loop-piece.piece-index _ c.loop-piece-test.true
+      c.loop-piece.invariant.joins w.in-Some.part.now w.in-Some.ensures in
       record {
         joins = rw (w.text-is, w.push_part.ensures.pushed, w.is_first-is) more;
         same = ap g.J.TextBuffer.room w.text-is ∙ w.push_part.ensures.same ∙ c.loop-piece.invariant.same;
       }
   | in_default w ↦
       record {
-        joins = rw (w.text-is, w.is_first-is) (joins-same c.args.keeps_all c.args.pieces.now c.loop-piece.piece-index _ c.loop-piece-test.true c.loop-piece.invariant.joins w.in_default.ensures);
+        joins =
+            rw (w.text-is, w.is_first-is)
+            (joins-same c.args.keeps_all c.args.pieces.now c.loop-piece.piece-index _ c.loop-piece-test.true
+            c.loop-piece.invariant.joins w.in_default.ensures);
         same = ap g.J.TextBuffer.room w.text-is ∙ c.loop-piece.invariant.same;
       }
 ]

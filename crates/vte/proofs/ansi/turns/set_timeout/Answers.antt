@@ -3,4 +3,5 @@ use Rattle.vte.proofs.performing.CallLists.{set_times-add}
 use Rattle.vte.proofs.ansi.turns.set_timeout.Goals as goal
 
 pub loop-time-preserved : goal.loop-time-preserved
-loop-time-preserved g c = c.set_timeout.ensures ∙ rw (c.from_millis.ensures, c.loop-time.invariant, set_times-add _ _ c.loop-time._time 1)
+loop-time-preserved g c =
+    c.set_timeout.ensures ∙ rw (c.from_millis.ensures, c.loop-time.invariant, set_times-add _ _ c.loop-time._time 1)

@@ -3,4 +3,6 @@ use Rattle.vte.proofs.ansi.turns.set_timeout.Given as goal
 
 abbrev pub invariant-loop-time : goal.invariant-loop-time
 invariant-loop-time g l =
-    g.T.Timeout.value_of l.timeout ≡ set_times (timeout_meaning g.T.Timeout.set g.T.Timeout.clear g.T.Timeout.allows) l._time (g.T.Timeout.value_of l.initial.timeout)
+    g.T.Timeout.value_of l.timeout
+    ≡ set_times (timeout_meaning g.T.Timeout.set g.T.Timeout.clear g.T.Timeout.allows) l._time
+    (g.T.Timeout.value_of l.initial.timeout)

@@ -4,4 +4,6 @@ use Rattle.vte_core.proofs.fields.NumberSteps.{counts-nothing}
 use Rattle.vte_core.proofs.head.Collected.begin_head.Goals as goal
 
 pub returns : goal.returns
-returns c = λ holds. holds-nothing _ (record { kept = holds.kept; too_many = holds.too_many }) (counts-nothing _ c.clear.ensures refl refl)
+returns c =
+    λ holds. holds-nothing _ (record { kept = holds.kept; too_many = holds.too_many })
+    (counts-nothing _ c.clear.ensures refl refl)

@@ -3,22 +3,32 @@ use Rattle.vte_core.proofs.calls.Heads.{reads-head_byte, reads-nothing, reads-th
 use Rattle.vte_core.proofs.head.Collected.read_head.Goals as goal
 
 pub loop-position-init : goal.loop-position-init
-loop-position-init g c = record { reads = reads-nothing c.requires; count = omega arith; least = omega arith; none = refl }
+loop-position-init g c =
+    record { reads = reads-nothing c.requires; count = omega arith; least = omega arith; none = refl }
 
 pub loop-position-preserved-then-may_have_parameters : goal.loop-position-preserved-then-may_have_parameters
 loop-position-preserved-then-may_have_parameters g c =
     let v = c.loop-position.invariant in
     let numbers = c.read_numbers-numbers.ensures in
-    let further = numbers.further refl (omega arith) (rw (← c.at-byte.ensures.value) (sym c.is_parameter.ensures ∙ c.if-is_parameter.true)) in
+    let further =
+    numbers.further refl (omega arith)
+    (rw (← c.at-byte.ensures.value) (sym c.is_parameter.ensures ∙ c.if-is_parameter.true)) in
     let more = further.0 in
-    record { reads = reads-then v.reads (rw further.1 at numbers.reads.head); count = omega arith; least = omega arith; none = v.none }
+    record {
+      reads = reads-then v.reads (rw further.1 at numbers.reads.head);
+      count = omega arith;
+      least = omega arith;
+      none = v.none;
+    }
 
 pub loop-position-preserved : goal.loop-position-preserved
 loop-position-preserved g c =
     let v = c.loop-position.invariant in
     let is = sym c.is_head.ensures ∙ c.if-not-is_head.false in
     record {
-      reads = reads-then v.reads (reads-head_byte (omega arith) c.at-byte.ensures.value is c.collect_head_byte-part.ensures);
+      reads =
+          reads-then v.reads
+          (reads-head_byte (omega arith) c.at-byte.ensures.value is c.collect_head_byte-part.ensures);
       count = omega arith;
       least = omega arith;
       none = v.none;

@@ -8,7 +8,9 @@ use Rattle.vte_core.proofs.head.Collected.read_numbers.Goals as goal
 
 pub loop-position-init : goal.loop-position-init
 loop-position-init g c = record {
-  reads = rw (part_after-none c.args.reached c.args.from c.args.from refl, c.from-number.ensures) (reads-nothing c.requires.in_order);
+  reads =
+      rw (part_after-none c.args.reached c.args.from c.args.from refl, c.from-number.ensures)
+      (reads-nothing c.requires.in_order);
   count = omega arith;
   none = refl;
   small = omega arith;
@@ -22,16 +24,22 @@ loop-position-preserved g c =
       reads = elim c.match-digit_of.branch [
         | in-Some w ↦
             let is = rw w.in-Some.is at c.digit_of.ensures in
-            rw (w.self-is, w.number-is) (reads-parameter c.requires.may (omega arith) c.at-byte.ensures.value is.3 (record { intermediates = refl; too_many = refl })
-            (λ text k. counts-digit (with_number held c.loop-position.number) (with_number held w.min-number.result) text c.at-byte.result k is.0 is.1 refl refl
+            rw (w.self-is, w.number-is)
+            (reads-parameter c.requires.may (omega arith) c.at-byte.ensures.value is.3
+            (record { intermediates = refl; too_many = refl })
+            (λ text k.
+            counts-digit (with_number held c.loop-position.number)
+            (with_number held w.min-number.result) text c.at-byte.result k is.0 is.1 refl refl
             (omega (arith, w.min-number.ensures, is.2))) v.reads)
         | in_default+then-several+then-is_separator w ↦
             let settled = w.settle_number-self.ensures in
             let separator = w.is_separator.ensures in
             let is = w.if-is_separator.true in
-            rw (w.self-is, w.number-is) (reads-parameter c.requires.may (omega arith) c.at-byte.ensures.value (separator.parameter is)
+            rw (w.self-is, w.number-is)
+            (reads-parameter c.requires.may (omega arith) c.at-byte.ensures.value (separator.parameter is)
             (record { intermediates = settled.keeps.intermediates; too_many = settled.keeps.too_many })
-            (λ text k. counts-separator _ _ _ _ text c.at-byte.result k (settled.settles text k) (sym separator.value ∙ is) refl refl refl) v.reads)
+            (λ text k. counts-separator _ _ _ _ text c.at-byte.result k (settled.settles text k)
+            (sym separator.value ∙ is) refl refl refl) v.reads)
       ];
       count = omega arith;
       none = v.none;
@@ -43,7 +51,8 @@ returns-then-from-position-clause-reads g c =
     let v = c.loop-position.invariant in
     let high = v.reads.high in
     record {
-      head = rw (part_after-none c.args.reached c.args.from c.loop-position.position c.if-from-position.true) at v.reads;
+      head =
+          rw (part_after-none c.args.reached c.args.from c.loop-position.position c.if-from-position.true) at v.reads;
       next = elim c.loop-position-test.branch [
         | else-loop-position-test w ↦ rw (w.next-is, v.none) (omega arith)
         | then-loop-position-test+in_default+else-several w ↦ rw w.next-is (omega arith, w.at-byte.ensures.value)

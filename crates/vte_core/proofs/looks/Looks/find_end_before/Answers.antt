@@ -6,7 +6,13 @@ use Rattle.vte_core.proofs.looks.Looks.find_end_before.Goals as goal
 
 pub loop-end-init : goal.loop-end-init
 loop-end-init g c = record {
-  scans = record { low = omega arith; high = omega (arith, c.requires.range.in_order, c.requires.range.within); are = run-none c.args.keeps c.args.input.bytes.now c.args.from; least = omega arith };
+  scans =
+      record {
+        low = omega arith;
+        high = omega (arith, c.requires.range.in_order, c.requires.range.within);
+        are = run-none c.args.keeps c.args.input.bytes.now c.args.from;
+        least = omega arith;
+      };
   count = omega arith;
 }
 
@@ -21,7 +27,9 @@ loop-end-preserved-then-is_printed_ascii g c =
       scans = scans-run v.scans (record {
         low = omega (arith, ascii.scans.low);
         high = ascii.scans.high;
-        are = run-ascii _ _ _ _ (each-both IsPrinted _ _ _ _ (each-one IsPrinted bytes c.loop-end.end printed) ascii.scans.are);
+        are =
+            run-ascii _ _ _ _
+            (each-both IsPrinted _ _ _ _ (each-one IsPrinted bytes c.loop-end.end printed) ascii.scans.are);
         least = omega (arith, ascii.scans.least, c.at-byte.ensures.count);
       });
       count = omega (arith, v.count, ascii.count, c.at-byte.ensures.count);

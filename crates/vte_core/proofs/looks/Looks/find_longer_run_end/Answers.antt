@@ -9,8 +9,10 @@ returns-then-is_printed_pair-clause-run g c = λ _.
     let second = c.in-Some.ensures in
     let pair = c.if-is_printed_pair.ensures in
     let rest = c.find_run_end.ensures in
-    run-append g.P.CountedPerform.keeps bytes c.args.from (c.args.from + 2) c.find_run_end.result (omega arith) rest.scans.low
-    (run-two bytes c.args.from c.args.first c.in-Some.second (omega (arith, second.0)) c.requires.is second.1 c.requires.lead c.if-first-lt224.true
+    run-append g.P.CountedPerform.keeps bytes c.args.from (c.args.from + 2) c.find_run_end.result
+    (omega arith) rest.scans.low
+    (run-two bytes c.args.from c.args.first c.in-Some.second
+    (omega (arith, second.0)) c.requires.is second.1 c.requires.lead c.if-first-lt224.true
     (pair.0 refl).0 (pair.0 refl).1) rest.scans.are
 
 pub returns-in-Some-2-clause-run : goal.returns-in-Some-2-clause-run
@@ -19,6 +21,10 @@ returns-in-Some-2-clause-run g c = λ _.
     let second = c.in-Some.ensures in
     let third = c.in-Some-get.ensures in
     let rest = c.find_run_end-in-Some-2.ensures in
-    run-append g.P.CountedPerform.keeps bytes c.args.from (c.args.from + 3) c.find_run_end-in-Some-2.result (omega arith) rest.scans.low
-    (run-three bytes c.args.from c.args.first c.in-Some.second c.in-Some-get.third (omega (arith, third.0)) c.requires.is second.1 third.1 (omega (arith, c.if-first-lt224.false)) c.if-first-lt240.true
-    (sym c.may_begin_three.ensures ∙ c.if-may_begin_three.true) (sym c.is_continuation-then-first-lt240.ensures ∙ c.if-is_continuation-2.true)) rest.scans.are
+    run-append g.P.CountedPerform.keeps bytes c.args.from (c.args.from + 3) c.find_run_end-in-Some-2.result
+    (omega arith) rest.scans.low
+    (run-three bytes c.args.from c.args.first c.in-Some.second c.in-Some-get.third
+    (omega (arith, third.0)) c.requires.is second.1 third.1
+    (omega (arith, c.if-first-lt224.false)) c.if-first-lt240.true
+    (sym c.may_begin_three.ensures ∙ c.if-may_begin_three.true)
+    (sym c.is_continuation-then-first-lt240.ensures ∙ c.if-is_continuation-2.true)) rest.scans.are

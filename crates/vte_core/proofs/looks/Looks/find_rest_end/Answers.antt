@@ -10,5 +10,9 @@ returns-else-end-len-clause-scans g c = scans-run c.find_end_before-end.ensures.
 pub returns-then-end-len-clause-ended : goal.returns-then-end-len-clause-ended
 returns-then-end-len-clause-ended g c = elim c.if-end-to.branch [
   | then-end-to w ↦ c.find_end_before-end.ensures.ended (omega (arith, w.if-end-to.true))
-  | else-end-to w ↦ ends-all _ _ _ (let last : c.find_end_before-end.result ≡ w.len-else-end-to.result = eqb-true _ _ (sym w.value-is ∙ c.if-end-len.true) in omega (arith, last, w.len-else-end-to.ensures))
+  | else-end-to w ↦
+      ends-all _ _ _
+      (let last : c.find_end_before-end.result
+      ≡ w.len-else-end-to.result =
+      eqb-true _ _ (sym w.value-is ∙ c.if-end-len.true) in omega (arith, last, w.len-else-end-to.ensures))
 ]

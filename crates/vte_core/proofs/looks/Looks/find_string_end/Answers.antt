@@ -7,6 +7,8 @@ loop-block-preserved g c =
     let v = c.loop-block.invariant in
     record {
       far = omega (arith, v.far);
-      scans = scans-block IsIgnored _ 16 v.scans c.in-Some.ensures (omega arith) (c.is_ignored_block.ensures c.if-not-is_ignored_block.false);
+      scans =
+          scans-block IsIgnored _ 16 v.scans c.in-Some.ensures (omega arith)
+          (c.is_ignored_block.ensures c.if-not-is_ignored_block.false);
       count = omega (arith, v.count, c.in-Some.ensures.2);
     }

@@ -6,18 +6,28 @@ use Rattle.vte_core.proofs.looks.Looks.last_end.Goals as goal
 
 pub returns-then-state-eq-BETWEEN : goal.returns-then-state-eq-BETWEEN
 returns-then-state-eq-BETWEEN g c = record {
-  last = last_end-here (drop c.args.from c.args.input.bytes.now) c.args.at c.requires.read.within (is_between _ (sym c.requires.read.is ∙ c.if-state-eq-BETWEEN.true));
+  last =
+      last_end-here (drop c.args.from c.args.input.bytes.now) c.args.at c.requires.read.within
+      (is_between _ (sym c.requires.read.is ∙ c.if-state-eq-BETWEEN.true));
   count = omega arith;
 }
 
 -- a first byte is not the last one of its character
 not_yet : (bytes : List ℕ) (from at state end b : ℕ) → HasRead (drop from bytes) at state → state ≢ 0
-    → (s : Standing (drop from bytes) at (state_after Between (take at (drop from bytes)))) → s.end ≤ end → b ≡ slice_index bytes (from + end) → b < 0xc0 → s.end < end
+    → (s : Standing (drop from bytes) at (state_after Between (take at (drop from bytes)))) → s.end ≤ end
+    → b ≡ slice_index bytes (from + end) → b < 0xc0 → s.end < end
 not_yet bytes from at state end b read inside s low is short = elim (cases_lt s.end end) [
   | inl past ↦ past
   | inr back ↦
       let same : s.end ≡ end = omega (arith, back, low) in
-      absurd (omega (arith, short, ap (slice_index (drop from bytes)) same, byte_from bytes from end b is, (unended (drop from bytes) at state read inside s).first))
+      absurd
+      (omega (
+        arith,
+        short,
+        ap (slice_index (drop from bytes)) same,
+        byte_from bytes from end b is,
+        (unended (drop from bytes) at state read inside s).first,
+      ))
 ]
 
 pub overflow_sub-end-in-loop-end : goal.overflow_sub-end-in-loop-end
@@ -26,7 +36,8 @@ overflow_sub-end-in-loop-end g c =
     let s = standing (drop c.args.from bytes) c.args.at c.requires.read.within c.requires.read.going in
     omega (
       arith,
-      not_yet bytes c.args.from c.args.at c.args.state c.loop-end.end c.at.result c.requires.read c.if-state-eq-BETWEEN.false s
+      not_yet bytes c.args.from c.args.at c.args.state c.loop-end.end c.at.result c.requires.read
+          c.if-state-eq-BETWEEN.false s
           (c.loop-end.invariant.from s) c.at.ensures.value c.loop-end-test.true,
     )
 
@@ -37,7 +48,8 @@ loop-end-preserved g c =
       before = omega (arith, c.loop-end.invariant.before);
       from = λ s. omega (
         arith,
-        not_yet c.args.input.bytes.now c.args.from c.args.at c.args.state c.loop-end.end c.at.result c.requires.read c.if-state-eq-BETWEEN.false s
+        not_yet c.args.input.bytes.now c.args.from c.args.at c.args.state c.loop-end.end c.at.result c.requires.read
+            c.if-state-eq-BETWEEN.false s
             (c.loop-end.invariant.from s) c.at.ensures.value c.loop-end-test.true,
       );
       count = omega (arith, some, c.loop-end.invariant.count, c.at.ensures.count);
@@ -52,7 +64,10 @@ returns g c =
     let text = drop c.args.from bytes in
     let s = standing text c.args.at c.requires.read.within c.requires.read.going in
     record {
-      last = last_end-first text c.args.at c.args.state c.loop-end.end c.requires.read c.if-state-eq-BETWEEN.false s (c.loop-end.invariant.from s) c.loop-end.invariant.before
-          (omega (arith, c.loop-end-test.false, byte_from bytes c.args.from c.loop-end.end c.at.result c.at.ensures.value));
+      last =
+          last_end-first text c.args.at c.args.state c.loop-end.end c.requires.read c.if-state-eq-BETWEEN.false s
+          (c.loop-end.invariant.from s) c.loop-end.invariant.before
+          (omega
+          (arith, c.loop-end-test.false, byte_from bytes c.args.from c.loop-end.end c.at.result c.at.ensures.value));
       count = omega (arith, c.loop-end.invariant.count, c.at.ensures.count);
     }

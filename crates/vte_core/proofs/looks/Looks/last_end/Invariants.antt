@@ -6,7 +6,8 @@ use Rattle.vte_core.proofs.looks.Looks.last_end.Given as goal
 abbrev pub invariant-loop-end : goal.invariant-loop-end
 invariant-loop-end g l = record {
   before : l.end < l.at;
-  from : (s : Standing (drop l.from l.input.bytes.now) l.at (state_after Between (take l.at (drop l.from l.input.bytes.now)))) → s.end ≤ l.end;
+  from : (s : Standing (drop l.from l.input.bytes.now) l.at
+      (state_after Between (take l.at (drop l.from l.input.bytes.now)))) → s.end ≤ l.end;
   count : looked l.self + l.end + 1 ≡ looked l.initial.self + l.at;
 }
 

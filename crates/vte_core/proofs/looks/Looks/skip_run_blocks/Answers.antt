@@ -12,14 +12,20 @@ loop-block-preserved g c =
     let v = c.loop-block.invariant in
     let block = c.in-Some.ensures in
     let here = block.1 ∙ ap (take 16) (sym (drop-drop c.loop-block.at c.args.from bytes)) in
-    let plain : c.args.keeps ≡ false → Each (λ byte. 0x20 ≤ byte) c.in-Some.block 0 16 = λ no. elim c.else-not-keeps.branch [
+    let plain : c.args.keeps ≡ false → Each (λ byte. 0x20 ≤ byte) c.in-Some.block 0 16 =
+    λ no. elim c.else-not-keeps.branch [
       | else-not-keeps-via-then-not-keeps+else-has_control w ↦ w.has_control.ensures w.if-has_control.false
       | else-not-keeps-via-else-not-keeps w ↦ absurd (false≢true (sym no ∙ w.if-not-keeps.false))
     ] in
     record {
-      read = has_read-more text c.in-Some.block c.loop-block.at 16 c.loop-block.state c.state_after_block-next.result v.read
-          (omega (arith, block.0, length-drop c.args.from bytes)) here c.state_after_block-next.ensures c.if-next-eq-FAILED.false;
-      kept = λ no. each-both (λ byte. 0x20 ≤ byte) text 0 c.loop-block.at _ (v.kept no) (each-block (λ byte. 0x20 ≤ byte) text c.in-Some.block c.loop-block.at 16 16 here (omega arith) (plain no));
+      read =
+          has_read-more text c.in-Some.block c.loop-block.at 16 c.loop-block.state
+          c.state_after_block-next.result v.read
+          (omega (arith, block.0, length-drop c.args.from bytes)) here c.state_after_block-next.ensures
+          c.if-next-eq-FAILED.false;
+      kept =
+          λ no. each-both (λ byte. 0x20 ≤ byte) text 0 c.loop-block.at _ (v.kept no)
+          (each-block (λ byte. 0x20 ≤ byte) text c.in-Some.block c.loop-block.at 16 16 here (omega arith) (plain no));
       whole = λ few. absurd (omega (arith, few));
       count = omega (arith, v.count, block.2);
     }
@@ -36,7 +42,9 @@ returns g c =
       scans = record {
         low = omega arith;
         high = omega (arith, c.requires, last.before, v.read.within, length-drop c.args.from c.args.input.bytes.now);
-        are = subst (λ n. AreRun c.args.keeps (take n text)) (let e : end ≡ c.args.from + end - c.args.from = omega arith in e)
+        are =
+            subst (λ n. AreRun c.args.keeps (take n text))
+            (let e : end ≡ c.args.from + end - c.args.from = omega arith in e)
             (run-kept c.args.keeps text c.loop-block.at end v.kept last.before last.run);
         least = omega (arith, v.count, least, c.last_end.ensures.count, last.before);
       };

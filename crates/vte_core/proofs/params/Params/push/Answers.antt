@@ -3,25 +3,33 @@ use Rattle.vte_core.proofs.fields.Groups.{count_of-cut_by_lengths, pushed}
 use Rattle.vte_core.proofs.params.Params.push.Goals as goal
 
 pub push-requires : goal.push-requires
-push-requires c = (lit< tt, omega (arith, count_of-cut_by_lengths _ _ c.self.invariant.lengths_fit, ap count_of c.self.view_is))
+push-requires c =
+    (lit< tt, omega (arith, count_of-cut_by_lengths _ _ c.self.invariant.lengths_fit, ap count_of c.self.view_is))
 
 pub overflow_add-unwrap_or : goal.overflow_add-unwrap_or
 overflow_add-unwrap_or c =
     let all = pushed _ _ _ _ _ c.args.value c.self.invariant.lengths_fit c.take_joined-length.ensures in
-    let small : c.unwrap_or.result + 1 < 256 = rw c.unwrap_or.ensures (omega (arith, all.room, count_of-cut_by_lengths _ _ c.self.invariant.lengths_fit, ap count_of c.self.view_is)) in
+    let small : c.unwrap_or.result + 1 < 256 =
+    rw c.unwrap_or.ensures
+    (omega (arith, all.room, count_of-cut_by_lengths _ _ c.self.invariant.lengths_fit, ap count_of c.self.view_is)) in
     record { fits = small }
 
 pub push-requires-2 : goal.push-requires-2
 push-requires-2 c =
-    let all = pushed _ _ _ _ _ c.args.value c.self.invariant.lengths_fit c.take_joined-length.ensures in
-    (lit< tt, omega (arith, all.room, count_of-cut_by_lengths _ _ c.self.invariant.lengths_fit, ap count_of c.self.view_is))
+    let all = pushed _ _ _ _ _ c.args.value c.self.invariant.lengths_fit c.take_joined-length.ensures in (
+      lit< tt,
+      omega
+          (arith, all.room, count_of-cut_by_lengths _ _ c.self.invariant.lengths_fit, ap count_of c.self.view_is),
+    )
 
 pub invariant_of-self : goal.invariant_of-self
 invariant_of-self c =
     let all = pushed _ _ _ _ _ c.args.value c.self.invariant.lengths_fit c.take_joined-length.ensures in
     rw (c.push-2.ensures.items, c.push.ensures.items, c.unwrap_or.ensures) (record {
       lengths_fit = all.lengths_fit;
-      small = All-push (λ number. number ≤ greatest_number) _ c.args.value c.self.invariant.small (omega (arith, c.ranges.value.fits));
+      small =
+          All-push (λ number. number ≤ greatest_number) _ c.args.value c.self.invariant.small
+          (omega (arith, c.ranges.value.fits));
     })
 
 pub returns : goal.returns

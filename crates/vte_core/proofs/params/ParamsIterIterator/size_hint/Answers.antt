@@ -4,12 +4,16 @@ use Rattle.vte_core.proofs.params.ParamsIterIterator.size_hint.Goals as goal
 
 pub returns-clause-exact : goal.returns-clause-exact
 returns-clause-exact c =
-    ap (λ (n : ℕ). (n, Some n)) (sym (length-cut_by_lengths c.self.inside.lengths.now c.self.inside.numbers.now) ∙ ap length c.self.view_is)
+    ap (λ (n : ℕ). (n, Some n))
+    (sym (length-cut_by_lengths c.self.inside.lengths.now c.self.inside.numbers.now) ∙ ap length c.self.view_is)
 
 pub returns-clause-lower : goal.returns-clause-lower
 returns-clause-lower c _ =
     omega (arith, ap length c.self.view_is, length-cut_by_lengths c.self.inside.lengths.now c.self.inside.numbers.now)
 
 pub returns-clause-upper : goal.returns-clause-upper
-returns-clause-upper c =
-    (tt, omega (arith, ap length c.self.view_is, length-cut_by_lengths c.self.inside.lengths.now c.self.inside.numbers.now))
+returns-clause-upper c = (
+  tt,
+  omega
+      (arith, ap length c.self.view_is, length-cut_by_lengths c.self.inside.lengths.now c.self.inside.numbers.now),
+)

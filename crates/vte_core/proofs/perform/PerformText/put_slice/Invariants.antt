@@ -2,5 +2,6 @@ use Rattle.vte_core.proofs.Common.{◌≡◌, drop, map, Put, after}
 use Rattle.vte_core.proofs.perform.PerformText.put_slice.Given as goal
 
 abbrev pub invariant-loop-byte : goal.invariant-loop-byte
-invariant-loop-byte g l = after g.Self.Perform.step (g.Self.Perform.value_of l.self) (map Put (drop l.byte-index l.bytes))
+invariant-loop-byte g l =
+    after g.Self.Perform.step (g.Self.Perform.value_of l.self) (map Put (drop l.byte-index l.bytes))
     ≡ after g.Self.Perform.step (g.Self.Perform.value_of l.initial.self) (map Put l.bytes)

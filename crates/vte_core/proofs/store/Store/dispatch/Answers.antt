@@ -8,10 +8,12 @@ returns g c =
     let loop = c.loop-index in
     let bytes = c.bytes-bytes.result.now in
     let ends = c.as_slice-ends.result.now in
-    rw (← c.self.view_is, ← c.bytes-bytes.ensures, ← c.as_slice-ends.ensures.value) (elim c.if-count-lt-MOST_PIECES.branch [
+    rw (← c.self.view_is, ← c.bytes-bytes.ensures, ← c.as_slice-ends.ensures.value)
+    (elim c.if-count-lt-MOST_PIECES.branch [
       | then-count-lt-MOST_PIECES w ↦
           let last = contents_last loop.pieces c.if-count-lt-MOST_PIECES.pieces _ bytes ends loop.start loop.index
-          (omega arith) (omega arith) loop.invariant.all w.pieces-is (take_rest bytes loop.start) loop.invariant.pieces in
+          (omega arith) (omega arith) loop.invariant.all w.pieces-is
+          (take_rest bytes loop.start) loop.invariant.pieces in
           rw (← last) (rw w.count-is at c.osc_dispatch-2.ensures)
       | else-count-lt-MOST_PIECES w ↦
           let all = contents_all loop.pieces bytes ends loop.start loop.index

@@ -9,14 +9,16 @@ returns-then-not-is_full-2-clause-keeps g c = λ items keeps.
     let before = subst (λ held. Keeps g.B.Buffer.limit held items) (sym c.self.view_is) keeps in
     let some = eqb-false _ _ (sym c.is_full.ensures.value ∙ c.if-not-is_full.true) in
     let room = not-false _ (sym c.is_full-then-not-is_full.ensures ∙ c.if-not-is_full-2.true) in
-    keeps-end _ _ _ items (omega (arith, c.is_full.ensures.fits, some)) room refl (rw c.bytes.ensures at c.push.ensures.items) refl before
+    keeps-end _ _ _ items (omega (arith, c.is_full.ensures.fits, some)) room refl
+    (rw c.bytes.ensures at c.push.ensures.items) refl before
 
 pub returns-else-not-is_full-clause-keeps : goal.returns-else-not-is_full-clause-keeps
 returns-else-not-is_full-clause-keeps g c = λ items keeps.
     let before = subst (λ held. Keeps g.B.Buffer.limit held items) (sym c.self.view_is) keeps in
     subst (λ held. Keeps g.B.Buffer.limit held (items ++ 59 ∷ [])) c.self.view_is (elim c.else-not-is_full.branch [
       | else-not-is_full-via-then-not-is_full+else-not-is_full-2 w ↦
-          keeps-done _ _ items (behind_full _ _ _ (not-true _ (sym w.is_full-then-not-is_full.ensures ∙ w.if-not-is_full-2.false))) before
+          keeps-done _ _ items
+          (behind_full _ _ _ (not-true _ (sym w.is_full-then-not-is_full.ensures ∙ w.if-not-is_full-2.false))) before
       | else-not-is_full-via-else-not-is_full w ↦
           let all = eqb-true _ _ (sym c.is_full.ensures.value ∙ w.if-not-is_full.false) in
           keeps-done _ _ items (done-complete _ _ items (omega (arith, all)) before) before

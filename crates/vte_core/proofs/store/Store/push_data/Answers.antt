@@ -8,11 +8,14 @@ returns-clause-keeps g c = λ items keeps.
     let a = c.args in
     let run = take (a.to - a.from) (drop a.from a.input.bytes.now) in
     let before = subst (λ held. Keeps g.B.Buffer.limit held items) (sym c.self.view_is) keeps in
-    let size : length run ≡ a.to - a.from = omega (arith, length-take {A = ℕ}, length-drop {A = ℕ}, c.requires.range.within, c.requires.range.in_order) in
+    let size : length run ≡ a.to - a.from =
+    omega (arith, length-take {A = ℕ}, length-drop {A = ℕ}, c.requires.range.within, c.requires.range.in_order) in
     elim c.if-not-is_full.branch [
       | then-not-is_full w ↦
           let some = eqb-false _ _ (sym c.is_full.ensures.value ∙ w.if-not-is_full.true) in
-          rw w.self-inside-is (keeps-run _ _ _ items run (omega (arith, c.is_full.ensures.fits, some)) c.requires.data w.append.ensures.appended refl
+          rw w.self-inside-is
+          (keeps-run _ _ _ items run
+          (omega (arith, c.is_full.ensures.fits, some)) c.requires.data w.append.ensures.appended refl
           (rw (c.bytes.ensures, c.bytes-before.ensures, w.self-inside-is, size) refl) before)
       | else-not-is_full w ↦
           let all = eqb-true _ _ (sym c.is_full.ensures.value ∙ w.if-not-is_full.false) in

@@ -2,27 +2,39 @@ use Rattle.vte_core.proofs.bytes.CarriedLemmas.{fourth_broken, fourth_whole, sec
 use Rattle.vte_core.proofs.utf8.Unfinished.carried_on.Goals as goal
 
 pub returns-then-first-lt224 : goal.returns-then-first-lt224
-returns-then-first-lt224 c = rw c.in-One.is (λ more. second_whole c.in-One.first c.args.byte _ c.whole.result more (cc) c.if-first-lt224.true c.number_of_two.ensures c.whole.ensures)
+returns-then-first-lt224 c =
+    rw c.in-One.is
+    (λ more. second_whole c.in-One.first c.args.byte _ c.whole.result more
+    (cc) c.if-first-lt224.true c.number_of_two.ensures c.whole.ensures)
 
 pub returns-else-first-lt224 : goal.returns-else-first-lt224
-returns-else-first-lt224 c = rw c.in-One.is (λ more. second_open c.in-One.first c.args.byte more (cc) c.if-first-lt224.false)
+returns-else-first-lt224 c =
+    rw c.in-One.is (λ more. second_open c.in-One.first c.args.byte more (cc) c.if-first-lt224.false)
 
 pub returns-in_default : goal.returns-in_default
 returns-in_default c = rw c.in-One.is (λ more. second_broken c.in-One.first c.args.byte more (cc))
 
 pub returns-then-first-lt240 : goal.returns-then-first-lt240
-returns-then-first-lt240 c = rw c.in-Two.is (λ more. third_whole c.in-Two.first c.in-Two.second c.args.byte _ c.whole-then-first-lt240.result more (cc) c.if-first-lt240.true
+returns-then-first-lt240 c =
+    rw c.in-Two.is
+    (λ more. third_whole c.in-Two.first c.in-Two.second c.args.byte _ c.whole-then-first-lt240.result more
+    (cc) c.if-first-lt240.true
     c.number_of_three.ensures c.whole-then-first-lt240.ensures)
 
 pub returns-else-first-lt240 : goal.returns-else-first-lt240
-returns-else-first-lt240 c = rw c.in-Two.is (λ more. third_open c.in-Two.first c.in-Two.second c.args.byte more (cc) c.if-first-lt240.false)
+returns-else-first-lt240 c =
+    rw c.in-Two.is (λ more. third_open c.in-Two.first c.in-Two.second c.args.byte more (cc) c.if-first-lt240.false)
 
 pub returns-in_default-2 : goal.returns-in_default-2
 returns-in_default-2 c = rw c.in-Two.is (λ more. third_broken c.in-Two.first c.in-Two.second c.args.byte more (cc))
 
 pub returns-in-Three : goal.returns-in-Three
-returns-in-Three c = rw c.in-Three.is (λ more. fourth_whole c.in-Three.first c.in-Three.second c.in-Three.third c.args.byte _ c.whole-in-Three.result more (cc) c.number_of_four.ensures
+returns-in-Three c =
+    rw c.in-Three.is
+    (λ more. fourth_whole c.in-Three.first c.in-Three.second c.in-Three.third c.args.byte _ c.whole-in-Three.result more
+    (cc) c.number_of_four.ensures
     c.whole-in-Three.ensures)
 
 pub returns-in_default-3 : goal.returns-in_default-3
-returns-in_default-3 c = rw c.in-Three.is (λ more. fourth_broken c.in-Three.first c.in-Three.second c.in-Three.third c.args.byte more (cc))
+returns-in_default-3 c =
+    rw c.in-Three.is (λ more. fourth_broken c.in-Three.first c.in-Three.second c.in-Three.third c.args.byte more (cc))

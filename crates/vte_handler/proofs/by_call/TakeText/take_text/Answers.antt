@@ -8,5 +8,10 @@ use Rattle.vte_handler.proofs.by_call.TakeText.take_text.Goals as goal
 
 pub returns : goal.returns
 returns g c =
-    let all = YieldsList-end (YieldsList-from_chars c.args.text.now c.utf8.text cc) c.loop-c.yielded _ c.loop-c.yielded_by _ _ c.in-None.is c.next.ensures.steps in
-    c.loop-c.invariant ∙ ap (λ cs. after g.Self.TakeCall.step (g.Self.TakeCall.value_of c.args.self.now) (map Input cs)) (sym (map-id c.loop-c.yielded) ∙ all.0)
+    let all =
+    YieldsList-end
+    (YieldsList-from_chars c.args.text.now c.utf8.text cc) c.loop-c.yielded _ c.loop-c.yielded_by _ _ c.in-None.is
+    c.next.ensures.steps in
+    c.loop-c.invariant
+    ∙ ap (λ cs. after g.Self.TakeCall.step (g.Self.TakeCall.value_of c.args.self.now) (map Input cs))
+    (sym (map-id c.loop-c.yielded) ∙ all.0)

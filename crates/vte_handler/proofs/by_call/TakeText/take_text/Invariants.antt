@@ -4,4 +4,6 @@ use Rattle.vte_handler.specs.Handler.{after}
 use Rattle.vte_handler.proofs.by_call.TakeText.take_text.Given as goal
 
 abbrev pub invariant-loop-c : goal.invariant-loop-c
-invariant-loop-c g l = g.Self.TakeCall.value_of l.self ≡ after g.Self.TakeCall.step (g.Self.TakeCall.value_of l.initial.self) (map Input l.yielded)
+invariant-loop-c g l =
+    g.Self.TakeCall.value_of l.self
+    ≡ after g.Self.TakeCall.step (g.Self.TakeCall.value_of l.initial.self) (map Input l.yielded)

@@ -4,4 +4,6 @@ use Rattle.vte_types.proofs.Words.{behind_is}
 use Rattle.vte_types.proofs.color.text.behind.Goals as goal
 
 pub returns : goal.returns
-returns c = behind_is c.args.word.now c.args.text.now _ (strip_prefix_is Decides-eqb c.args.text.now c.args.word.now _ c.strip_prefix.ensures.cases)
+returns c =
+    behind_is c.args.word.now c.args.text.now _
+    (strip_prefix_is Decides-eqb c.args.text.now c.args.word.now _ c.strip_prefix.ensures.cases)

@@ -9,15 +9,20 @@ use Rattle.vte_types.specs.Keyboard.{bits_of, modes_of_bits}
 use Rattle.vte_types.specs.declared.keyboard.KeyboardModes.{KeyboardModes}
 
 -- the answer by whether another bit is set
-by_others : (bits others flags : ℕ) (result : Option KeyboardModes) → others + flags ≡ bits → IfSome result (λ modes. bits_of modes ≡ bits)
-    → (flags ≡ bits → IsSome result) → (flags ≢ bits → IsNone result) → (t : Bool) → eqb others 0 ≡ t → result ≡ (if t then Some (modes_of_bits bits) else None)
-by_others bits others flags None sum value known unknown true e = let all : flags ≡ bits = grind (arith, nat_tests) in search (rules, known all)
+by_others : (bits others flags : ℕ) (result : Option KeyboardModes) → others + flags ≡ bits
+    → IfSome result (λ modes. bits_of modes ≡ bits)
+    → (flags ≡ bits → IsSome result) → (flags ≢ bits → IsNone result) → (t : Bool) → eqb others 0 ≡ t
+    → result ≡ (if t then Some (modes_of_bits bits) else None)
+by_others bits others flags None sum value known unknown true e =
+    let all : flags ≡ bits = grind (arith, nat_tests) in search (rules, known all)
 by_others bits others flags (Some modes) sum value known unknown true e = ap (λ bits. Some (modes_of_bits bits)) value
 by_others bits others flags None sum value known unknown false e = refl
-by_others bits others flags (Some modes) sum value known unknown false e = let not : flags ≢ bits = grind (arith, nat_tests) in search (rules, unknown not)
+by_others bits others flags (Some modes) sum value known unknown false e =
+    let not : flags ≢ bits = grind (arith, nat_tests) in search (rules, unknown not)
 
 pub returns : goal.returns
 unfolding bitflags_on_literals
 returns c =
-    by_others c.args.bits (bit_and c.args.bits 0xe0) (bit_and c.args.bits 0x1f) _ (parts c.args.bits (omega arith)) (c.from_bits.ensures.value tt)
+    by_others c.args.bits (bit_and c.args.bits 0xe0) (bit_and c.args.bits 0x1f) _ (parts c.args.bits (omega arith))
+    (c.from_bits.ensures.value tt)
     (c.from_bits.ensures.known tt).1 (c.from_bits.ensures.unknown tt) _ refl

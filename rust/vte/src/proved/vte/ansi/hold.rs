@@ -36,8 +36,8 @@ impl SyncState {
         &self.bytes.as_slice()[..self.released]
     }
 
-    /// Adds bytes. If an update ends among all bytes, releases those that no longer need to be held. Returns how many updates
-    /// begin among the added bytes, after the last one that ends.
+    /// Adds bytes. If an update ends among all bytes, releases those that no longer need to be
+    /// held. Returns how many updates begin among the added bytes, after the last one that ends.
     #[inline]
     pub(crate) fn add(&mut self, more: &[u8]) -> usize {
         self.forget_released();

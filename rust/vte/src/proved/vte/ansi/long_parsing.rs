@@ -1,5 +1,6 @@
 // Written by tools/erase from crates/vte/src/ansi/long_parsing.rt. Don't edit this file: edit that one, and run the tool.
-//! The parser of a processor without a limit. It takes memory before it reads, so that none is refused on the way.
+//! The parser of a processor without a limit. It takes memory before it reads, so that none is
+//! refused on the way.
 
 use crate::proved::vte::ansi::parsing::{EventParser, Grain, InRuns, Singly};
 use crate::proved::vte::ansi::performer::Performer;

@@ -7,11 +7,13 @@ use crate::proved::vte::ansi::turns::Turns;
 use crate::proved::vte_core::{LongParser, Refused};
 use crate::proved::vte_handler::{Handler, HandlerText, Timeout};
 
-/// A [`Processor`](crate::ansi::Processor) that keeps commands, titles and links whatever their length.
+/// A [`Processor`](crate::ansi::Processor) that keeps commands, titles and links whatever their
+/// length.
 ///
-/// A call takes memory before it parses each 65,536 bytes: for them and an open command, and for a text that is joined
-/// from these. Bytes that are held back take theirs whole. If memory is refused, the call stops there. Nothing is lost
-/// or done twice, and the rest can be passed in again:
+/// A call takes memory before it parses each 65,536 bytes: for them and an open command, and for a
+/// text that is joined from these. Bytes that are held back take theirs whole. If memory is
+/// refused, the call stops there. Nothing is lost or done twice, and the rest can be passed in
+/// again:
 ///
 /// ```
 /// # use vte::{Refused, ansi::{Timeout, lent::{Handler, LongProcessor}}};
@@ -30,7 +32,8 @@ pub struct LongProcessor<T: Timeout> {
 }
 
 impl<T: Timeout> LongProcessor<T> {
-    /// Creates a processor that has read nothing, and allocates the 2,097,152 bytes for updates that are held back.
+    /// Creates a processor that has read nothing, and allocates the 2,097,152 bytes for updates
+    /// that are held back.
     ///
     /// Returns the timeout if memory runs out.
     pub fn new(timeout: T) -> Result<Self, T> {
@@ -52,15 +55,15 @@ impl<T: Timeout> LongProcessor<T> {
         self.turns.hold.len()
     }
 
-    /// Takes memory for the bytes that are held back and for this many more, and returns whether it is there. Calls with no more bytes
-    /// than that are then never refused memory.
+    /// Takes memory for the bytes that are held back and for this many more, and returns whether it
+    /// is there. Calls with no more bytes than that are then never refused memory.
     #[must_use = "the memory may be refused"]
     pub fn reserve(&mut self, more: usize) -> bool {
         self.turns.reserve(more)
     }
 
-    /// Gives back the memory that an open operating system command doesn't need, unless bytes are held back. The 2,097,152 bytes for
-    /// updates stay.
+    /// Gives back the memory that an open operating system command doesn't need, unless bytes are
+    /// held back. The 2,097,152 bytes for updates stay.
     pub fn shrink(&mut self) {
         if self.turns.hold.len() == 0 {
             self.turns.parser.shrink();
@@ -68,8 +71,8 @@ impl<T: Timeout> LongProcessor<T> {
         }
     }
 
-    /// Stops an update: parses the bytes that are held back, tells the handler that the update has ended, and clears the
-    /// timeout. It needs no memory: what is held back has taken it.
+    /// Stops an update: parses the bytes that are held back, tells the handler that the update has
+    /// ended, and clears the timeout. It needs no memory: what is held back has taken it.
     pub fn stop_sync<H: Handler>(&mut self, handler: &mut H) {
         self.turns.stop::<H, Singly>(handler);
     }
@@ -79,10 +82,11 @@ impl<T: Timeout> LongProcessor<T> {
         self.turns.stop::<H, InRuns>(handler);
     }
 
-    /// Reads bytes, and parses them or holds them back: all of them, or as many as there is memory for.
+    /// Reads bytes, and parses them or holds them back: all of them, or as many as there is memory
+    /// for.
     ///
-    /// If the timeout is never pending and no memory is refused, all bytes are parsed: the handler of a new processor receives
-    /// the calls of the whole stream, however it is split.
+    /// If the timeout is never pending and no memory is refused, all bytes are parsed: the handler
+    /// of a new processor receives the calls of the whole stream, however it is split.
     pub fn advance<H: Handler>(&mut self, handler: &mut H, bytes: &[u8]) -> Result<(), Refused> {
         self.turns.read::<H, Singly>(handler, bytes)
     }

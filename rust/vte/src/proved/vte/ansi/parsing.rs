@@ -1,6 +1,6 @@
 // Written by tools/erase from crates/vte/src/ansi/parsing.rt. Don't edit this file: edit that one, and run the tool.
-//! The parser, together with what a processor lends it. The references are separate parameters, not fields of one struct, so
-//! that the performer can borrow each.
+//! The parser, together with what a processor lends it. The references are separate parameters, not
+//! fields of one struct, so that the performer can borrow each.
 
 #[cfg(not(feature = "std"))]
 use crate::adapter::array_string::ArrayString;
@@ -25,7 +25,8 @@ pub(crate) type ProcessorText = ArrayString<TEXT_ROOM>;
 
 /// A parser whose events a processor interprets.
 pub(crate) trait EventParser {
-    /// Takes memory for held bytes and for more, and for the texts that are joined from them. Returns whether it is there.
+    /// Takes memory for held bytes and for more, and for the texts that are joined from them.
+    /// Returns whether it is there.
     fn reserve<J: TextBuffer>(&mut self, text: &mut J, held: usize, more: usize) -> bool;
 }
 
@@ -123,7 +124,8 @@ pub(crate) fn parse_all<
     G::advance(parser, &mut performer, bytes);
 }
 
-/// Parses the bytes up to the one that begins an update. Returns how many it parsed, and whether an update begins.
+/// Parses the bytes up to the one that begins an update. Returns how many it parsed, and whether an
+/// update begins.
 pub(crate) fn parse_until_begin<
     H: Handler,
     J: TextBuffer,

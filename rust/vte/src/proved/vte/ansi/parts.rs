@@ -1,12 +1,14 @@
 // Written by tools/erase from crates/vte/src/ansi/parts.rt. Don't edit this file: edit that one, and run the tool.
 //! Prefixes of texts, and parts between separators.
 
-/// Returns what follows a word at the start of the text, or `None` if the text doesn't start with it.
+/// Returns what follows a word at the start of the text, or `None` if the text doesn't start with
+/// it.
 pub(crate) fn behind<'a>(text: &'a [u8], word: &[u8]) -> Option<&'a [u8]> {
     text.strip_prefix(word)
 }
 
-/// Splits a text at its first separator: returns the part before it, and what follows it if there is one.
+/// Splits a text at its first separator: returns the part before it, and what follows it if there
+/// is one.
 pub(crate) fn cut(text: &[u8], separator: u8) -> (&[u8], Option<&[u8]>) {
     match text.iter().position(|byte| *byte == separator) {
         Some(place) => (&text[..place], Some(&text[place + 1..])),

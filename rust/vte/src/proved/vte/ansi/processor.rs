@@ -5,17 +5,19 @@ use crate::proved::vte::ansi::parsing::{InRuns, ProcessorParser, ProcessorText, 
 use crate::proved::vte::ansi::turns::Turns;
 use crate::proved::vte_handler::{Handler, HandlerText, Timeout};
 
-/// Parses the bytes that programs send to a terminal, and calls a [`Handler`] for what they ask of it.
+/// Parses the bytes that programs send to a terminal, and calls a [`Handler`] for what they ask of
+/// it.
 ///
-/// The bytes of a synchronized update are held back, so that the handler receives the update in one piece when it ends. The
-/// [`Timeout`] decides how long, and [`stop_sync`](Processor::stop_sync) stops an update that has expired.
+/// The bytes of a synchronized update are held back, so that the handler receives the update in one
+/// piece when it ends. The [`Timeout`] decides how long, and [`stop_sync`](Processor::stop_sync)
+/// stops an update that has expired.
 pub struct Processor<T: Timeout> {
     turns: Turns<ProcessorParser, ProcessorText, T>,
 }
 
 impl<T: Timeout> Processor<T> {
-    /// Creates a processor that has read nothing, and allocates the 2,097,152 bytes for updates that are held back. No later
-    /// call allocates memory.
+    /// Creates a processor that has read nothing, and allocates the 2,097,152 bytes for updates
+    /// that are held back. No later call allocates memory.
     ///
     /// Returns the timeout if memory runs out.
     pub fn new(timeout: T) -> Result<Self, T> {
@@ -33,8 +35,8 @@ impl<T: Timeout> Processor<T> {
         self.turns.hold.len()
     }
 
-    /// Stops an update: parses the bytes that are held back, tells the handler that the update has ended, and clears the
-    /// timeout.
+    /// Stops an update: parses the bytes that are held back, tells the handler that the update has
+    /// ended, and clears the timeout.
     pub fn stop_sync<H: Handler>(&mut self, handler: &mut H) {
         self.turns.stop::<H, Singly>(handler);
     }
@@ -46,8 +48,8 @@ impl<T: Timeout> Processor<T> {
 
     /// Reads bytes, and parses them or holds them back.
     ///
-    /// If the timeout is never pending, all bytes are parsed: the handler of a new processor receives the calls of the whole
-    /// stream, however it is split.
+    /// If the timeout is never pending, all bytes are parsed: the handler of a new processor
+    /// receives the calls of the whole stream, however it is split.
     pub fn advance<H: Handler>(&mut self, handler: &mut H, bytes: &[u8]) {
         // The memory is there, so all bytes are read.
         let _ = self.turns.read::<H, Singly>(handler, bytes);

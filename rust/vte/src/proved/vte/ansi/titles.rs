@@ -24,7 +24,8 @@ pub(crate) fn parse_number(digits: &[u8]) -> Option<u8> {
     Some(number)
 }
 
-/// Joins pieces with `;` between them. One that isn't UTF-8 counts as empty if all are kept, and is left out otherwise.
+/// Joins pieces with `;` between them. One that isn't UTF-8 counts as empty if all are kept, and is
+/// left out otherwise.
 pub(crate) fn join_texts<J: TextBuffer>(text: &mut J, pieces: &[&[u8]], keeps_all: bool) {
     text.clear();
     let mut is_first = true;

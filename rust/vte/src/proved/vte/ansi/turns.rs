@@ -13,7 +13,8 @@ use core::time::Duration;
 /// For how many bytes an open turn takes memory at once.
 const SLICE: usize = 65_536;
 
-/// What takes the turns of a processor: a parser, the bytes that are held back, and what is kept between events.
+/// What takes the turns of a processor: a parser, the bytes that are held back, and what is kept
+/// between events.
 pub(crate) struct Turns<B, J, T> {
     pub(crate) parser: B,
     pub(crate) hold: SyncState,
@@ -21,7 +22,8 @@ pub(crate) struct Turns<B, J, T> {
 }
 
 impl<B: EventParser, J: TextBuffer, T: Timeout> Turns<B, J, T> {
-    /// Creates turns of a parser that has read nothing, with the memory for a hold. Returns the timeout if memory runs out.
+    /// Creates turns of a parser that has read nothing, with the memory for a hold. Returns the
+    /// timeout if memory runs out.
     pub(crate) fn new(parser: B, text: J, timeout: T) -> Result<Self, T> {
         match SyncState::new() {
             Ok(hold) => Ok(Turns {
@@ -37,8 +39,8 @@ impl<B: EventParser, J: TextBuffer, T: Timeout> Turns<B, J, T> {
         }
     }
 
-    /// Reads bytes, and parses them or holds them back: all of them, or as many as there is memory for. The grain decides how
-    /// the handler receives text.
+    /// Reads bytes, and parses them or holds them back: all of them, or as many as there is memory
+    /// for. The grain decides how the handler receives text.
     #[inline]
     pub(crate) fn read<H: Handler, G: Grain<H, T, B>>(
         &mut self,
@@ -69,7 +71,8 @@ impl<B: EventParser, J: TextBuffer, T: Timeout> Turns<B, J, T> {
         self.end_update::<H, G>(handler);
     }
 
-    /// Parses the released bytes, after which nothing is held, and tells the handler that the update has ended.
+    /// Parses the released bytes, after which nothing is held, and tells the handler that the
+    /// update has ended.
     fn end_update<H: Handler, G: Grain<H, T, B>>(&mut self, handler: &mut H) {
         self.parse_released::<H, G>(handler);
         handler.unset_private_mode(PrivateMode::Named(NamedPrivateMode::SyncUpdate));
@@ -85,8 +88,9 @@ impl<B: EventParser, J: TextBuffer, T: Timeout> Turns<B, J, T> {
         parse_all::<H, J, T, B, G>(&mut self.parser, &mut self.state, handler, released);
     }
 
-    /// Takes one turn, and returns how many bytes it read, or how many until memory was refused. It asks the timeout
-    /// once: while an update is pending, the bytes are held, or the update is stopped if there is no room for them.
+    /// Takes one turn, and returns how many bytes it read, or how many until memory was refused. It
+    /// asks the timeout once: while an update is pending, the bytes are held, or the update is
+    /// stopped if there is no room for them.
     #[inline]
     fn turn<H: Handler, G: Grain<H, T, B>>(
         &mut self,
@@ -113,7 +117,8 @@ impl<B: EventParser, J: TextBuffer, T: Timeout> Turns<B, J, T> {
         count <= MOST_HELD && self.hold.len() <= MOST_HELD - count
     }
 
-    /// Parses bytes up to the one that begins an update, a slice at a time, and returns how many. Memory is taken before each slice.
+    /// Parses bytes up to the one that begins an update, a slice at a time, and returns how many.
+    /// Memory is taken before each slice.
     fn open<H: Handler, G: Grain<H, T, B>>(
         &mut self,
         handler: &mut H,

@@ -8,9 +8,11 @@ use crate::proved::vte_core::head::HeadPart;
 use crate::proved::vte_core::parser::{Machine, State, Unfinished};
 
 impl<B: Buffer> Machine<B> {
-    /// Goes on with a control sequence whose head has come so far: by digits, by separators too if there may be `several` numbers, and
-    /// by a final byte right after them. After `ESC [` most sequences have at most one number: for them this calls nothing before the
-    /// dispatch, so it saves no registers. Where calls have one byte each, most bytes of long sequences come this way.
+    /// Goes on with a control sequence whose head has come so far: by digits, by separators too if
+    /// there may be `several` numbers, and by a final byte right after them. After `ESC [` most
+    /// sequences have at most one number: for them this calls nothing before the dispatch, so it
+    /// saves no registers. Where calls have one byte each, most bytes of long sequences come this
+    /// way.
     #[inline(always)]
     pub(crate) fn continue_control_sequence<P: PerformAs<G>, G: Grain>(
         &mut self,
@@ -62,7 +64,8 @@ impl<B: Buffer> Machine<B> {
         head.position
     }
 
-    /// Ends a control sequence at its final byte: dispatches it, unless its head is malformed. Returns the next place.
+    /// Ends a control sequence at its final byte: dispatches it, unless its head is malformed.
+    /// Returns the next place.
     #[inline(always)]
     fn end_control_sequence<P: PerformAs<G>, G: Grain>(
         &mut self,
@@ -79,7 +82,8 @@ impl<B: Buffer> Machine<B> {
         self.dispatch_control_sequence(performer, ignore, byte, position)
     }
 
-    /// Dispatches a control sequence at its final byte, and returns the next place, so that callers need not keep it.
+    /// Dispatches a control sequence at its final byte, and returns the next place, so that callers
+    /// need not keep it.
     #[inline(never)]
     fn dispatch_control_sequence<P: PerformAs<G>, G: Grain>(
         &mut self,

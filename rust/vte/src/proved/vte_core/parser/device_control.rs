@@ -12,7 +12,8 @@ use crate::proved::vte_core::scan::{find_put_end, tell_data};
 const STRING_TERMINATOR: u8 = 0x9c;
 
 impl<B: Buffer> Machine<B> {
-    /// Reads the head of a device control string, which has come so far, and its final byte. Controls in it are dropped.
+    /// Reads the head of a device control string, which has come so far, and its final byte.
+    /// Controls in it are dropped.
     pub(crate) fn read_device_control<P: PerformAs<G>, G: Grain>(
         &mut self,
         performer: &mut P,
@@ -50,8 +51,8 @@ impl<B: Buffer> Machine<B> {
         self.state = State::DeviceData;
     }
 
-    /// Reads the data of a device control string, and the byte that ends them; for a performer that takes slices, and that nobody asks,
-    /// data up to a byte that isn't put, or that byte.
+    /// Reads the data of a device control string, and the byte that ends them; for a performer that
+    /// takes slices, and that nobody asks, data up to a byte that isn't put, or that byte.
     pub(crate) fn read_device_data<P: PerformAs<G>, G: Grain, const ASKS: bool>(
         &mut self,
         performer: &mut P,

@@ -6,7 +6,8 @@ use crate::proved::vte_core::grain::{Grain, PerformAs};
 use crate::proved::vte_core::parser::{Machine, Refused, State};
 
 impl<B: Buffer> Machine<B> {
-    /// Reads the bytes of a call, as many as there is memory for, and returns how many: all of them, or up to a stop if `ASKS`.
+    /// Reads the bytes of a call, as many as there is memory for, and returns how many: all of
+    /// them, or up to a stop if `ASKS`.
     #[inline(never)]
     pub(crate) fn drive<P: PerformAs<G>, G: Grain, const ASKS: bool>(
         &mut self,
@@ -40,7 +41,8 @@ impl<B: Buffer> Machine<B> {
         }
     }
 
-    /// Reads at least one byte, before which the performer was asked, or none if memory is refused for it.
+    /// Reads at least one byte, before which the performer was asked, or none if memory is refused
+    /// for it.
     #[inline]
     pub(crate) fn read_run<P: PerformAs<G>, G: Grain, const ASKS: bool>(
         &mut self,

@@ -11,7 +11,8 @@ use crate::proved::vte_core::head::HeadPart;
 use crate::proved::vte_core::parser::{Machine, State, Unfinished};
 
 impl<B: Buffer> Machine<B> {
-    /// Begins an escape sequence at an ESC in a text, which was looked at, and reads the bytes after it.
+    /// Begins an escape sequence at an ESC in a text, which was looked at, and reads the bytes
+    /// after it.
     #[inline(never)]
     pub(crate) fn read_sequence<P: PerformAs<G>, G: Grain>(
         &mut self,
@@ -36,7 +37,8 @@ impl<B: Buffer> Machine<B> {
         self.read_escape(performer, input, next)
     }
 
-    /// Reads bytes after ESC, up to the one that says what begins; after `[` the control sequence too.
+    /// Reads bytes after ESC, up to the one that says what begins; after `[` the control sequence
+    /// too.
     #[inline(never)]
     pub(crate) fn read_escape<P: PerformAs<G>, G: Grain>(
         &mut self,
@@ -79,7 +81,8 @@ impl<B: Buffer> Machine<B> {
         // DEL and 80..FF are dropped.
     }
 
-    /// Begins the string that a byte 40..7E other than `[` begins after ESC, or dispatches an escape sequence that ends with it.
+    /// Begins the string that a byte 40..7E other than `[` begins after ESC, or dispatches an
+    /// escape sequence that ends with it.
     #[inline(never)]
     fn begin_body<P: PerformAs<G>, G: Grain>(&mut self, performer: &mut P, byte: u8) {
         if byte == b'P' {

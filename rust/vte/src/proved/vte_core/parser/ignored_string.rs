@@ -53,7 +53,8 @@ fn find_ending_byte(input: &[u8], from: usize, to: usize) -> usize {
     to
 }
 
-/// Returns whether none of 16 bytes can end a string. Compilers make vector instructions of the loop.
+/// Returns whether none of 16 bytes can end a string. Compilers make vector instructions of the
+/// loop.
 #[inline(always)]
 fn is_ignored_block(block: &[u8; 16]) -> bool {
     let mut all = true;

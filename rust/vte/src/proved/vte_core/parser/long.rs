@@ -7,7 +7,8 @@ use crate::proved::vte_core::parser::{Machine, Refused, State};
 use crate::proved::vte_core::perform::{Perform, PerformText};
 use crate::proved::vte_core::scan::{take_run, Run};
 
-/// A [`Parser`](crate::Parser) that keeps operating system commands of any length, and whose calls can be refused memory.
+/// A [`Parser`](crate::Parser) that keeps operating system commands of any length, and whose calls
+/// can be refused memory.
 ///
 /// If memory for it is refused, the call stops before the byte that needs it, and the rest can be passed in again:
 ///
@@ -26,7 +27,8 @@ use crate::proved::vte_core::scan::{take_run, Run};
 /// # assert!(read(Performer, b"\x1b]52;c;aGVsbG8=\x07").is_ok());
 /// ```
 ///
-/// The limit of 16 pieces stays. What stands after the sixteenth `;` needs no memory. The memory of one command serves the next.
+/// The limit of 16 pieces stays. What stands after the sixteenth `;` needs no memory. The memory of
+/// one command serves the next.
 pub struct LongParser {
     machine: Machine<Vec<u8>>,
 }
@@ -64,8 +66,8 @@ impl LongParser {
         self.machine.command_lost_data()
     }
 
-    /// Takes memory for this many more data bytes of an operating system command, and returns whether it is there. Calls with no
-    /// more bytes than that are then never refused memory.
+    /// Takes memory for this many more data bytes of an operating system command, and returns
+    /// whether it is there. Calls with no more bytes than that are then never refused memory.
     #[inline]
     #[must_use = "the memory may be refused"]
     pub fn reserve(&mut self, more: usize) -> bool {
@@ -86,15 +88,16 @@ impl LongParser {
         self.machine.command.shrink_to_fit();
     }
 
-    /// Reads the next bytes of the stream, and performs the events that they add to it: all of them, or as many as there is
-    /// memory for.
+    /// Reads the next bytes of the stream, and performs the events that they add to it: all of
+    /// them, or as many as there is memory for.
     pub fn advance<P: Perform>(&mut self, performer: &mut P, bytes: &[u8]) -> Result<(), Refused> {
         self.machine.drive::<P, Singly, false>(performer, bytes)?;
         Ok(())
     }
 
-    /// Reads the next bytes of the stream as [`advance`](Self::advance) does, and passes characters to print in
-    /// [runs](crate::PerformText), and the data of device control strings in [slices](crate::PerformText::put_slice).
+    /// Reads the next bytes of the stream as [`advance`](Self::advance) does, and passes characters
+    /// to print in [runs](crate::PerformText), and the data of device control strings in
+    /// [slices](crate::PerformText::put_slice).
     pub fn advance_text<P: PerformText>(
         &mut self,
         performer: &mut P,
@@ -104,9 +107,11 @@ impl LongParser {
         Ok(())
     }
 
-    /// Reads bytes until the performer is terminated or memory is refused, and returns how many were read.
+    /// Reads bytes until the performer is terminated or memory is refused, and returns how many
+    /// were read.
     ///
-    /// The performer is asked as by [`Parser::advance_until_terminated`](crate::Parser::advance_until_terminated), and before
+    /// The performer is asked as by
+    /// [`Parser::advance_until_terminated`](crate::Parser::advance_until_terminated), and before
     /// memory is taken: a stop needs none.
     pub fn advance_until_terminated<P: Perform>(
         &mut self,
@@ -116,8 +121,9 @@ impl LongParser {
         self.machine.drive::<P, Singly, true>(performer, bytes)
     }
 
-    /// Reads bytes as [`advance_until_terminated`](Self::advance_until_terminated) does, and passes characters to print in
-    /// [runs](crate::PerformText). Only for performers that nothing in a run terminates: they aren't asked there.
+    /// Reads bytes as [`advance_until_terminated`](Self::advance_until_terminated) does, and passes
+    /// characters to print in [runs](crate::PerformText). Only for performers that nothing in a run
+    /// terminates: they aren't asked there.
     pub fn advance_text_until_terminated<P: PerformText>(
         &mut self,
         performer: &mut P,
@@ -126,8 +132,9 @@ impl LongParser {
         self.machine.drive::<P, InRuns, true>(performer, bytes)
     }
 
-    /// Reads bytes up to a run of text, or of data of a device control string, and the run itself, which it returns instead of
-    /// performing it, as [`Parser::advance_to_run`](crate::Parser::advance_to_run) does.
+    /// Reads bytes up to a run of text, or of data of a device control string, and the run itself,
+    /// which it returns instead of performing it, as
+    /// [`Parser::advance_to_run`](crate::Parser::advance_to_run) does.
     pub fn advance_to_run<'a, P: Perform>(
         &mut self,
         performer: &mut P,

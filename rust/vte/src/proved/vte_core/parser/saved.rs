@@ -8,7 +8,8 @@ use crate::proved::vte_core::params::Params;
 use crate::proved::vte_core::parser::Parser;
 use crate::proved::vte_core::parser::{State, Unfinished, MAX_OSC_RAW};
 
-/// A parser as plain data, laid out as a C struct. All zeros is a new parser, and any other bytes are some parser.
+/// A parser as plain data, laid out as a C struct. All zeros is a new parser, and any other bytes
+/// are some parser.
 #[repr(C)]
 #[derive(Clone, Copy, Debug)]
 pub struct Saved {
@@ -19,7 +20,8 @@ pub struct Saved {
     lengths: [u8; 32],
     number_count: usize,
     numbers: [u16; 32],
-    // the number that is being read, whether it stands after a colon, and whether there were more intermediates
+    // the number that is being read, whether it stands after a colon, and whether there were more
+    // intermediates
     number: u16,
     joined: u8,
     too_many: u8,

@@ -10,8 +10,8 @@ use crate::proved::vte_core::scan::find_data_end;
 const BELL: u8 = 0x07;
 
 impl<B: Buffer> Machine<B> {
-    /// Reads data bytes of an operating system command, and the byte after them. It takes memory for the data, or else reads
-    /// nothing.
+    /// Reads data bytes of an operating system command, and the byte after them. It takes memory
+    /// for the data, or else reads nothing.
     pub(crate) fn read_system_command<P: PerformAs<G>, G: Grain, const ASKS: bool>(
         &mut self,
         performer: &mut P,

@@ -11,10 +11,12 @@ use crate::proved::vte_core::utf8::{
     is_lead, is_printed_ascii, tell_character, tell_single, Carried, Unfinished,
 };
 
-/// The bytes of a text that are read before it is searched for ESC. Shorter texts, and so most, cost no search.
+/// The bytes of a text that are read before it is searched for ESC. Shorter texts, and so most,
+/// cost no search.
 const SHORT_TEXT: usize = 128;
 
-/// Returns up to where a text is read next: to the byte after the next ESC, or to the end of what was searched.
+/// Returns up to where a text is read next: to the byte after the next ESC, or to the end of
+/// what was searched.
 #[inline(never)]
 fn search_text<const ASKS: bool>(input: &[u8], from: usize, at: usize) -> usize {
     let to = if ASKS {
@@ -34,7 +36,8 @@ struct AsciiRun {
     next: Option<u8>,
 }
 
-/// Prints the run of ASCII that stands at a place, whose first byte was looked at. If it is short, that is the first byte alone.
+/// Prints the run of ASCII that stands at a place, whose first byte was looked at. If it is short,
+/// that is the first byte alone.
 #[inline(always)]
 fn print_ascii<P: PerformAs<G>, G: Grain>(
     performer: &mut P,
@@ -66,7 +69,8 @@ impl<B: Buffer> Machine<B> {
         from: usize,
     ) -> usize {
         let mut position = from;
-        // Its length bounds the place, so that the loop has no test of the index. Runs are read by words, which find an ESC too.
+        // Its length bounds the place, so that the loop has no test of the index. Runs are read by
+        // words, which find an ESC too.
         let mut front = if G::IN_RUNS {
             input
         } else {
@@ -88,7 +92,8 @@ impl<B: Buffer> Machine<B> {
                     performer.print_char(char::from(byte));
                 } else if is_lead(byte) {
                     let next = self.read_longer(performer, input, position, byte);
-                    // A path of its own takes fewer instructions if the call may stop after a character, and more otherwise.
+                    // A path of its own takes fewer instructions if the call may stop after a
+                    // character, and more otherwise.
                     if ASKS && !G::IN_RUNS {
                         if performer.terminated() {
                             return next;
@@ -114,7 +119,8 @@ impl<B: Buffer> Machine<B> {
         position
     }
 
-    /// Reads what begins with a lead byte, which was looked at: a run if text is taken in runs, a character or a malformed sequence.
+    /// Reads what begins with a lead byte, which was looked at: a run if text is taken in runs, a
+    /// character or a malformed sequence.
     #[inline(always)]
     fn read_longer<P: PerformAs<G>, G: Grain>(
         &mut self,
@@ -133,8 +139,8 @@ impl<B: Buffer> Machine<B> {
         self.read_character(performer, input, from, first)
     }
 
-    /// Reads the bytes that an unfinished character continues with. A byte that breaks it is left unread, and U+FFFD is
-    /// printed for those before it.
+    /// Reads the bytes that an unfinished character continues with. A byte that breaks it is left
+    /// unread, and U+FFFD is printed for those before it.
     #[inline(always)]
     pub(crate) fn continue_character<P: PerformAs<G>, G: Grain>(
         &mut self,

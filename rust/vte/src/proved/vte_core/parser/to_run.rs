@@ -17,8 +17,8 @@ use crate::proved::vte_core::utf8::{is_lead, is_printed_ascii, tell_single};
 
 #[cfg(not(feature = "std"))]
 impl<const OSC_RAW_BUF_SIZE: usize> Parser<OSC_RAW_BUF_SIZE> {
-    /// Reads bytes up to a run of text, or of data of a device control string, and the run itself, which it returns instead of
-    /// performing it.
+    /// Reads bytes up to a run of text, or of data of a device control string, and the run itself,
+    /// which it returns instead of performing it.
     ///
     /// A caller can take text from its own input in this way, with its place and without a copy:
     ///
@@ -34,10 +34,11 @@ impl<const OSC_RAW_BUF_SIZE: usize> Parser<OSC_RAW_BUF_SIZE> {
     /// parser.advance(&mut performer, &bytes[run.end..]); // performs CR and LF
     /// ```
     ///
-    /// A run begins where nothing is open and a character stands in the bytes that is printed as it is, or at a data byte that is
-    /// put. It ends before the first control, malformed sequence, unfinished character or byte that isn't put. What an earlier call
-    /// began is performed. Without a run the call ends with the bytes, or if the performer is terminated, which is asked as by
-    /// [`advance_until_terminated`](Self::advance_until_terminated).
+    /// A run begins where nothing is open and a character stands in the bytes that is printed as it
+    /// is, or at a data byte that is put. It ends before the first control, malformed sequence,
+    /// unfinished character or byte that isn't put. What an earlier call began is performed.
+    /// Without a run the call ends with the bytes, or if the performer is terminated, which is
+    /// asked as by [`advance_until_terminated`](Self::advance_until_terminated).
     #[must_use = "the bytes after the run are still to be read"]
     pub fn advance_to_run<'a, P: Perform>(
         &mut self,
@@ -54,7 +55,8 @@ impl<const OSC_RAW_BUF_SIZE: usize> Parser<OSC_RAW_BUF_SIZE> {
 }
 
 impl<B: Buffer> Machine<B> {
-    /// Reads bytes up to a run, and finds the run. It stays in the state of the run, which changes nothing.
+    /// Reads bytes up to a run, and finds the run. It stays in the state of the run, which changes
+    /// nothing.
     pub(crate) fn drive_to_run<P: PerformAs<Singly>>(
         &mut self,
         performer: &mut P,
@@ -92,8 +94,8 @@ impl<B: Buffer> Machine<B> {
         Ok(RunPlace::empty(position))
     }
 
-    /// Reads a character that isn't printed or a malformed sequence, or controls and what is malformed up to where a run may begin, or an
-    /// escape sequence.
+    /// Reads a character that isn't printed or a malformed sequence, or controls and what is
+    /// malformed up to where a run may begin, or an escape sequence.
     fn read_unprinted<P: PerformAs<Singly>>(
         &mut self,
         performer: &mut P,

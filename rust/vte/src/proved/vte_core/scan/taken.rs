@@ -1,8 +1,8 @@
 // Written by tools/erase from crates/vte_core/src/looks/taken.rt. Don't edit this file: edit that one, and run the tool.
 //! Runs of text and data, which a caller takes from its own input.
 
-/// What a call of [`advance_to_run`](crate::Parser::advance_to_run) read: bytes whose events it performed, and the run after them,
-/// if there is one.
+/// What a call of [`advance_to_run`](crate::Parser::advance_to_run) read: bytes whose events it
+/// performed, and the run after them, if there is one.
 #[derive(Clone, Copy, Debug, PartialEq, Eq)]
 pub struct Run<'a> {
     /// How many bytes were read before the run: its place in the bytes of the call.

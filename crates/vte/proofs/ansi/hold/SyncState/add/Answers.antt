@@ -2,9 +2,13 @@ use Rattle.vte.proofs.Common.{ℕ, List, refl, rules, ◌≡◌, ◌++◌, ◌-�
 use Rattle.vte.proofs.updates.Sequences.{stays_held, stays-is}
 use Rattle.vte.proofs.ansi.hold.SyncState.add.Goals as goal
 
-is_end : {bytes old more : List ℕ} {start len : ℕ} → bytes ≡ old ++ more → len ≡ length old → start ≡ len - 7 → IsEnd old more (take (length bytes - start) (drop start bytes)) start
+is_end : {bytes old more : List ℕ} {start len : ℕ} → bytes ≡ old ++ more → len ≡ length old → start ≡ len - 7
+    → IsEnd old more (take (length bytes - start) (drop start bytes)) start
 is_end {bytes} {start = start} is from place =
-    record { start_is = place ∙ ap (λ n. n - 7) from; is = take_all (length bytes - start) (drop start bytes) (rw length-drop (omega arith)) ∙ ap (drop start) is }
+    record {
+      start_is = place ∙ ap (λ n. n - 7) from;
+      is = take_all (length bytes - start) (drop start bytes) (rw length-drop (omega arith)) ∙ ap (drop start) is;
+    }
 
 pub invariant_of-self : goal.invariant_of-self
 invariant_of-self g c =
@@ -12,7 +16,8 @@ invariant_of-self g c =
     let all = old ++ c.args.more.now in
     let is : c.extend_from_slice.new.self.items ≡ all = search rules in
     let added : Adds all (length c.args.more.now) c.find_release-added.result =
-    c.find_release-added.ensures old c.args.more.now (is_end (c.as_slice.ensures.value ∙ is) (search rules) c.saturating_sub-start.ensures) c.args.self.now.no_end in
+    c.find_release-added.ensures old c.args.more.now
+    (is_end (c.as_slice.ensures.value ∙ is) (search rules) c.saturating_sub-start.ensures) c.args.self.now.no_end in
     record {
       within = rw is (omega (arith, added.released));
       no_end = rw (is, added.released, stays-is) (stays_held all).no_end;
@@ -25,5 +30,10 @@ returns g c =
     let old = held_of c.args.self.now in
     let is : c.extend_from_slice.new.self.items ≡ old ++ c.args.more.now = search rules in
     let added : Adds (old ++ c.args.more.now) (length c.args.more.now) c.find_release-added.result =
-    c.find_release-added.ensures old c.args.more.now (is_end (c.as_slice.ensures.value ∙ is) (search rules) c.saturating_sub-start.ensures) c.args.self.now.no_end in
-    record { held_is = rw (is, added.released) (stays-is (old ++ c.args.more.now)); released_is = rw (is, added.released) refl; begins_are = added.begins }
+    c.find_release-added.ensures old c.args.more.now
+    (is_end (c.as_slice.ensures.value ∙ is) (search rules) c.saturating_sub-start.ensures) c.args.self.now.no_end in
+    record {
+      held_is = rw (is, added.released) (stays-is (old ++ c.args.more.now));
+      released_is = rw (is, added.released) refl;
+      begins_are = added.begins;
+    }

@@ -12,10 +12,15 @@ loop-step-preserved g c = λ s at.
     let r = c.loop-step.invariant s at in
     elim c.match-step.branch [
       | in-Advance w ↦ rw (w.processor-is, w.handler-is)
-          (advance_taken _ s c.args.steps.now _ _ c.loop-step-test.true r w.in-Advance.is (w.advance.ensures.advances r.next r.is_at))
+          (advance_taken _ s c.args.steps.now _ _ c.loop-step-test.true r w.in-Advance.is
+          (w.advance.ensures.advances r.next r.is_at))
       | in-StopSync w ↦ rw (w.processor-is, w.handler-is)
-          (stop_taken _ s c.args.steps.now _ _ c.loop-step-test.true r w.in-StopSync.is (w.stop_sync.ensures.stops r.next r.is_at))
+          (stop_taken _ s c.args.steps.now _ _ c.loop-step-test.true r w.in-StopSync.is
+          (w.stop_sync.ensures.stops r.next r.is_at))
     ]
 
 pub returns : goal.returns
-returns g c = replays_all _ c.args.steps.now (λ s at. rw (take_all c.loop-step.step-index c.args.steps.now c.loop-step-test.false) at (c.loop-step.invariant s at))
+returns g c =
+    replays_all _ c.args.steps.now
+    (λ s at.
+    rw (take_all c.loop-step.step-index c.args.steps.now c.loop-step-test.false) at (c.loop-step.invariant s at))

@@ -12,21 +12,28 @@ loop-index-preserved g c = λ s at.
     let r = c.loop-index.invariant s at in
     elim c.match-step.branch [
       | in-Advance+in_default w ↦ rw (w.processor-is, w.handler-is)
-          (advance_taken _ s c.args.steps.now _ _ c.loop-index-test.true r w.in-Advance.is (w.in_default.ensures.reads.all.advances r.next r.is_at))
+          (advance_taken _ s c.args.steps.now _ _ c.loop-index-test.true r w.in-Advance.is
+          (w.in_default.ensures.reads.all.advances r.next r.is_at))
       | in-StopSync w ↦ rw (w.processor-is, w.handler-is)
-          (stop_taken _ s c.args.steps.now _ _ c.loop-index-test.true r w.in-StopSync.is (w.stop_sync.ensures.stops r.next r.is_at))
+          (stop_taken _ s c.args.steps.now _ _ c.loop-index-test.true r w.in-StopSync.is
+          (w.stop_sync.ensures.stops r.next r.is_at))
     ]
 
 pub returns-in-Err-clause-refuses : goal.returns-in-Err-clause-refuses
 returns-in-Err-clause-refuses g c = λ s at.
     let r = c.loop-index.invariant s at in
     let reads = c.in-Err.ensures.reads in
-    advance_refused _ s c.args.steps.now _ _ c.loop-index-test.true r c.in-Advance.is reads.within (reads.takes r.next r.is_at)
+    advance_refused _ s c.args.steps.now _ _ c.loop-index-test.true r c.in-Advance.is reads.within
+    (reads.takes r.next r.is_at)
 
 pub returns-in-Err-clause-lacks : goal.returns-in-Err-clause-lacks
 returns-in-Err-clause-lacks g c = λ s at.
     let r = c.loop-index.invariant s at in
-    first_lacks (LacksMemoryFor g.T.Timeout.value_of c.advance.new.self) c.args.steps.now _ _ c.loop-index-test.true c.in-Advance.is (c.in-Err.ensures.reads.lacks r.next r.is_at)
+    first_lacks
+    (LacksMemoryFor g.T.Timeout.value_of c.advance.new.self) c.args.steps.now _ _ c.loop-index-test.true c.in-Advance.is
+    (c.in-Err.ensures.reads.lacks r.next r.is_at)
 
 pub returns-clause-replays : goal.returns-clause-replays
-returns-clause-replays g c = replays_all _ c.args.steps.now (λ s at. rw (take_all c.loop-index.index c.args.steps.now c.loop-index-test.false) at (c.loop-index.invariant s at))
+returns-clause-replays g c =
+    replays_all _ c.args.steps.now
+    (λ s at. rw (take_all c.loop-index.index c.args.steps.now c.loop-index-test.false) at (c.loop-index.invariant s at))

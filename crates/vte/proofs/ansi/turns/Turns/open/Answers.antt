@@ -5,37 +5,75 @@ use Rattle.vte.proofs.ansi.turns.Turns.open.Goals as goal
 use Rattle.vte.proofs.ansi.turns.Turns.open.Goals.{then-begins-via-then-begins, then-begins-via-else-begins+then-read-bytes}
 
 pub loop-slice-init : goal.loop-slice-init
-loop-slice-init g c = record { within = omega arith; some = λ some. some; reaches = λ s at. (omega arith, open-nothing _ s c.args.bytes.now (next-at at)) }
+loop-slice-init g c =
+    record {
+      within = omega arith;
+      some = λ some. some;
+      reaches = λ s at. (omega arith, open-nothing _ s c.args.bytes.now (next-at at));
+    }
 
 pub returns-then-not-reserve-clause-opened : goal.returns-then-not-reserve-clause-opened
 returns-then-not-reserve-clause-opened g c = λ s at.
     let o = (c.loop-slice.invariant.reaches s at).1 in
-    record { opened = tt; halted = record { none_begin = o.none_begin; is_at = kept-next c.reserve.ensures.reserved o.is_at } }
+    record {
+      opened = tt;
+      halted = record { none_begin = o.none_begin; is_at = kept-next c.reserve.ensures.reserved o.is_at };
+    }
 
 pub returns-then-begins-clause-opened : goal.returns-then-begins-clause-opened
 returns-then-begins-clause-opened g c = λ s at.
     let o = (c.loop-slice.invariant.reaches s at).1 in
-    let slice = slice_size c.args.bytes.now c.loop-slice.read c.min-count.result c.loop-slice.invariant.within (omega (arith, c.min-count.ensures)) in
+    let slice =
+    slice_size c.args.bytes.now c.loop-slice.read c.min-count.result c.loop-slice.invariant.within
+    (omega (arith, c.min-count.ensures)) in
     let e = slice_parsed o c.if-not-reserve.ensures.reserved slice (sym at.stands.holds ∙ c.requires.none)
     c.parse_until_begin-parsed.ensures.stops in
     elim c.then-begins.branch [
-      | then-begins-via-then-begins w ↦ record { opened = open-ends _ s c.args.bytes.now _ o c.loop-slice.invariant.within refl e w.if-begins.true; halted = tt }
+      | then-begins-via-then-begins w ↦
+          record {
+            opened = open-ends _ s c.args.bytes.now _ o c.loop-slice.invariant.within refl e
+                w.if-begins.true;
+            halted = tt;
+          }
       | then-begins-via-else-begins+then-read-bytes w ↦
-          record { opened = open-all _ s c.args.bytes.now (open-more _ s c.args.bytes.now _ o refl e w.if-begins.false) (omega (arith, w.if-read-bytes.true)); halted = tt }
+          record {
+            opened = open-all _ s c.args.bytes.now (open-more _ s c.args.bytes.now _ o refl e w.if-begins.false)
+                (omega (arith, w.if-read-bytes.true));
+            halted = tt;
+          }
     ]
 
 pub loop-slice-preserved : goal.loop-slice-preserved
 loop-slice-preserved g c =
     let before = c.loop-slice.invariant in
-    let slice = slice_size c.args.bytes.now c.loop-slice.read c.min-count.result before.within (omega (arith, c.min-count.ensures)) in
+    let slice =
+    slice_size c.args.bytes.now c.loop-slice.read c.min-count.result before.within
+    (omega (arith, c.min-count.ensures)) in
     record {
       within = omega (arith, c.parse_until_begin-parsed.ensures.within, slice, c.min-count.ensures, before.within);
-      some = λ more. omega (arith, c.parse_until_begin-parsed.ensures.within, slice, c.min-count.ensures, before.within, c.if-read-bytes.false);
+      some =
+          λ more.
+          omega (
+            arith,
+            c.parse_until_begin-parsed.ensures.within,
+            slice,
+            c.min-count.ensures,
+            before.within,
+            c.if-read-bytes.false,
+          );
       reaches = λ s at.
           let o = before.reaches s at in
           let e = slice_parsed o.1 c.if-not-reserve.ensures.reserved slice (sym at.stands.holds ∙ c.requires.none)
           c.parse_until_begin-parsed.ensures.stops in (
-            omega (arith, o.0, begin-whole e c.if-begins.false, slice, c.min-count.ensures, before.some c.loop-slice-test.true),
+            omega (
+              arith,
+              o.0,
+              begin-whole e c.if-begins.false,
+              slice,
+              c.min-count.ensures,
+              before.some
+                  c.loop-slice-test.true,
+            ),
             open-more _ s c.args.bytes.now _ o.1 refl e c.if-begins.false,
           );
     }

@@ -8,6 +8,8 @@ invariant-loop-slice g l =
     record {
       within : l.read ≤ length l.bytes;
       some : l._slice < length l.bytes → l.read < length l.bytes;
-      reaches : (s : State g.H.Handler.Value g.T.Timeout.Value) → AreAt w l.initial.self (g.H.Handler.value_of l.initial.handler) s
-          → (l._slice ≤ l.read) × IsOpenAt m s l.bytes l.read (AreNextAt w l.initial.self l.self (g.H.Handler.value_of l.handler));
+      reaches : (s : State g.H.Handler.Value g.T.Timeout.Value)
+          → AreAt w l.initial.self (g.H.Handler.value_of l.initial.handler) s
+          → (l._slice ≤ l.read)
+          × IsOpenAt m s l.bytes l.read (AreNextAt w l.initial.self l.self (g.H.Handler.value_of l.handler));
     }

@@ -3,7 +3,12 @@ use Rattle.vte.proofs.turns.Turns.{all_read, has_halted, next-at, reaches-more, 
 use Rattle.vte.proofs.ansi.turns.Turns.read.Goals as goal
 
 pub loop-turn-init : goal.loop-turn-init
-loop-turn-init g c = record { within = omega arith; some = λ some. some; reaches = λ s at. reaches-nothing _ s c.args.bytes.now (next-at at) }
+loop-turn-init g c =
+    record {
+      within = omega arith;
+      some = λ some. some;
+      reaches = λ s at. reaches-nothing _ s c.args.bytes.now (next-at at);
+    }
 
 pub loop-turn-preserved : goal.loop-turn-preserved
 loop-turn-preserved g c =
@@ -14,17 +19,25 @@ loop-turn-preserved g c =
       some = λ more. omega (arith, before.within, c.in-Ok.ensures.within, size, c.if-read-bytes.false);
       reaches = λ s at.
           let r = before.reaches s at in
-          reaches-more _ s c.args.bytes.now r (before.some c.loop-turn-test.true) (c.in-Ok.ensures.turned r.here r.is_at.are_at).turned;
+          reaches-more _ s c.args.bytes.now r (before.some c.loop-turn-test.true)
+          (c.in-Ok.ensures.turned r.here r.is_at.are_at).turned;
     }
 
 pub turn-requires : goal.turn-requires
-turn-requires g c = record { some = rw (rest_size c.args.bytes.now c.loop-turn.read c.loop-turn.invariant.within) (omega (arith, c.loop-turn.invariant.some c.loop-turn-test.true)) }
+turn-requires g c =
+    record {
+      some = rw (rest_size c.args.bytes.now c.loop-turn.read c.loop-turn.invariant.within)
+          (omega (arith, c.loop-turn.invariant.some c.loop-turn-test.true));
+    }
 
 pub returns-then-read-bytes : goal.returns-then-read-bytes
 returns-then-read-bytes g c =
     let before = c.loop-turn.invariant in
     all_read c.args.bytes (λ s at. (
-    let r = before.reaches s at in reaches-more _ s c.args.bytes.now r (before.some c.loop-turn-test.true) (c.in-Ok.ensures.turned r.here r.is_at.are_at).turned))
+    let r =
+    before.reaches s at in
+    reaches-more _ s c.args.bytes.now r (before.some c.loop-turn-test.true)
+    (c.in-Ok.ensures.turned r.here r.is_at.are_at).turned))
     (λ s at. c.if-read-bytes.true)
 
 pub returns-in-Err : goal.returns-in-Err
@@ -32,10 +45,16 @@ returns-in-Err g c =
     let b = c.args.bytes.now in
     let read = c.loop-turn.read in
     let size = rest_size b read c.loop-turn.invariant.within in
-    let left : length (take (length b - read) (drop read b)) - c.in-Err.refused.read ≡ length b - (read + c.in-Err.refused.read) = omega (arith, size) in
+    let left : length (take (length b - read) (drop read b)) - c.in-Err.refused.read
+    ≡ length b - (read + c.in-Err.refused.read) = omega (arith, size) in
     read_until c.args.bytes
-    (λ s at. (let r = c.loop-turn.invariant.reaches s at in has_halted _ s b r c.loop-turn.invariant.within (c.in-Err.ensures.turned r.here r.is_at.are_at).halted))
-    (omega (arith, c.loop-turn.invariant.within, c.in-Err.ensures.within, size)) (λ stream reads. rw left at (c.in-Err.ensures.lacks stream reads))
+    (λ s at.
+    (let r = c.loop-turn.invariant.reaches s at in
+    has_halted _ s b r c.loop-turn.invariant.within (c.in-Err.ensures.turned r.here r.is_at.are_at).halted))
+    (omega (arith, c.loop-turn.invariant.within, c.in-Err.ensures.within, size))
+    (λ stream reads. rw left at (c.in-Err.ensures.lacks stream reads))
 
 pub returns : goal.returns
-returns g c = all_read c.args.bytes c.loop-turn.invariant.reaches (λ s at. let r = c.loop-turn.invariant.reaches s at in omega (arith, r.enough, c.loop-turn-test.false, c.loop-turn.invariant.within))
+returns g c =
+    all_read c.args.bytes c.loop-turn.invariant.reaches (λ s at. let r = c.loop-turn.invariant.reaches s at in
+    omega (arith, r.enough, c.loop-turn-test.false, c.loop-turn.invariant.within))

@@ -9,6 +9,7 @@ invariant-loop-turn g l =
     record {
       within : l.read ≤ length l.bytes;
       some : l._turn < length l.bytes → l.read < length l.bytes;
-      reaches : (s : State g.H.Handler.Value g.T.Timeout.Value) → AreAt w l.initial.self (g.H.Handler.value_of l.initial.handler) s
+      reaches : (s : State g.H.Handler.Value g.T.Timeout.Value)
+          → AreAt w l.initial.self (g.H.Handler.value_of l.initial.handler) s
           → HasReached m s l.bytes l._turn l.read (AreNextAt w l.initial.self l.self (g.H.Handler.value_of l.handler));
     }

@@ -4,4 +4,6 @@ use Rattle.vte.proofs.ansi.turns.Turns.stop.Goals as goal
 
 pub returns-clause-stopped : goal.returns-clause-stopped
 returns-clause-stopped g c = stops_update (λ stream count had. had) (λ s at.
-    c.end_update.ensures.stops s 0 (parts-at at) (c.release_all.ensures.released ∙ at.stands.holds) c.release_all.ensures.held (λ some. rw add-zero (at.stands.has_room some)))
+    c.end_update.ensures.stops s 0 (parts-at at)
+    (c.release_all.ensures.released ∙ at.stands.holds) c.release_all.ensures.held
+    (λ some. rw add-zero (at.stands.has_room some)))

@@ -11,38 +11,47 @@ returns-clause-turned g c = λ s at.
     let pending = c.pending_timeout-pending.result in
     let parses : is_held pending s c.args.bytes.now ≡ false = elim c.else-pending.branch [
       | else-pending-via-then-pending+else-has_room w ↦
-          let full : nat_le (length (s.held ++ c.args.bytes.now)) most_held ≡ false = rw (length-append, ← at.stands.holds) (sym w.has_room.ensures ∙ w.if-has_room.false) in
+          let full : nat_le (length (s.held ++ c.args.bytes.now)) most_held ≡ false =
+          rw (length-append, ← at.stands.holds) (sym w.has_room.ensures ∙ w.if-has_room.false) in
           rw (full, and-false) refl
       | else-pending-via-else-pending w ↦ rw w.if-pending.false refl
     ] in
     let m = meaning g.B.EventParser.limit g.H.Handler.step g.T.Timeout.set g.T.Timeout.clear g.T.Timeout.allows in
     let w = parts g.B.EventParser.limit g.B.EventParser.reading g.J.TextBuffer.room g.T.Timeout.value_of in
-    let here : AreNextAt w c.args.self.now c.if-pending-2.self (g.H.Handler.value_of c.if-pending-2.handler) (opened m pending s) = elim c.if-pending-2.branch [
+    let here : AreNextAt w c.args.self.now c.if-pending-2.self (g.H.Handler.value_of c.if-pending-2.handler)
+    (opened m pending s) = elim c.if-pending-2.branch [
       | then-pending-2 w ↦
           let stopped : is_stopped pending s ≡ true = elim w.then-pending-2.branch [
             | then-pending-2-via-then-pending-2 v ↦ rw v.if-pending-2.true refl
             | then-pending-2-via-else-pending-2+then-len-gt0 v ↦
-                let some : 0 < length s.held = rw (← at.stands.holds) (omega (arith, v.len.ensures.count, v.if-len-gt0.true)) in
+                let some : 0 < length s.held =
+                rw (← at.stands.holds) (omega (arith, v.len.ensures.count, v.if-len-gt0.true)) in
                 grind (arith, nat_tests)
           ] in
           rw (w.self-is, w.handler-is, stopped) (stops-next w.stop.ensures.stopped at)
       | else-pending-2+else-len-gt0 w ↦
-          let none : length s.held ≡ 0 = rw (← at.stands.holds) (omega (arith, w.len.ensures.count, w.if-len-gt0.false)) in
+          let none : length s.held ≡ 0 =
+          rw (← at.stands.holds) (omega (arith, w.len.ensures.count, w.if-len-gt0.false)) in
           let free : is_stopped pending s ≡ false = rw (w.if-pending-2.false, none) refl in
           rw (w.self-is, w.handler-is, free) (next-at at)
     ] in
-    ends_turn pending (rw at.stands.has_parsed.timeout_is at c.pending_timeout-pending.ensures) parses here.memory _ c.open.ensures.within (c.open.ensures.opened _ here.are_at)
+    ends_turn pending
+    (rw at.stands.has_parsed.timeout_is at c.pending_timeout-pending.ensures) parses here.memory _ c.open.ensures.within
+    (c.open.ensures.opened _ here.are_at)
 
 pub returns-then-has_room-clause-turned : goal.returns-then-has_room-clause-turned
 returns-then-has_room-clause-turned g c = λ s at.
     let here = kept-next c.reserve.ensures.reserved (next-at at) in
-    let room : nat_le (length (s.held ++ c.args.bytes.now)) most_held ≡ true = rw (length-append, ← at.stands.holds) (sym c.has_room.ensures ∙ c.if-has_room.true) in
+    let room : nat_le (length (s.held ++ c.args.bytes.now)) most_held ≡ true =
+    rw (length-append, ← at.stands.holds) (sym c.has_room.ensures ∙ c.if-has_room.true) in
     let held : is_held c.pending_timeout-pending.result s c.args.bytes.now ≡ true = rw (c.if-pending.true, room) refl in
     record {
       turned = turned_hold _ (rw at.stands.has_parsed.timeout_is at c.pending_timeout-pending.ensures) held refl
-          (behind-next here.memory (c.hold_bytes.ensures s here.are_at (c.if-not-reserve.ensures.reserved.room refl _ _ _ here.are_at.stands)));
+          (behind-next here.memory
+          (c.hold_bytes.ensures s here.are_at (c.if-not-reserve.ensures.reserved.room refl _ _ _ here.are_at.stands)));
       halted = tt;
     }
 
 pub returns-then-not-reserve-clause-turned : goal.returns-then-not-reserve-clause-turned
-returns-then-not-reserve-clause-turned g c = λ s at. record { turned = tt; halted = halted_nothing _ (kept-next c.reserve.ensures.reserved (next-at at)) }
+returns-then-not-reserve-clause-turned g c =
+    λ s at. record { turned = tt; halted = halted_nothing _ (kept-next c.reserve.ensures.reserved (next-at at)) }

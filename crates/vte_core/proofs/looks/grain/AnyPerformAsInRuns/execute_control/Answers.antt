@@ -18,4 +18,5 @@ returns-then-keeps_layout g c =
     let event : run_event g.P.PerformText.keeps c.args.byte ≡ Execute c.args.byte = rw (keeps, layout) refl in
     let step = g.P.Perform.step (g.P.Perform.value_of c.args.self.now) in
     rw (c.encode_utf8.ensures.value, c.from.ensures) at c.print_text.ensures
-    ∙ after_one g.P.PerformText.keeps g.P.Perform.step (g.P.Perform.value_of c.args.self.now) c.args.byte scalar ∙ ap step event
+    ∙ after_one g.P.PerformText.keeps g.P.Perform.step (g.P.Perform.value_of c.args.self.now) c.args.byte scalar
+    ∙ ap step event

@@ -2,4 +2,6 @@ use Rattle.vte_core.proofs.calls.Long.{reads_until}
 use Rattle.vte_core.proofs.parser.long.LongParser.advance_until_terminated.Goals as goal
 
 pub returns : goal.returns
-returns g c = rw (← c.new.ensures) (reads_until c.drive.result c.drive.ensures.reads c.drive.ensures.refuses c.drive.ensures.costs)
+returns g c =
+    rw (← c.new.ensures)
+    (reads_until c.drive.result c.drive.ensures.reads c.drive.ensures.refuses c.drive.ensures.costs)

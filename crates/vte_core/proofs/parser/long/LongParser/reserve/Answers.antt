@@ -4,14 +4,23 @@ use Rattle.vte_core.proofs.parser.long.LongParser.reserve.Goals.{then-not-matche
 use Rattle.vte_core.proofs.parser.long.LongParser.reserve.Goals as goal
 
 pub returns-clause-room : goal.returns-clause-room
-returns-clause-room g c = λ there stream h. omega (arith, open_is_stored _ stream h, c.reserve.ensures.reserves.suffices there)
+returns-clause-room g c =
+    λ there stream h. omega (arith, open_is_stored _ stream h, c.reserve.ensures.reserves.suffices there)
 
 pub returns-clause-lacks_open : goal.returns-clause-lacks_open
 returns-clause-lacks_open g c = λ refused stream h.
     let stored : length c.reserve.new.self.bytes ≤ open_size stream = elim c.if-not-matches.branch [
-      | then-not-matches w ↦ omega (arith, nothing_stored w.clear.ensures.keeps, ap length c.reserve.ensures.same.bytes, ap (λ self. length self.machine.command.bytes) w.self-is)
+      | then-not-matches w ↦
+          omega (
+            arith,
+            nothing_stored w.clear.ensures.keeps,
+            ap length c.reserve.ensures.same.bytes,
+            ap
+                (λ self. length self.machine.command.bytes) w.self-is,
+          )
       | else-not-matches w ↦ elim c.match-matches.branch [
-        | in-SystemCommand v ↦ omega (arith, stored_is_open _ stream (ap (λ self. self.machine.state) w.self-is ∙ v.in-SystemCommand.is) h)
+        | in-SystemCommand v ↦
+            omega (arith, stored_is_open _ stream (ap (λ self. self.machine.state) w.self-is ∙ v.in-SystemCommand.is) h)
         | in_default v ↦ absurd (false≢true (sym v.matches-is ∙ w.if-not-matches.false))
       ]
     ] in

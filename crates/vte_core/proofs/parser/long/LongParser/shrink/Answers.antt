@@ -5,9 +5,17 @@ use Rattle.vte_core.proofs.parser.long.LongParser.shrink.Goals as goal
 
 pub returns-clause-frees : goal.returns-clause-frees
 returns-clause-frees g c = λ stream h none. c.shrink_to_fit.ensures.frees (elim c.if-not-matches.branch [
-  | then-not-matches w ↦ omega (arith, nothing_stored w.clear.ensures.keeps, ap (λ self. length self.machine.command.bytes) w.self-is)
+  | then-not-matches w ↦
+      omega (arith, nothing_stored w.clear.ensures.keeps, ap (λ self. length self.machine.command.bytes) w.self-is)
   | else-not-matches w ↦ elim c.match-matches.branch [
-    | in-SystemCommand v ↦ omega (arith, stored_is_open _ stream v.in-SystemCommand.is h, none, ap (λ self. length self.machine.command.bytes) w.self-is)
+    | in-SystemCommand v ↦
+        omega (
+          arith,
+          stored_is_open _ stream v.in-SystemCommand.is h,
+          none,
+          ap
+              (λ self. length self.machine.command.bytes) w.self-is,
+        )
     | in_default v ↦ absurd (false≢true (sym v.matches-is ∙ w.if-not-matches.false))
   ]
 ])

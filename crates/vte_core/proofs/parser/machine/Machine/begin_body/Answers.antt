@@ -16,19 +16,26 @@ returns-then-byte-eq80-clause-takes g c = λ s.
 pub returns-then-byte-eq93-clause-takes : goal.returns-then-byte-eq93-clause-takes
 unfolding key_of
 returns-then-byte-eq93-clause-takes g c = λ s.
-    taken [] (InSystemCommand []) refl (record { by = c.clear.ensures.keeps }) (escape-system_command _ c.args.byte (final _ c.requires.ends) (rw c.if-byte-eq93.true refl))
+    taken [] (InSystemCommand []) refl (record { by = c.clear.ensures.keeps })
+    (escape-system_command _ c.args.byte (final _ c.requires.ends) (rw c.if-byte-eq93.true refl))
 
 pub returns-then-begins_ignored_string-clause-takes : goal.returns-then-begins_ignored_string-clause-takes
 returns-then-begins_ignored_string-clause-takes g c = λ s.
-    let key = other_key c.args.byte c.requires.other c.if-byte-eq80.false c.if-byte-eq93.false ∙ rw (← c.begins_ignored_string.ensures, c.if-begins_ignored_string.true) refl in
-    taken [] InIgnoredString refl (record { by = tt }) (escape-ignored_string _ c.args.byte (final _ c.requires.ends) key)
+    let key =
+    other_key c.args.byte c.requires.other c.if-byte-eq80.false c.if-byte-eq93.false
+    ∙ rw (← c.begins_ignored_string.ensures, c.if-begins_ignored_string.true) refl in
+    taken [] InIgnoredString refl (record { by = tt })
+    (escape-ignored_string _ c.args.byte (final _ c.requires.ends) key)
 
 pub returns-else-begins_ignored_string-clause-takes : goal.returns-else-begins_ignored_string-clause-takes
 returns-else-begins_ignored_string-clause-takes g c = λ s.
-    let key = other_key c.args.byte c.requires.other c.if-byte-eq80.false c.if-byte-eq93.false ∙ rw (← c.begins_ignored_string.ensures, c.if-begins_ignored_string.false) refl in
+    let key =
+    other_key c.args.byte c.requires.other c.if-byte-eq80.false c.if-byte-eq93.false
+    ∙ rw (← c.begins_ignored_string.ensures, c.if-begins_ignored_string.false) refl in
     let d = c.dispatch_escape.ensures in
     let holds = stands-escape _ s in
-    taken (EscDispatch [] false c.args.byte ∷ []) (InText []) (rw (holds.kept, holds.too_many) at d.tells.value) (stands-text_begun _ d.text)
+    taken (EscDispatch [] false c.args.byte ∷ []) (InText []) (rw (holds.kept, holds.too_many) at d.tells.value)
+    (stands-text_begun _ d.text)
     (escape-end _ c.args.byte _ (final _ c.requires.ends) refl key)
 
 pub returns-else-begins_ignored_string-clause-handles : goal.returns-else-begins_ignored_string-clause-handles

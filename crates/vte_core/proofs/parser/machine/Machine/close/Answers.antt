@@ -7,4 +7,6 @@ pub returns-in-SystemCommand-clause-told : goal.returns-in-SystemCommand-clause-
 returns-in-SystemCommand-clause-told g c = λ place s b.
     let k = in_command _ place c.in-SystemCommand.is s in
     rw (pieces_held _ _ k.items k.keeps) c.dispatch.ensures.value
-    ∙ ap (λ place. after g.P.CountedPerform.step (g.P.CountedPerform.value_of c.args.performer.now) (closing_at g.B.Buffer.limit place)) (sym k.same)
+    ∙ ap
+    (λ place. after g.P.CountedPerform.step (g.P.CountedPerform.value_of c.args.performer.now)
+    (closing_at g.B.Buffer.limit place)) (sym k.same)

@@ -3,13 +3,16 @@ use Rattle.vte_core.proofs.calls.Characters.{completes-all, completes-broken, co
 use Rattle.vte_core.proofs.parser.machine.Machine.continue_character.Goals as goal
 
 pub loop-position-init : goal.loop-position-init
-loop-position-init g c = record { goes = goes-nowhere c.args.self.now c.requires.inside; same = refl; spends = search rules }
+loop-position-init g c =
+    record { goes = goes-nowhere c.args.self.now c.requires.inside; same = refl; spends = search rules }
 
 pub loop-position-preserved : goal.loop-position-preserved
 loop-position-preserved g c =
     let v = c.loop-position.invariant in
     record {
-      goes = goes-more v.goes c.in-Unfinished.ensures (omega (arith, c.loop-position-test.true, c.len-position-end.ensures)) c.at.ensures.value;
+      goes =
+          goes-more v.goes c.in-Unfinished.ensures
+          (omega (arith, c.loop-position-test.true, c.len-position-end.ensures)) c.at.ensures.value;
       same = v.same;
       spends = search rules;
     }
@@ -17,12 +20,15 @@ loop-position-preserved g c =
 pub returns-in-Whole-clause-completes : goal.returns-in-Whole-clause-completes
 returns-in-Whole-clause-completes g c =
     let v = c.loop-position.invariant in
-    completes-whole v.goes c.in-Whole.ensures refl (rw v.same at c.tell_character.ensures.value) (omega (arith, c.loop-position-test.true, c.len-position-end.ensures)) c.at.ensures.value refl
+    completes-whole v.goes c.in-Whole.ensures refl (rw v.same at c.tell_character.ensures.value)
+    (omega (arith, c.loop-position-test.true, c.len-position-end.ensures)) c.at.ensures.value refl
 
 pub returns-in-Broken-clause-completes : goal.returns-in-Broken-clause-completes
 returns-in-Broken-clause-completes g c =
     let v = c.loop-position.invariant in
-    completes-broken v.goes c.in-Broken.ensures refl (rw v.same at c.print_char.ensures.value) (omega (arith, c.loop-position-test.true, c.len-position-end.ensures)) c.at.ensures.value
+    completes-broken v.goes c.in-Broken.ensures refl (rw v.same at c.print_char.ensures.value)
+    (omega (arith, c.loop-position-test.true, c.len-position-end.ensures)) c.at.ensures.value
 
 pub returns-clause-completes : goal.returns-clause-completes
-returns-clause-completes g c = let v = c.loop-position.invariant in rw v.same (completes-all v.goes (omega arith) (omega arith))
+returns-clause-completes g c =
+    let v = c.loop-position.invariant in rw v.same (completes-all v.goes (omega arith) (omega arith))

@@ -10,17 +10,24 @@ returns-then-is_final g c =
     let next = rw c.in-Some.is at read.reads.next in
     let d = c.end_control_sequence.ensures in
     record {
-      advances = advances-moved (sym d.next) (advances-past ControlHead c.requires.begun read.reads.head next c.requires.may_go_on
-          (performs-head ControlHead c.read_numbers-head.result.part refl (final_ends_nothing _ (sym c.is_final.ensures ∙ c.if-is_final.true)) d.takes) d.handles.settled);
+      advances =
+          advances-moved (sym d.next)
+          (advances-past ControlHead c.requires.begun read.reads.head next c.requires.may_go_on
+          (performs-head ControlHead c.read_numbers-head.result.part refl
+          (final_ends_nothing _ (sym c.is_final.ensures ∙ c.if-is_final.true)) d.takes) d.handles.settled);
       moves = search rules;
     }
 
 pub end_control_sequence-requires-clause-room : goal.end_control_sequence-requires-clause-room
-end_control_sequence-requires-clause-room g c = let next = rw c.in-Some.is at c.read_numbers-head.ensures.reads.next in search rules
+end_control_sequence-requires-clause-room g c =
+    let next = rw c.in-Some.is at c.read_numbers-head.ensures.reads.next in search rules
 
 pub returns-then-is_none-clause-advances : goal.returns-then-is_none-clause-advances
-returns-then-is_none-clause-advances g c = advances-head ControlHead c.requires.begun c.read_numbers-head.ensures.reads.head c.requires.may_go_on refl
+returns-then-is_none-clause-advances g c =
+    advances-head ControlHead c.requires.begun c.read_numbers-head.ensures.reads.head c.requires.may_go_on refl
 
 pub returns-clause-advances : goal.returns-clause-advances
 returns-clause-advances g c =
-    advances-then (advances-head ControlHead c.requires.begun c.read_numbers-head.ensures.reads.head c.requires.may_go_on refl) c.read_control_sequence-2.ensures.advances
+    advances-then
+    (advances-head ControlHead c.requires.begun c.read_numbers-head.ensures.reads.head c.requires.may_go_on refl)
+    c.read_control_sequence-2.ensures.advances

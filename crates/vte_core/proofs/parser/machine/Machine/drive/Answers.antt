@@ -11,7 +11,8 @@ loop-position-init g c =
 pub returns-then-terminated-clause-reads : goal.returns-then-terminated-clause-reads
 returns-then-terminated-clause-reads g c =
     let v = c.loop-position.invariant in
-    ends-at_stop (asks-some g.row.ASKS c.if-this-ne0.true) (sym c.terminated.ensures ∙ c.if-terminated.true) v.spends.high v.stands_at
+    ends-at_stop (asks-some g.row.ASKS c.if-this-ne0.true)
+    (sym c.terminated.ensures ∙ c.if-terminated.true) v.spends.high v.stands_at
 
 pub returns-clause-reads : goal.returns-clause-reads
 returns-clause-reads g c = ends-with_all (omega arith) c.loop-position.invariant.stands_at

@@ -14,13 +14,15 @@ returns-then-end-position-clause-comes g c =
     let v = c.loop-position.invariant in
     let found = c.find_rest_end-end.ensures in
     let between = settled-text c.in-Text.field-0 c.in-Text.is (v.settled (omega arith)) in
-    comes-to_run (has-text between (omega arith) found.scans.high found.scans.are found.ended) (omega arith) (sym c.terminated.ensures ∙ c.if-not-terminated.true) v.stands_at
+    comes-to_run (has-text between (omega arith) found.scans.high found.scans.are found.ended) (omega arith)
+    (sym c.terminated.ensures ∙ c.if-not-terminated.true) v.stands_at
 
 pub returns-then-end-position-2-clause-comes : goal.returns-then-end-position-2-clause-comes
 returns-then-end-position-2-clause-comes g c =
     let v = c.loop-position.invariant in
     let found = c.find_put_end-end.ensures in
-    comes-to_run (has-data c.in-DeviceData.is (omega arith) found.high found.are found.ended) (omega arith) (sym c.terminated.ensures ∙ c.if-not-terminated.true) v.stands_at
+    comes-to_run (has-data c.in-DeviceData.is (omega arith) found.high found.are found.ended) (omega arith)
+    (sym c.terminated.ensures ∙ c.if-not-terminated.true) v.stands_at
 
 pub loop-position-preserved-else-end-position : goal.loop-position-preserved-else-end-position
 loop-position-preserved-else-end-position g c =
@@ -51,7 +53,10 @@ loop-position-preserved g c =
     record {
       stands_at = λ stream h. read.goes_on _ stream (v.stands_at stream h);
       settled = read.settled;
-      others = λ stream h. tells-more (v.others stream h) (read.others (outside _ c.in_default.not-Text c.in_default.not-DeviceData) _ stream (v.stands_at stream h));
+      others =
+          λ stream h.
+          tells-more (v.others stream h)
+          (read.others (outside _ c.in_default.not-Text c.in_default.not-DeviceData) _ stream (v.stands_at stream h));
       spends = search rules;
     }
 
@@ -69,7 +74,12 @@ returns-in_err-position-in_default g c =
         refused = r.refuses.refused;
       });
       costs = search rules;
-      others = λ stream h. rw (e.1 ∙ ap Err e.2) (tells-more (v.others stream h) (r.advances.others (outside _ c.in_default.not-Text c.in_default.not-DeviceData) _ stream (v.stands_at stream h)));
+      others =
+          λ stream h.
+          rw (e.1 ∙ ap Err e.2)
+          (tells-more (v.others stream h)
+          (r.advances.others (outside _ c.in_default.not-Text c.in_default.not-DeviceData) _ stream
+          (v.stands_at stream h)));
     }
 
 pub returns-clause-comes : goal.returns-clause-comes

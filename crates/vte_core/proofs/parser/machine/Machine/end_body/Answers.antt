@@ -19,7 +19,9 @@ returns-clause-performs g c = λ place s b.
     takes-performs _ _ _ limit place _ _ (cancel_is_no_escape c.args.byte e)
     (taken (closing_at limit place ++ Execute c.args.byte ∷ []) (InText [])
     (c.execute_control.ensures.value ∙ ap (λ v. step v (Execute c.args.byte)) (c.close.ensures.told place s b)
-    ∙ sym (after-append step (g.P.CountedPerform.value_of c.args.performer.now) (closing_at limit place) (Execute c.args.byte ∷ [])))
+    ∙ sym
+    (after-append step (g.P.CountedPerform.value_of c.args.performer.now) (closing_at limit place)
+    (Execute c.args.byte ∷ [])))
     (record { by = (refl, refl) })
     (cancel limit place c.args.byte (stands-place _ place s) e))
 

@@ -25,7 +25,8 @@ returns-clause-takes g c = λ head s.
       told = dispatched CsiDispatch (head_of head) c.args.byte ∷ [];
       next = InText [];
       performed = d.tells.value
-          ∙ ap (g.P.CountedPerform.step (g.P.CountedPerform.value_of c.args.performer.now)) (dispatched-ready CsiDispatch _ _ head c.args.byte ready);
+          ∙ ap (g.P.CountedPerform.step (g.P.CountedPerform.value_of c.args.performer.now))
+          (dispatched-ready CsiDispatch _ _ head c.args.byte ready);
       stands = stands-text_begun _ d.text;
       leads = control-dispatched _ head _ (final _ c.requires.is) ready.well_shaped;
     }

@@ -15,10 +15,16 @@ returns-clause-advances g c =
     elim c.if-byte-eq-STRING_TERMINATOR.branch [
       | then-byte-eq-STRING_TERMINATOR w ↦
           let is = w.if-byte-eq-STRING_TERMINATOR.true in
-          rw (w.self-is, w.performer-is) (advances-when c.requires.other (advances-in r.begun r.within r.is r.may_go_on ordinary
-          (in_data parser (taken (Unhook ∷ []) (InText []) w.unhook.ensures.value (record { by = (refl, refl) }) (data-terminator _ c.args.byte (terminator_is_high is) (rw is refl)))) tt))
+          rw (w.self-is, w.performer-is)
+          (advances-when c.requires.other (advances-in r.begun r.within r.is r.may_go_on ordinary
+          (in_data parser
+          (taken (Unhook ∷ []) (InText []) w.unhook.ensures.value (record { by = (refl, refl) })
+          (data-terminator _ c.args.byte (terminator_is_high is) (rw is refl)))) tt))
       | else-byte-eq-STRING_TERMINATOR w ↦
-          let dropped = data-dropped _ c.args.byte (ends_no_data c.args.byte ordinary w.if-byte-eq-STRING_TERMINATOR.false) c.requires.other in
-          rw (w.self-is, w.performer-is) (advances-when c.requires.other (advances-in r.begun r.within r.is r.may_go_on ordinary
+          let dropped =
+          data-dropped _ c.args.byte
+          (ends_no_data c.args.byte ordinary w.if-byte-eq-STRING_TERMINATOR.false) c.requires.other in
+          rw (w.self-is, w.performer-is)
+          (advances-when c.requires.other (advances-in r.begun r.within r.is r.may_go_on ordinary
           (in_data parser (taken [] InData refl (stands-by r.begun tt) dropped)) (settled-by _ _ r.begun tt)))
     ]

@@ -6,16 +6,20 @@ use Rattle.vte_core.proofs.parser.machine.Machine.finish_character.Goals as goal
 
 pub returns-then-is_nothing-clause-stands_at : goal.returns-then-is_nothing-clause-stands_at
 returns-then-is_nothing-clause-stands_at g c = λ stream h.
-    starts-at (settled-by _ _ c.in-Text.is (settled-nothing c.in-Text.begun (c.is_nothing.ensures.0 c.if-is_nothing.true))) h
+    starts-at
+    (settled-by _ _ c.in-Text.is (settled-nothing c.in-Text.begun (c.is_nothing.ensures.0 c.if-is_nothing.true))) h
 
 pub returns-else-is_nothing-clause-stands_at : goal.returns-else-is_nothing-clause-stands_at
-returns-else-is_nothing-clause-stands_at g c = λ stream h. c.continue_character.ensures.completes.stands_at _ stream c.args.self.now c.in-Text.is (starts-inside h)
+returns-else-is_nothing-clause-stands_at g c =
+    λ stream h. c.continue_character.ensures.completes.stands_at _ stream c.args.self.now c.in-Text.is (starts-inside h)
 
 pub returns-in_default-clause-stands_at : goal.returns-in_default-clause-stands_at
 returns-in_default-clause-stands_at g c = λ stream h. starts-at (settled-outside _ c.in_default.not-Text) h
 
 pub returns-then-is_nothing-clause-others : goal.returns-then-is_nothing-clause-others
-returns-then-is_nothing-clause-others g c stream h = tells-nothing (settled-by _ _ c.in-Text.is (settled-nothing c.in-Text.begun (c.is_nothing.ensures.0 c.if-is_nothing.true))) h
+returns-then-is_nothing-clause-others g c stream h =
+    tells-nothing
+    (settled-by _ _ c.in-Text.is (settled-nothing c.in-Text.begun (c.is_nothing.ensures.0 c.if-is_nothing.true))) h
 
 pub returns-in_default-clause-others : goal.returns-in_default-clause-others
 returns-in_default-clause-others g c stream h = tells-nothing (settled-outside _ c.in_default.not-Text) h
@@ -23,4 +27,7 @@ returns-in_default-clause-others g c stream h = tells-nothing (settled-outside _
 pub returns-else-is_nothing-clause-others : goal.returns-else-is_nothing-clause-others
 returns-else-is_nothing-clause-others g c stream h =
     let told = c.continue_character.ensures.completes.others _ stream c.args.self.now c.in-Text.is (starts-inside h) in
-    tells-open told (λ none. opens-text c.args.self.now c.in-Text.is (λ e. false≢true (sym c.if-is_nothing.false ∙ c.is_nothing.ensures.1 e)) h none)
+    tells-open told
+    (λ none.
+    opens-text c.args.self.now c.in-Text.is
+    (λ e. false≢true (sym c.if-is_nothing.false ∙ c.is_nothing.ensures.1 e)) h none)

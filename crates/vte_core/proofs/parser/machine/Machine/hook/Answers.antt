@@ -21,7 +21,10 @@ returns-clause-takes g c = λ head s.
     record {
       told = dispatched Hook (head_of head) c.args.byte ∷ [];
       next = InData;
-      performed = c.hook.ensures.value ∙ ap (g.P.CountedPerform.step (g.P.CountedPerform.value_of c.args.performer.now)) (dispatched-ready Hook _ _ head c.args.byte f);
+      performed =
+          c.hook.ensures.value
+          ∙ ap (g.P.CountedPerform.step (g.P.CountedPerform.value_of c.args.performer.now))
+          (dispatched-ready Hook _ _ head c.args.byte f);
       stands = record { by = tt };
       leads = device-well_shaped _ head _ (final _ c.requires) f.well_shaped;
     }

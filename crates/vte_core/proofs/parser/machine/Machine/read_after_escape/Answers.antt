@@ -29,7 +29,9 @@ returns-then-is_head-clause-performs g c =
     let ends = left_dispatches (class_of b) head (sym c.is_intermediate.ensures ∙ c.if-is_intermediate.false) in
     let d = c.dispatch_escape.ensures in
     performs-in c.requires.begun (head_ends_nothing (class_of b) head)
-    (at_escape c.args.self.now (λ holds. taken (EscDispatch [] false b ∷ []) (InText []) (rw (holds.kept, holds.too_many) at d.tells.value) (stands-text_begun _ d.text)
+    (at_escape c.args.self.now
+    (λ holds. taken (EscDispatch [] false b ∷ []) (InText []) (rw (holds.kept, holds.too_many) at d.tells.value)
+    (stands-text_begun _ d.text)
     (escape-end _ b _ refl ends (below_finals b (below_final b head)))))
 
 pub returns-then-is_control-clause-performs : goal.returns-then-is_control-clause-performs
@@ -37,16 +39,24 @@ returns-then-is_control-clause-performs g c =
     let b = c.args.byte in
     let is = control _ (sym c.is_control.ensures ∙ c.if-is_control.true) in
     performs-in c.requires.begun (rw is refl)
-    (at_escape c.args.self.now (λ holds. taken (Execute b ∷ []) AtEscape c.execute_control.ensures.value (stands-by c.requires.begun holds) (escape-control _ b is)))
+    (at_escape c.args.self.now
+    (λ holds. taken (Execute b ∷ []) AtEscape c.execute_control.ensures.value (stands-by c.requires.begun holds)
+    (escape-control _ b is)))
 
 pub returns-else-is_control-clause-performs : goal.returns-else-is_control-clause-performs
 returns-else-is_control-clause-performs g c =
-    performs-dropped c.requires.begun (sym c.is_head.ensures ∙ c.if-is_head.false) (sym c.is_final.ensures ∙ c.if-is_final.false)
+    performs-dropped c.requires.begun (sym c.is_head.ensures ∙ c.if-is_head.false)
+    (sym c.is_final.ensures ∙ c.if-is_final.false)
     (sym c.ends_all.ensures ∙ c.if-ends_all.false) (sym c.is_control.ensures ∙ c.if-is_control.false)
 
 pub returns-then-is_control-clause-handles : goal.returns-then-is_control-clause-handles
 returns-then-is_control-clause-handles g c =
-    record { settled = settled-by _ _ c.requires.begun tt; count = omega arith; least = omega arith; memory = search rules }
+    record {
+      settled = settled-by _ _ c.requires.begun tt;
+      count = omega arith;
+      least = omega arith;
+      memory = search rules;
+    }
 
 pub returns-then-is_head-clause-handles : goal.returns-then-is_head-clause-handles
 returns-then-is_head-clause-handles g c =

@@ -14,13 +14,17 @@ returns-then-is_final g c =
     let next = rw c.in-Some.is at read.reads.next in
     let d = c.end_control_sequence.ensures in
     record {
-      advances = advances-moved (sym d.next) (advances-past ControlHead c.requires.begun read.reads.head next c.requires.may_go_on
-          (performs-head ControlHead c.read_head-head.result.part refl (final_ends_nothing _ (sym c.is_final.ensures ∙ c.if-is_final.true)) d.takes) d.handles.settled);
+      advances =
+          advances-moved (sym d.next)
+          (advances-past ControlHead c.requires.begun read.reads.head next c.requires.may_go_on
+          (performs-head ControlHead c.read_head-head.result.part refl
+          (final_ends_nothing _ (sym c.is_final.ensures ∙ c.if-is_final.true)) d.takes) d.handles.settled);
       moves = search rules;
     }
 
 pub end_control_sequence-requires-clause-room : goal.end_control_sequence-requires-clause-room
-end_control_sequence-requires-clause-room g c = let next = rw c.in-Some.is at c.read_head-head.ensures.reads.next in search rules
+end_control_sequence-requires-clause-room g c =
+    let next = rw c.in-Some.is at c.read_head-head.ensures.reads.next in search rules
 
 pub returns-in-Some-clause-advances : goal.returns-in-Some-clause-advances
 returns-in-Some-clause-advances g c =
@@ -30,20 +34,29 @@ returns-in-Some-clause-advances g c =
     let b = c.in-Some.byte in
     elim c.if-ends_all.branch [
       | then-ends_all w ↦
-          rw (w.self-is, w.performer-is) (advances-past ControlHead c.requires.begun read.reads.head next c.requires.may_go_on
+          rw (w.self-is, w.performer-is)
+          (advances-past ControlHead c.requires.begun read.reads.head next c.requires.may_go_on
           w.end_body.ensures.performs w.end_body.ensures.handles.settled)
       | else-ends_all+then-is_control w ↦
           let is = control _ (sym w.is_control.ensures ∙ w.if-is_control.true) in
-          rw (w.self-is, w.performer-is) (advances-past ControlHead c.requires.begun read.reads.head next c.requires.may_go_on
+          rw (w.self-is, w.performer-is)
+          (advances-past ControlHead c.requires.begun read.reads.head next c.requires.may_go_on
           (performs-head ControlHead part refl (rw is refl) (λ bytes stands.
-          taken (Execute b ∷ []) (InControlSequence bytes) w.execute_control.ensures.value (stands-by refl stands) (control-control _ bytes b is))) tt)
+          taken (Execute b ∷ []) (InControlSequence bytes) w.execute_control.ensures.value (stands-by refl stands)
+          (control-control _ bytes b is))) tt)
       | else-ends_all+else-is_control w ↦
           let ordinary = sym c.ends_all.ensures ∙ w.if-ends_all.false in
-          let dropped = left_is_dropped (class_of b) (rw c.in-Some.is at read.other) (sym c.is_final.ensures ∙ c.if-is_final.false) ordinary
+          let dropped =
+          left_is_dropped (class_of b) (rw c.in-Some.is at read.other)
+          (sym c.is_final.ensures ∙ c.if-is_final.false) ordinary
           (sym w.is_control.ensures ∙ w.if-is_control.false) in
-          rw (w.self-is, w.performer-is) (advances-past ControlHead c.requires.begun read.reads.head next c.requires.may_go_on (performs-head ControlHead part refl ordinary (λ bytes stands.
-          taken [] (InControlSequence bytes) refl (stands-by refl stands) (byte-dropped _ (InControlSequence bytes) b _ refl refl dropped))) tt)
+          rw (w.self-is, w.performer-is)
+          (advances-past ControlHead c.requires.begun read.reads.head next c.requires.may_go_on
+          (performs-head ControlHead part refl ordinary (λ bytes stands.
+          taken [] (InControlSequence bytes) refl (stands-by refl stands)
+          (byte-dropped _ (InControlSequence bytes) b _ refl refl dropped))) tt)
     ]
 
 pub returns-clause-advances : goal.returns-clause-advances
-returns-clause-advances g c = advances-head ControlHead c.requires.begun c.read_head-head.ensures.reads.head c.requires.may_go_on refl
+returns-clause-advances g c =
+    advances-head ControlHead c.requires.begun c.read_head-head.ensures.reads.head c.requires.may_go_on refl

@@ -16,17 +16,25 @@ returns-in-Some g c =
     record {
       advances = elim c.if-is_final.branch [
         | then-is_final w ↦
-            rw (w.self-is, w.performer-is) (advances-past DeviceHead c.requires.begun read.reads.head next c.requires.may_go_on
-            (performs-head DeviceHead part refl (final_ends_nothing (class_of b) (sym c.is_final.ensures ∙ w.if-is_final.true)) w.hook.ensures.takes)
+            rw (w.self-is, w.performer-is)
+            (advances-past DeviceHead c.requires.begun read.reads.head next c.requires.may_go_on
+            (performs-head DeviceHead part refl
+            (final_ends_nothing (class_of b) (sym c.is_final.ensures ∙ w.if-is_final.true)) w.hook.ensures.takes)
             w.hook.ensures.handles.settled)
         | else-is_final+then-ends_all w ↦
-            rw (w.self-is, w.performer-is) (advances-past DeviceHead c.requires.begun read.reads.head next c.requires.may_go_on
+            rw (w.self-is, w.performer-is)
+            (advances-past DeviceHead c.requires.begun read.reads.head next c.requires.may_go_on
             w.end_body.ensures.performs w.end_body.ensures.handles.settled)
         | else-is_final+else-ends_all w ↦
             let ordinary = sym w.ends_all.ensures ∙ w.if-ends_all.false in
-            let dropped = left_in_head (class_of b) (rw c.in-Some.is at read.other) (sym c.is_final.ensures ∙ w.if-is_final.false) ordinary in
-            rw (w.self-is, w.performer-is) (advances-past DeviceHead c.requires.begun read.reads.head next c.requires.may_go_on (performs-head DeviceHead part refl ordinary (λ bytes stands.
-            taken [] (InDeviceControl bytes) refl (stands-by refl stands) (device-dropped _ bytes b _ refl dropped))) tt)
+            let dropped =
+            left_in_head (class_of b) (rw c.in-Some.is at read.other)
+            (sym c.is_final.ensures ∙ w.if-is_final.false) ordinary in
+            rw (w.self-is, w.performer-is)
+            (advances-past DeviceHead c.requires.begun read.reads.head next c.requires.may_go_on
+            (performs-head DeviceHead part refl ordinary (λ bytes stands.
+            taken [] (InDeviceControl bytes) refl (stands-by refl stands)
+            (device-dropped _ bytes b _ refl dropped))) tt)
       ];
       moves = search rules;
     }
@@ -35,4 +43,7 @@ pub returns : goal.returns
 returns g c =
     let read = c.read_head-head.ensures in
     let all = at-none _ c.read_head-head.result.next c.in_default.not-Some read.reads.next in
-    record { advances = advances-head DeviceHead c.requires.begun read.reads.head c.requires.may_go_on refl; moves = search rules }
+    record {
+      advances = advances-head DeviceHead c.requires.begun read.reads.head c.requires.may_go_on refl;
+      moves = search rules;
+    }

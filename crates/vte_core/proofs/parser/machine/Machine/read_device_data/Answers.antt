@@ -10,7 +10,13 @@ use Rattle.vte_core.proofs.parser.machine.Machine.read_device_data.Goals.{else-t
 use Rattle.vte_core.proofs.parser.machine.Machine.read_device_data.Goals as goal
 
 pub loop-position-init : goal.loop-position-init
-loop-position-init g c = record { advances = advances-nothing (λ _. settled-by _ _ c.requires.begun tt); may_go_on = c.requires.may_go_on; begun = c.requires.begun; spends = search rules }
+loop-position-init g c =
+    record {
+      advances = advances-nothing (λ _. settled-by _ _ c.requires.begun tt);
+      may_go_on = c.requires.may_go_on;
+      begun = c.requires.begun;
+      spends = search rules;
+    }
 
 pub loop-position-preserved : goal.loop-position-preserved
 loop-position-preserved g c =
@@ -19,7 +25,9 @@ loop-position-preserved g c =
     record {
       advances = advances-then v.advances
           (advances-part (advances-in v.begun (omega arith) c.at-byte.ensures.value v.may_go_on (data_ends_nothing _ is)
-          (in_data c.loop-position.self (taken (Put c.at-byte.result ∷ []) InData c.put_byte.ensures.value (stands-by v.begun tt) (data-put _ c.at-byte.result is))) (settled-by _ _ v.begun tt)));
+          (in_data c.loop-position.self
+          (taken (Put c.at-byte.result ∷ []) InData c.put_byte.ensures.value (stands-by v.begun tt)
+          (data-put _ c.at-byte.result is))) (settled-by _ _ v.begun tt)));
       may_go_on = (λ does. elim c.else-this-ne0.branch [
         | else-this-ne0-via-then-this-ne0+else-terminated w ↦ sym w.terminated.ensures ∙ w.if-terminated.false
         | else-this-ne0-via-else-this-ne0 w ↦ absurd (asks-none g.row.ASKS w.if-this-ne0.false does)
@@ -34,17 +42,24 @@ returns-then-terminated-clause-advances g c =
     let is = sym c.is_data.ensures ∙ c.if-not-is_data.false in
     advances-then v.advances
     (advances-part (advances-in v.begun (omega arith) c.at-byte.ensures.value v.may_go_on (data_ends_nothing _ is)
-    (in_data c.loop-position.self (taken (Put c.at-byte.result ∷ []) InData c.put_byte.ensures.value (stands-by v.begun tt) (data-put _ c.at-byte.result is))) (settled-by _ _ v.begun tt)))
+    (in_data c.loop-position.self
+    (taken (Put c.at-byte.result ∷ []) InData c.put_byte.ensures.value (stands-by v.begun tt)
+    (data-put _ c.at-byte.result is))) (settled-by _ _ v.begun tt)))
 
 pub returns-then-not-this-clause-advances : goal.returns-then-not-this-clause-advances
 returns-then-not-this-clause-advances g c =
     let v = c.loop-position.invariant in
     let found = c.find_put_end-end.ensures in
-    let are = first-put c.args.input.bytes.now c.at-byte.ensures.value (sym c.is_data.ensures ∙ c.if-not-is_data.false) found.are in
-    advances-then v.advances (advances-data v.begun (omega (arith, found.low)) found.high are (rw c.if-not-this.true refl) c.tell_data.ensures.put)
+    let are =
+    first-put c.args.input.bytes.now c.at-byte.ensures.value
+    (sym c.is_data.ensures ∙ c.if-not-is_data.false) found.are in
+    advances-then v.advances
+    (advances-data v.begun (omega (arith, found.low)) found.high are
+    (rw c.if-not-this.true refl) c.tell_data.ensures.put)
 
 pub returns-then-not-is_data-clause-advances : goal.returns-then-not-is_data-clause-advances
-returns-then-not-is_data-clause-advances g c = advances-then c.loop-position.invariant.advances (advances-part c.end_data.ensures.advances)
+returns-then-not-is_data-clause-advances g c =
+    advances-then c.loop-position.invariant.advances (advances-part c.end_data.ensures.advances)
 
 pub returns-clause-advances : goal.returns-clause-advances
 returns-clause-advances g c = advances-moved (omega arith) c.loop-position.invariant.advances

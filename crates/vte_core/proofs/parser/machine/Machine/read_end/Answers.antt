@@ -11,4 +11,6 @@ pub returns-clause-advances : goal.returns-clause-advances
 returns-clause-advances g c =
     let r = c.requires.may_read in
     let d = c.end_body.ensures in
-    advances-then (advances-when c.requires.quiet (advances-byte r.within r.is r.may_go_on d.performs d.handles.settled)) c.read_escape.ensures.advances
+    advances-then
+    (advances-when c.requires.quiet (advances-byte r.within r.is r.may_go_on d.performs d.handles.settled))
+    c.read_escape.ensures.advances

@@ -4,13 +4,21 @@ use Rattle.vte_core.proofs.calls.Sequences.{advances-again, advances-bracket}
 use Rattle.vte_core.proofs.parser.machine.Machine.read_escape.Goals as goal
 
 pub loop-position-init : goal.loop-position-init
-loop-position-init g c = record { advances = advances-nothing (λ _. settled-by _ _ c.requires.begun tt); may_go_on = c.requires.may_go_on; begun = c.requires.begun; spends = search rules }
+loop-position-init g c =
+    record {
+      advances = advances-nothing (λ _. settled-by _ _ c.requires.begun tt);
+      may_go_on = c.requires.may_go_on;
+      begun = c.requires.begun;
+      spends = search rules;
+    }
 
 pub loop-position-preserved : goal.loop-position-preserved
 loop-position-preserved g c =
     let v = c.loop-position.invariant in
     record {
-      advances = advances-then v.advances (advances-again v.begun (omega arith) c.at-byte.ensures.value v.may_go_on c.if-byte-ne-ESCAPE.false);
+      advances =
+          advances-then v.advances
+          (advances-again v.begun (omega arith) c.at-byte.ensures.value v.may_go_on c.if-byte-ne-ESCAPE.false);
       may_go_on = v.may_go_on;
       begun = v.begun;
       spends = search rules;
@@ -20,13 +28,18 @@ pub returns-then-byte-eq91-clause-advances : goal.returns-then-byte-eq91-clause-
 returns-then-byte-eq91-clause-advances g c =
     let v = c.loop-position.invariant in
     advances-then v.advances
-    (advances-then (advances-bracket v.begun (omega arith) c.at-byte.ensures.value v.may_go_on c.if-byte-eq91.true refl c.begin_head.ensures) c.read_control_sequence.ensures.advances)
+    (advances-then
+    (advances-bracket v.begun
+    (omega arith) c.at-byte.ensures.value v.may_go_on c.if-byte-eq91.true refl c.begin_head.ensures)
+    c.read_control_sequence.ensures.advances)
 
 pub returns-then-byte-ne-ESCAPE-clause-advances : goal.returns-then-byte-ne-ESCAPE-clause-advances
 returns-then-byte-ne-ESCAPE-clause-advances g c =
     let v = c.loop-position.invariant in
     let read = c.read_after_escape.ensures in
-    advances-then v.advances (advances-when (rw v.begun tt) (advances-byte (omega arith) c.at-byte.ensures.value v.may_go_on read.performs read.handles.settled))
+    advances-then v.advances
+    (advances-when (rw v.begun tt)
+    (advances-byte (omega arith) c.at-byte.ensures.value v.may_go_on read.performs read.handles.settled))
 
 pub returns-clause-advances : goal.returns-clause-advances
 returns-clause-advances g c = advances-moved (omega arith) c.loop-position.invariant.advances

@@ -8,22 +8,31 @@ use Rattle.vte_core.proofs.places.PlaceLeads.{ignored-more}
 use Rattle.vte_core.proofs.parser.machine.Machine.read_ignored_string.Goals as goal
 
 -- n ignored bytes
-advances-by : {quiet V B : Type 0} {asks : Bool} {step : V → Event → V} {is_terminated : V → Bool} {value : V} {limit : Option ℕ} {bytes : List ℕ} {parser : Machine B} (n i : ℕ)
-    → parser.state ≡ IgnoredString → i + n ≤ length bytes → AreIgnored bytes i (i + n) → MayGoOn asks is_terminated value
+advances-by : {quiet V B : Type 0} {asks : Bool} {step : V → Event → V} {is_terminated : V → Bool} {value : V}
+    {limit : Option ℕ} {bytes : List ℕ} {parser : Machine B} (n i : ℕ)
+    → parser.state ≡ IgnoredString → i + n ≤ length bytes → AreIgnored bytes i (i + n)
+    → MayGoOn asks is_terminated value
     → Advances quiet asks step is_terminated value value limit bytes i (i + n) parser parser
-advances-by zero i begun within are may_go_on = advances-moved (omega arith) (advances-nothing (λ _. settled-by _ _ begun tt))
+advances-by zero i begun within are may_go_on =
+    advances-moved (omega arith) (advances-nothing (λ _. settled-by _ _ begun tt))
 advances-by {bytes = bytes} {parser = parser} (suc n) i begun within are may_go_on =
     let ordinary = are i (omega arith) (omega arith) in
     advances-moved (omega arith) (advances-then
     (advances-when tt (advances-in begun (omega (arith, within)) refl may_go_on ordinary
-    (in_ignored parser (taken [] InIgnoredString refl (stands-by begun tt) (ignored-more _ (slice_index bytes i) (ends_not_cancel _ ordinary)))) (settled-by _ _ begun tt)))
-    (advances-by n (i + 1) begun (omega (arith, within)) (λ k low high. are k (omega (arith, low)) (omega (arith, high))) may_go_on))
+    (in_ignored parser
+    (taken [] InIgnoredString refl (stands-by begun tt)
+    (ignored-more _ (slice_index bytes i) (ends_not_cancel _ ordinary)))) (settled-by _ _ begun tt)))
+    (advances-by n (i + 1) begun (omega (arith, within))
+    (λ k low high. are k (omega (arith, low)) (omega (arith, high))) may_go_on))
 
-advances-ignored : {quiet V B : Type 0} {asks : Bool} {step : V → Event → V} {is_terminated : V → Bool} {value : V} {limit : Option ℕ} {bytes : List ℕ} {i j : ℕ} {parser : Machine B}
+advances-ignored : {quiet V B : Type 0} {asks : Bool} {step : V → Event → V} {is_terminated : V → Bool} {value : V}
+    {limit : Option ℕ} {bytes : List ℕ} {i j : ℕ} {parser : Machine B}
     → parser.state ≡ IgnoredString → i ≤ j → j ≤ length bytes → AreIgnored bytes i j → MayGoOn asks is_terminated value
     → Advances quiet asks step is_terminated value value limit bytes i j parser parser
 advances-ignored {i = i} {j = j} begun low high are may_go_on =
-    advances-moved (omega (arith, low)) (advances-by (j - i) i begun (omega (arith, low, high)) (λ k from to. are k from (omega (arith, low, to))) may_go_on)
+    advances-moved (omega (arith, low))
+    (advances-by (j - i) i begun (omega (arith, low, high))
+    (λ k from to. are k from (omega (arith, low, to))) may_go_on)
 
 pub returns-then-end-len-clause-advances : goal.returns-then-end-len-clause-advances
 returns-then-end-len-clause-advances g c =
@@ -33,4 +42,6 @@ returns-then-end-len-clause-advances g c =
 pub returns-clause-advances : goal.returns-clause-advances
 returns-clause-advances g c =
     let found = c.find_string_end-end.ensures in
-    advances-then (advances-ignored c.requires.begun found.scans.low found.scans.high found.scans.are c.requires.may_go_on) c.read_end.ensures.advances
+    advances-then
+    (advances-ignored c.requires.begun found.scans.low found.scans.high found.scans.are c.requires.may_go_on)
+    c.read_end.ensures.advances

@@ -8,7 +8,13 @@ use Rattle.vte_core.proofs.parser.machine.Machine.read_intermediates.Goals.{then
 use Rattle.vte_core.proofs.parser.machine.Machine.read_intermediates.Goals as goal
 
 pub loop-position-init : goal.loop-position-init
-loop-position-init g c = record { advances = advances-nothing (λ _. settled-by _ _ c.requires.begun tt); may_go_on = c.requires.may_go_on; begun = c.requires.begun; spends = search rules }
+loop-position-init g c =
+    record {
+      advances = advances-nothing (λ _. settled-by _ _ c.requires.begun tt);
+      may_go_on = c.requires.may_go_on;
+      begun = c.requires.begun;
+      spends = search rules;
+    }
 
 pub loop-position-preserved : goal.loop-position-preserved
 loop-position-preserved g c =
@@ -19,15 +25,23 @@ loop-position-preserved g c =
       advances = advances-then v.advances (elim c.if-is_intermediate.branch [
         | then-is_intermediate w ↦
             let is = intermediate _ (sym c.is_intermediate.ensures ∙ w.if-is_intermediate.true) in
-            rw w.self-is (advances-when tt (advances-in v.begun (omega arith) c.at-byte.ensures.value v.may_go_on (rw is refl)
+            rw w.self-is
+            (advances-when tt (advances-in v.begun (omega arith) c.at-byte.ensures.value v.may_go_on (rw is refl)
             (in_escape parser (λ ints holds. taken [] (InEscape (ints ++ b ∷ [])) refl
-            (stands-by v.begun (w.collect.ensures.holds ints holds)) (intermediate-more _ ints b is))) (settled-by _ _ v.begun tt)))
+            (stands-by v.begun (w.collect.ensures.holds ints holds)) (intermediate-more _ ints b is)))
+            (settled-by _ _ v.begun tt)))
         | else-is_intermediate+else-dispatches_escape+else-ends_all+else-is_control w ↦
             let ordinary = sym w.ends_all.ensures ∙ w.if-ends_all.false in
-            let dropped = left_of_intermediates (class_of b) (sym c.is_intermediate.ensures ∙ w.if-is_intermediate.false) (sym w.dispatches_escape.ensures ∙ w.if-dispatches_escape.false) ordinary
+            let dropped =
+            left_of_intermediates (class_of b) (sym c.is_intermediate.ensures ∙ w.if-is_intermediate.false)
+            (sym w.dispatches_escape.ensures ∙ w.if-dispatches_escape.false) ordinary
             (sym w.is_control.ensures ∙ w.if-is_control.false) in
-            rw w.self-is (advances-when tt (advances-in v.begun (omega arith) c.at-byte.ensures.value v.may_go_on ordinary
-            (in_escape parser (λ ints holds. taken [] (InEscape ints) refl (stands-by v.begun holds) (byte-dropped _ (InEscape ints) b _ refl refl dropped))) (settled-by _ _ v.begun tt)))
+            rw w.self-is
+            (advances-when tt (advances-in v.begun (omega arith) c.at-byte.ensures.value v.may_go_on ordinary
+            (in_escape parser
+            (λ ints holds.
+            taken [] (InEscape ints) refl (stands-by v.begun holds)
+            (byte-dropped _ (InEscape ints) b _ refl refl dropped))) (settled-by _ _ v.begun tt)))
       ]);
       may_go_on = v.may_go_on;
       begun = elim c.if-is_intermediate.branch [
@@ -44,15 +58,20 @@ returns-then-dispatches_escape-clause-advances g c =
     let ends = sym c.dispatches_escape.ensures ∙ c.if-dispatches_escape.true in
     let d = c.dispatch_escape.ensures in
     advances-then v.advances
-    (advances-when tt (advances-in v.begun (omega arith) c.at-byte.ensures.value v.may_go_on (dispatch_ends_nothing (class_of b) ends)
-    (in_escape c.loop-position.self (λ ints holds. taken (EscDispatch (first_two ints) (are_too_many ints) b ∷ []) (InText [])
-    (rw (holds.kept, holds.too_many) at d.tells.value) (stands-text_begun _ d.text) (intermediate-end _ ints b _ refl ends))) (settled-by _ _ d.text tt)))
+    (advances-when tt
+    (advances-in v.begun (omega arith) c.at-byte.ensures.value v.may_go_on (dispatch_ends_nothing (class_of b) ends)
+    (in_escape c.loop-position.self
+    (λ ints holds. taken (EscDispatch (first_two ints) (are_too_many ints) b ∷ []) (InText [])
+    (rw (holds.kept, holds.too_many) at d.tells.value) (stands-text_begun _ d.text)
+    (intermediate-end _ ints b _ refl ends))) (settled-by _ _ d.text tt)))
 
 pub returns-then-ends_all-clause-advances : goal.returns-then-ends_all-clause-advances
 returns-then-ends_all-clause-advances g c =
     let v = c.loop-position.invariant in
     let d = c.end_body.ensures in
-    advances-then v.advances (advances-when (rw v.begun tt) (advances-byte (omega arith) c.at-byte.ensures.value v.may_go_on d.performs d.handles.settled))
+    advances-then v.advances
+    (advances-when (rw v.begun tt)
+    (advances-byte (omega arith) c.at-byte.ensures.value v.may_go_on d.performs d.handles.settled))
 
 pub returns-then-is_control-clause-advances : goal.returns-then-is_control-clause-advances
 returns-then-is_control-clause-advances g c =
@@ -61,5 +80,6 @@ returns-then-is_control-clause-advances g c =
     let is = control _ (sym c.is_control.ensures ∙ c.if-is_control.true) in
     advances-then v.advances
     (advances-when tt (advances-in v.begun (omega arith) c.at-byte.ensures.value v.may_go_on (rw is refl)
-    (in_escape c.loop-position.self (λ ints holds. taken (Execute b ∷ []) (InEscape ints) c.execute_control.ensures.value (stands-by v.begun holds)
+    (in_escape c.loop-position.self
+    (λ ints holds. taken (Execute b ∷ []) (InEscape ints) c.execute_control.ensures.value (stands-by v.begun holds)
     (intermediate-control _ ints b is))) (settled-by _ _ v.begun tt)))

@@ -6,5 +6,7 @@ pub returns-then-end-from-clause-advances : goal.returns-then-end-from-clause-ad
 returns-then-end-from-clause-advances g c =
     let ends = c.find_longer_run_end-end.ensures in
     let further : c.args.from < c.find_longer_run_end-end.result = omega (arith, c.if-end-from.true) in
-    advances-text (c.requires.no_stop (sym c.IN_RUNS.ensures ∙ c.if-IN_RUNS.true)) c.requires.may_read.may_go_on c.requires.may_read.within c.requires.may_read.begun
+    advances-text
+    (c.requires.no_stop (sym c.IN_RUNS.ensures ∙ c.if-IN_RUNS.true)) c.requires.may_read.may_go_on
+    c.requires.may_read.within c.requires.may_read.begun
     further ends.range.within c.tell_text.ensures.printed

@@ -13,7 +13,8 @@ pub returns-then-end-len-clause-advances : goal.returns-then-end-len-clause-adva
 returns-then-end-len-clause-advances g c =
     let r = c.requires in
     let found = c.find_data_end-end.ensures in
-    advances-items r.within r.begun refl found.low found.high (λ k low high. (found.are k low high).0) r.may_go_on r.begun
+    advances-items r.within r.begun refl found.low found.high
+    (λ k low high. (found.are k low high).0) r.may_go_on r.begun
     (λ items k. c.push_data.ensures.keeps items (keeps-same _ _ _ items c.make_room.ensures.same k))
 
 pub returns-then-ends_all-clause-advances : goal.returns-then-ends_all-clause-advances
@@ -21,7 +22,8 @@ returns-then-ends_all-clause-advances g c =
     let r = c.requires in
     let found = c.find_data_end-end.ensures in
     advances-then
-    (advances-items r.within r.begun refl found.low found.high (λ k low high. (found.are k low high).0) r.may_go_on r.begun
+    (advances-items r.within r.begun refl found.low found.high
+    (λ k low high. (found.are k low high).0) r.may_go_on r.begun
     (λ items k. c.push_data.ensures.keeps items (keeps-same _ _ _ items c.make_room.ensures.same k)))
     c.read_end.ensures.advances
 
@@ -32,27 +34,37 @@ returns-clause-advances g c =
     let begun = r.begun in
     let found = c.find_data_end-end.ensures in
     let byte = c.at-byte.result in
-    let after_data : Machine _ = record { state = c.args.self.now.state; collected = c.args.self.now.collected; command = c.push_data.new.self } in
+    let after_data : Machine _ =
+    record { state = c.args.self.now.state; collected = c.args.self.now.collected; command = c.push_data.new.self } in
     let within : c.find_data_end-end.result < length c.args.input.bytes.now = omega arith in
     let ordinary = sym c.ends_all.ensures ∙ c.if-ends_all.false in
     let no_data : IsCommandData byte → ⊥ = λ d. found.ended within (rw c.at-byte.ensures.value at d) in
     advances-then
-    (advances-items {next = after_data} r.within begun refl found.low found.high (λ k low high. (found.are k low high).0) r.may_go_on begun
+    (advances-items {next = after_data} r.within begun refl found.low found.high
+    (λ k low high. (found.are k low high).0) r.may_go_on begun
     (λ items k. c.push_data.ensures.keeps items (keeps-same _ _ _ items c.make_room.ensures.same k)))
     (elim c.if-byte-eq59.branch [
       | then-byte-eq59 w ↦
           let is : byte ≡ 0x3b = w.if-byte-eq59.true in
-          rw (w.self-is, w.performer-is) (advances-when tt (advances-in begun within c.at-byte.ensures.value r.may_go_on ordinary
+          rw (w.self-is, w.performer-is)
+          (advances-when tt (advances-in begun within c.at-byte.ensures.value r.may_go_on ordinary
           (in_system_command after_data (λ items keeps. taken [] (InSystemCommand (items ++ byte ∷ [])) refl
-          (stands-by begun (subst (λ b. Keeps limit w.end_piece.new.self (items ++ b ∷ [])) (sym is) (w.end_piece.ensures.keeps items keeps)))
+          (stands-by begun
+          (subst (λ b. Keeps limit w.end_piece.new.self (items ++ b ∷ [])) (sym is)
+          (w.end_piece.ensures.keeps items keeps)))
           (command-item limit items byte (omega (arith, is))))) (settled-by _ _ begun tt)))
       | else-byte-eq59+then-byte-eq-BELL w ↦
-          rw (w.self-is, w.performer-is) (advances-when tt (advances-in begun within c.at-byte.ensures.value r.may_go_on ordinary
-          (in_system_command after_data (λ items keeps. taken (OscDispatch (pieces_of limit items) true ∷ []) (InText [])
+          rw (w.self-is, w.performer-is)
+          (advances-when tt (advances-in begun within c.at-byte.ensures.value r.may_go_on ordinary
+          (in_system_command after_data
+          (λ items keeps. taken (OscDispatch (pieces_of limit items) true ∷ []) (InText [])
           (rw (pieces_held _ _ items keeps) w.dispatch.ensures.value) (record { by = (refl, refl) })
-          (command-bell limit items byte (left_is_control byte ordinary no_data w.if-byte-eq59.false) (rw w.if-byte-eq-BELL.true refl)))) tt))
+          (command-bell limit items byte (left_is_control byte ordinary no_data w.if-byte-eq59.false)
+          (rw w.if-byte-eq-BELL.true refl)))) tt))
       | else-byte-eq59+else-byte-eq-BELL w ↦
-          rw (w.self-is, w.performer-is) (advances-when tt (advances-in begun within c.at-byte.ensures.value r.may_go_on ordinary
+          rw (w.self-is, w.performer-is)
+          (advances-when tt (advances-in begun within c.at-byte.ensures.value r.may_go_on ordinary
           (in_system_command after_data (λ items keeps. taken [] (InSystemCommand items) refl (stands-by begun keeps)
-          (command-control limit items byte (left_is_control byte ordinary no_data w.if-byte-eq59.false) (ne_eqb _ _ w.if-byte-eq-BELL.false)))) (settled-by _ _ begun tt)))
+          (command-control limit items byte (left_is_control byte ordinary no_data w.if-byte-eq59.false)
+          (ne_eqb _ _ w.if-byte-eq-BELL.false)))) (settled-by _ _ begun tt)))
     ])

@@ -10,33 +10,43 @@ use Rattle.vte_core.proofs.parser.machine.Machine.read_text.Goals.{else-is_print
 use Rattle.vte_core.proofs.parser.machine.Machine.read_text.Goals as goal
 
 -- the call has come past the run of ASCII, if there was one
-reached : (g : Over) (c : Joined-IN_RUNS-2 g) → Advances ⊥ (not (eqb g.row.ASKS 0)) g.P.CountedPerform.step g.P.CountedPerform.is_terminated
-    (g.P.CountedPerform.value_of c.args.performer.now) (g.P.CountedPerform.value_of c.if-IN_RUNS-2.performer) g.B.Buffer.limit c.args.input.bytes.now
+reached : (g : Over) (c : Joined-IN_RUNS-2 g)
+    → Advances ⊥ (not (eqb g.row.ASKS 0)) g.P.CountedPerform.step g.P.CountedPerform.is_terminated
+    (g.P.CountedPerform.value_of c.args.performer.now)
+    (g.P.CountedPerform.value_of c.if-IN_RUNS-2.performer) g.B.Buffer.limit c.args.input.bytes.now
     c.args.from c.if-IN_RUNS-2.position c.args.self.now c.loop-position-2.self
 reached g c =
     let v = c.loop-position-2.invariant in
-    let within : c.loop-position-2.position < length c.args.input.bytes.now = omega (arith, c.loop-position.invariant.front, c.loop-position-2-test.true) in
+    let within : c.loop-position-2.position < length c.args.input.bytes.now =
+    omega (arith, c.loop-position.invariant.front, c.loop-position-2-test.true) in
     elim c.if-IN_RUNS-2.branch [
       | then-IN_RUNS-2+then-is_printed_ascii+in-Some w ↦
           let run = w.print_ascii-run.ensures in
           rw (w.performer-is, w.position-is) (advances-then v.advances
-          (advances-text (c.requires.no_stop (sym c.IN_RUNS-in-loop-position-2.ensures ∙ w.if-IN_RUNS-2.true)) v.may_go_on within (v.between within) run.further run.high run.prints))
+          (advances-text
+          (c.requires.no_stop (sym c.IN_RUNS-in-loop-position-2.ensures ∙ w.if-IN_RUNS-2.true)) v.may_go_on within
+          (v.between within) run.further run.high run.prints))
       | else-IN_RUNS-2 w ↦ rw (w.performer-is, w.position-is) v.advances
     ]
 
 -- .. and stands before this byte
 at : (g : Over) (c : Joined-IN_RUNS-2 g) → MayReadByte (not (eqb g.row.ASKS 0)) g.P.CountedPerform.is_terminated
-    (g.P.CountedPerform.value_of c.if-IN_RUNS-2.performer) (Text Nothing) c.loop-position-2.self c.args.input.bytes.now c.if-IN_RUNS-2.position c.if-IN_RUNS-2.byte
+    (g.P.CountedPerform.value_of c.if-IN_RUNS-2.performer)
+    (Text Nothing) c.loop-position-2.self c.args.input.bytes.now c.if-IN_RUNS-2.position c.if-IN_RUNS-2.byte
 at g c =
     let v = c.loop-position-2.invariant in
-    let within : c.loop-position-2.position < length c.args.input.bytes.now = omega (arith, c.loop-position.invariant.front, c.loop-position-2-test.true) in
+    let within : c.loop-position-2.position < length c.args.input.bytes.now =
+    omega (arith, c.loop-position.invariant.front, c.loop-position-2-test.true) in
     elim c.if-IN_RUNS-2.branch [
       | then-IN_RUNS-2+then-is_printed_ascii+in-Some w ↦
           let run = w.print_ascii-run.ensures in
           let next = rw w.in-Some.is at run.next in
           rw (w.performer-is, w.position-is, w.byte-is) (record {
             begun = v.between within;
-            may_go_on = may_go_on-text (c.requires.no_stop (sym c.IN_RUNS-in-loop-position-2.ensures ∙ w.if-IN_RUNS-2.true)) v.may_go_on run.prints;
+            may_go_on =
+                may_go_on-text
+                (c.requires.no_stop (sym c.IN_RUNS-in-loop-position-2.ensures ∙ w.if-IN_RUNS-2.true))
+                v.may_go_on run.prints;
             within = next.0;
             is = next.1;
           })
@@ -51,11 +61,15 @@ at g c =
 pub loop-position-2-preserved-in-None : goal.loop-position-2-preserved-in-None
 loop-position-2-preserved-in-None g c =
     let v = c.loop-position-2.invariant in
-    let within : c.loop-position-2.position < length c.args.input.bytes.now = omega (arith, c.loop-position.invariant.front, c.loop-position-2-test.true) in
+    let within : c.loop-position-2.position < length c.args.input.bytes.now =
+    omega (arith, c.loop-position.invariant.front, c.loop-position-2-test.true) in
     let runs : g.G.Grain.IN_RUNS ≡ true = sym c.IN_RUNS-in-loop-position-2.ensures ∙ c.if-IN_RUNS-2.true in
     let run = c.print_ascii-run.ensures in
     record {
-      advances = advances-then v.advances (advances-text (c.requires.no_stop runs) v.may_go_on within (v.between within) run.further run.high run.prints);
+      advances =
+          advances-then v.advances
+          (advances-text (c.requires.no_stop runs) v.may_go_on within
+          (v.between within) run.further run.high run.prints);
       may_go_on = may_go_on-text (c.requires.no_stop runs) v.may_go_on run.prints;
       between = λ _. v.between within;
       low = search rules;
@@ -70,7 +84,8 @@ loop-position-2-preserved-in-None g c =
     }
 
 pub read_longer-next-requires-clause-may_read : goal.read_longer-next-requires-clause-may_read
-read_longer-next-requires-clause-may_read g c = at g (goal.at.read_longer-next-requires-clause-may_read g c).Joined-IN_RUNS-2
+read_longer-next-requires-clause-may_read g c = at g
+    (goal.at.read_longer-next-requires-clause-may_read g c).Joined-IN_RUNS-2
 
 pub read_sequence-requires-clause-may_read : goal.read_sequence-requires-clause-may_read
 read_sequence-requires-clause-may_read g c =
@@ -79,10 +94,13 @@ read_sequence-requires-clause-may_read g c =
 
 -- .. which it reads
 read : (g : Over) (c : Joined-is_printed_ascii-2 g)
-    → MayReadByte (not (eqb g.row.ASKS 0)) g.P.CountedPerform.is_terminated (g.P.CountedPerform.value_of c.if-IN_RUNS-2.performer) (Text Nothing) c.loop-position-2.self
+    → MayReadByte (not (eqb g.row.ASKS 0)) g.P.CountedPerform.is_terminated
+    (g.P.CountedPerform.value_of c.if-IN_RUNS-2.performer) (Text Nothing) c.loop-position-2.self
     c.args.input.bytes.now c.if-IN_RUNS-2.position c.if-IN_RUNS-2.byte
-    → Advances ⊥ (not (eqb g.row.ASKS 0)) g.P.CountedPerform.step g.P.CountedPerform.is_terminated (g.P.CountedPerform.value_of c.if-IN_RUNS-2.performer)
-    (g.P.CountedPerform.value_of c.if-is_printed_ascii-2.performer) g.B.Buffer.limit c.args.input.bytes.now c.if-IN_RUNS-2.position
+    → Advances ⊥ (not (eqb g.row.ASKS 0)) g.P.CountedPerform.step g.P.CountedPerform.is_terminated
+    (g.P.CountedPerform.value_of c.if-IN_RUNS-2.performer)
+    (g.P.CountedPerform.value_of c.if-is_printed_ascii-2.performer) g.B.Buffer.limit c.args.input.bytes.now
+    c.if-IN_RUNS-2.position
     (c.if-is_printed_ascii-2.position + 1) c.loop-position-2.self c.if-is_printed_ascii-2.self
 read g c here = elim c.if-is_printed_ascii-2.branch [
   | then-is_printed_ascii-2 w ↦
@@ -91,25 +109,30 @@ read g c here = elim c.if-is_printed_ascii-2.branch [
       (performs-printed here.begun printed w.from.ensures w.print_char.ensures.value) (settled-by _ _ here.begun tt)))
   | else-is_printed_ascii-2+then-is_lead+else-this-ne0 w ↦
       let read = w.read_longer-next.ensures in
-      rw (w.self-is, w.performer-is, w.position-is) (advances-moved (omega (arith, read.moves.further here.within)) (advances-part read.advances))
+      rw (w.self-is, w.performer-is, w.position-is)
+      (advances-moved (omega (arith, read.moves.further here.within)) (advances-part read.advances))
   | else-is_printed_ascii-2+else-is_lead+else-byte-eq-ESCAPE w ↦
       let told = w.tell_single.ensures in
       rw (w.self-is, w.performer-is, w.position-is) (advances-part (advances-byte here.within here.is here.may_go_on
-      (performs-single here.begun w.if-byte-eq-ESCAPE.false (sym w.is_lead.ensures ∙ w.if-is_lead.false) told.control told.malformed) (settled-by _ _ here.begun tt)))
+      (performs-single here.begun w.if-byte-eq-ESCAPE.false
+      (sym w.is_lead.ensures ∙ w.if-is_lead.false) told.control told.malformed) (settled-by _ _ here.begun tt)))
 ]
 
 pub returns-then-byte-eq-ESCAPE-clause-advances : goal.returns-then-byte-eq-ESCAPE-clause-advances
 returns-then-byte-eq-ESCAPE-clause-advances g c =
-    advances-then (reached g (goal.at.returns-then-byte-eq-ESCAPE-clause-advances g c).Joined-IN_RUNS-2) (advances-part c.read_sequence.ensures.advances)
+    advances-then (reached g (goal.at.returns-then-byte-eq-ESCAPE-clause-advances g c).Joined-IN_RUNS-2)
+    (advances-part c.read_sequence.ensures.advances)
 
 pub returns-then-terminated-2-clause-advances : goal.returns-then-terminated-2-clause-advances
 returns-then-terminated-2-clause-advances g c =
     let places = goal.at.returns-then-terminated-2-clause-advances g c in
-    advances-then (reached g places.Joined-IN_RUNS-2) (read g places.Joined-is_printed_ascii-2 (at g places.Joined-IN_RUNS-2))
+    advances-then (reached g places.Joined-IN_RUNS-2)
+    (read g places.Joined-is_printed_ascii-2 (at g places.Joined-IN_RUNS-2))
 
 pub returns-then-terminated-clause-advances : goal.returns-then-terminated-clause-advances
 returns-then-terminated-clause-advances g c =
-    advances-then (reached g (goal.at.returns-then-terminated-clause-advances g c).Joined-IN_RUNS-2) (advances-part c.read_longer-next.ensures.advances)
+    advances-then (reached g (goal.at.returns-then-terminated-clause-advances g c).Joined-IN_RUNS-2)
+    (advances-part c.read_longer-next.ensures.advances)
 
 pub loop-position-2-preserved-then-not-IN_RUNS : goal.loop-position-2-preserved-then-not-IN_RUNS
 loop-position-2-preserved-then-not-IN_RUNS g c =
@@ -140,7 +163,10 @@ loop-position-2-preserved g c =
       between = elim c.if-is_printed_ascii-2.branch [
         | then-is_printed_ascii-2 w ↦ rw w.self-is (λ _. here.begun)
         | else-is_printed_ascii-2+then-is_lead+else-this-ne0 w ↦
-            rw (w.self-is, w.position-is) (λ inside. w.read_longer-next.ensures.text (omega (arith, inside, w.read_longer-next.ensures.moves.further here.within)))
+            rw (w.self-is, w.position-is)
+            (λ inside.
+            w.read_longer-next.ensures.text
+            (omega (arith, inside, w.read_longer-next.ensures.moves.further here.within)))
         | else-is_printed_ascii-2+else-is_lead+else-byte-eq-ESCAPE w ↦ rw w.self-is (λ _. here.begun)
       ];
       low = search rules;

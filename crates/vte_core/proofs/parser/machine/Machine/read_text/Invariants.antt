@@ -1,21 +1,27 @@
 use Rattle.vte_core.proofs.Common.{◌≡◌, ◌+◌, ◌-◌, ◌*◌, ◌<◌, ◌≤◌, ℕ, not, eqb, true, false, length, slice_index, Text, Nothing, looked, Advances, MayGoOn}
 use Rattle.vte_core.proofs.parser.machine.Machine.read_text.Given as goal
 
--- A byte of text has three looks at most, and one more if it is searched. One of a text in runs, which isn't, has five.
+-- A byte of text has three looks at most, and one more if it is searched. One of a text in runs,
+-- which isn't, has five.
 abbrev pub invariant-loop-position-2 : goal.invariant-loop-position-2
 invariant-loop-position-2 g l = record {
-  advances : Advances ⊥ (not (eqb g.row.ASKS 0)) g.P.CountedPerform.step g.P.CountedPerform.is_terminated (g.P.CountedPerform.value_of l.fn.performer)
+  advances : Advances ⊥ (not (eqb g.row.ASKS 0)) g.P.CountedPerform.step g.P.CountedPerform.is_terminated
+      (g.P.CountedPerform.value_of l.fn.performer)
       (g.P.CountedPerform.value_of l.performer) g.B.Buffer.limit l.input.bytes.now l.from l.position l.fn.self l.self;
-  may_go_on : MayGoOn (not (eqb g.row.ASKS 0)) g.P.CountedPerform.is_terminated (g.P.CountedPerform.value_of l.performer);
+  may_go_on : MayGoOn (not (eqb g.row.ASKS 0)) g.P.CountedPerform.is_terminated
+      (g.P.CountedPerform.value_of l.performer);
   between : l.position < length l.input.bytes.now → l.self.state ≡ Text Nothing;
   low : l.from ≤ l.position;
   high : l.position ≤ length l.input.bytes.now;
   moves : l.initial.position ≤ l.position;
   further : l.initial.position ≡ l.position → l.position < length l.front.bytes.now;
-  count : g.G.Grain.IN_RUNS ≡ false → looked l.looks + 4 * l.from ≤ looked l.fn.looks + 3 * l.position + length l.front.bytes.now;
-  escape : g.G.Grain.IN_RUNS ≡ false → (k : ℕ) → l.position ≤ k → k < length l.front.bytes.now → slice_index l.input.bytes.now k ≡ 0x1b →
+  count : g.G.Grain.IN_RUNS ≡ false
+      → looked l.looks + 4 * l.from ≤ looked l.fn.looks + 3 * l.position + length l.front.bytes.now;
+  escape : g.G.Grain.IN_RUNS ≡ false → (k : ℕ) → l.position ≤ k → k < length l.front.bytes.now
+      → slice_index l.input.bytes.now k ≡ 0x1b →
       looked l.looks + 4 * l.from ≤ looked l.fn.looks + 3 * l.position + k + 1;
-  near : (g.G.Grain.IN_RUNS ≡ false → not (eqb g.row.ASKS 0) ≡ true) → looked l.looks + 5 * l.from ≤ looked l.fn.looks + 5 * l.position;
+  near : (g.G.Grain.IN_RUNS ≡ false → not (eqb g.row.ASKS 0) ≡ true)
+      → looked l.looks + 5 * l.from ≤ looked l.fn.looks + 5 * l.position;
   least : looked l.fn.looks + l.position ≤ looked l.looks + l.from;
   memory : l.fn.self.command.capacity ≤ l.self.command.capacity;
 }
@@ -25,9 +31,11 @@ decreases-loop-position-2 g l = length l.front.bytes.now - l.position
 
 abbrev pub invariant-loop-position : goal.invariant-loop-position
 invariant-loop-position g l = record {
-  advances : Advances ⊥ (not (eqb g.row.ASKS 0)) g.P.CountedPerform.step g.P.CountedPerform.is_terminated (g.P.CountedPerform.value_of l.fn.performer)
+  advances : Advances ⊥ (not (eqb g.row.ASKS 0)) g.P.CountedPerform.step g.P.CountedPerform.is_terminated
+      (g.P.CountedPerform.value_of l.fn.performer)
       (g.P.CountedPerform.value_of l.performer) g.B.Buffer.limit l.input.bytes.now l.from l.position l.fn.self l.self;
-  may_go_on : MayGoOn (not (eqb g.row.ASKS 0)) g.P.CountedPerform.is_terminated (g.P.CountedPerform.value_of l.performer);
+  may_go_on : MayGoOn (not (eqb g.row.ASKS 0)) g.P.CountedPerform.is_terminated
+      (g.P.CountedPerform.value_of l.performer);
   between : l.position < length l.input.bytes.now → l.self.state ≡ Text Nothing;
   low : l.from ≤ l.position;
   high : l.position ≤ length l.input.bytes.now;
@@ -36,10 +44,13 @@ invariant-loop-position g l = record {
   same : (k : ℕ) → k < length l.front.bytes.now → slice_index l.front.bytes.now k ≡ slice_index l.input.bytes.now k;
   before : l.position < length l.input.bytes.now → l.position < length l.front.bytes.now;
   further : l.from ≡ l.position → l.position < length l.input.bytes.now;
-  count : g.G.Grain.IN_RUNS ≡ false → looked l.looks + 4 * l.from ≤ looked l.fn.looks + 3 * l.position + length l.front.bytes.now;
-  escape : g.G.Grain.IN_RUNS ≡ false → (k : ℕ) → l.position ≤ k → k < length l.front.bytes.now → slice_index l.input.bytes.now k ≡ 0x1b →
+  count : g.G.Grain.IN_RUNS ≡ false
+      → looked l.looks + 4 * l.from ≤ looked l.fn.looks + 3 * l.position + length l.front.bytes.now;
+  escape : g.G.Grain.IN_RUNS ≡ false → (k : ℕ) → l.position ≤ k → k < length l.front.bytes.now
+      → slice_index l.input.bytes.now k ≡ 0x1b →
       looked l.looks + 4 * l.from ≤ looked l.fn.looks + 3 * l.position + k + 1;
-  near : (g.G.Grain.IN_RUNS ≡ false → not (eqb g.row.ASKS 0) ≡ true) → looked l.looks + 5 * l.from ≤ looked l.fn.looks + 5 * l.position;
+  near : (g.G.Grain.IN_RUNS ≡ false → not (eqb g.row.ASKS 0) ≡ true)
+      → looked l.looks + 5 * l.from ≤ looked l.fn.looks + 5 * l.position;
   least : looked l.fn.looks + l.position ≤ looked l.looks + l.from;
   memory : l.fn.self.command.capacity ≤ l.self.command.capacity;
 }

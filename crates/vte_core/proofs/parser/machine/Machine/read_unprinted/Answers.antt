@@ -12,7 +12,13 @@ loop-byte-init g c =
     let may_read = c.requires.may_read in
     record {
       advances = advances-nothing (λ _. settled-by _ _ may_read.begun tt);
-      may_read = record { begun = may_read.begun; may_go_on = may_read.may_go_on; within = may_read.within; is = c.at-byte.ensures.value };
+      may_read =
+          record {
+            begun = may_read.begun;
+            may_go_on = may_read.may_go_on;
+            within = may_read.within;
+            is = c.at-byte.ensures.value;
+          };
       other = rw c.at-byte.ensures.value (ends-unprinted _ _ may_read.within c.requires.other);
       lone = sym c.is_lead.ensures ∙ c.if-is_lead.false;
       spends = search rules;
@@ -24,8 +30,12 @@ loop-byte-preserved g c =
     let v = c.loop-byte.invariant in
     let told = c.tell_single.ensures in
     record {
-      advances = advances-then v.advances (advances-telling (advances-byte v.may_read.within v.may_read.is v.may_read.may_go_on
-          (performs-single v.may_read.begun c.loop-byte-test.true v.lone told.control told.malformed) (settled-by _ _ v.may_read.begun tt)) (λ stream place s. adds-single _ v.may_read.begun c.loop-byte-test.true v.other v.lone v.may_read.within v.may_read.is s));
+      advances =
+          advances-then v.advances (advances-telling (advances-byte v.may_read.within v.may_read.is v.may_read.may_go_on
+          (performs-single v.may_read.begun c.loop-byte-test.true v.lone told.control told.malformed)
+          (settled-by _ _ v.may_read.begun tt))
+          (λ stream place s.
+          adds-single _ v.may_read.begun c.loop-byte-test.true v.other v.lone v.may_read.within v.may_read.is s));
       may_read = record {
         begun = v.may_read.begun;
         may_go_on = λ _. sym c.terminated.ensures ∙ c.if-terminated.false;
@@ -43,14 +53,20 @@ returns-then-position-len-clause-advances g c =
     let v = c.loop-byte.invariant in
     let told = c.tell_single.ensures in
     advances-then v.advances (advances-telling (advances-byte v.may_read.within v.may_read.is v.may_read.may_go_on
-    (performs-single v.may_read.begun c.loop-byte-test.true v.lone told.control told.malformed) (settled-by _ _ v.may_read.begun tt)) (λ stream place s. adds-single _ v.may_read.begun c.loop-byte-test.true v.other v.lone v.may_read.within v.may_read.is s))
+    (performs-single v.may_read.begun c.loop-byte-test.true v.lone told.control told.malformed)
+    (settled-by _ _ v.may_read.begun tt))
+    (λ stream place s.
+    adds-single _ v.may_read.begun c.loop-byte-test.true v.other v.lone v.may_read.within v.may_read.is s))
 
 pub returns-then-is_printed_ascii-clause-advances : goal.returns-then-is_printed_ascii-clause-advances
 returns-then-is_printed_ascii-clause-advances g c =
     let v = c.loop-byte.invariant in
     let told = c.tell_single.ensures in
     advances-then v.advances (advances-telling (advances-byte v.may_read.within v.may_read.is v.may_read.may_go_on
-    (performs-single v.may_read.begun c.loop-byte-test.true v.lone told.control told.malformed) (settled-by _ _ v.may_read.begun tt)) (λ stream place s. adds-single _ v.may_read.begun c.loop-byte-test.true v.other v.lone v.may_read.within v.may_read.is s))
+    (performs-single v.may_read.begun c.loop-byte-test.true v.lone told.control told.malformed)
+    (settled-by _ _ v.may_read.begun tt))
+    (λ stream place s.
+    adds-single _ v.may_read.begun c.loop-byte-test.true v.other v.lone v.may_read.within v.may_read.is s))
 
 pub returns-clause-moves : goal.returns-clause-moves
 returns-clause-moves g c =

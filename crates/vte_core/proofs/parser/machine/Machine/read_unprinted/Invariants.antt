@@ -4,9 +4,11 @@ use Rattle.vte_core.proofs.parser.machine.Machine.read_unprinted.Given as goal
 
 abbrev pub invariant-loop-byte : goal.invariant-loop-byte
 invariant-loop-byte g l = record {
-  advances : Advances (Unit {0}) true g.P.CountedPerform.step g.P.CountedPerform.is_terminated (g.P.CountedPerform.value_of l.fn.performer)
+  advances : Advances (Unit {0}) true g.P.CountedPerform.step g.P.CountedPerform.is_terminated
+      (g.P.CountedPerform.value_of l.fn.performer)
       (g.P.CountedPerform.value_of l.performer) g.B.Buffer.limit l.input.bytes.now l.from l.position l.fn.self l.self;
-  may_read : MayReadByte true g.P.CountedPerform.is_terminated (g.P.CountedPerform.value_of l.performer) (Text Nothing) l.self l.input.bytes.now l.position l.byte;
+  may_read : MayReadByte true g.P.CountedPerform.is_terminated (g.P.CountedPerform.value_of l.performer)
+      (Text Nothing) l.self l.input.bytes.now l.position l.byte;
   other : is_in (to 0x20 0x7f) l.byte ≡ false;
   lone : is_in (to 0xc2 0xf4) l.byte ≡ false;
   spends : Spends 3 0 1 l.input.bytes.now l.from l.position l.fn.self l.self l.fn.looks l.looks;

@@ -28,7 +28,8 @@ const PIECE: usize = 4096;
 pub fn run<R: Source, W: Sink>(reader: &mut R, writer: &mut W) -> Result<(), Fault>
     ensures lines { (input held : List ℕ) → R.to_come reader.old ≡ Some input
         → W.taken writer.old ≡ Some held →
-        LogsExactly result input held (R.to_come reader.new) (W.taken writer.new) (R.has_failed reader.new) }
+        LogsExactly result input held (R.to_come reader.new) (W.taken writer.new)
+        (R.has_failed reader.new) }
     ensures read_to_the_end { OnOk result (R.has_failed reader.new ≡ false) }
     ensures write_failed { result ≡ Err Fault.Write → W.has_failed writer.new ≡ true }
 {
@@ -42,7 +43,8 @@ pub fn run<R: Source, W: Sink>(reader: &mut R, writer: &mut W) -> Result<(), Fau
 pub fn run_text<R: Source, W: Sink>(reader: &mut R, writer: &mut W) -> Result<(), Fault>
     ensures text { (input held : List ℕ) → R.to_come reader.old ≡ Some input
         → W.taken writer.old ≡ Some held →
-        StripsExactly result input held (R.to_come reader.new) (W.taken writer.new) (R.has_failed reader.new) }
+        StripsExactly result input held (R.to_come reader.new) (W.taken writer.new)
+        (R.has_failed reader.new) }
     ensures read_to_the_end { OnOk result (R.has_failed reader.new ≡ false) }
     ensures write_failed { result ≡ Err Fault.Write → W.has_failed writer.new ≡ true }
 {

@@ -30,9 +30,15 @@ impl<B: Buffer> Model for Store<B> {
 
     ghost Value = { Held };
 
-    ghost view = { λ store. record { capacity = B.capacity store.bytes; bytes = B.held store.bytes; ends = store.ends.items; dropped = store.dropped } };
+    ghost view = { λ store. record {
+      capacity = B.capacity store.bytes;
+      bytes = B.held store.bytes;
+      ends = store.ends.items;
+      dropped = store.dropped;
+    } };
 
-    ghost invariant = { λ store. IsNonDecreasing store.ends.items × All (λ end. end ≤ length (B.held store.bytes)) store.ends.items };
+    ghost invariant = { λ store. IsNonDecreasing store.ends.items
+        × All (λ end. end ≤ length (B.held store.bytes)) store.ends.items };
 }
 
 impl<B: Buffer> Store<B> {

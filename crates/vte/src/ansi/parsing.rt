@@ -140,7 +140,10 @@ pub(crate) fn parse_all<
     ensures parsed { (s : State H.Value T.Value) (n : ℕ)
         → IsReady (parts B.limit B.reading J.room T.value_of) parser.old state.old
         (H.value_of handler.old) s (length bytes.now + n) →
-        IsParsedOn (parts B.limit B.reading J.room T.value_of) parser.old state.old parser.new state.new (H.value_of handler.new) (parse (meaning B.limit H.step T.set T.clear T.allows) s bytes.now) }
+        IsParsedOn
+        (parts B.limit B.reading J.room T.value_of) parser.old state.old parser.new state.new
+        (H.value_of handler.new)
+        (parse (meaning B.limit H.step T.set T.clear T.allows) s bytes.now) }
     ensures room { (s : State H.Value T.Value) (n : ℕ)
         → IsReady (parts B.limit B.reading J.room T.value_of) parser.old state.old
         (H.value_of handler.old) s (length bytes.now + n) →
@@ -169,7 +172,9 @@ pub(crate) fn parse_until_begin<
         → IsReady (parts B.limit B.reading J.room T.value_of) parser.old state.old
         (H.value_of handler.old) s (length bytes.now + n) →
         IsAtBegin (meaning B.limit H.step T.set T.clear T.allows) s bytes.now result.0 result.1
-        (IsParsedOn (parts B.limit B.reading J.room T.value_of) parser.old state.old parser.new state.new (H.value_of handler.new)) }
+        (IsParsedOn
+        (parts B.limit B.reading J.room T.value_of) parser.old state.old parser.new state.new
+        (H.value_of handler.new)) }
 {
     let mut performer = Performer {
         state,

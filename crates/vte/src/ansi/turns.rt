@@ -111,7 +111,8 @@ impl<B: EventParser + Drop, J: TextBuffer + Drop, T: Timeout + Drop, A: Allocato
             → (0 < length s.held
             → B.reading.has_room self.old.parser (J.room self.old.state.text) s.parsed
             (length s.held + n)) →
-            AreNextAt (parts B.limit B.reading J.room T.value_of) self.old self.new (H.value_of handler.new) (stop (meaning B.limit H.step T.set T.clear T.allows) s) }
+            AreNextAt (parts B.limit B.reading J.room T.value_of) self.old self.new
+            (H.value_of handler.new) (stop (meaning B.limit H.step T.set T.clear T.allows) s) }
         ensures hold { self.new.hold ≡ self.old.hold }
     {
         self.parse_released::<H, G>(handler);
@@ -127,12 +128,15 @@ impl<B: EventParser + Drop, J: TextBuffer + Drop, T: Timeout + Drop, A: Allocato
             (0 < length (released_of self.old.hold)
             → B.reading.has_room self.old.parser (J.room self.old.state.text) s.parsed
             (length (released_of self.old.hold) + n)) →
-            IsParsedOn (parts B.limit B.reading J.room T.value_of) self.old.parser self.old.state self.new.parser self.new.state (H.value_of handler.new)
+            IsParsedOn
+            (parts B.limit B.reading J.room T.value_of) self.old.parser self.old.state
+            self.new.parser self.new.state (H.value_of handler.new)
             (parse (meaning B.limit H.step T.set T.clear T.allows) s (released_of self.old.hold)) }
         ensures room { (s : State H.Value T.Value) (n : ℕ) →
             IsReady (parts B.limit B.reading J.room T.value_of) self.old.parser self.old.state
             (H.value_of handler.old) s (length (released_of self.old.hold) + n) →
-            B.reading.has_room self.new.parser (J.room self.new.state.text) (s.parsed ++ released_of self.old.hold) n }
+            B.reading.has_room self.new.parser (J.room self.new.state.text)
+            (s.parsed ++ released_of self.old.hold) n }
         ensures hold { self.new.hold ≡ self.old.hold }
     {
         let released = self.hold.released();

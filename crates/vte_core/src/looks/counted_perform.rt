@@ -61,7 +61,8 @@ pub(crate) trait CountedPerform<B, G> {
 
     fn csi_dispatch(&mut self, looks: &mut Looks<B>, held: &Collected, ignore: bool, byte: u8)
         ensures { Tells step (value_of self.old) (value_of self.new)
-            (CsiDispatch held.now.params held.now.intermediates.items ignore byte) looks.old looks.new };
+            (CsiDispatch held.now.params held.now.intermediates.items ignore byte)
+            looks.old looks.new };
 
     fn esc_dispatch(&mut self, looks: &mut Looks<B>, held: &Collected, byte: u8)
         ensures { Tells step (value_of self.old) (value_of self.new)

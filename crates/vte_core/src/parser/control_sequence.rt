@@ -127,7 +127,8 @@ impl<B: Buffer> Machine<B> {
         requires room { position < 18446744073709551615 }
         ensures next { result ≡ position + 1 }
         ensures dispatches { Dispatches P.step (P.value_of performer.old) (P.value_of performer.new)
-            (CsiDispatch self.old.collected.params self.old.collected.intermediates.items ignore byte) self.old self.new looks.old looks.new }
+            (CsiDispatch self.old.collected.params self.old.collected.intermediates.items ignore
+            byte) self.old self.new looks.old looks.new }
     {
         self.state = State::Text(Unfinished::Nothing);
         performer.csi_dispatch(looks, &self.collected, ignore, byte);

@@ -47,7 +47,8 @@ impl<B: Buffer> Machine<B> {
         input: Input<'_, B>,
     ) -> usize
         ensures stands_at { (stream : List ℕ) → IsBehind B.limit self.old stream →
-            StandsAt ASKS P.step P.is_terminated (P.value_of performer.old) (P.value_of performer.new) B.limit stream
+            StandsAt ASKS P.step P.is_terminated (P.value_of performer.old)
+            (P.value_of performer.new) B.limit stream
             input.entry.bytes.now result self.new }
         ensures settled { result < length input.entry.bytes.now → IsSettled self.new.state }
         ensures spends { Spends 2 0 2 input.entry.bytes.now 0 result self.old self.new

@@ -105,7 +105,8 @@ impl<B: Buffer> Machine<B> {
         requires other { byte ≢ 0x5b }
         ensures performs { (place : Place) → Stands B.limit self.old place → IsBetween place
             → Performs P.step
-            (P.value_of performer.old) (P.value_of performer.new) B.limit place (byte ∷ []) self.new }
+            (P.value_of performer.old) (P.value_of performer.new) B.limit place
+            (byte ∷ []) self.new }
         ensures handles { Handles 2 P.step (P.value_of performer.old)
             (P.value_of performer.new) self.old self.new looks.old looks.new }
     {
@@ -197,7 +198,8 @@ impl<B: Buffer> Machine<B> {
         byte: u8,
     )
         ensures { Dispatches P.step (P.value_of performer.old) (P.value_of performer.new)
-            (EscDispatch self.old.collected.intermediates.items self.old.collected.too_many byte) self.old self.new looks.old looks.new }
+            (EscDispatch self.old.collected.intermediates.items self.old.collected.too_many byte)
+            self.old self.new looks.old looks.new }
     {
         performer.esc_dispatch(looks, &self.collected, byte);
         self.state = State::Text(Unfinished::Nothing);

@@ -65,7 +65,8 @@ pub fn replay_long<H: Handler, T: Timeout + Drop, A: Allocator>(
         (H.value_of handler.old) (H.value_of handler.new) steps.now) }
     ensures refuses { IfErr result (λ refused. (s : State H.Value T.Value)
         → IsAtLong T.value_of processor.old (H.value_of handler.old) s →
-        ReplayedUntil (meaning None H.step T.set T.clear T.allows) s steps.now refused (IsAtLong T.value_of processor.new (H.value_of handler.new))) }
+        ReplayedUntil (meaning None H.step T.set T.clear T.allows) s steps.now refused
+        (IsAtLong T.value_of processor.new (H.value_of handler.new))) }
     ensures lacks { IfErr result (λ refused. (s : State H.Value T.Value)
         → IsAtLong T.value_of processor.old (H.value_of handler.old) s →
         LacksMemoryFor T.value_of processor.new (left_by steps.now refused)) }

@@ -18,15 +18,15 @@ pub const CSI: u8 = 6;
 
 pub const ESC: u8 = 7;
 
-/// An event, or the events of a text or of data. Groups of numbers and pieces of an operating system
-/// command are in the data area, from `start` on; a text or data is there if `flag` is 1, and
-/// otherwise in the input of the call.
+/// An event, or the events of a text or of data. Groups of numbers and pieces of an operating
+/// system command are in the data area, from `start` on; a text or data is there if `flag` is 1,
+/// and otherwise in the input of the call.
 #[repr(C)]
 #[derive(Clone, Copy)]
 pub struct VteEvent {
     pub kind: u8,
-    // `ignore` of a sequence; of a command 1 if BEL ended it, and 2 if it lost data bytes; whether a
-    // text or data is in the data area
+    // `ignore` of a sequence; of a command 1 if BEL ended it, and 2 if it lost data bytes; whether
+    // a text or data is in the data area
     pub flag: u8,
     pub intermediate_count: u8,
     // how many groups or pieces there are

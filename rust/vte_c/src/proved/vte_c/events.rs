@@ -5,7 +5,8 @@ use crate::proved::vte_c::event::{self, has, VteEvent};
 use crate::proved::vte_c::packed::Packed;
 use vte::{Params, Perform, Run, Taken};
 
-/// The most data bytes of one event: 16 pieces of together 1,024 bytes, each after four with its length.
+/// The most data bytes of one event: 16 pieces of together 1,024 bytes, each after four with its
+/// length.
 pub(crate) const MOST_DATA: usize = 1088;
 
 /// The most data bytes of what one byte of a stream adds: an event, and a character after it.
@@ -14,8 +15,8 @@ const MOST_ADDED: usize = MOST_DATA + 4;
 /// Writes events of some kinds into the caller's buffers, each as a whole or not at all.
 ///
 /// It is terminated if there is no room for what one byte may add: two events, and the data of one
-/// and of a character. It also is after a command, so that the parser can be asked whether that lost
-/// data, and after an event of the kinds that stop.
+/// and of a character. It also is after a command, so that the parser can be asked whether that
+/// lost data, and after an event of the kinds that stop.
 pub(crate) struct Events<'a> {
     events: &'a mut [VteEvent],
     area: &'a mut [u8],
@@ -125,7 +126,8 @@ impl<'a> Events<'a> {
         }
     }
 
-    /// Writes a run that is in the input, where the parser returned it for the bytes from a place on.
+    /// Writes a run that is in the input, where the parser returned it for the bytes from a place
+    /// on.
     #[inline(always)]
     pub(crate) fn add_run(&mut self, from: usize, run: Run<'_>) {
         let start = (from + run.start) as u32;

@@ -20,7 +20,8 @@ pub struct VteCounts {
     pub bytes: usize,
 }
 
-/// Reads bytes until they end, the buffers are nearly full, or an event that stops was written. Returns how many were read.
+/// Reads bytes until they end, the buffers are nearly full, or an event that stops was written.
+/// Returns how many were read.
 pub(crate) fn feed(
     parser: &mut Saved,
     bytes: &[u8],

@@ -1,9 +1,10 @@
 // Written by tools/erase from crates/vte_c/src/lib.rt. Don't edit this file: edit that one, and run the tool.
 //! The parser as a library for C, and for whatever links C.
 //!
-//! A parser is plain data that the caller owns, and so are the buffers for what it tells. The library takes no memory and keeps no
-//! pointer. `include/vte.h` declares these functions for C, and docs/C.md says how to use them. No pointer may be null, and what is
-//! written may not overlap anything else that is passed.
+//! A parser is plain data that the caller owns, and so are the buffers for what it tells. The
+//! library takes no memory and keeps no pointer. `include/vte.h` declares these functions for C,
+//! and docs/C.md says how to use them. No pointer may be null, and what is written may not overlap
+//! anything else that is passed.
 
 pub(crate) mod event;
 pub(crate) use event::VteEvent;
@@ -29,8 +30,8 @@ const EVENT_SIZE: usize = size_of::<VteEvent>();
 /// Text is in runs, and so is the data of device control strings: a record says where one is in the
 /// bytes, or in the data area.
 ///
-/// It stops early when the buffers are nearly full, and after an event of the kinds `stops`, which at
-/// most one follows: call it again with the rest. If there is room for fewer than
+/// It stops early when the buffers are nearly full, and after an event of the kinds `stops`, which
+/// at most one follows: call it again with the rest. If there is room for fewer than
 /// `vte_least_events` events or `vte_least_data` data bytes, it reads nothing and returns
 /// `usize::MAX`.
 pub fn vte_feed(
@@ -45,10 +46,11 @@ pub fn vte_feed(
     feed::feed(parser, bytes, kinds, stops, events, area, counts)
 }
 
-/// Reads bytes, and writes the text that is left without the sequences. Returns how many bytes were read.
+/// Reads bytes, and writes the text that is left without the sequences. Returns how many bytes were
+/// read.
 ///
-/// It stops early when the buffer is nearly full. If it has room for fewer than `vte_least_text` bytes, nothing is read, and `usize::MAX`
-/// is returned.
+/// It stops early when the buffer is nearly full. If it has room for fewer than `vte_least_text`
+/// bytes, nothing is read, and `usize::MAX` is returned.
 pub fn vte_strip(parser: &mut Saved, bytes: &[u8], room: &mut [u8], written: &mut usize) -> usize {
     text::strip(parser, bytes, room, written)
 }
@@ -58,7 +60,8 @@ pub fn vte_is_open(parser: &Saved) -> u8 {
     u8::from(Parser::restored(parser).is_open())
 }
 
-/// Returns the version of this interface. It grows when programs compiled for an earlier version no longer work.
+/// Returns the version of this interface. It grows when programs compiled for an earlier version no
+/// longer work.
 pub fn vte_version() -> u32 {
     VERSION
 }

@@ -9,7 +9,8 @@ pub(crate) const LEAST_TEXT: usize = 16;
 /// The most bytes of text that one byte of a stream adds: one byte adds at most two characters.
 const MOST_TEXT: usize = 8;
 
-/// Writes text into the caller's buffer. What doesn't fit is dropped, so it is given only what fits.
+/// Writes text into the caller's buffer. What doesn't fit is dropped, so it is given only what
+/// fits.
 struct Text<'a> {
     room: &'a mut [u8],
     used: usize,
@@ -96,7 +97,8 @@ impl PerformText for Text<'_> {
     }
 }
 
-/// Reads bytes until they end or the buffer is nearly full, and writes their text. Returns how many were read.
+/// Reads bytes until they end or the buffer is nearly full, and writes their text. Returns how many
+/// were read.
 pub(crate) fn strip(
     parser: &mut Saved,
     bytes: &[u8],
@@ -114,7 +116,8 @@ pub(crate) fn strip(
     read
 }
 
-/// Reads bytes into an empty buffer, until they end or there may be no room for the text of one more.
+/// Reads bytes into an empty buffer, until they end or there may be no room for the text of one
+/// more.
 fn read_into(saved: &mut Saved, bytes: &[u8], room: &mut Text<'_>) -> usize {
     let mut parser = Parser::restored(saved);
     let mut count = 0;

@@ -108,7 +108,7 @@ static int read_row(void) {
 
 int main(int count, char **words) {
     int wrong = 0, tried = 0;
-    signal(SIGSEGV, crashed), signal(SIGABRT, crashed), signal(SIGFPE, crashed);
+    signal(SIGSEGV, crashed), signal(SIGABRT, crashed), signal(SIGILL, crashed);
     while (read_row()) {
         char *limit = strstr(row.text, "\"limit\": 1024, \"pieces\": "), word[100];
         if (limit == NULL || sscanf(row.text, "{\"id\": \"%199[^\"]", id) != 1) continue;

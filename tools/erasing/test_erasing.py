@@ -139,6 +139,8 @@ TOLD = [
      "use c::{A, C}; #[cfg(x)] use c::B; #[cfg(x)] pub use c::B; #[cfg(y)] pub use c::E; struct D; #[cfg(x)] impl D for B {}"),
     (dict(homes={"": {"p": "V"}, "a": {"q": "find g"}}), "use c::D; fn g() { find(V, x.find()) }", "use p::V; use q::find; use c::D; fn g() { find(V, x.find()) }"),
     (dict(homes={"a": {"c": "find"}}), "use c::D; pub use c::E; fn f() { find(D) }", "use c::{D, find}; pub use c::E; fn f() { find(D) }"),
+    (dict(homes={"a": {"c": "find"}}, under={"a": {"x": {"D"}}}), "use c::D; fn f() { find(1) }  fn g() { D }",
+     "use c::find; #[cfg(x)] use c::D; fn f() { find(1) } #[cfg(x)] fn g() { D }"),
     (dict(imports={"a": {"c::D": "e::D", "f::": ""}}), "use c::D; use c::{I as J, K}; use f::{G, H};", "use e::D; use c::{I as J, K};"),
     (dict(inlined={"a/x": "impl V"}), "impl V { pub(crate) fn f() {} fn g<T>() {} #[inline(always)] fn h() {} }",
      "impl V { #[inline] pub(crate) fn f() {} fn g<T>() {} #[inline(always)] fn h() {} }"),

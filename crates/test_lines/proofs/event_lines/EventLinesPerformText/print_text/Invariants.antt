@@ -1,8 +1,8 @@
 use Rattle.std.proofs.Common.{◌≡◌, false, map}
-use Rattle.event_lines.specs.Stop.{stop_after}
+use Rattle.test_lines.specs.Stop.{stop_after}
 use Rattle.vte_core.specs.Perform.{after}
 use Rattle.vte_core.specs.Text.{run_event}
-use Rattle.event_lines.proofs.EventLinesPerformText.print_text.Given as goal
+use Rattle.test_lines.proofs.event_lines.EventLinesPerformText.print_text.Given as goal
 
 abbrev pub invariant-loop-c : goal.invariant-loop-c
 invariant-loop-c l = l.self.stop ≡ after stop_after l.initial.self.stop (map (run_event false) l.yielded)

@@ -40,7 +40,7 @@ performed-events m lent (event ∷ events) fit =
 
 -- ---- the performer gives back what it was lent
 
-module _ {H J T V W : Type 0} (handler_of : H → V) (timeout_of : T → W) (room_of : J → ℕ) (m : Meaning V W)
+module _ {H T J G V W : Type 0} (handler_of : H → V) (timeout_of : T → W) (room_of : J → ℕ) (m : Meaning V W)
     (s : State V W) (f : List ℕ)
     (old : Lent V W) (new : Performer H T J G) {state : ProcessorState T J}
     (fit : All (FitsText old.room) (added m.limit s.parsed f))

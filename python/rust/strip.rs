@@ -9,27 +9,27 @@ use pyo3::prelude::*;
 use pyo3::types::PyString;
 use std::borrow::Cow;
 use std::collections::TryReserveError;
-use vte::{Perform, PerformText};
+use vte::{LongParser, Perform, PerformText, Refused};
 
 /// What is shown. Nothing is copied as long as it is the front of the source.
 struct Shown<'a> {
     source: &'a [u8],
     same: usize,
     text: Vec<u8>,
-    refused: Option<TryReserveError>,
+    is_refused: bool,
 }
 
 impl<'a> Shown<'a> {
     fn new(source: &'a [u8]) -> Self {
-        Shown { source, same: 0, text: Vec::new(), refused: None }
+        Shown { source, same: 0, text: Vec::new(), is_refused: false }
     }
 
     #[inline]
     fn add(&mut self, more: &[u8]) {
         if self.text.is_empty() && self.source[self.same..].starts_with(more) {
             self.same += more.len();
-        } else if self.refused.is_none() {
-            self.refused = self.push(more).err();
+        } else if !self.is_refused {
+            self.is_refused = self.push(more).is_err();
         }
     }
 
@@ -43,11 +43,11 @@ impl<'a> Shown<'a> {
         Ok(())
     }
 
-    fn all(self) -> Result<Cow<'a, [u8]>, TryReserveError> {
-        match self.refused {
-            Some(refused) => Err(refused),
-            None if self.text.is_empty() => Ok(Cow::Borrowed(&self.source[..self.same])),
-            None => Ok(Cow::Owned(self.text)),
+    fn all(self) -> Result<Cow<'a, [u8]>, Refused> {
+        match self.is_refused {
+            true => Err(Refused { read: 0 }),
+            false if self.text.is_empty() => Ok(Cow::Borrowed(&self.source[..self.same])),
+            false => Ok(Cow::Owned(self.text)),
         }
     }
 }
@@ -76,8 +76,15 @@ impl PerformText for Shown<'_> {
     fn put_slice(&mut self, _: &[u8]) {}
 }
 
+/// The text of a whole stream. Of the two parsers this one is made in less time.
+fn shown(source: &[u8]) -> Result<Cow<'_, [u8]>, Refused> {
+    let mut shown = Shown::new(source);
+    LongParser::new().advance_text(&mut shown, source)?;
+    shown.all()
+}
+
 /// The text of more of a stream.
-fn shown<'a>(parser: &mut Limited, source: &'a [u8]) -> Result<Cow<'a, [u8]>, TryReserveError> {
+fn shown_by<'a>(parser: &mut Limited, source: &'a [u8]) -> Result<Cow<'a, [u8]>, Refused> {
     let mut shown = Shown::new(source);
     parser.get().advance_text(&mut shown, source);
     shown.all()
@@ -102,7 +109,7 @@ impl Perform for Single {
 }
 
 /// The text of a whole stream, with malformed bytes as they are.
-fn shown_with_bytes(source: &[u8]) -> Result<Cow<'_, [u8]>, TryReserveError> {
+fn shown_with_bytes(source: &[u8]) -> Result<Cow<'_, [u8]>, Refused> {
     let (mut parser, mut shown, mut at) = (Limited::new(), Shown::new(source), 0);
     while at < source.len() {
         let mut single = Single::default();
@@ -144,7 +151,7 @@ fn without_surrogates(data: &Bound<'_, PyString>) -> PyResult<Vec<u8>> {
 /// The text of a `str` or bytes by a function of bytes.
 fn strip_by<F>(py: Python<'_>, data: &Bound<'_, PyAny>, read: F) -> PyResult<PyObject>
 where
-    F: for<'a> FnOnce(&'a [u8]) -> Result<Cow<'a, [u8]>, TryReserveError> + Send,
+    F: for<'a> FnOnce(&'a [u8]) -> Result<Cow<'a, [u8]>, Refused> + Send,
 {
     let (of_text, of_bytes);
     let (source, is_text, is_itself) = match data.downcast::<PyString>() {
@@ -189,7 +196,7 @@ fn strip_with_bytes(py: Python<'_>, data: &Bound<'_, PyAny>) -> PyResult<PyObjec
 #[pyo3(signature = (data, errors="replace"))]
 pub fn strip(py: Python<'_>, data: &Bound<'_, PyAny>, errors: &str) -> PyResult<PyObject> {
     match errors {
-        "replace" => strip_by(py, data, |source| shown(&mut Limited::new(), source)),
+        "replace" => strip_by(py, data, shown),
         "surrogateescape" => strip_with_bytes(py, data),
         _ => Err(PyValueError::new_err(format!("errors must be 'replace' or 'surrogateescape', not {errors:?}"))),
     }
@@ -217,7 +224,7 @@ impl Stripper {
     fn strip(slf: &Bound<'_, Self>, data: &Bound<'_, PyAny>) -> PyResult<PyObject> {
         let mut stripper = borrowed(slf)?;
         let parser = &mut stripper.0;
-        strip_by(slf.py(), data, |source| shown(parser, source))
+        strip_by(slf.py(), data, |source| shown_by(parser, source))
     }
 
     fn __reduce__(slf: &Bound<'_, Self>) -> PyResult<PyObject> {

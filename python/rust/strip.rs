@@ -21,7 +21,12 @@ struct Shown<'a> {
 
 impl<'a> Shown<'a> {
     fn new(source: &'a [u8]) -> Self {
-        Shown { source, same: 0, text: Vec::new(), is_refused: false }
+        Shown {
+            source,
+            same: 0,
+            text: Vec::new(),
+            is_refused: false,
+        }
     }
 
     #[inline]
@@ -116,7 +121,9 @@ fn shown_with_bytes(source: &[u8]) -> Result<Cow<'_, [u8]>, Refused> {
         let run = parser.get().advance_to_run(&mut single, &source[at..]);
         match single.0 {
             // a well-formed one comes in a run
-            Some(char::REPLACEMENT_CHARACTER) => shown.add(malformed_end(&source[at..at + run.start])),
+            Some(char::REPLACEMENT_CHARACTER) => {
+                shown.add(malformed_end(&source[at..at + run.start]))
+            }
             Some(c) => shown.add(c.encode_utf8(&mut [0; 4]).as_bytes()),
             None => {}
         }
@@ -128,9 +135,13 @@ fn shown_with_bytes(source: &[u8]) -> Result<Cow<'_, [u8]>, Refused> {
 
 /// The malformed bytes at the end: the front of a character, or one byte.
 fn malformed_end(bytes: &[u8]) -> &[u8] {
-    let ends = (1..=bytes.len().min(3)).rev().map(|count| &bytes[bytes.len() - count..]);
-    let is_front = |end: &&[u8]| matches!(std::str::from_utf8(end), Err(error) if error.valid_up_to() == 0 && error.error_len().is_none());
-    ends.clone().find(is_front).unwrap_or(&bytes[bytes.len() - 1..])
+    let end = |count: usize| &bytes[bytes.len() - count..];
+    let is_front = |count: &usize| match std::str::from_utf8(end(*count)) {
+        Ok(_) => false,
+        Err(error) => error.valid_up_to() == 0 && error.error_len().is_none(),
+    };
+    let most = bytes.len().min(3);
+    end((1..=most).rev().find(is_front).unwrap_or(1))
 }
 
 /// The UTF-8 of a `str`, with a replacement character for each surrogate.
@@ -139,7 +150,8 @@ fn without_surrogates(data: &Bound<'_, PyString>) -> PyResult<Vec<u8>> {
     let codes = codes.as_bytes();
     let mut made = Vec::new();
     // no character has more bytes in UTF-8 than in UTF-32
-    made.try_reserve(codes.len()).map_err(|_| no_memory(data.py()))?;
+    made.try_reserve(codes.len())
+        .map_err(|_| no_memory(data.py()))?;
     for code in codes.chunks_exact(4) {
         let code = u32::from_le_bytes([code[0], code[1], code[2], code[3]]);
         let c = char::from_u32(code).unwrap_or(char::REPLACEMENT_CHARACTER);
@@ -190,19 +202,23 @@ fn strip_with_bytes(py: Python<'_>, data: &Bound<'_, PyAny>) -> PyResult<PyObjec
 
 /// Returns the text of a whole stream, a `str` or bytes, without its sequences.
 ///
-/// For what isn't UTF-8, bytes or a lone surrogate of a `str`, U+FFFD stands in the text. With `errors="surrogateescape"` these bytes
-/// stay, and the surrogates that stand for bytes. An unfinished character at the end gives no text.
+/// For what isn't UTF-8, bytes or a lone surrogate of a `str`, U+FFFD stands in the text. With
+/// `errors="surrogateescape"` these bytes stay, and the surrogates that stand for bytes. An
+/// unfinished character at the end gives no text.
 #[pyfunction]
 #[pyo3(signature = (data, errors="replace"))]
 pub fn strip(py: Python<'_>, data: &Bound<'_, PyAny>, errors: &str) -> PyResult<PyObject> {
     match errors {
         "replace" => strip_by(py, data, shown),
         "surrogateescape" => strip_with_bytes(py, data),
-        _ => Err(PyValueError::new_err(format!("errors must be 'replace' or 'surrogateescape', not {errors:?}"))),
+        _ => Err(PyValueError::new_err(format!(
+            "errors must be 'replace' or 'surrogateescape', not {errors:?}"
+        ))),
     }
 }
 
-/// Reads a stream in pieces of any length and returns its text. It can be copied and pickled, for the same version of the package.
+/// Reads a stream in pieces of any length and returns its text. It can be copied and pickled, for
+/// the same version of the package.
 #[pyclass(module = "vte", subclass, weakref)]
 pub struct Stripper(Limited);
 
@@ -217,7 +233,8 @@ impl Stripper {
         text(slf.py(), b"vte.Stripper()")
     }
 
-    /// Reads more of the stream, and returns the text that this adds, without the sequences: characters, HT, LF and CR.
+    /// Reads more of the stream, and returns the text that this adds, without the sequences:
+    /// characters, HT, LF and CR.
     ///
     /// Of a `str` the text is a `str`, and of bytes it is in UTF-8.
     #[pyo3(signature = (data))]
@@ -230,7 +247,16 @@ impl Stripper {
     fn __reduce__(slf: &Bound<'_, Self>) -> PyResult<PyObject> {
         let (stripper, py) = (borrowed(slf)?, slf.py());
         let class = slf.get_type().into_any().unbind();
-        tuple(py, 3, [Ok(class), tuple(py, 0, std::iter::empty()), stripper.0.state(py)].into_iter())
+        tuple(
+            py,
+            3,
+            [
+                Ok(class),
+                tuple(py, 0, std::iter::empty()),
+                stripper.0.state(py),
+            ]
+            .into_iter(),
+        )
     }
 
     fn __setstate__(slf: &Bound<'_, Self>, state: &Bound<'_, PyAny>) -> PyResult<()> {

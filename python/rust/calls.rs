@@ -56,7 +56,8 @@ struct Record {
     values: [Value; MOST_VALUES],
 }
 
-/// The types of calls with the counts of their fields, the calls without a value, and the members of enumerations by number.
+/// The types of calls with the counts of their fields, the calls without a value, and the members
+/// of enumerations by number.
 pub struct Classes {
     kinds: Vec<(Class, usize)>,
     plain: Vec<Option<PyObject>>,
@@ -71,7 +72,10 @@ pub fn classes(py: Python<'_>) -> PyResult<&'static Classes> {
         let module = py.import_bound("vte.calls")?;
         let (mut kinds, mut plain, mut members) = (Vec::new(), Vec::new(), Vec::new());
         for name in KINDS {
-            let (class, count) = (Class::of(&module, name)?, module.getattr(*name)?.getattr("_fields")?.len()?);
+            let (class, count) = (
+                Class::of(&module, name)?,
+                module.getattr(*name)?.getattr("_fields")?.len()?,
+            );
             plain.push((count == 0).then(|| class.make(py, [])).transpose()?);
             kinds.push((class, count));
         }
@@ -86,7 +90,12 @@ pub fn classes(py: Python<'_>) -> PyResult<&'static Classes> {
             members.push(of);
         }
         let monotonic = py.import_bound("time")?.getattr("monotonic")?.unbind();
-        Ok(Classes { kinds, plain, members, monotonic })
+        Ok(Classes {
+            kinds,
+            plain,
+            members,
+            monotonic,
+        })
     })
 }
 
@@ -103,7 +112,8 @@ pub struct Recorder {
 }
 
 impl Recorder {
-    /// The most calls, and bytes, for what was open before some bytes. Most bytes make at most one call; more make OSC 104 and REP.
+    /// The most calls, and bytes, for what was open before some bytes. Most bytes make at most one
+    /// call; more make OSC 104 and REP.
     const CALLS_BEFORE: usize = 8;
     const CONTENT_PER_BYTE: usize = 3;
     const CONTENT_BEFORE: usize = 64;
@@ -167,7 +177,10 @@ impl Recorder {
     fn add_text(&mut self, text: &str) {
         let length = self.store(text.as_bytes());
         match self.records.last_mut() {
-            Some(Record { values: [Text(all), ..], .. }) if self.is_open => *all += length,
+            Some(Record {
+                values: [Text(all), ..],
+                ..
+            }) if self.is_open => *all += length,
             _ => self.add(Kind::Input, [Text(length), Nothing, Nothing]),
         }
         self.is_open = true;
@@ -289,12 +302,14 @@ impl TakeCall for Recorder {
             C::SetTabs(interval) => (Kind::SetTabs, count!(interval)),
             C::PopKeyboardModes(times) => (Kind::PopKeyboardModes, count!(times)),
             C::GotoLine(line) => (Kind::GotoLine, count!(line)),
-            C::Goto(line, column) => {
-                (Kind::Goto, [Number(i64::from(line)), Number(column as i64), Nothing])
-            }
-            C::SetTitle(title) => {
-                (Kind::SetTitle, [self.text_or_nothing(title), Nothing, Nothing])
-            }
+            C::Goto(line, column) => (
+                Kind::Goto,
+                [Number(i64::from(line)), Number(column as i64), Nothing],
+            ),
+            C::SetTitle(title) => (
+                Kind::SetTitle,
+                [self.text_or_nothing(title), Nothing, Nothing],
+            ),
             C::SetCursorStyle(style) => {
                 let shape = style.map_or(Nothing, |style| Member(Enum::Shape, style.shape as u16));
                 let blinking = Flag(style.map_or(false, |style| style.blinking));
@@ -317,43 +332,61 @@ impl TakeCall for Recorder {
             C::ReportPrivateMode(mode) => (Kind::ReportPrivateMode, count!(mode.raw())),
             C::SetScrollingRegion(top, bottom) => {
                 let bottom = bottom.map_or(Nothing, |bottom| Number(bottom as i64));
-                (Kind::SetScrollingRegion, [Number(top as i64), bottom, Nothing])
+                (
+                    Kind::SetScrollingRegion,
+                    [Number(top as i64), bottom, Nothing],
+                )
             }
             C::SetActiveCharset(index) => (Kind::SetActiveCharset, count!(index)),
             C::ConfigureCharset(index, charset) => {
                 let charset = Member(Enum::Charset, charset as u16);
-                (Kind::ConfigureCharset, [Number(index as i64), charset, Nothing])
+                (
+                    Kind::ConfigureCharset,
+                    [Number(index as i64), charset, Nothing],
+                )
             }
-            C::SetColor(index, rgb) => {
-                (Kind::SetColor, [Number(index as i64), Value::Rgb(rgb), Nothing])
-            }
+            C::SetColor(index, rgb) => (
+                Kind::SetColor,
+                [Number(index as i64), Value::Rgb(rgb), Nothing],
+            ),
             C::DynamicColorSequence(prefix, index, terminator) => {
                 let (prefix, terminator) = (self.text(prefix), self.text(terminator));
-                (Kind::DynamicColorSequence, [prefix, Number(index as i64), terminator])
+                (
+                    Kind::DynamicColorSequence,
+                    [prefix, Number(index as i64), terminator],
+                )
             }
             C::ClipboardStore(clipboard, content) => {
                 let content = Data(self.store(content));
                 (Kind::ClipboardStore, [Letter(clipboard), content, Nothing])
             }
-            C::ClipboardLoad(clipboard, terminator) => {
-                (Kind::ClipboardLoad, [Letter(clipboard), self.text(terminator), Nothing])
-            }
+            C::ClipboardLoad(clipboard, terminator) => (
+                Kind::ClipboardLoad,
+                [Letter(clipboard), self.text(terminator), Nothing],
+            ),
             C::SetHyperlink(link) => {
                 let id = self.text_or_nothing(link.and_then(|link| link.id));
                 let uri = self.text_or_nothing(link.map(|link| link.uri));
                 (Kind::SetHyperlink, [id, uri, Nothing])
             }
-            C::SetMouseCursorIcon(icon) => {
-                (Kind::SetMouseCursorIcon, [self.text(icon.name()), Nothing, Nothing])
-            }
+            C::SetMouseCursorIcon(icon) => (
+                Kind::SetMouseCursorIcon,
+                [self.text(icon.name()), Nothing, Nothing],
+            ),
             C::PushKeyboardMode(modes) => (Kind::PushKeyboardMode, count!(modes.bits())),
             C::SetKeyboardMode(modes, behavior) => {
                 let behavior = Member(Enum::Behavior, behavior as u16);
-                (Kind::SetKeyboardMode, [Number(i64::from(modes.bits())), behavior, Nothing])
+                (
+                    Kind::SetKeyboardMode,
+                    [Number(i64::from(modes.bits())), behavior, Nothing],
+                )
             }
             C::SetModifyOtherKeys(keys) => (Kind::SetModifyOtherKeys, member!(OtherKeys, keys)),
             C::SetScp(path, update) => {
-                let (path, update) = (Member(Enum::Path, path as u16), Member(Enum::Update, update as u16));
+                let (path, update) = (
+                    Member(Enum::Path, path as u16),
+                    Member(Enum::Update, update as u16),
+                );
                 (Kind::SetScp, [path, update, Nothing])
             }
         };
@@ -361,8 +394,8 @@ impl TakeCall for Recorder {
     }
 }
 
-/// Makes the recorded calls, and appends them to a list, but not a text if it may go on. If memory is refused, those that aren't made
-/// stay.
+/// Makes the recorded calls, and appends them to a list, but not a text if it may go on. If memory
+/// is refused, those that aren't made stay.
 pub fn make(calls: &Bound<'_, PyList>, recorder: &mut Recorder, ends: bool) -> PyResult<()> {
     let py = calls.py();
     let classes = classes(py)?;
@@ -375,7 +408,8 @@ pub fn make(calls: &Bound<'_, PyList>, recorder: &mut Recorder, ends: bool) -> P
             None => {
                 let (class, count) = &classes.kinds[record.kind as usize];
                 let values = record.values.iter();
-                let values = values.map(|value| object(py, classes, *value, &recorder.content, &mut end));
+                let values =
+                    values.map(|value| object(py, classes, *value, &recorder.content, &mut end));
                 class.make_of(py, *count, values)?
             }
         };
@@ -408,10 +442,14 @@ fn object(
         Letter(byte) => letter(py, byte),
         Member(of, number) => {
             let member = &classes.members[of as usize][usize::from(number)];
-            Ok(member.as_ref().map_or_else(|| py.None(), |member| member.clone_ref(py)))
+            Ok(member
+                .as_ref()
+                .map_or_else(|| py.None(), |member| member.clone_ref(py)))
         }
         Value::Rgb(Rgb { r, g, b }) => {
-            let parts = [r, g, b].into_iter().map(|part| number(py, i64::from(part)));
+            let parts = [r, g, b]
+                .into_iter()
+                .map(|part| number(py, i64::from(part)));
             classes.kinds[Kind::Rgb as usize].0.make_of(py, 3, parts)
         }
         Text(length) => text(py, own(length)),

@@ -1,5 +1,6 @@
-//! The events of a stream. They are recorded first, which needs no object and so not the interpreter's lock, and then made: if
-//! memory is refused to an object, the events that follow are still there.
+//! The events of a stream. They are recorded first, which needs no object and so not the
+//! interpreter's lock, and then made: if memory is refused to an object, the events that follow are
+//! still there.
 
 use crate::objects::{append, bytes, flag, letter, number, text, tuple, Class};
 use pyo3::exceptions::PyTypeError;
@@ -24,7 +25,9 @@ pub enum Kind {
     Data,
 }
 
-const NAMES: [&str; 9] = ["Text", "Execute", "Hook", "Put", "Unhook", "Osc", "Csi", "Esc", "Data"];
+const NAMES: [&str; 9] = [
+    "Text", "Execute", "Hook", "Put", "Unhook", "Osc", "Csi", "Esc", "Data",
+];
 
 /// A set of types of events.
 #[derive(Clone, Copy, PartialEq, Eq)]
@@ -44,7 +47,9 @@ impl Kinds {
     pub fn of(kinds: &Bound<'_, PyAny>) -> PyResult<Self> {
         let wrong = || {
             let names = NAMES.map(|name| format!("vte.{name}")).join(", ");
-            PyTypeError::new_err(format!("kinds must be types of events ({names}), not {kinds:?}"))
+            PyTypeError::new_err(format!(
+                "kinds must be types of events ({names}), not {kinds:?}"
+            ))
         };
         let classes = &classes(kinds.py())?.kinds;
         let mut made = Kinds::NONE;
@@ -74,7 +79,10 @@ pub fn classes(py: Python<'_>) -> PyResult<&'static Classes> {
     static CLASSES: GILOnceCell<Classes> = GILOnceCell::new();
     CLASSES.get_or_try_init(py, || {
         let module = py.import_bound("vte._events")?;
-        let kinds = NAMES.iter().map(|name| Class::of(&module, name)).collect::<PyResult<Vec<_>>>()?;
+        let kinds = NAMES
+            .iter()
+            .map(|name| Class::of(&module, name))
+            .collect::<PyResult<Vec<_>>>()?;
         let each = |kind: Kind| {
             let made = (0..=255).map(|byte| kinds[kind as usize].make(py, [number(py, byte)?]));
             made.collect::<PyResult<Vec<_>>>()
@@ -92,12 +100,20 @@ pub fn classes(py: Python<'_>) -> PyResult<&'static Classes> {
 /// An event. Texts, data, commands and sequences are stored beside it, in the same order.
 #[derive(Clone, Copy)]
 enum Record {
-    Text { length: usize },
-    Data { length: usize },
+    Text {
+        length: usize,
+    },
+    Data {
+        length: usize,
+    },
     Execute(u8),
     Put(u8),
     Unhook,
-    Command { pieces: usize, bell_terminated: bool, truncated: bool },
+    Command {
+        pieces: usize,
+        bell_terminated: bool,
+        truncated: bool,
+    },
     Sequence,
 }
 
@@ -151,12 +167,23 @@ impl Eq for Sequence {}
 impl Hash for Sequence {
     fn hash<H: Hasher>(&self, state: &mut H) {
         let [first, second] = self.intermediates;
-        let head = [self.kind as u8, self.last, self.ignore as u8, self.count, first, second];
-        let head = head.into_iter().fold(0, |all, byte| all << 8 | u64::from(byte));
+        let head = [
+            self.kind as u8,
+            self.last,
+            self.ignore as u8,
+            self.count,
+            first,
+            second,
+        ];
+        let head = head
+            .into_iter()
+            .fold(0, |all, byte| all << 8 | u64::from(byte));
         state.write_u64(head);
         for group in self.groups() {
             state.write_u64(group.len() as u64);
-            group.iter().for_each(|value| state.write_u64(u64::from(*value)));
+            group
+                .iter()
+                .for_each(|value| state.write_u64(u64::from(*value)));
         }
     }
 }
@@ -167,7 +194,9 @@ struct Mixed(u64);
 
 impl Hasher for Mixed {
     fn write(&mut self, bytes: &[u8]) {
-        bytes.iter().for_each(|byte| self.write_u64(u64::from(*byte)));
+        bytes
+            .iter()
+            .for_each(|byte| self.write_u64(u64::from(*byte)));
     }
 
     fn write_u64(&mut self, number: u64) {
@@ -186,7 +215,12 @@ pub struct Known(HashMap<Sequence, PyObject, BuildHasherDefault<Mixed>>);
 impl Known {
     const MOST: usize = 1024;
 
-    fn make(&mut self, py: Python<'_>, classes: &Classes, sequence: &Sequence) -> PyResult<PyObject> {
+    fn make(
+        &mut self,
+        py: Python<'_>,
+        classes: &Classes,
+        sequence: &Sequence,
+    ) -> PyResult<PyObject> {
         if let Some(known) = self.0.get(sequence) {
             return Ok(known.clone_ref(py));
         }
@@ -202,8 +236,9 @@ impl Known {
     }
 }
 
-/// Records events of some types. It is terminated after those of the types that stop a call, and where something else is to be done: after
-/// a command, and, if only commands are wanted, after each event, because what follows may be skipped.
+/// Records events of some types. It is terminated after those of the types that stop a call, and
+/// where something else is to be done: after a command, and, if only commands are wanted, after
+/// each event, because what follows may be skipped.
 #[derive(Default)]
 pub struct Recorder {
     records: Vec<Record>,
@@ -290,7 +325,8 @@ impl Recorder {
 
     fn add_data(&mut self, data: &[u8]) {
         if !self.kinds.has(Kind::Data) {
-            data.iter().for_each(|byte| self.add(Kind::Put, Record::Put(*byte)));
+            data.iter()
+                .for_each(|byte| self.add(Kind::Put, Record::Put(*byte)));
             return;
         }
         self.content.extend_from_slice(data);
@@ -313,7 +349,14 @@ impl Recorder {
             let mut both = [0; 2];
             both[..intermediates.len()].copy_from_slice(intermediates);
             let (params, count) = (params.cloned(), intermediates.len() as u8);
-            let sequence = Sequence { kind, params, intermediates: both, count, ignore, last };
+            let sequence = Sequence {
+                kind,
+                params,
+                intermediates: both,
+                count,
+                ignore,
+                last,
+            };
             self.sequences.push(sequence);
         }
         self.add(kind, Record::Sequence);
@@ -321,11 +364,20 @@ impl Recorder {
 
     fn add_command(&mut self, pieces: &[&[u8]], bell_terminated: bool, truncated: bool) {
         if self.kinds.has(Kind::Osc) {
-            pieces.iter().for_each(|piece| self.content.extend_from_slice(piece));
+            pieces
+                .iter()
+                .for_each(|piece| self.content.extend_from_slice(piece));
             self.pieces.extend(pieces.iter().map(|piece| piece.len()));
         }
         let pieces = pieces.len();
-        self.add(Kind::Osc, Record::Command { pieces, bell_terminated, truncated });
+        self.add(
+            Kind::Osc,
+            Record::Command {
+                pieces,
+                bell_terminated,
+                truncated,
+            },
+        );
     }
 }
 
@@ -339,7 +391,13 @@ impl Perform for Recorder {
     }
 
     fn hook(&mut self, params: &Params, intermediates: &[u8], ignore: bool, action: char) {
-        self.add_sequence(Kind::Hook, Some(params), intermediates, ignore, action as u8);
+        self.add_sequence(
+            Kind::Hook,
+            Some(params),
+            intermediates,
+            ignore,
+            action as u8,
+        );
     }
 
     fn put(&mut self, byte: u8) {
@@ -381,8 +439,8 @@ impl PerformText for Recorder {
     }
 }
 
-/// Makes the recorded events, and appends them to a list, but not the last if it may go on. If memory is refused, those that aren't
-/// made stay.
+/// Makes the recorded events, and appends them to a list, but not the last if it may go on. If
+/// memory is refused, those that aren't made stay.
 pub fn make(
     events: &Bound<'_, PyList>,
     recorder: &mut Recorder,
@@ -391,7 +449,12 @@ pub fn make(
 ) -> PyResult<()> {
     let py = events.py();
     let count = recorder.records.len() - usize::from(!ends && recorder.is_open);
-    let mut maker = Maker { py, classes: classes(py)?, known, recorder };
+    let mut maker = Maker {
+        py,
+        classes: classes(py)?,
+        known,
+        recorder,
+    };
     let (mut made, mut place) = (0, Place::default());
     let done = recorder.records[..count].iter().try_for_each(|record| {
         let (event, next) = maker.make(record, place)?;
@@ -441,9 +504,14 @@ impl Maker<'_, '_> {
             }
             Record::Sequence => {
                 place.sequences += 1;
-                self.known.make(py, classes, &self.recorder.sequences[place.sequences - 1])?
+                self.known
+                    .make(py, classes, &self.recorder.sequences[place.sequences - 1])?
             }
-            Record::Command { pieces, bell_terminated, truncated } => {
+            Record::Command {
+                pieces,
+                bell_terminated,
+                truncated,
+            } => {
                 let lengths = &self.recorder.pieces[place.pieces..place.pieces + pieces];
                 let mut rest = content;
                 let each = lengths.iter().map(|length| {

@@ -1,4 +1,5 @@
-//! The native half of the package: everything but the types of events and calls, which are written in Python.
+//! The native half of the package: everything but the types of events and calls, which are written
+//! in Python.
 
 mod calls;
 mod events;

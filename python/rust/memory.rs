@@ -1,4 +1,5 @@
-//! For tests: Rust takes its memory from Python, so that what refuses memory to Python refuses it to Rust.
+//! For tests: Rust takes its memory from Python, so that what refuses memory to Python refuses it
+//! to Rust.
 
 use std::alloc::{GlobalAlloc, Layout};
 use std::os::raw::c_void;
@@ -17,7 +18,8 @@ static MEMORY: PythonMemory = PythonMemory;
 /// The alignment of what Python returns.
 const ALIGNMENT: usize = 16;
 
-// SAFETY: Python's functions are `malloc`, `realloc` and `free` for any thread, and nothing here needs a larger alignment
+// SAFETY: Python's functions are `malloc`, `realloc` and `free` for any thread, and nothing here
+// needs a larger alignment
 unsafe impl GlobalAlloc for PythonMemory {
     unsafe fn alloc(&self, layout: Layout) -> *mut u8 {
         assert!(layout.align() <= ALIGNMENT);

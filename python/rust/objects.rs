@@ -1,15 +1,16 @@
 //! Python's objects: what functions take, and what they return.
 //!
-//! PyO3's constructors panic if memory is refused, so those here call Python's C interface, and return an error instead. A named
-//! tuple is made by the allocator of its class, as `tuple.__new__` makes it, in a quarter of the time of a call of the class.
+//! PyO3's constructors panic if memory is refused, so those here call Python's C interface, and
+//! return an error instead. A named tuple is made by the allocator of its class, as `tuple.__new__`
+//! makes it, in a quarter of the time of a call of the class.
 
 use pyo3::exceptions::{PyRuntimeError, PyTypeError};
-use pyo3::types::{PyBool, PyBytes, PyList, PyString, PyTuple, PyType};
 use pyo3::pyclass::boolean_struct::False;
+use pyo3::types::{PyBool, PyBytes, PyList, PyString, PyTuple, PyType};
 use pyo3::{ffi, prelude::*, PyClass, PyTypeInfo};
 
-/// From how many bytes on other threads may run meanwhile. Below, a release costs more than it gives: beside a busy thread it takes
-/// up to 5 ms to get the interpreter's lock again.
+/// From how many bytes on other threads may run meanwhile. Below, a release costs more than it
+/// gives: beside a busy thread it takes up to 5 ms to get the interpreter's lock again.
 pub const LONG: usize = 1 << 17;
 
 /// Runs what needs no object, without the interpreter's lock if there is much to read.
@@ -54,10 +55,12 @@ pub fn bytes_of<'py>(data: &Bound<'py, PyAny>, what: &str) -> PyResult<Bound<'py
     };
     match copied {
         Ok(bytes) => Ok(bytes.into_bound(py).downcast_into()?),
-        Err(error) if error.is_instance_of::<PyTypeError>(py) => Err(PyTypeError::new_err(format!(
-            "{what} takes bytes, or another object with a buffer, not {}",
-            data.get_type().name()?
-        ))),
+        Err(error) if error.is_instance_of::<PyTypeError>(py) => {
+            Err(PyTypeError::new_err(format!(
+                "{what} takes bytes, or another object with a buffer, not {}",
+                data.get_type().name()?
+            )))
+        }
         Err(error) => Err(error),
     }
 }
@@ -72,12 +75,16 @@ pub fn encoded<'py>(
     let (encoding, errors) = (encoding.as_ptr().cast(), errors.as_ptr().cast());
     // SAFETY: a `str`, texts that end in NUL, and a new reference
     let made = unsafe {
-        made(text.py(), ffi::PyUnicode_AsEncodedString(text.as_ptr(), encoding, errors))?
+        made(
+            text.py(),
+            ffi::PyUnicode_AsEncodedString(text.as_ptr(), encoding, errors),
+        )?
     };
     Ok(made.into_bound(text.py()).downcast_into()?)
 }
 
-/// Whether this is a `str` or `bytes`, and of no class made from them: then it can be returned as it is.
+/// Whether this is a `str` or `bytes`, and of no class made from them: then it can be returned as
+/// it is.
 pub fn is_plain(data: &Bound<'_, PyAny>) -> bool {
     data.is_exact_instance_of::<PyBytes>() || data.is_exact_instance_of::<PyString>()
 }
@@ -113,7 +120,12 @@ pub fn decoded(py: Python<'_>, utf8: &[u8], errors: &'static str) -> PyResult<Py
     debug_assert!(errors.ends_with('\0'));
     let (place, errors) = (utf8.as_ptr().cast(), errors.as_ptr().cast());
     // SAFETY: the bytes are those of a slice, and the text ends in NUL
-    unsafe { made(py, ffi::PyUnicode_DecodeUTF8(place, size(utf8.len()), errors)) }
+    unsafe {
+        made(
+            py,
+            ffi::PyUnicode_DecodeUTF8(place, size(utf8.len()), errors),
+        )
+    }
 }
 
 pub fn letter(py: Python<'_>, byte: u8) -> PyResult<PyObject> {
@@ -122,7 +134,12 @@ pub fn letter(py: Python<'_>, byte: u8) -> PyResult<PyObject> {
 
 pub fn bytes(py: Python<'_>, content: &[u8]) -> PyResult<PyObject> {
     // SAFETY: the bytes are those of a slice
-    unsafe { made(py, ffi::PyBytes_FromStringAndSize(content.as_ptr().cast(), size(content.len()))) }
+    unsafe {
+        made(
+            py,
+            ffi::PyBytes_FromStringAndSize(content.as_ptr().cast(), size(content.len())),
+        )
+    }
 }
 
 pub fn number(py: Python<'_>, value: i64) -> PyResult<PyObject> {
@@ -164,8 +181,8 @@ pub fn list(py: Python<'_>) -> PyResult<Bound<'_, PyList>> {
 
 pub fn append(list: &Bound<'_, PyList>, value: PyObject) -> PyResult<()> {
     let value = value.into_ptr();
-    // SAFETY: a list, which makes a reference of its own, and an object, whose reference ends here; a drop asks first whether the lock
-    // is held
+    // SAFETY: a list, which makes a reference of its own, and an object, whose reference ends here;
+    // a drop asks first whether the lock is held
     let done = unsafe {
         let done = ffi::PyList_Append(list.as_ptr(), value);
         ffi::Py_DECREF(value);
@@ -198,7 +215,11 @@ impl Class {
 
     /// Makes a tuple of values.
     #[inline]
-    pub fn make<const N: usize>(&self, py: Python<'_>, values: [PyObject; N]) -> PyResult<PyObject> {
+    pub fn make<const N: usize>(
+        &self,
+        py: Python<'_>,
+        values: [PyObject; N],
+    ) -> PyResult<PyObject> {
         self.make_of(py, N, values.into_iter().map(Ok))
     }
 
@@ -210,8 +231,9 @@ impl Class {
         count: usize,
         values: impl Iterator<Item = PyResult<PyObject>>,
     ) -> PyResult<PyObject> {
-        // SAFETY: the class has the layout of a tuple, of which its allocator makes one with as many places; each is set once, or
-        // stays null if a value can't be made, which nothing but the deallocator sees
+        // SAFETY: the class has the layout of a tuple, of which its allocator makes one with as
+        // many places; each is set once, or stays null if a value can't be made, which
+        // nothing but the deallocator sees
         unsafe {
             let class = self.0.as_ptr().cast::<ffi::PyTypeObject>();
             let made = made(py, ffi::PyType_GenericAlloc(class, size(count)))?;

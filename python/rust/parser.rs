@@ -1,9 +1,7 @@
 //! The parser of events.
 
 use crate::events::{classes, make, Kind, Kinds, Known, Recorder};
-use crate::objects::{
-    borrowed, bytes, bytes_of, error, list, no_memory, number, run, text, tuple,
-};
+use crate::objects::{borrowed, bytes, bytes_of, error, list, no_memory, number, run, text, tuple};
 use pyo3::exceptions::{PyMemoryError, PyTypeError, PyValueError};
 use pyo3::prelude::*;
 use pyo3::types::{PyBytes, PyList, PyString, PyTuple};
@@ -17,11 +15,13 @@ pub const STEP: usize = 1 << 14;
 pub const PIECE: usize = 1 << 20;
 pub const MOST_EVENTS: usize = 1 << 14;
 
-/// A parser that keeps 1,024 data bytes of a command, as plain data of which each value is some parser.
+/// A parser that keeps 1,024 data bytes of a command, as plain data of which each value is some
+/// parser.
 pub struct Limited(vte::Parser<LIMIT>);
 
 const WORDS: usize = size_of::<Saved>() / size_of::<u64>();
-const _: () = assert!(size_of::<Saved>() % size_of::<u64>() == 0 && align_of::<Saved>() <= align_of::<u64>());
+const _: () =
+    assert!(size_of::<Saved>() % size_of::<u64>() == 0 && align_of::<Saved>() <= align_of::<u64>());
 
 impl Limited {
     pub fn new() -> Self {
@@ -32,7 +32,8 @@ impl Limited {
     pub fn state(&self, py: Python<'_>) -> PyResult<PyObject> {
         let mut words = [0u64; WORDS];
         // SAFETY: it is plain data with the size of the words, and needs no larger alignment
-        self.0.save(unsafe { &mut *words.as_mut_ptr().cast::<Saved>() });
+        self.0
+            .save(unsafe { &mut *words.as_mut_ptr().cast::<Saved>() });
         let mut content = [0; WORDS * size_of::<u64>()];
         for (part, word) in content.chunks_exact_mut(size_of::<u64>()).zip(words) {
             part.copy_from_slice(&word.to_ne_bytes());
@@ -44,16 +45,21 @@ impl Limited {
     /// The parser of a state.
     pub fn of_state(state: &Bound<'_, PyAny>) -> PyResult<Self> {
         let py = state.py();
-        let wrong = || {
-            error::<PyValueError>(py, "this was pickled with another version of the package\0")
-        };
+        let wrong =
+            || error::<PyValueError>(py, "this was pickled with another version of the package\0");
         let state = state.downcast::<PyTuple>().map_err(|_| wrong())?;
         if state.len() != 2 {
             return Err(wrong());
         }
         let (version, content) = (state.get_item(0)?, state.get_item(1)?);
-        let version = version.downcast::<PyString>().map_err(|_| wrong())?.to_str()?;
-        let content = content.downcast::<PyBytes>().map_err(|_| wrong())?.as_bytes();
+        let version = version
+            .downcast::<PyString>()
+            .map_err(|_| wrong())?
+            .to_str()?;
+        let content = content
+            .downcast::<PyBytes>()
+            .map_err(|_| wrong())?
+            .as_bytes();
         if version != env!("CARGO_PKG_VERSION") || content.len() != WORDS * size_of::<u64>() {
             return Err(wrong());
         }
@@ -62,7 +68,9 @@ impl Limited {
             *word = u64::from_ne_bytes(part.try_into().expect("a chunk has its size"));
         }
         // SAFETY: as in `state`, and any bytes are some parser
-        Ok(Limited(vte::Parser::restored(unsafe { &*words.as_ptr().cast::<Saved>() })))
+        Ok(Limited(vte::Parser::restored(unsafe {
+            &*words.as_ptr().cast::<Saved>()
+        })))
     }
 
     pub fn get(&mut self) -> &mut vte::Parser<LIMIT> {
@@ -128,8 +136,8 @@ impl Machine {
     }
 }
 
-/// How many bytes can be skipped if nothing is open and only commands are wanted: those up to the last ESC before a command, or up to
-/// an unfinished character.
+/// How many bytes can be skipped if nothing is open and only commands are wanted: those up to the
+/// last ESC before a command, or up to an unfinished character.
 fn skipped(bytes: &[u8]) -> usize {
     let (mut from, mut last) = (0, bytes.len().saturating_sub(3));
     while let Some(found) = memchr::memchr(0x1B, &bytes[from..]) {
@@ -145,8 +153,8 @@ fn skipped(bytes: &[u8]) -> usize {
 
 /// Reads a stream in pieces of any length and reports its events.
 ///
-/// The first 16 pieces of an operating system command are kept, whatever their length. With `limit=1024` a parser keeps that many
-/// bytes of each command, and can be copied and pickled.
+/// The first 16 pieces of an operating system command are kept, whatever their length. With
+/// `limit=1024` a parser keeps that many bytes of each command, and can be copied and pickled.
 #[pyclass(module = "vte", subclass, weakref)]
 pub struct Parser {
     machine: Machine,
@@ -167,7 +175,11 @@ impl Parser {
                 return Err(PyValueError::new_err(wrong));
             }
         };
-        Ok(Parser { machine, recorder: Recorder::default(), known: Known::default() })
+        Ok(Parser {
+            machine,
+            recorder: Recorder::default(),
+            known: Known::default(),
+        })
     }
 
     /// How many bytes of an operating system command are kept: 1,024, or None for all.
@@ -189,19 +201,28 @@ impl Parser {
 
     /// Reads the next bytes of the stream, and returns the events that they add to it.
     ///
-    /// `kinds` is a set of types of events: then only these are returned, and the others cost little. With `vte.Data` among them, the
-    /// data of device control strings come in runs, and not byte by byte as `Put`. An unfinished character or sequence at the end
-    /// waits for more bytes. If memory is refused, it raises `vte.Refused`.
+    /// `kinds` is a set of types of events: then only these are returned, and the others cost
+    /// little. With `vte.Data` among them, the data of device control strings come in runs, and
+    /// not byte by byte as `Put`. An unfinished character or sequence at the end waits for more
+    /// bytes. If memory is refused, it raises `vte.Refused`.
     #[pyo3(signature = (data, kinds=None))]
-    fn feed(slf: &Bound<'_, Self>, data: &Bound<'_, PyAny>, kinds: Option<&Bound<'_, PyAny>>) -> PyResult<PyObject> {
-        let (source, kinds) = (bytes_of(data, "feed")?, kinds.map_or(Ok(Kinds::ALL), Kinds::of)?);
+    fn feed(
+        slf: &Bound<'_, Self>,
+        data: &Bound<'_, PyAny>,
+        kinds: Option<&Bound<'_, PyAny>>,
+    ) -> PyResult<PyObject> {
+        let (source, kinds) = (
+            bytes_of(data, "feed")?,
+            kinds.map_or(Ok(Kinds::ALL), Kinds::of)?,
+        );
         let mut parser = borrowed(slf)?;
         let (_, events) = parser.read(slf.py(), source.as_bytes(), kinds, Kinds::NONE)?;
         Ok(events.into_any().unbind())
     }
 
-    /// Reads the next bytes up to the first event of the types `stops`, and that too. Returns a pair: the events, as `feed` returns them,
-    /// and how many bytes were read. Without such an event all bytes are read.
+    /// Reads the next bytes up to the first event of the types `stops`, and that too. Returns a
+    /// pair: the events, as `feed` returns them, and how many bytes were read. Without such an
+    /// event all bytes are read.
     ///
     /// `stops` can't have `vte.Text`, nor `vte.Data`, which have no end of their own.
     #[pyo3(signature = (data, stops, kinds=None))]
@@ -214,11 +235,18 @@ impl Parser {
         let (source, stops) = (bytes_of(data, "feed_until")?, Kinds::of(stops)?);
         let kinds = kinds.map_or(Ok(Kinds::ALL), Kinds::of)?;
         if stops.has(Kind::Text) || stops.has(Kind::Data) {
-            return Err(error::<PyValueError>(slf.py(), "stops can't have vte.Text or vte.Data\0"));
+            return Err(error::<PyValueError>(
+                slf.py(),
+                "stops can't have vte.Text or vte.Data\0",
+            ));
         }
         let (mut parser, py) = (borrowed(slf)?, slf.py());
         let (read, events) = parser.read(py, source.as_bytes(), kinds, stops)?;
-        tuple(py, 2, [Ok(events.into_any().unbind()), number(py, read as i64)].into_iter())
+        tuple(
+            py,
+            2,
+            [Ok(events.into_any().unbind()), number(py, read as i64)].into_iter(),
+        )
     }
 
     fn __reduce__<'py>(slf: &Bound<'py, Self>) -> PyResult<PyObject> {
@@ -230,7 +258,8 @@ impl Parser {
                 tuple(py, 3, [Ok(class), arguments, limited.state(py)].into_iter())
             }
             Machine::Long(_) => {
-                let wrong = "only parsers with a limit can be copied and pickled: vte.Parser(limit=1024)\0";
+                let wrong =
+                    "only parsers with a limit can be copied and pickled: vte.Parser(limit=1024)\0";
                 Err(error::<PyTypeError>(py, wrong))
             }
         }
@@ -259,7 +288,8 @@ impl Parser {
             let (read, is_refused) = run(py, piece.len(), || machine.read(recorder, piece));
             at += read;
             let ends = is_refused || at == source.len() || self.recorder.has_stopped();
-            make(&events, &mut self.recorder, &mut self.known, ends).map_err(|error| refused(at, &events, Some(error)))?;
+            make(&events, &mut self.recorder, &mut self.known, ends)
+                .map_err(|error| refused(at, &events, Some(error)))?;
             if is_refused {
                 return Err(refused(at, &events, None));
             }
@@ -280,7 +310,10 @@ pub fn refused(read: usize, events: &Bound<'_, PyList>, error: Option<PyErr>) ->
     let make = || {
         let events = Ok(events.as_any().clone().unbind());
         let arguments = tuple(py, 2, [number(py, read as i64), events].into_iter())?;
-        classes(py)?.refused.bind(py).call1(arguments.downcast_bound::<PyTuple>(py)?)
+        classes(py)?
+            .refused
+            .bind(py)
+            .call1(arguments.downcast_bound::<PyTuple>(py)?)
     };
     match make() {
         Ok(error) => PyErr::from_value_bound(error),

@@ -1,9 +1,7 @@
 //! The processor of calls.
 
 use crate::calls::{classes, make, Recorder};
-use crate::objects::{
-    borrowed, bytes_of, error, list, no_memory, number, real, run, text,
-};
+use crate::objects::{borrowed, bytes_of, error, list, no_memory, number, real, run, text};
 use crate::parser::{refused, MOST_EVENTS, PIECE, STEP};
 use pyo3::exceptions::PyTypeError;
 use pyo3::prelude::*;
@@ -31,9 +29,11 @@ impl Timeout for Deadline {
     }
 }
 
-/// Reads a stream in pieces of any length and returns what it asks of a terminal, as calls of `vte.calls`.
+/// Reads a stream in pieces of any length and returns what it asks of a terminal, as calls of
+/// `vte.calls`.
 ///
-/// The bytes of a synchronized update are held back until it ends. If its end doesn't come until `sync_timeout`, call `stop_sync`.
+/// The bytes of a synchronized update are held back until it ends. If its end doesn't come until
+/// `sync_timeout`, call `stop_sync`.
 #[pyclass(module = "vte", subclass, weakref)]
 pub struct Processor {
     processor: LongProcessor<Deadline>,
@@ -47,7 +47,11 @@ impl Processor {
     #[new]
     fn new(py: Python<'_>) -> PyResult<Self> {
         let processor = LongProcessor::new(Deadline(None)).map_err(|_| no_memory(py))?;
-        Ok(Processor { processor, calls: ByCall(Recorder::default()), command: 0 })
+        Ok(Processor {
+            processor,
+            calls: ByCall(Recorder::default()),
+            command: 0,
+        })
     }
 
     fn __repr__(slf: &Bound<'_, Self>) -> PyResult<PyObject> {
@@ -56,7 +60,8 @@ impl Processor {
 
     /// Reads the next bytes of the stream, and returns the calls that they add.
     ///
-    /// If memory is refused, it raises `vte.Refused`; a `MemoryError` of another class says that calls of these bytes were lost.
+    /// If memory is refused, it raises `vte.Refused`; a `MemoryError` of another class says that
+    /// calls of these bytes were lost.
     #[pyo3(signature = (data))]
     fn feed(slf: &Bound<'_, Self>, data: &Bound<'_, PyAny>) -> PyResult<PyObject> {
         let source = bytes_of(data, "feed")?;
@@ -82,7 +87,9 @@ impl Processor {
         processor.calls.0.start();
         let is_refused = !processor.reserve(0);
         if !is_refused {
-            let Processor { processor, calls, .. } = &mut *processor;
+            let Processor {
+                processor, calls, ..
+            } = &mut *processor;
             processor.stop_sync_text(calls);
         }
         processor.make(&made, 0, is_refused, true)?;
@@ -104,19 +111,27 @@ impl Processor {
             None => return Ok(py.None()),
         };
         let now: f64 = classes(py)?.monotonic.call0(py)?.extract(py)?;
-        let left = deadline.saturating_duration_since(Instant::now()).as_secs_f64();
+        let left = deadline
+            .saturating_duration_since(Instant::now())
+            .as_secs_f64();
         real(py, now + left - deadline.elapsed().as_secs_f64())
     }
 
     fn __reduce__(slf: &Bound<'_, Self>) -> PyResult<PyObject> {
-        Err(error::<PyTypeError>(slf.py(), "processors can't be copied and pickled\0"))
+        Err(error::<PyTypeError>(
+            slf.py(),
+            "processors can't be copied and pickled\0",
+        ))
     }
 }
 
 impl Processor {
-    /// Takes memory for the calls of what is held and of more bytes, and returns whether it is there.
+    /// Takes memory for the calls of what is held and of more bytes, and returns whether it is
+    /// there.
     fn reserve(&mut self, more: usize) -> bool {
-        self.calls.0.reserve(self.processor.sync_bytes_count() + more, self.command)
+        self.calls
+            .0
+            .reserve(self.processor.sync_bytes_count() + more, self.command)
     }
 
     /// Reads the steps of a piece. Returns how much was read, and whether memory was refused.

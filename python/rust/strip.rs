@@ -9,27 +9,32 @@ use pyo3::prelude::*;
 use pyo3::types::PyString;
 use std::borrow::Cow;
 use std::collections::TryReserveError;
-use vte::{Perform, PerformText};
+use vte::{LongParser, Perform, PerformText, Refused};
 
 /// What is shown. Nothing is copied as long as it is the front of the source.
 struct Shown<'a> {
     source: &'a [u8],
     same: usize,
     text: Vec<u8>,
-    refused: Option<TryReserveError>,
+    is_refused: bool,
 }
 
 impl<'a> Shown<'a> {
     fn new(source: &'a [u8]) -> Self {
-        Shown { source, same: 0, text: Vec::new(), refused: None }
+        Shown {
+            source,
+            same: 0,
+            text: Vec::new(),
+            is_refused: false,
+        }
     }
 
     #[inline]
     fn add(&mut self, more: &[u8]) {
         if self.text.is_empty() && self.source[self.same..].starts_with(more) {
             self.same += more.len();
-        } else if self.refused.is_none() {
-            self.refused = self.push(more).err();
+        } else if !self.is_refused {
+            self.is_refused = self.push(more).is_err();
         }
     }
 
@@ -43,11 +48,11 @@ impl<'a> Shown<'a> {
         Ok(())
     }
 
-    fn all(self) -> Result<Cow<'a, [u8]>, TryReserveError> {
-        match self.refused {
-            Some(refused) => Err(refused),
-            None if self.text.is_empty() => Ok(Cow::Borrowed(&self.source[..self.same])),
-            None => Ok(Cow::Owned(self.text)),
+    fn all(self) -> Result<Cow<'a, [u8]>, Refused> {
+        match self.is_refused {
+            true => Err(Refused { read: 0 }),
+            false if self.text.is_empty() => Ok(Cow::Borrowed(&self.source[..self.same])),
+            false => Ok(Cow::Owned(self.text)),
         }
     }
 }
@@ -76,8 +81,15 @@ impl PerformText for Shown<'_> {
     fn put_slice(&mut self, _: &[u8]) {}
 }
 
+/// The text of a whole stream. Of the two parsers this one is made in less time.
+fn shown(source: &[u8]) -> Result<Cow<'_, [u8]>, Refused> {
+    let mut shown = Shown::new(source);
+    LongParser::new().advance_text(&mut shown, source)?;
+    shown.all()
+}
+
 /// The text of more of a stream.
-fn shown<'a>(parser: &mut Limited, source: &'a [u8]) -> Result<Cow<'a, [u8]>, TryReserveError> {
+fn shown_by<'a>(parser: &mut Limited, source: &'a [u8]) -> Result<Cow<'a, [u8]>, Refused> {
     let mut shown = Shown::new(source);
     parser.get().advance_text(&mut shown, source);
     shown.all()
@@ -102,14 +114,16 @@ impl Perform for Single {
 }
 
 /// The text of a whole stream, with malformed bytes as they are.
-fn shown_with_bytes(source: &[u8]) -> Result<Cow<'_, [u8]>, TryReserveError> {
+fn shown_with_bytes(source: &[u8]) -> Result<Cow<'_, [u8]>, Refused> {
     let (mut parser, mut shown, mut at) = (Limited::new(), Shown::new(source), 0);
     while at < source.len() {
         let mut single = Single::default();
         let run = parser.get().advance_to_run(&mut single, &source[at..]);
         match single.0 {
             // a well-formed one comes in a run
-            Some(char::REPLACEMENT_CHARACTER) => shown.add(malformed_end(&source[at..at + run.start])),
+            Some(char::REPLACEMENT_CHARACTER) => {
+                shown.add(malformed_end(&source[at..at + run.start]))
+            }
             Some(c) => shown.add(c.encode_utf8(&mut [0; 4]).as_bytes()),
             None => {}
         }
@@ -121,9 +135,13 @@ fn shown_with_bytes(source: &[u8]) -> Result<Cow<'_, [u8]>, TryReserveError> {
 
 /// The malformed bytes at the end: the front of a character, or one byte.
 fn malformed_end(bytes: &[u8]) -> &[u8] {
-    let ends = (1..=bytes.len().min(3)).rev().map(|count| &bytes[bytes.len() - count..]);
-    let is_front = |end: &&[u8]| matches!(std::str::from_utf8(end), Err(error) if error.valid_up_to() == 0 && error.error_len().is_none());
-    ends.clone().find(is_front).unwrap_or(&bytes[bytes.len() - 1..])
+    let end = |count: usize| &bytes[bytes.len() - count..];
+    let is_front = |count: &usize| match std::str::from_utf8(end(*count)) {
+        Ok(_) => false,
+        Err(error) => error.valid_up_to() == 0 && error.error_len().is_none(),
+    };
+    let most = bytes.len().min(3);
+    end((1..=most).rev().find(is_front).unwrap_or(1))
 }
 
 /// The UTF-8 of a `str`, with a replacement character for each surrogate.
@@ -132,7 +150,8 @@ fn without_surrogates(data: &Bound<'_, PyString>) -> PyResult<Vec<u8>> {
     let codes = codes.as_bytes();
     let mut made = Vec::new();
     // no character has more bytes in UTF-8 than in UTF-32
-    made.try_reserve(codes.len()).map_err(|_| no_memory(data.py()))?;
+    made.try_reserve(codes.len())
+        .map_err(|_| no_memory(data.py()))?;
     for code in codes.chunks_exact(4) {
         let code = u32::from_le_bytes([code[0], code[1], code[2], code[3]]);
         let c = char::from_u32(code).unwrap_or(char::REPLACEMENT_CHARACTER);
@@ -144,7 +163,7 @@ fn without_surrogates(data: &Bound<'_, PyString>) -> PyResult<Vec<u8>> {
 /// The text of a `str` or bytes by a function of bytes.
 fn strip_by<F>(py: Python<'_>, data: &Bound<'_, PyAny>, read: F) -> PyResult<PyObject>
 where
-    F: for<'a> FnOnce(&'a [u8]) -> Result<Cow<'a, [u8]>, TryReserveError> + Send,
+    F: for<'a> FnOnce(&'a [u8]) -> Result<Cow<'a, [u8]>, Refused> + Send,
 {
     let (of_text, of_bytes);
     let (source, is_text, is_itself) = match data.downcast::<PyString>() {
@@ -183,19 +202,23 @@ fn strip_with_bytes(py: Python<'_>, data: &Bound<'_, PyAny>) -> PyResult<PyObjec
 
 /// Returns the text of a whole stream, a `str` or bytes, without its sequences.
 ///
-/// For what isn't UTF-8, bytes or a lone surrogate of a `str`, U+FFFD stands in the text. With `errors="surrogateescape"` these bytes
-/// stay, and the surrogates that stand for bytes. An unfinished character at the end gives no text.
+/// For what isn't UTF-8, bytes or a lone surrogate of a `str`, U+FFFD stands in the text. With
+/// `errors="surrogateescape"` these bytes stay, and the surrogates that stand for bytes. An
+/// unfinished character at the end gives no text.
 #[pyfunction]
 #[pyo3(signature = (data, errors="replace"))]
 pub fn strip(py: Python<'_>, data: &Bound<'_, PyAny>, errors: &str) -> PyResult<PyObject> {
     match errors {
-        "replace" => strip_by(py, data, |source| shown(&mut Limited::new(), source)),
+        "replace" => strip_by(py, data, shown),
         "surrogateescape" => strip_with_bytes(py, data),
-        _ => Err(PyValueError::new_err(format!("errors must be 'replace' or 'surrogateescape', not {errors:?}"))),
+        _ => Err(PyValueError::new_err(format!(
+            "errors must be 'replace' or 'surrogateescape', not {errors:?}"
+        ))),
     }
 }
 
-/// Reads a stream in pieces of any length and returns its text. It can be copied and pickled, for the same version of the package.
+/// Reads a stream in pieces of any length and returns its text. It can be copied and pickled, for
+/// the same version of the package.
 #[pyclass(module = "vte", subclass, weakref)]
 pub struct Stripper(Limited);
 
@@ -210,20 +233,30 @@ impl Stripper {
         text(slf.py(), b"vte.Stripper()")
     }
 
-    /// Reads more of the stream, and returns the text that this adds, without the sequences: characters, HT, LF and CR.
+    /// Reads more of the stream, and returns the text that this adds, without the sequences:
+    /// characters, HT, LF and CR.
     ///
     /// Of a `str` the text is a `str`, and of bytes it is in UTF-8.
     #[pyo3(signature = (data))]
     fn strip(slf: &Bound<'_, Self>, data: &Bound<'_, PyAny>) -> PyResult<PyObject> {
         let mut stripper = borrowed(slf)?;
         let parser = &mut stripper.0;
-        strip_by(slf.py(), data, |source| shown(parser, source))
+        strip_by(slf.py(), data, |source| shown_by(parser, source))
     }
 
     fn __reduce__(slf: &Bound<'_, Self>) -> PyResult<PyObject> {
         let (stripper, py) = (borrowed(slf)?, slf.py());
         let class = slf.get_type().into_any().unbind();
-        tuple(py, 3, [Ok(class), tuple(py, 0, std::iter::empty()), stripper.0.state(py)].into_iter())
+        tuple(
+            py,
+            3,
+            [
+                Ok(class),
+                tuple(py, 0, std::iter::empty()),
+                stripper.0.state(py),
+            ]
+            .into_iter(),
+        )
     }
 
     fn __setstate__(slf: &Bound<'_, Self>, state: &Bound<'_, PyAny>) -> PyResult<()> {

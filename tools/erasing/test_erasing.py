@@ -311,6 +311,15 @@ class Erasing(unittest.TestCase):
             write_crate(plan(added={"a/gone": ""}), lambda _crate: {"x.rt": ""})
 
 
+# assertions for tests before `unsafe`, and a character of two bytes by safe code
+ASSERTION = re.compile(r"debug_assert ?! ?\(.*?\) ?; ?(?=debug_assert|unsafe)")
+SAFE = re.compile(r"(char ?: ?: ?from_u32)( ?\( ?number_of_two ?\(.*?\) ?\)) ?\. ?unwrap_or ?\(.*?\)")
+
+
+def as_proved(body):
+    return SAFE.sub(r"unsafe { \1_unchecked\2 }", ASSERTION.sub("", body))
+
+
 class WordForWord(unittest.TestCase):
     """The bodies of all functions that the tool writes are those of the Rattle text, without the count of looks."""
 
@@ -330,7 +339,7 @@ class WordForWord(unittest.TestCase):
         self.assertEqual(count, functions)
 
     def compare(self, given, place, text, made, kept):
-        proved, written = bodies(place, text, given), [(head, body.replace(", }", "}")) for head, body in bodies(place, made, given)]
+        proved, written = bodies(place, text, given), [(head, as_proved(body.replace(", }", "}"))) for head, body in bodies(place, made, given)]
         left = [(head, in_rusts_forms(head, without_counts(body, kept) if given.has_idioms else body, given)) for head, body in proved]
         with self.subTest(file=place):
             for head, body in written:

@@ -11,7 +11,8 @@ added_nothing = added-nothing (Some 1024)
 
 -- what two pieces add
 pub added-append : Grows (Some 1024) → (stream first second : List ℕ)
-    → added (Some 1024) stream (first ++ second) ≡ added (Some 1024) stream first ++ added (Some 1024) (stream ++ first) second
+    → added (Some 1024) stream (first ++ second)
+    ≡ added (Some 1024) stream first ++ added (Some 1024) (stream ++ first) second
 added-append grows stream first second =
     let before = events (Some 1024) stream in
     let parts : events (Some 1024) (stream ++ (first ++ second))
@@ -20,4 +21,5 @@ added-append grows stream first second =
     ∙ grows (stream ++ first) second
     ∙ ap (λ (es : List Event). es ++ added (Some 1024) (stream ++ first) second) (grows stream first)
     ∙ append_assoc before _ _ in
-    ap (drop (length before)) parts ∙ drop-append_seam before (added (Some 1024) stream first ++ added (Some 1024) (stream ++ first) second)
+    ap (drop (length before)) parts
+    ∙ drop-append_seam before (added (Some 1024) stream first ++ added (Some 1024) (stream ++ first) second)

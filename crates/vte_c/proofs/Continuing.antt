@@ -24,7 +24,8 @@ first-then {front} f g = record {
   parts = g.parts ∙ ap (λ (es : List Event). es ++ g.others) f.parts ∙ append_assoc front f.others g.others;
 }
 
-first-after : {events all : List Event} (before : List Event) → AreFirst events all → AreFirst (before ++ events) (before ++ all)
+first-after : {events all : List Event} (before : List Event) → AreFirst events all
+    → AreFirst (before ++ events) (before ++ all)
 first-after {events} before f = record {
   others = f.others;
   parts = ap (λ (es : List Event). before ++ es) f.parts ∙ sym (append_assoc before events f.others);
@@ -35,20 +36,30 @@ first-after {events} before f = record {
 pub continues-nothing : (since bytes : List ℕ) → Continues since since bytes 0 []
 continues-nothing since bytes = record { goes_on = λ more. refl; fronts = λ k within. first_same (rw zero-add refl) }
 
-pub continues-then : {since next last bytes : List ℕ} {n m : ℕ} {told more : List Event} → Continues since next bytes n told → Continues next last (drop n bytes) m more
+pub continues-then : {since next last bytes : List ℕ} {n m : ℕ} {told more : List Event}
+    → Continues since next bytes n told → Continues next last (drop n bytes) m more
     → n ≤ length bytes → Continues since last bytes (n + m) (told ++ more)
 continues-then {bytes = bytes} {n = n} {m = m} {told = told} {more = more} a b within = record {
   goes_on = λ unread. rw (append_assoc told, ← drop-drop m n bytes, a.goes_on unread, b.goes_on unread) refl;
   fronts = λ k below.
       rw (append_assoc told, ← drop-drop m n bytes, add_assoc n m k)
-      (first-then (a.fronts (m + k) (omega arith)) (first-after told (b.fronts k (omega (arith, length-drop n bytes)))));
+      (first-then (a.fronts (m + k) (omega arith))
+      (first-after told (b.fronts k (omega (arith, length-drop n bytes)))));
 }
 
 -- ---- a text
 
-pub continues-added : Grows (Some 1024) → (since bytes : List ℕ) (n : ℕ) → Continues since (since ++ take n bytes) bytes n (added (Some 1024) since (take n bytes))
+pub continues-added : Grows (Some 1024) → (since bytes : List ℕ) (n : ℕ)
+    → Continues since (since ++ take n bytes) bytes n (added (Some 1024) since (take n bytes))
 continues-added grows since bytes n = record {
-  goes_on = λ more. rw (← added-append grows since (take n bytes) (drop n bytes ++ more), ← append_assoc (take n bytes), take-append-drop) refl;
+  goes_on =
+      λ more.
+      rw (
+        ← added-append grows since (take n bytes) (drop n bytes ++ more),
+        ← append_assoc
+            (take n bytes),
+        take-append-drop,
+      ) refl;
   fronts = λ k within. first_same (rw (take-add n k bytes, added-append grows) refl);
 }
 
@@ -63,12 +74,16 @@ breaks-next (a ∷ opened) byte xs ys = refl
 broken_first : GoesOnFromPlaces (Some 1024) → (stream unread : List ℕ) (k : ℕ) → breaks (open_end stream) unread ≡ true
     → AreFirst (added (Some 1024) stream (take k unread)) (Print replacement ∷ added (Some 1024) [] (take k unread))
 unfolding told stream_at breaks_at
-broken_first goes_on stream unread zero broken = record { others = Print replacement ∷ added (Some 1024) [] []; parts = rw (added_nothing stream) refl }
-broken_first goes_on stream [] (suc k) broken = record { others = Print replacement ∷ added (Some 1024) [] []; parts = rw (added_nothing stream) refl }
+broken_first goes_on stream unread zero broken =
+    record { others = Print replacement ∷ added (Some 1024) [] []; parts = rw (added_nothing stream) refl }
+broken_first goes_on stream [] (suc k) broken =
+    record { others = Print replacement ∷ added (Some 1024) [] []; parts = rw (added_nothing stream) refl }
 broken_first goes_on stream (byte ∷ unread) (suc k) broken =
     let front : List ℕ = byte ∷ take k unread in
-    let breaks_it : breaks_at stream front 0 ≡ true = rw (append-nil stream) (breaks-next (open_end stream) byte (take k unread) unread ∙ broken) in
-    first_same (sym (rw (append-nil front, told, stream_at, breaks_it, added_nothing stream) at (goes_on stream front [] 0)))
+    let breaks_it : breaks_at stream front 0 ≡ true =
+    rw (append-nil stream) (breaks-next (open_end stream) byte (take k unread) unread ∙ broken) in
+    first_same
+    (sym (rw (append-nil front, told, stream_at, breaks_it, added_nothing stream) at (goes_on stream front [] 0)))
 
 pub continues-call : Grows (Some 1024) → GoesOnFromPlaces (Some 1024) → (since bytes : List ℕ) (n : ℕ)
     → Continues since (stream_at since bytes n) bytes n (told (Some 1024) since bytes n)
@@ -78,7 +93,8 @@ continues-call grows goes_on since bytes n = elim (cases_Bool (breaks_at since b
     goes_on = λ more. rw broken at (goes_on since bytes more n);
     fronts = λ k within.
         rw (take-add n k bytes, added-append grows, append_assoc (added (Some 1024) since (take n bytes)))
-        (first-after (added (Some 1024) since (take n bytes)) (broken_first goes_on (since ++ take n bytes) (drop n bytes) k broken));
+        (first-after (added (Some 1024) since (take n bytes))
+        (broken_first goes_on (since ++ take n bytes) (drop n bytes) k broken));
   })
   | inr whole ↦ rw (whole, append-nil (added (Some 1024) since (take n bytes))) (continues-added grows since bytes n)
 ]

@@ -35,19 +35,23 @@ use Rattle.vte_c.proofs.Rooms.{HasRoomFor, event_passed, event_written, items-no
 
 -- ---- a run of the input
 
-each_reported : (kinds : ℕ) (call : ℕ → Event) → ((n : ℕ) → has kinds (kind_of (call n)) ≡ true) → (ns : List ℕ) → reported kinds (map call ns) ≡ map call ns
+each_reported : (kinds : ℕ) (call : ℕ → Event) → ((n : ℕ) → has kinds (kind_of (call n)) ≡ true) → (ns : List ℕ)
+    → reported kinds (map call ns) ≡ map call ns
 each_reported kinds call wanted [] = refl
 each_reported kinds call wanted (n ∷ ns) = rw (wanted n, each_reported kinds call wanted ns) refl
 
-none_reported : (kinds : ℕ) (call : ℕ → Event) → ((n : ℕ) → has kinds (kind_of (call n)) ≡ false) → (ns : List ℕ) → reported kinds (map call ns) ≡ []
+none_reported : (kinds : ℕ) (call : ℕ → Event) → ((n : ℕ) → has kinds (kind_of (call n)) ≡ false) → (ns : List ℕ)
+    → reported kinds (map call ns) ≡ []
 none_reported kinds call other [] = refl
 none_reported kinds call other (n ∷ ns) = rw (other n) (none_reported kinds call other ns)
 
-run_reported : (kinds : ℕ) (run : Run) (bytes : List ℕ) → has kinds (run_kind run) ≡ true → reported kinds (run_events run bytes) ≡ run_events run bytes
+run_reported : (kinds : ℕ) (run : Run) (bytes : List ℕ) → has kinds (run_kind run) ≡ true
+    → reported kinds (run_events run bytes) ≡ run_events run bytes
 run_reported kinds TextRun bytes wanted = each_reported kinds Print (λ c. wanted) (chars bytes)
 run_reported kinds DataRun bytes wanted = each_reported kinds Put (λ b. wanted) bytes
 
-run_passed : (kinds : ℕ) (run : Run) (bytes : List ℕ) → has kinds (run_kind run) ≡ false → reported kinds (run_events run bytes) ≡ []
+run_passed : (kinds : ℕ) (run : Run) (bytes : List ℕ) → has kinds (run_kind run) ≡ false
+    → reported kinds (run_events run bytes) ≡ []
 run_passed kinds TextRun bytes other = none_reported kinds Print (λ c. other) (chars bytes)
 run_passed kinds DataRun bytes other = none_reported kinds Put (λ b. other) bytes
 
@@ -90,20 +94,27 @@ events-singles : (input : List ℕ) (events : List Event) → flat_map (item_eve
 events-singles input [] = refl
 events-singles input (event ∷ events) = ap (λ (es : List Event). event ∷ es) (events-singles input events)
 
--- before the first byte at most U+FFFD is told, for a character that it breaks, and that doesn't fill the room
+-- before the first byte at most U+FFFD is told, for a character that it breaks, and that doesn't
+-- fill the room
 goes_on_at_first : (old : Room) (broken : Bool) → Starts old
     → HaveOtherRecords old.stops (after with_event old (if broken then Print replacement ∷ [] else [])).events
     → is_full (after with_event old (if broken then Print replacement ∷ [] else [])) ≡ false
 goes_on_at_first old false starts others = grind (arith, nat_tests)
 goes_on_at_first old true starts others =
-    let small : length (data_of (Print replacement)) ≤ 4 = omega (arith, length-encode replacement, (len_utf8_bounds replacement).1) in
+    let small : length (data_of (Print replacement)) ≤ 4 =
+    omega (arith, length-encode replacement, (len_utf8_bounds replacement).1) in
     let next : Room = with_event old (Print replacement) in
     let going : next.paused ≡ false = paused_after old (Print replacement) ∙ starts.paused in
     let same : resumed next ≡ next = resumed_same next going in
     elim (cases_Bool (has old.kinds 0)) [
       | inl wanted ↦
           let is : next ≡ with_items old (Single (Print replacement) ∷ []) =
-          sym same ∙ event_written old (Print replacement) (refl, refl) starts.paused (record { events = omega (arith, starts.most, starts.count); data_fits = omega (arith, starts.size, starts.used) }) wanted in
+          sym same
+          ∙ event_written old (Print replacement) (refl, refl) starts.paused
+          (record {
+            events = omega (arith, starts.most, starts.count);
+            data_fits = omega (arith, starts.size, starts.used);
+          }) wanted in
           let other : has old.stops 0 ≡ false = (rw (is, starts.events) at others).0 in
           rw is (grind (arith, nat_tests, length-append))
       | inr passed ↦
@@ -124,10 +135,13 @@ module _ (old new : Room) (since bytes : List ℕ) (from n : ℕ) (laws : Laws) 
   told_at i = told (Some 1024) since (drop from bytes) i
 
   -- all that was told is written, since the room wasn't full at any start that the call came to
-  told_written : (i : ℕ) → i ≤ n → HasItems old (resumed (after with_event old (told_at i))) bytes (items_of old (told_at i))
+  told_written : (i : ℕ) → i ≤ n
+      → HasItems old (resumed (after with_event old (told_at i))) bytes (items_of old (told_at i))
   told_written i come =
-      kept_at (λ events. HasItems old (resumed (after with_event old events)) bytes (items_of old events)) (λ events. is_full (after with_event old events) ≡ false)
-      since (drop from bytes) laws.units (rw (resumed_same old (unpaused old free)) (items-nothing old bytes)) free (items-unit_more bytes old)
+      kept_at (λ events. HasItems old (resumed (after with_event old events)) bytes (items_of old events))
+      (λ events. is_full (after with_event old events) ≡ false)
+      since (drop from bytes) laws.units (rw (resumed_same old (unpaused old free)) (items-nothing old bytes)) free
+      (items-unit_more bytes old)
       i (omega (arith, s.within)) (λ j earlier. s.earlier j (omega arith))
 
   goes-call : Goes old (resumed new) since (stream_at since (drop from bytes) n) bytes from n
@@ -136,12 +150,16 @@ module _ (old new : Room) (since bytes : List ℕ) (from n : ℕ) (laws : Laws) 
     items = items_of old (told_at n);
     continues = continues-call laws.grows laws.goes_on since (drop from bytes) n;
     shows = events-singles bytes (reported old.kinds (told_at n));
-    holds = subst (λ (r : Room). HasItems old (resumed r) bytes (items_of old (told_at n))) (sym s.performed) (told_written n (omega arith));
+    holds =
+        subst (λ (r : Room). HasItems old (resumed r) bytes (items_of old (told_at n))) (sym s.performed)
+        (told_written n (omega arith));
     before = λ none.
         others_before (is_stop old.kinds old.stops) none.0 since (drop from bytes) n s.within laws.grows laws.silent
-        (λ i earlier start. others_reported old.kinds old.stops (told_at i) (rw (events-singles bytes (reported old.kinds (told_at i))) at
+        (λ i earlier start.
+        others_reported old.kinds old.stops (told_at i) (rw (events-singles bytes (reported old.kinds (told_at i))) at
         (items_others old.stops bytes old.used (items_of old (told_at i))
-        (unmet (told_written i (omega arith)) (resumed_free (after with_event old (told_at i)) (s.earlier i earlier start))))));
+        (unmet (told_written i (omega arith))
+        (resumed_free (after with_event old (told_at i)) (s.earlier i earlier start))))));
   }
 
 -- ---- one after the other
@@ -156,8 +174,10 @@ goes-nothing {room} {since} {bytes} {from} = record {
   before = λ none i earlier. absurd (omega arith);
 }
 
-goes-then : {old mid new : Room} {since next last bytes : List ℕ} {from n m : ℕ} (a : Goes old mid since next bytes from n)
-    → is_full mid ≡ false → from + n + m ≤ length bytes → Goes mid new next last bytes (from + n) m → Goes old new since last bytes from (n + m)
+goes-then : {old mid new : Room} {since next last bytes : List ℕ} {from n m : ℕ}
+    (a : Goes old mid since next bytes from n)
+    → is_full mid ≡ false → from + n + m ≤ length bytes → Goes mid new next last bytes (from + n) m
+    → Goes old new since last bytes from (n + m)
 goes-then {old} {mid} {since = since} {bytes = bytes} {from = from} {n = n} {m = m} a free within b =
     let unread : List ℕ = drop from bytes in
     let size = length-drop from bytes in
@@ -168,7 +188,9 @@ goes-then {old} {mid} {since = since} {bytes = bytes} {from = from} {n = n} {m =
       told = a.told ++ b.told;
       items = a.items ++ b.items;
       continues = continues-then a.continues (rw rest at b.continues) (omega (arith, within));
-      shows = rw (flat_map-append (item_events bytes) a.items b.items, filter-append, a.shows) (rw kinds at (ap (λ (es : List Event). reported old.kinds a.told ++ es) b.shows));
+      shows =
+          rw (flat_map-append (item_events bytes) a.items b.items, filter-append, a.shows)
+          (rw kinds at (ap (λ (es : List Event). reported old.kinds a.told ++ es) b.shows));
       holds = items-then a.holds free b.holds;
       before = λ none i earlier. elim (cases_lt i n) [
         | inl front ↦ a.before none i front
@@ -177,30 +199,41 @@ goes-then {old} {mid} {since = since} {bytes = bytes} {from = from} {n = n} {m =
             let place : n + k ≡ i = omega arith in
             let front = a.continues.fronts k (omega (arith, within)) in
             let stop : ℕ → Bool = is_stop old.kinds old.stops in
-            let told_others = others_reported old.kinds old.stops a.told (rw a.shows at (items_others old.stops bytes old.used a.items (unmet a.holds free))) in
+            let told_others =
+            others_reported old.kinds old.stops a.told
+            (rw a.shows at (items_others old.stops bytes old.used a.items (unmet a.holds free))) in
             let more = rw (kinds, stops, rest) at (b.before (rw (kinds, stops) none) k (omega arith)) in
-            rw (← place) (others_front stop (added (Some 1024) since (take (n + k) unread)) front.others (rw front.parts at (others_append stop _ _ told_others more)))
+            rw (← place)
+            (others_front stop (added (Some 1024) since (take (n + k) unread)) front.others
+            (rw front.parts at (others_append stop _ _ told_others more)))
       ];
     }
 
-pub gone-nothing : {old : Room} {parser : Parser 1024} {since bytes : List ℕ} → HasRead parser since → HasGone old old parser since bytes 0 0
+pub gone-nothing : {old : Room} {parser : Parser 1024} {since bytes : List ℕ} → HasRead parser since
+    → HasGone old old parser since bytes 0 0
 gone-nothing {since = since} reads = record { next = since; reads = reads; goes = goes-nothing }
 
-pub gone-then : {old mid new : Room} {parser last : Parser 1024} {since bytes : List ℕ} {n m : ℕ} (a : HasGone old mid parser since bytes 0 n)
-    → is_full mid ≡ false → n + m ≤ length bytes → HasGone mid new last a.next bytes n m → HasGone old new last since bytes 0 (n + m)
-gone-then a free within b = record { next = b.next; reads = b.reads; goes = goes-then a.goes free (rw zero-add within) (rw zero-add b.goes) }
+pub gone-then : {old mid new : Room} {parser last : Parser 1024} {since bytes : List ℕ} {n m : ℕ}
+    (a : HasGone old mid parser since bytes 0 n)
+    → is_full mid ≡ false → n + m ≤ length bytes → HasGone mid new last a.next bytes n m
+    → HasGone old new last since bytes 0 (n + m)
+gone-then a free within b =
+    record { next = b.next; reads = b.reads; goes = goes-then a.goes free (rw zero-add within) (rw zero-add b.goes) }
 
 -- ---- a call of the parser, and the run that it returned
 
 -- a run that has no bytes isn't there
-no_run : (bytes : List ℕ) (end : ℕ) (taken : Taken) → IsWhole bytes end taken → length (taken_bytes taken) ≡ 0 → (room : Room) (start : ℕ)
+no_run : (bytes : List ℕ) (end : ℕ) (taken : Taken) → IsWhole bytes end taken → length (taken_bytes taken) ≡ 0
+    → (room : Room) (start : ℕ)
     → with_taken room start taken ≡ room
 no_run bytes end (Text text) whole none room start = absurd (omega (arith, whole.0, none))
 no_run bytes end (Data those) whole none room start = absurd (omega (arith, whole.0, none))
 no_run bytes end Nothing whole none room start = refl
 
-module _ (old mid new : Room) (since bytes : List ℕ) (from : ℕ) (run : Returned) {HasReadBefore : List ℕ → Type 0} (laws : Laws) (free : is_full old ≡ false) (begins : from ≤ length bytes)
-    (r : ReturnsRun with_event is_full old mid (Some 1024) HasReadBefore (drop from bytes) run) (before : HasReadBefore since) where
+module _ (old mid new : Room) (since bytes : List ℕ) (from : ℕ) (run : Returned) {HasReadBefore : List ℕ → Type 0}
+    (laws : Laws) (free : is_full old ≡ false) (begins : from ≤ length bytes)
+    (r : ReturnsRun with_event is_full old mid (Some 1024) HasReadBefore (drop from bytes) run)
+    (before : HasReadBefore since) where
   abbrev after_call : List ℕ
   after_call = stream_at since (drop from bytes) run.start
 
@@ -208,19 +241,24 @@ module _ (old mid new : Room) (since bytes : List ℕ) (from : ℕ) (run : Retur
   call = goes-call old mid since bytes from run.start laws free (r.comes since before)
 
   -- a run of this kind was recorded
-  goes-some : (kind : Run) → 0 < length (run_bytes run) → new ≡ with_wanted (resumed mid) (run_record (run_kind kind) (from + run.start) (length (run_bytes run)))
+  goes-some : (kind : Run) → 0 < length (run_bytes run)
+      → new ≡ with_wanted (resumed mid) (run_record (run_kind kind) (from + run.start) (length (run_bytes run)))
       → IsRun kind (run_bytes run) → returned_events run ≡ run_events kind (run_bytes run)
       → Goes old new since (after_call ++ run_bytes run) bytes from run.end
   goes-some kind some is plain same =
       let here : take (length (run_bytes run)) (drop (from + run.start) bytes) ≡ run_bytes run =
       ap (take (length (run_bytes run))) (sym (drop-drop run.start from bytes)) ∙ sym r.stands.is in
-      let within : from + run.start + length (run_bytes run) ≤ length bytes = omega (arith, begins, r.stands.end, r.stands.within, length-drop from bytes) in
+      let within : from + run.start + length (run_bytes run) ≤ length bytes =
+      omega (arith, begins, r.stands.end, r.stands.within, length-drop from bytes) in
       let open_room = resumed_free mid (r.may_go_on (omega (arith, r.stands.end))) in
-      let more = goes-run {since = after_call} kind laws.grows open_room is (record { within = within; some = some; is = rw here plain }) (rw here (r.adds since before ∙ same)) in
+      let more =
+      goes-run {since = after_call} kind laws.grows open_room is
+      (record { within = within; some = some; is = rw here plain }) (rw here (r.adds since before ∙ same)) in
       rw r.stands.end (goes-then call open_room within (rw here at more))
 
   goes-taken : (taken : Taken) → run.taken ≡ taken → AreCharacters taken → IsWhole (drop from bytes) run.end taken
-      → new ≡ with_taken (resumed mid) (from + run.start) taken → Goes old new since (after_call ++ run_bytes run) bytes from run.end
+      → new ≡ with_taken (resumed mid) (from + run.start) taken
+      → Goes old new since (after_call ++ run_bytes run) bytes from run.end
   goes-taken (Text text) is utf8 whole written =
       let bytes_are : run_bytes run ≡ text.now = ap taken_bytes is in
       goes-some TextRun (rw bytes_are whole.0) (rw bytes_are written) (rw bytes_are (utf8, whole.1)) (rw is refl)
@@ -232,11 +270,13 @@ module _ (old mid new : Room) (since bytes : List ℕ) (from : ℕ) (run : Retur
       let end : run.end ≡ run.start = omega (arith, r.stands.end, ap length none) in
       rw (none, append-nil after_call, end, written) call
 
-  pub goes-to-run : AreCharacters run.taken → new ≡ with_run (resumed mid) from run → Goes old new since (after_call ++ run_bytes run) bytes from run.end
+  pub goes-to-run : AreCharacters run.taken → new ≡ with_run (resumed mid) from run
+      → Goes old new since (after_call ++ run_bytes run) bytes from run.end
   goes-to-run utf8 is = goes-taken run.taken refl utf8 r.stands.whole is
 
   -- with room for what two bytes add a call reads one, unless a record was written that stops
-  pub further : Starts old → from < length bytes → new ≡ with_run (resumed mid) from run → HaveOtherRecords old.stops new.events → 0 < run.end
+  pub further : Starts old → from < length bytes → new ≡ with_run (resumed mid) from run
+      → HaveOtherRecords old.stops new.events → 0 < run.end
   unfolding told
   further starts some is others = elim (cases_lt 0 run.end) [
     | inl more ↦ more
@@ -244,8 +284,12 @@ module _ (old mid new : Room) (since bytes : List ℕ) (from : ℕ) (run : Retur
         let unread : List ℕ = drop from bytes in
         let start : run.start ≡ 0 = omega (arith, none, r.stands.end) in
         let empty : length (run_bytes run) ≡ 0 = omega (arith, none, r.stands.end) in
-        let same : new ≡ resumed mid = is ∙ no_run unread run.end run.taken r.stands.whole empty (resumed mid) (from + run.start) in
+        let same : new ≡ resumed mid =
+        is ∙ no_run unread run.end run.taken r.stands.whole empty (resumed mid) (from + run.start) in
         let performed = rw (start, added_nothing since) at (r.comes since before).performed in
         let goes_on = goes_on_at_first old (breaks_at since unread 0) starts (rw (same, performed) at others) in
-        absurd (false≢true (sym goes_on ∙ ap is_full (sym performed) ∙ r.stops (omega (arith, none, start)) (omega (arith, start, length-drop from bytes, some))))
+        absurd
+        (false≢true
+        (sym goes_on ∙ ap is_full (sym performed)
+        ∙ r.stops (omega (arith, none, start)) (omega (arith, start, length-drop from bytes, some))))
   ]

@@ -33,7 +33,8 @@ module _ {A : Type 0} {of : List Event → List A} where
   pub given_first : {parser : Saved} → events (Some 1024) [] ≡ [] → HasReadSaved parser [] → HasGiven of parser [] [] []
   given_first none reads = record { since = []; reads = reads; goes_on = λ more. rw none refl }
 
-  pub given_before : (parser : Saved) (given : List A) (stream unread bytes : List ℕ) → HasGiven of parser given stream unread
+  pub given_before : (parser : Saved) (given : List A) (stream unread bytes : List ℕ)
+      → HasGiven of parser given stream unread
       → HasGiven of parser given (stream ++ bytes) (unread ++ bytes)
   given_before parser given stream unread bytes h = record {
     since = h.since;
@@ -42,14 +43,21 @@ module _ {A : Type 0} {of : List Event → List A} where
   }
 
   -- what a call gives comes next, and the parser goes on from where it stopped
-  pub given_more : {old new : Saved} {before : List A} {stream next : List ℕ} (now : List A) (bytes rest : List ℕ) (n : ℕ) (h : HasGiven of old before stream (bytes ++ rest))
-      → HasReadSaved new next → ((more : List ℕ) → now ++ of (added (Some 1024) next (drop n bytes ++ more)) ≡ of (added (Some 1024) h.since (bytes ++ more)))
+  pub given_more : {old new : Saved} {before : List A} {stream next : List ℕ} (now : List A) (bytes rest : List ℕ)
+      (n : ℕ) (h : HasGiven of old before stream (bytes ++ rest))
+      → HasReadSaved new next
+      → ((more : List ℕ)
+      → now ++ of (added (Some 1024) next (drop n bytes ++ more)) ≡ of (added (Some 1024) h.since (bytes ++ more)))
       → HasGiven of new (before ++ now) stream (drop n bytes ++ rest)
   given_more {before = before} {next = next} now bytes rest n h reads goes_on = record {
     since = next;
     reads = reads;
-    goes_on = λ more. rw (append_assoc before, append_assoc (drop n bytes), goes_on (rest ++ more), ← append_assoc bytes) (h.goes_on more);
+    goes_on =
+        λ more. rw (append_assoc before, append_assoc (drop n bytes), goes_on (rest ++ more), ← append_assoc bytes)
+        (h.goes_on more);
   }
 
-  pub given_all : of [] ≡ [] → (parser : Saved) (given : List A) (stream : List ℕ) → HasGiven of parser given stream [] → given ≡ of (events (Some 1024) stream)
-  given_all none parser given stream h = rw (added_nothing h.since, none, append-nil given, append-nil stream) at (h.goes_on [])
+  pub given_all : of [] ≡ [] → (parser : Saved) (given : List A) (stream : List ℕ) → HasGiven of parser given stream []
+      → given ≡ of (events (Some 1024) stream)
+  given_all none parser given stream h =
+      rw (added_nothing h.since, none, append-nil given, append-nil stream) at (h.goes_on [])

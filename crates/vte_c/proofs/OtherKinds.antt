@@ -18,13 +18,15 @@ use Rattle.vte_c.specs.declared.event.VteEvent.{VteEvent}
 
 -- ---- records
 
-pub kinds_of_none : (stops : ℕ) (records : List VteEvent) → has_kind stops records ≡ false → HaveOtherRecords stops records
+pub kinds_of_none : (stops : ℕ) (records : List VteEvent) → has_kind stops records ≡ false
+    → HaveOtherRecords stops records
 kinds_of_none stops [] none = tt
 kinds_of_none stops (event ∷ records) none =
     let apart = or_parts (has stops event.kind) (has_kind stops records) none in
     (apart.0, kinds_of_none stops records apart.1)
 
-pub kinds-append : (stops : ℕ) (front back : List ℕ) → HaveOtherKinds stops front → HaveOtherKinds stops back → HaveOtherKinds stops (front ++ back)
+pub kinds-append : (stops : ℕ) (front back : List ℕ) → HaveOtherKinds stops front → HaveOtherKinds stops back
+    → HaveOtherKinds stops (front ++ back)
 kinds-append stops [] back f b = b
 kinds-append stops (kind ∷ front) back f b = (f.0, kinds-append stops front back f.1 b)
 
@@ -34,29 +36,36 @@ pub others_front : (stop : ℕ → Bool) (front back : List Event) → AreOthers
 others_front stop [] back h = tt
 others_front stop (event ∷ front) back h = (h.0, others_front stop front back h.1)
 
-pub others_append : (stop : ℕ → Bool) (front back : List Event) → AreOthers stop front → AreOthers stop back → AreOthers stop (front ++ back)
+pub others_append : (stop : ℕ → Bool) (front back : List Event) → AreOthers stop front → AreOthers stop back
+    → AreOthers stop (front ++ back)
 others_append stop [] back f b = b
 others_append stop (event ∷ front) back f b = (f.0, others_append stop front back f.1 b)
 
-each_other : (stop : ℕ → Bool) (call : ℕ → Event) → ((n : ℕ) → stop (kind_of (call n)) ≡ false) → (ns : List ℕ) → AreOthers stop (map call ns)
+each_other : (stop : ℕ → Bool) (call : ℕ → Event) → ((n : ℕ) → stop (kind_of (call n)) ≡ false) → (ns : List ℕ)
+    → AreOthers stop (map call ns)
 each_other stop call other [] = tt
 each_other stop call other (n ∷ ns) = (other n, each_other stop call other ns)
 
-pub runs_other : (stop : ℕ → Bool) (run : Run) (bytes : List ℕ) → stop (run_kind run) ≡ false → AreOthers stop (run_events run bytes)
+pub runs_other : (stop : ℕ → Bool) (run : Run) (bytes : List ℕ) → stop (run_kind run) ≡ false
+    → AreOthers stop (run_events run bytes)
 runs_other stop TextRun bytes other = each_other stop Print (λ c. other) (chars bytes)
 runs_other stop DataRun bytes other = each_other stop Put (λ b. other) bytes
 
 -- the events of records that don't stop
-pub items_others : (stops : ℕ) (input : List ℕ) (place : ℕ) (items : List Item) → HaveOtherRecords stops (records_from place items)
+pub items_others : (stops : ℕ) (input : List ℕ) (place : ℕ) (items : List Item)
+    → HaveOtherRecords stops (records_from place items)
     → AreOthers (has stops) (flat_map (item_events input) items)
 items_others stops input place [] h = tt
-items_others stops input place (Single event ∷ items) h = (h.0, items_others stops input (place + length (item_data (Single event))) items h.1)
+items_others stops input place (Single event ∷ items) h =
+    (h.0, items_others stops input (place + length (item_data (Single event))) items h.1)
 items_others stops input place (InInput run start size ∷ items) h =
     let bytes : List ℕ = take size (drop start input) in
-    others_append (has stops) (run_events run bytes) (flat_map (item_events input) items) (runs_other (has stops) run bytes h.0) (items_others stops input (place + 0) items h.1)
+    others_append (has stops) (run_events run bytes) (flat_map (item_events input) items)
+    (runs_other (has stops) run bytes h.0) (items_others stops input (place + 0) items h.1)
 
 -- what isn't reported doesn't stop
-pub others_reported : (kinds stops : ℕ) (events : List Event) → AreOthers (has stops) (reported kinds events) → AreOthers (is_stop kinds stops) events
+pub others_reported : (kinds stops : ℕ) (events : List Event) → AreOthers (has stops) (reported kinds events)
+    → AreOthers (is_stop kinds stops) events
 others_reported kinds stops [] h = tt
 others_reported kinds stops (event ∷ events) h = elim (cases_Bool (has kinds (kind_of event))) [
   | inl wanted ↦
@@ -67,10 +76,12 @@ others_reported kinds stops (event ∷ events) h = elim (cases_Bool (has kinds (
 
 -- what fewer bytes add
 pub others_earlier : (stop : ℕ → Bool) (stream bytes : List ℕ) (i n : ℕ) → i ≤ n → Grows (Some 1024)
-    → AreOthers stop (added (Some 1024) stream (take n bytes)) → AreOthers stop (added (Some 1024) stream (take i bytes))
+    → AreOthers stop (added (Some 1024) stream (take n bytes))
+    → AreOthers stop (added (Some 1024) stream (take i bytes))
 others_earlier stop stream bytes i n earlier grows h =
     let parts : i + (n - i) ≡ n = omega arith in
-    others_front stop (added (Some 1024) stream (take i bytes)) (added (Some 1024) (stream ++ take i bytes) (take (n - i) (drop i bytes)))
+    others_front stop (added (Some 1024) stream (take i bytes))
+    (added (Some 1024) (stream ++ take i bytes) (take (n - i) (drop i bytes)))
     (rw (← parts, take-add i (n - i) bytes, added-append grows) at h)
 
 -- ---- what the bytes before the last add
@@ -78,10 +89,12 @@ others_earlier stop stream bytes i n earlier grows h =
 module _ (stop : ℕ → Bool) (no_text : stop 0 ≡ false) (stream bytes : List ℕ) (n : ℕ) (within : n ≤ length bytes)
     (grows : Grows (Some 1024)) (silent : OpensSilently (Some 1024))
     (asked : (i : ℕ) → i < n → IsStart stream bytes i → AreOthers stop (told (Some 1024) stream bytes i)) where
-  at_start : (i : ℕ) → i < n → open_end (stream ++ take i bytes) ≡ [] → AreOthers stop (added (Some 1024) stream (take i bytes))
+  at_start : (i : ℕ) → i < n → open_end (stream ++ take i bytes) ≡ []
+      → AreOthers stop (added (Some 1024) stream (take i bytes))
   unfolding told
   at_start i earlier closed =
-      others_front stop (added (Some 1024) stream (take i bytes)) (if breaks_at stream bytes i then Print replacement ∷ [] else [])
+      others_front stop (added (Some 1024) stream (take i bytes))
+      (if breaks_at stream bytes i then Print replacement ∷ [] else [])
       (asked i earlier (record { within = omega arith; starts = inl closed }))
 
   -- a byte after which no character is open ends at a start, and any other adds nothing that stops
@@ -95,7 +108,8 @@ module _ (stop : ℕ → Bool) (no_text : stop 0 ≡ false) (stream bytes : List
       elim (silent here byte) [
         | inl closed ↦ at_start (suc i) earlier (rw (one, ← append_assoc) closed)
         | inr opens ↦ rw (one, added-append grows stream (take i bytes) (byte ∷ []))
-            (others_append stop (added (Some 1024) stream (take i bytes)) (added (Some 1024) here (byte ∷ [])) before (elim opens [
+            (others_append stop (added (Some 1024) stream (take i bytes))
+            (added (Some 1024) here (byte ∷ [])) before (elim opens [
               | inl none ↦ rw none tt
               | inr broken ↦ rw broken (no_text, tt)
             ]))

@@ -25,10 +25,12 @@ use Rattle.vte_c.proofs.OtherKinds.{kinds-append, kinds_of_none}
 -- ---- items one after the other
 
 pub records-append : (place : ℕ) (front back : List Item)
-    → records_from place (front ++ back) ≡ records_from place front ++ records_from (place + length (flat_map item_data front)) back
+    → records_from place (front ++ back)
+    ≡ records_from place front ++ records_from (place + length (flat_map item_data front)) back
 records-append place [] back = rw add-zero refl
 records-append place (item ∷ front) back =
-    let size : place + length (item_data item) + length (flat_map item_data front) ≡ place + length (item_data item ++ flat_map item_data front) =
+    let size : place + length (item_data item) + length (flat_map item_data front)
+    ≡ place + length (item_data item ++ flat_map item_data front) =
     omega (arith, length-append (item_data item) (flat_map item_data front)) in
     rw (← size, records-append (place + length (item_data item)) front back) refl
 
@@ -36,12 +38,25 @@ pub length-records : (place : ℕ) (items : List Item) → length (records_from 
 length-records place [] = refl
 length-records place (item ∷ items) = omega (arith, length-records (place + length (item_data item)) items)
 
-pub with_items-append : (room : Room) (front back : List Item) → with_items (with_items room front) back ≡ with_items room (front ++ back)
+pub with_items-append : (room : Room) (front back : List Item)
+    → with_items (with_items room front) back ≡ with_items room (front ++ back)
 with_items-append room front back =
-    let size : room.used + length (flat_map item_data front) + length (flat_map item_data back) ≡ room.used + length (flat_map item_data front ++ flat_map item_data back) =
+    let size : room.used + length (flat_map item_data front) + length (flat_map item_data back)
+    ≡ room.used + length (flat_map item_data front ++ flat_map item_data back) =
     omega (arith, length-append (flat_map item_data front) (flat_map item_data back)) in
-    let count : room.count + length front + length back ≡ room.count + length (front ++ back) = omega (arith, length-append front back) in
-    rw (← count, records-append, flat_map-append, ← size, list_any-append, append_assoc room.events, append_assoc room.area, or_assoc) refl
+    let count : room.count + length front + length back ≡ room.count + length (front ++ back) =
+    omega (arith, length-append front back) in
+    rw (
+      ← count,
+      records-append,
+      flat_map-append,
+      ← size,
+      list_any-append,
+      append_assoc room.events,
+      append_assoc
+          room.area,
+      or_assoc,
+    ) refl
 
 -- as long as a room isn't full, no record stops
 pub unmet : {old new : Room} {input : List ℕ} {items : List Item} → HasItems old new input items → is_full new ≡ false
@@ -49,15 +64,18 @@ pub unmet : {old new : Room} {input : List ℕ} {items : List Item} → HasItems
 unmet {old} {new} {input} {items} h free =
     let met : new.met ≡ false = grind (arith, nat_tests) in
     kinds_of_none old.stops (records_from old.used items)
-    (or_parts old.met (has_kind old.stops (records_from old.used items)) (sym (ap (λ (r : Room). r.met) h.room) ∙ met)).1
+    (or_parts old.met (has_kind old.stops (records_from old.used items))
+    (sym (ap (λ (r : Room). r.met) h.room) ∙ met)).1
 
-readable-append : (input : List ℕ) (front back : List Item) → AreReadable input front → AreReadable input back → AreReadable input (front ++ back)
+readable-append : (input : List ℕ) (front back : List Item) → AreReadable input front → AreReadable input back
+    → AreReadable input (front ++ back)
 readable-append input [] back f b = b
 readable-append input (Single event ∷ front) back f b = (f.0, readable-append input front back f.1 b)
 readable-append input (InInput run start size ∷ front) back f b = (f.0, readable-append input front back f.1 b)
 
 -- two are few
-pub stops_soon : (stops place : ℕ) (items : List Item) → length items ≤ 2 → StopsAtKind stops (kinds_of (records_from place items))
+pub stops_soon : (stops place : ℕ) (items : List Item) → length items ≤ 2
+    → StopsAtKind stops (kinds_of (records_from place items))
 stops_soon stops place items few =
     let count = length-map (records_from place items) (λ (event : VteEvent). event.kind) in
     record {
@@ -69,9 +87,15 @@ stops_soon stops place items few =
     }
 
 pub items-nothing : (room : Room) (input : List ℕ) → HasItems room room input []
-items-nothing room input = record { readable = tt; room = simp (append-nil, add-zero, or-false) refl; first = stops_soon room.stops room.used [] (omega arith) }
+items-nothing room input =
+    record {
+      readable = tt;
+      room = simp (append-nil, add-zero, or-false) refl;
+      first = stops_soon room.stops room.used [] (omega arith);
+    }
 
-pub items-then : {old mid new : Room} {input : List ℕ} {front back : List Item} → HasItems old mid input front → is_full mid ≡ false
+pub items-then : {old mid new : Room} {input : List ℕ} {front back : List Item} → HasItems old mid input front
+    → is_full mid ≡ false
     → HasItems mid new input back → HasItems old new input (front ++ back)
 items-then {old} {mid} {new} {input} {front} {back} a free b =
     let before = records_from old.used front in
@@ -91,7 +115,8 @@ items-then {old} {mid} {new} {input} {front} {back} a free b =
 -- ---- a run of the input
 
 -- what is written has no bit for lost data
-run_plain : (run : Run) (start size : ℕ) → without_loss (run_record (run_kind run) start size) ≡ run_record (run_kind run) start size
+run_plain : (run : Run) (start size : ℕ)
+    → without_loss (run_record (run_kind run) start size) ≡ run_record (run_kind run) start size
 unfolding without_loss
 run_plain TextRun start size = refl
 run_plain DataRun start size = refl
@@ -111,7 +136,8 @@ single_plain place Unhook = refl
 single_plain place (CsiDispatch groups ints ignore final) = refl
 single_plain place (EscDispatch ints ignore final) = refl
 
-pub items-run : {old new : Room} (input : List ℕ) (run : Run) (start size : ℕ) → is_full old ≡ false → IsRunAt input run start size
+pub items-run : {old new : Room} (input : List ℕ) (run : Run) (start size : ℕ) → is_full old ≡ false
+    → IsRunAt input run start size
     → new ≡ with_one old (run_record (run_kind run) start size)
     → HasItems old new input (InInput run start size ∷ [])
 unfolding with_one
@@ -139,17 +165,20 @@ either : (choice : Bool) (a b c d : Room) → resumed a ≡ resumed c → resume
 either true a b c d f g = f
 either false a b c d f g = g
 
-either_paused : (choice paused : Bool) (a b : Room) → a.paused ≡ paused → b.paused ≡ paused → (if choice then a else b).paused ≡ paused
+either_paused : (choice paused : Bool) (a b : Room) → a.paused ≡ paused → b.paused ≡ paused
+    → (if choice then a else b).paused ≡ paused
 either_paused true paused a b f g = f
 either_paused false paused a b f g = g
 
 -- an event is written alike
-with_event_resumed : (room : Room) (event : Event) → resumed (with_event room event) ≡ resumed (with_event (resumed room) event)
+with_event_resumed : (room : Room) (event : Event)
+    → resumed (with_event room event) ≡ resumed (with_event (resumed room) event)
 unfolding with_one with_record
 with_event_resumed room event =
     either (has room.kinds (kind_of event)) _ _ _ _
     (either (nat_le (length (data_of event)) (packed_size event)) _ _ _ _
-    (either (has_room room (length (data_of event))) _ _ _ _ (either (nat_lt room.count room.most) _ _ _ _ refl refl) refl) refl) refl
+    (either (has_room room (length (data_of event))) _ _ _ _
+    (either (nat_lt room.count room.most) _ _ _ _ refl refl) refl) refl) refl
 
 pub paused_after : (room : Room) (event : Event) → (with_event room event).paused ≡ (is_command event || room.paused)
 unfolding with_one with_record
@@ -157,7 +186,8 @@ paused_after room event =
     let paused : Bool = is_command event || room.paused in
     either_paused (has room.kinds (kind_of event)) paused _ _
     (either_paused (nat_le (length (data_of event)) (packed_size event)) paused _ _
-    (either_paused (has_room room (length (data_of event))) paused _ _ (either_paused (nat_lt room.count room.most) paused _ _ refl refl) refl) refl) refl
+    (either_paused (has_room room (length (data_of event))) paused _ _
+    (either_paused (nat_lt room.count room.most) paused _ _ refl refl) refl) refl) refl
 
 -- ---- events of the parser
 
@@ -170,7 +200,8 @@ pub record HasRoomFor (room : Room) (count size : ℕ) : Type 0 where
 roomy : (room : Room) → is_full room ≡ false → HasRoomFor room 2 most_added
 roomy room free = record { events = grind (arith, nat_tests); data_fits = grind (arith, nat_tests) }
 
-pub event_written : (room : Room) (event : Event) → IsBounded (Some 1024) event → room.paused ≡ false → HasRoomFor room 1 (length (data_of event))
+pub event_written : (room : Room) (event : Event) → IsBounded (Some 1024) event → room.paused ≡ false
+    → HasRoomFor room 1 (length (data_of event))
     → has room.kinds (kind_of event) ≡ true → resumed (with_event room event) ≡ with_items room (Single event ∷ [])
 unfolding with_one with_record
 event_written room event bounded going room_for wanted =
@@ -180,19 +211,25 @@ event_written room event bounded going room_for wanted =
     rw (wanted, fits, has_both, some, single_plain room.used event, going) (simp (append-nil, or-false))
 
 -- an event that isn't reported leaves the room
-pub event_passed : (room : Room) (event : Event) → room.paused ≡ false → has room.kinds (kind_of event) ≡ false → resumed (with_event room event) ≡ room
+pub event_passed : (room : Room) (event : Event) → room.paused ≡ false → has room.kinds (kind_of event) ≡ false
+    → resumed (with_event room event) ≡ room
 event_passed room event going other = rw other (resumed_same room going)
 
 -- the items of events
 abbrev pub items_of : Room → List Event → List Item
 items_of room events = map Single (reported room.kinds events)
 
-items-event : (input : List ℕ) (room : Room) (event : Event) → IsBounded (Some 1024) event → room.paused ≡ false → HasRoomFor room 1 (length (data_of event))
+items-event : (input : List ℕ) (room : Room) (event : Event) → IsBounded (Some 1024) event → room.paused ≡ false
+    → HasRoomFor room 1 (length (data_of event))
     → HasItems room (resumed (with_event room event)) input (items_of room (event ∷ []))
 items-event input room event bounded going room_for = elim (cases_Bool (has room.kinds (kind_of event))) [
   | inl wanted ↦
       rw (event_written room event bounded going room_for wanted, wanted)
-      (record { readable = (bounded, tt); room = refl; first = stops_soon room.stops room.used (Single event ∷ []) (omega arith) })
+      (record {
+        readable = (bounded, tt);
+        room = refl;
+        first = stops_soon room.stops room.used (Single event ∷ []) (omega arith);
+      })
   | inr other ↦ rw (event_passed room event going other, other) (items-nothing room input)
 ]
 
@@ -203,7 +240,8 @@ record AreFew (room : Room) (event : Event) : Type 0 where
 
 are_few : (room : Room) (event : Event) → AreFew room event
 are_few room event = elim (cases_Bool (has room.kinds (kind_of event))) [
-  | inl wanted ↦ record { count = rw wanted (omega arith); size = rw wanted (omega (arith, length-append (data_of event) [])) }
+  | inl wanted ↦
+      record { count = rw wanted (omega arith); size = rw wanted (omega (arith, length-append (data_of event) [])) }
   | inr other ↦ record { count = rw other (omega arith); size = rw other (omega arith) }
 ]
 
@@ -213,7 +251,8 @@ items-unit input room [] brief free = rw (resumed_same room (unpaused room free)
 items-unit input room (event ∷ []) brief free =
     let room_for = roomy room free in
     let size = data_most event brief in
-    items-event input room event brief (unpaused room free) (record { events = omega (arith, room_for.events); data_fits = omega (arith, room_for.data_fits) })
+    items-event input room event brief (unpaused room free)
+    (record { events = omega (arith, room_for.events); data_fits = omega (arith, room_for.data_fits) })
 items-unit input room (event ∷ last ∷ []) brief free =
     let room_for = roomy room free in
     let size = data_most event brief.0 in
@@ -221,21 +260,46 @@ items-unit input room (event ∷ last ∷ []) brief free =
     let few = are_few room event in
     let more = are_few room last in
     let next : Room = resumed (with_event room event) in
-    let first = items-event input room event brief.0 (unpaused room free) (record { events = omega (arith, room_for.events); data_fits = omega (arith, room_for.data_fits) }) in
+    let first =
+    items-event input room event brief.0 (unpaused room free)
+    (record { events = omega (arith, room_for.events); data_fits = omega (arith, room_for.data_fits) }) in
     let kinds : next.kinds ≡ room.kinds = ap (λ (r : Room). r.kinds) first.room in
     let room_for_last : HasRoomFor next 1 (length (data_of last)) = record {
-      events = omega (arith, room_for.events, few.count, ap (λ (r : Room). r.count) first.room, ap (λ (r : Room). r.most) first.room);
-      data_fits = omega (arith, room_for.data_fits, few.size, size, short, ap (λ (r : Room). r.used) first.room, ap (λ (r : Room). r.size) first.room);
+      events =
+          omega (
+            arith,
+            room_for.events,
+            few.count,
+            ap (λ (r : Room). r.count) first.room,
+            ap
+                (λ (r : Room). r.most) first.room,
+          );
+      data_fits =
+          omega (
+            arith,
+            room_for.data_fits,
+            few.size,
+            size,
+            short,
+            ap (λ (r : Room). r.used) first.room,
+            ap
+                (λ (r : Room). r.size) first.room,
+          );
     } in
-    let second = subst (λ (k : ℕ). HasItems next (resumed (with_event next last)) input (map Single (reported k (last ∷ [])))) kinds
+    let second =
+    subst (λ (k : ℕ). HasItems next (resumed (with_event next last)) input (map Single (reported k (last ∷ [])))) kinds
     (items-event input next last (short_bounded last brief.1) refl room_for_last) in
     let both : items_of room (event ∷ last ∷ []) ≡ items_of room (event ∷ []) ++ items_of room (last ∷ []) =
-    ap (map Single) (filter-append (λ e. has room.kinds (kind_of e)) (event ∷ []) (last ∷ [])) ∙ map-append Single _ _ in
+    ap (map Single) (filter-append (λ e. has room.kinds (kind_of e)) (event ∷ []) (last ∷ []))
+    ∙ map-append Single _ _ in
     rw (with_event_resumed (with_event room event) last, both) (record {
       readable = readable-append input _ _ first.readable second.readable;
-      room = second.room ∙ ap (λ (r : Room). with_items r (items_of room (last ∷ []))) first.room ∙ with_items-append room _ _;
+      room =
+          second.room ∙ ap (λ (r : Room). with_items r (items_of room (last ∷ []))) first.room
+          ∙ with_items-append room _ _;
       first = stops_soon room.stops room.used (items_of room (event ∷ []) ++ items_of room (last ∷ []))
-          (omega (arith, few.count, more.count, length-append (items_of room (event ∷ [])) (items_of room (last ∷ []))));
+          (omega
+          (arith, few.count, more.count, length-append (items_of room (event ∷ [])) (items_of room (last ∷ []))));
     })
 items-unit input room (event ∷ last ∷ more ∷ events) brief free = absurd brief
 
@@ -250,4 +314,5 @@ items-unit_more {old} input room before unit h free brief =
     let kinds : mid.kinds ≡ old.kinds = ap (λ (r : Room). r.kinds) first.room in
     rw (after-append with_event room before unit, filter-append, map-append)
     (items-then first free
-    (subst (λ (k : ℕ). HasItems mid (resumed (after with_event mid unit)) input (map Single (reported k unit))) kinds (items-unit input mid unit brief free)))
+    (subst (λ (k : ℕ). HasItems mid (resumed (after with_event mid unit)) input (map Single (reported k unit))) kinds
+    (items-unit input mid unit brief free)))

@@ -19,19 +19,36 @@ length_numbers (n ∷ numbers) = omega (arith, length_numbers numbers)
 length_groups : (groups : List (List ℕ)) → length (flat_map group_bytes groups) ≡ length groups + 2 * count_of groups
 length_groups [] = refl
 length_groups (group ∷ groups) =
-    omega (arith, length-append (group_bytes group) (flat_map group_bytes groups), length_numbers group, length_groups groups, sum_by-cons length group groups)
+    omega (
+      arith,
+      length-append (group_bytes group)
+          (flat_map group_bytes groups),
+      length_numbers group,
+      length_groups groups,
+      sum_by-cons length group groups,
+    )
 
-length_pieces : (pieces : List (List ℕ)) → length (flat_map piece_bytes pieces) ≡ 4 * length pieces + length (concat pieces)
+length_pieces : (pieces : List (List ℕ))
+    → length (flat_map piece_bytes pieces) ≡ 4 * length pieces + length (concat pieces)
 length_pieces [] = refl
-length_pieces (piece ∷ pieces) = omega (arith, length-append (piece_bytes piece) (flat_map piece_bytes pieces), length-append piece (concat pieces), length_pieces pieces)
+length_pieces (piece ∷ pieces) =
+    omega (
+      arith,
+      length-append (piece_bytes piece) (flat_map piece_bytes pieces),
+      length-append piece
+          (concat pieces),
+      length_pieces pieces,
+    )
 
 -- the first pieces aren't longer than all
-pub front_of_pieces : (pieces : List (List ℕ)) (n : ℕ) → length (flat_map piece_bytes (take n pieces)) ≤ length (flat_map piece_bytes pieces)
+pub front_of_pieces : (pieces : List (List ℕ)) (n : ℕ)
+    → length (flat_map piece_bytes (take n pieces)) ≤ length (flat_map piece_bytes pieces)
 front_of_pieces pieces n =
     let front : List ℕ = flat_map piece_bytes (take n pieces) in
     let back : List ℕ = flat_map piece_bytes (drop n pieces) in
     let parts : flat_map piece_bytes pieces ≡ front ++ back =
-    ap (flat_map piece_bytes) (sym (take-append-drop n pieces)) ∙ flat_map-append piece_bytes (take n pieces) (drop n pieces) in
+    ap (flat_map piece_bytes) (sym (take-append-drop n pieces))
+    ∙ flat_map-append piece_bytes (take n pieces) (drop n pieces) in
     omega (arith, ap length parts, length-append front back)
 
 abbrev HasNumber : List ℕ → Type 0

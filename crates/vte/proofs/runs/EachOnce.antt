@@ -87,7 +87,8 @@ module _ {V W : Type 0} (m : Meaning V W) where
     | inr parses ↦
         rw parses
         (grows_on (opened_grows answer s r)
-        (parse_grows (opened m answer s) _ _ r (opened_none answer s) (front_rest m.limit (opened m answer s).parsed r)))
+        (parse_grows (opened m answer s) _ _ r (opened_none answer s)
+        (front_rest m.limit (opened m answer s).parsed r)))
   ]
 
   pub turns_grow : (s t : State V W) (bytes left : List ℕ) → TakesTurns m s bytes t left → Grows s t bytes left

@@ -16,10 +16,13 @@ returns c =
     let stops = c.new-room.ensures.stops in
     let whole : take m bytes ++ drop m bytes ≡ bytes = take-append-drop m bytes in
     let within : read.result ≤ length (take m bytes) = read.ensures.within in
-    let count : read_count read.result ≡ read.result = counted read.result (omega (arith, within, length-take m bytes, c.min-end.ensures)) in
-    let feeds = λ (told : List Event) (stream rest : List ℕ) (h : HasTold c.args.kinds c.args.parser.now told stream (bytes ++ rest)).
+    let count : read_count read.result ≡ read.result =
+    counted read.result (omega (arith, within, length-take m bytes, c.min-end.ensures)) in
+    let feeds =
+    λ (told : List Event) (stream rest : List ℕ) (h : HasTold c.args.kinds c.args.parser.now told stream (bytes ++ rest)).
     read.ensures.feeds told stream (drop m bytes ++ rest) (rw (kinds, ← append_assoc (take m bytes), whole) h) in
-    let are = λ (told : List Event) (stream rest : List ℕ) (h : HasTold c.args.kinds c.args.parser.now told stream (bytes ++ rest)).
+    let are =
+    λ (told : List Event) (stream rest : List ℕ) (h : HasTold c.args.kinds c.args.parser.now told stream (bytes ++ rest)).
     let fed = feeds told stream rest h in
     counts_are room c.min.result c.min-2.result (fed.encodes [])
     (c.events-1.given.1.1 (sym (fed.events_name ∙ c.new-room.ensures.same_events)))
@@ -33,13 +36,20 @@ returns c =
           let a = are told stream rest h in
           let tells = rw kinds at ((feeds told stream rest h).tells (drop m bytes)) in
           rw (count, a.same_count, a.same_records, a.same_area)
-          (rw (← append_assoc (drop read.result (take m bytes)), ← drop-append-le read.result (take m bytes) (drop m bytes) within, whole) at tells);
+          (rw (
+            ← append_assoc (drop read.result (take m bytes)),
+            ← drop-append-le read.result (take m bytes)
+                (drop m bytes) within,
+            whole,
+          ) at tells);
       encoded = λ told stream rest h.
           let a = are told stream rest h in
-          rw (a.same_count, a.same_used, a.same_records, a.same_area) (rw whole at ((feeds told stream rest h).encodes (drop m bytes)));
+          rw (a.same_count, a.same_used, a.same_records, a.same_area)
+          (rw whole at ((feeds told stream rest h).encodes (drop m bytes)));
       room = (omega (arith, c.min.ensures, c.events-1.given.1.0), omega (arith, c.min-2.ensures, c.area-1.given.1.0));
       few = λ few. record { says = search rules; events = search rules; bytes = search rules; same = search rules };
-      little = λ little. record { says = search rules; events = search rules; bytes = search rules; same = search rules };
+      little =
+          λ little. record { says = search rules; events = search rules; bytes = search rules; same = search rules };
       further = λ told stream rest h most size others some.
           let a = are told stream rest h in
           let there : 0 < length (take m bytes) = omega (arith, c.min-end.ensures, length-take m bytes, some) in
@@ -48,5 +58,11 @@ returns c =
           let a = are told stream rest h in
           rw (a.same_count, a.same_records, ← stops) (feeds told stream rest h).first;
       until = λ stream reads not_text not_data i earlier.
-          rw (kinds, stops, take-take i m bytes (omega (arith, count, within, length-take m bytes))) at (read.ensures.stops stream reads (rw (kinds, stops) (not_text, not_data)) i (rw count at earlier));
+          rw (
+            kinds,
+            stops,
+            take-take i m bytes
+                (omega (arith, count, within, length-take m bytes)),
+          ) at (read.ensures.stops stream reads
+          (rw (kinds, stops) (not_text, not_data)) i (rw count at earlier));
     }

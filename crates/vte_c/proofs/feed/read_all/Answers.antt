@@ -5,7 +5,8 @@ use Rattle.vte_c.proofs.Going.{gone-nothing, gone-then}
 use Rattle.vte_c.proofs.feed.read_all.Goals as goal
 
 pub loop-position-init : goal.loop-position-init
-loop-position-init c = record { within = omega arith; goes = λ since reads. gone-nothing reads; first = λ at_first. refl }
+loop-position-init c =
+    record { within = omega arith; goes = λ since reads. gone-nothing reads; first = λ at_first. refl }
 
 pub loop-position-preserved : goal.loop-position-preserved
 loop-position-preserved c =
@@ -23,7 +24,8 @@ pub returns-then-read-eq0-clause-goes : goal.returns-then-read-eq0-clause-goes
 returns-then-read-eq0-clause-goes c = λ since reads.
     let a = c.loop-position.invariant.goes since reads in
     let r = c.read_more-read.ensures in
-    let place : c.loop-position.position + c.read_more-read.result ≡ c.loop-position.position = omega (arith, c.if-read-eq0.true) in
+    let place : c.loop-position.position + c.read_more-read.result ≡ c.loop-position.position =
+    omega (arith, c.if-read-eq0.true) in
     rw place at (gone-then a (sym c.is_full.ensures ∙ c.if-not-is_full.true) r.within (r.goes a.next a.reads))
 
 pub returns-then-read-eq0-clause-further : goal.returns-then-read-eq0-clause-further
@@ -34,6 +36,8 @@ returns-then-read-eq0-clause-further c = λ since reads others some.
       | inl past ↦ past
       | inr none ↦
           let same : room_of c.loop-position.room ≡ room_of c.args.room.now = v.first (omega (arith, none)) in
-          let further : 0 < c.read_more-read.result = c.read_more-read.ensures.further a.next a.reads (rw same c.requires.starts) (rw (← ap (λ (r : Room). r.stops) same) at others) in
+          let further : 0 < c.read_more-read.result =
+          c.read_more-read.ensures.further a.next a.reads (rw same c.requires.starts)
+          (rw (← ap (λ (r : Room). r.stops) same) at others) in
           absurd (omega (arith, further, c.if-read-eq0.true))
     ]

@@ -13,7 +13,8 @@ returns c =
     let bytes = c.args.bytes.now in
     let rest : List ℕ = drop c.args.from bytes in
     let size = length-drop c.args.from bytes in
-    let unread : take (length bytes - c.args.from) rest ≡ rest = take_all (length bytes - c.args.from) rest (omega arith) in
+    let unread : take (length bytes - c.args.from) rest ≡ rest =
+    take_all (length bytes - c.args.from) rest (omega arith) in
     let returned = rw unread at call.ensures.returns in
     let begins : c.args.from ≤ length bytes = omega (arith, c.requires.within) in
     let laws : Laws = record {
@@ -28,9 +29,13 @@ returns c =
       goes = λ since reads. record {
         next = stream_at since rest run.start ++ run_bytes run;
         reads = rw unread at (call.ensures.reads since reads);
-        goes = goes-to-run (room_of c.args.room.now) (room_of call.new.performer) (room_of c.add_run.new.self) since bytes c.args.from run laws
+        goes =
+            goes-to-run (room_of c.args.room.now) (room_of call.new.performer)
+            (room_of c.add_run.new.self) since bytes c.args.from run laws
             c.requires.roomy begins returned reads c.add_run.ensures.utf8 written;
       };
-      further = λ since reads starts others. further (room_of c.args.room.now) (room_of call.new.performer) (room_of c.add_run.new.self) since bytes c.args.from run laws
+      further =
+          λ since reads starts others. further (room_of c.args.room.now) (room_of call.new.performer)
+          (room_of c.add_run.new.self) since bytes c.args.from run laws
           c.requires.roomy begins returned reads starts c.requires.within written others;
     }

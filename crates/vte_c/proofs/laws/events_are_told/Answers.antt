@@ -3,7 +3,9 @@ use Rattle.vte_c.proofs.Joining.{all_reported, given_all, given_before, given_fi
 use Rattle.vte_c.proofs.laws.events_are_told.Goals as goal
 
 pub returns-clause-starts : goal.returns-clause-starts
-returns-clause-starts c = λ kinds parser zero. given_first (c.empty_stream.ensures (Some 1024)) (rw (c.new.ensures.zeros ∙ sym zero) at c.new.ensures.reads)
+returns-clause-starts c =
+    λ kinds parser zero.
+    given_first (c.empty_stream.ensures (Some 1024)) (rw (c.new.ensures.zeros ∙ sym zero) at c.new.ensures.reads)
 
 pub returns-clause-more : goal.returns-clause-more
 returns-clause-more c = λ kinds. given_before

@@ -15,7 +15,9 @@ pub loop-count-init : goal.loop-count-init
 loop-count-init c = record {
   within = omega arith;
   begins = λ none. refl;
-  written = λ stream reads. written_nothing (text_room_of c.args.room.now) c.args.bytes.now (c.restored-parser.ensures stream reads);
+  written =
+      λ stream reads. written_nothing (text_room_of c.args.room.now) c.args.bytes.now
+      (c.restored-parser.ensures stream reads);
 }
 
 pub loop-count-preserved : goal.loop-count-preserved
@@ -31,14 +33,16 @@ loop-count-preserved c =
     let size : length chunk ≡ m = rw unread (omega (arith, length-take m rest)) in
     let room = text_room_of c.loop-count.room in
     let some : 0 < m = omega (arith, c.min-size.ensures, c.left.ensures, c.left-in-loop-count.ensures) in
-    let fits : room.used + 8 * length chunk ≤ room.size = omega (arith, c.min-size.ensures, c.left.ensures, c.left-in-loop-count.ensures) in
+    let fits : room.used + 8 * length chunk ≤ room.size =
+    omega (arith, c.min-size.ensures, c.left.ensures, c.left-in-loop-count.ensures) in
     record {
       within = omega (arith, size, least);
       begins = λ none. absurd (omega arith);
       written = λ stream reads.
           let h = c.loop-count.invariant.written stream reads in
           written_more chunk (c.events_grow.ensures (Some 1024))
-          (text_grows_slowly (c.events_grow.ensures (Some 1024)) (c.bytes_are_brief.ensures (Some 1024)) (stream ++ take n bytes) chunk) h
+          (text_grows_slowly (c.events_grow.ensures (Some 1024)) (c.bytes_are_brief.ensures (Some 1024))
+          (stream ++ take n bytes) chunk) h
           (rw (size, unread) (take-add n m bytes)) fits
           (c.advance_text.ensures.performs (stream ++ take n bytes) h.parsed)
           (c.advance_text.ensures.reads (stream ++ take n bytes) h.parsed);

@@ -8,7 +8,8 @@ abbrev pub invariant-loop-count : goal.invariant-loop-count
 invariant-loop-count l = record {
   within : l.count ≤ length l.bytes;
   begins : l.count ≡ 0 → text_room_of l.room ≡ text_room_of l.fn.room;
-  written : (stream : List ℕ) → HasReadSaved l.fn.saved stream → HasTextOf (text_room_of l.fn.room) (text_room_of l.room) stream l.bytes l.count l.parser;
+  written : (stream : List ℕ) → HasReadSaved l.fn.saved stream
+      → HasTextOf (text_room_of l.fn.room) (text_room_of l.room) stream l.bytes l.count l.parser;
 }
 
 abbrev pub decreases-loop-count : goal.decreases-loop-count

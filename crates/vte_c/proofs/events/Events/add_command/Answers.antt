@@ -31,7 +31,8 @@ returns-in_default c =
     let most = ap (λ (r : Room). r.size) c.pause.ensures in
     let fits = rw c.in_default.is at c.write_pieces.ensures.fits in
     let full : has_room (room_of c.args.self.now) size ≡ false = grind (arith, nat_tests) in
-    rw (same ∙ c.if-not-writes.false, le-leb size size (omega arith), full) (c.write_pieces.ensures.same ∙ c.pause.ensures)
+    rw (same ∙ c.if-not-writes.false, le-leb size size (omega arith), full)
+    (c.write_pieces.ensures.same ∙ c.pause.ensures)
 
 pub returns-in-Some : goal.returns-in-Some
 unfolding with_record
@@ -44,6 +45,9 @@ returns-in-Some c =
     let area = ap (λ (r : Room). r.size) c.pause.ensures in
     let fits = rw c.in-Some.is at c.write_pieces.ensures.fits in
     let room : has_room (room_of c.args.self.now) (length text) ≡ true = grind (arith, nat_tests) in
-    let holds = subst (λ (r : Room). Holds r c.write_pieces.new.self c.in-Some.end text) c.pause.ensures (rw c.in-Some.is at c.write_pieces.ensures.some) in
-    let written = rw (c.with_count-event.ensures, c.with_flag.ensures, c.new.ensures) at (c.add_written.ensures _ text holds) in
+    let holds =
+    subst (λ (r : Room). Holds r c.write_pieces.new.self c.in-Some.end text) c.pause.ensures
+    (rw c.in-Some.is at c.write_pieces.ensures.some) in
+    let written =
+    rw (c.with_count-event.ensures, c.with_flag.ensures, c.new.ensures) at (c.add_written.ensures _ text holds) in
     rw (same ∙ c.if-not-writes.false, le-leb (length text) (length text) (omega arith), room, length-map) written

@@ -7,7 +7,9 @@ use Rattle.vte_c.proofs.events.Events.add_loss.Goals as goal
 pub returns-then-self-place-eq-OSC : goal.returns-then-self-place-eq-OSC
 returns-then-self-place-eq-OSC c =
     let room = c.args.self.now in
-    let size : length (set room.events.now room.command c.with_loss.result) ≡ length room.events.now = length-set room.events.now room.command c.with_loss.result in
-    let written : map without_loss (take room.count (set room.events.now room.command c.with_loss.result)) ≡ map without_loss (take room.count room.events.now) =
+    let size : length (set room.events.now room.command c.with_loss.result) ≡ length room.events.now =
+    length-set room.events.now room.command c.with_loss.result in
+    let written : map without_loss (take room.count (set room.events.now room.command c.with_loss.result))
+    ≡ map without_loss (take room.count room.events.now) =
     rw c.with_loss.ensures (loss_unseen room.events.now room.count room.command _ c.if-self-place-eq-OSC.true) in
     rw (size, written) refl

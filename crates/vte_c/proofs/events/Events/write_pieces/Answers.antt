@@ -10,7 +10,9 @@ use Rattle.vte_c.proofs.events.Events.write_pieces.Goals as goal
 
 pub loop-piece-preserved : goal.loop-piece-preserved
 loop-piece-preserved c =
-    let more = take_more c.args.pieces.now c.loop-piece.piece-index (record { ref_ptr = (0, 0); now = [] }) c.loop-piece-test.true in
+    let more =
+    take_more c.args.pieces.now c.loop-piece.piece-index
+    (record { ref_ptr = (0, 0); now = [] }) c.loop-piece-test.true in
     let grown = c.write_piece.ensures (room_of c.args.self.now) _ c.loop-piece.invariant in
     rw (more, map-append, flat_map-append piece_bytes, append-nil) (rw c.in_ok-end.was at grown.some)
 
@@ -20,5 +22,7 @@ returns-in_err-end c =
     let more = take_more c.args.pieces.now i (record { ref_ptr = (0, 0); now = [] }) c.loop-piece-test.true in
     let grown = c.write_piece.ensures (room_of c.args.self.now) _ c.loop-piece.invariant in
     let full = rw c.in_err-end.was at grown.fits in
-    let front = rw (take-map, more, map-append, flat_map-append piece_bytes, append-nil) at (front_of_pieces (map (λ piece. piece.now) c.args.pieces.now) (i + 1)) in
+    let front =
+    rw (take-map, more, map-append, flat_map-append piece_bytes, append-nil) at (front_of_pieces
+    (map (λ piece. piece.now) c.args.pieces.now) (i + 1)) in
     record { same = grown.same; some = search rules; fits = grind (arith, nat_tests) }

@@ -9,4 +9,5 @@ abbrev pub invariant-loop-group : goal.invariant-loop-group
 invariant-loop-group g l =
     (goal.iterator-loop-group g).can_next l.group-iterator × (goal.iterator-loop-group g).is_finite l.group-iterator
     × ((text : List ℕ) → Packs l.fn.self text
-    → (done : List ℕ) × Packs l.self (text ++ done) × (done ++ flat_map group_bytes l.group-iterator ≡ flat_map group_bytes l.fn.params))
+    → (done : List ℕ) × Packs l.self (text ++ done)
+    × (done ++ flat_map group_bytes l.group-iterator ≡ flat_map group_bytes l.fn.params))

@@ -22,5 +22,10 @@ loop-c-preserved c =
 
 pub returns : goal.returns
 returns c =
-    let all = YieldsList-end (YieldsList-from_chars c.args.text.now c.utf8.text cc) c.loop-c.yielded _ c.loop-c.yielded_by _ _ c.in-None.is c.next.ensures.steps in
-    c.loop-c.invariant ∙ ap (λ cs. after with_text_of (text_room_of c.args.self.now) (map (run_event true) cs)) (sym (map-id c.loop-c.yielded) ∙ all.0)
+    let all =
+    YieldsList-end
+    (YieldsList-from_chars c.args.text.now c.utf8.text cc) c.loop-c.yielded _ c.loop-c.yielded_by _ _ c.in-None.is
+    c.next.ensures.steps in
+    c.loop-c.invariant
+    ∙ ap (λ cs. after with_text_of (text_room_of c.args.self.now) (map (run_event true) cs))
+    (sym (map-id c.loop-c.yielded) ∙ all.0)

@@ -6,8 +6,9 @@
 //! anything else that is passed.
 #![tactic(auto)]
 
-ghost use Rattle.std.specs.Prelude.{◌≡◌, []};
+ghost use Rattle.std.specs.Prelude.{◌≡◌, ℕ, List, Some};
 ghost use Rattle.vte_core.specs.Saved.{HasReadSaved};
+ghost use Rattle.vte_core.specs.Stream.{IsFinished, IsUnfinished};
 ghost use Rattle.vte_c.specs.Calls.{Feeds, Strips};
 
 mod event;
@@ -74,8 +75,12 @@ pub extern "C" fn vte_strip(
 /// Returns whether a sequence or a character is unfinished: 1 or 0.
 #[unsafe(no_mangle)]
 pub extern "C" fn vte_is_open(parser: &Saved) -> u8
-    // If one is, the parser doesn't go on as a new one.
-    ensures opens { result ≡ 1 → HasReadSaved parser.now [] → ⊥ }
+    // If not, more bytes give what they give on their own.
+    ensures closed { result ≡ 0 → (stream : List ℕ) → HasReadSaved parser.now stream
+        → IsFinished (Some 1024) stream }
+    // If one is, they don't.
+    ensures opens { result ≡ 1 → (stream : List ℕ) → HasReadSaved parser.now stream
+        → IsUnfinished (Some 1024) stream }
 {
     u8::from(Parser::restored(parser).is_open())
 }

@@ -82,7 +82,11 @@ pub extern "C" fn vte_is_open(parser: &Saved) -> u8
     ensures opens { result ≡ 1 → (stream : List ℕ) → HasReadSaved parser.now stream
         → IsUnfinished (Some 1024) stream }
 {
-    u8::from(Parser::restored(parser).is_open())
+    if Parser::restored(parser).is_open() {
+        1
+    } else {
+        0
+    }
 }
 
 /// Returns the version of this interface. It grows when programs compiled for an earlier version no

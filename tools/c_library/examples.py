@@ -152,8 +152,7 @@ def test_installation(library, report):
         report.same(f"installation, {program}", STREAM, output_of([where / program], STREAM, LD_LIBRARY_PATH=environment["LD_LIBRARY_PATH"]), TEXT)
 
     def installed(folder):
-        files = {str(file.relative_to(where / folder)) for file in (where / folder).rglob("*") if not file.is_dir()}
-        return {file for file in files if "/python3" not in file}
+        return {str(file.relative_to(where / folder)) for file in (where / folder).rglob("*") if not file.is_dir()}
 
     def removes(folder, variables):
         """Uninstalls what is below a folder, and leaves what is another's. Everybody can use what was there."""
@@ -167,7 +166,7 @@ def test_installation(library, report):
             (where / folder / file).touch()
         said = holds(f"uninstall {folder}", top / "tools/uninstall", **variables)
         report.holds(f"installation, what is left in {folder}", installed(folder) == others, f"{installed(folder) ^ others}")
-        removed = {line[len(f"{where / folder}/"):] for line in said.splitlines() if "/python3" not in line}
+        removed = {line[len(f"{where / folder}/"):] for line in said.splitlines()}
         report.holds(f"installation, what uninstall says of {folder}", removed == files, said)
         left = [str(place) for place in (where / folder).rglob("vte*") if place.is_dir()]
         report.holds(f"installation, folders that are left in {folder}", not left, f"{left}")
@@ -241,16 +240,16 @@ def test_installation_without_tools(library, report, holds, installed, removes, 
     wanted -= {f"usr/local/lib/libvte_c.so{version}" for version in ("", ".6")}
     report.holds(f"installation, the files {folder}", installed(folder) == wanted, f"{installed(folder) ^ wanted}")
     removes(folder, variables)
-    script = "#!/bin/sh\necho cargo {}\n[ \"$*\" = --version ]\n"
-    for fault, version in ("cargo isn't installed; 1.63", None), ("cargo 1.62.9 is too old; 1.63", "1.62.9"):
+    # the second is as rustup's without a toolchain, and the third builds nothing
+    for fault, script in (("cargo isn't installed; 1.63", ""), ("cargo doesn't run, as above; 1.63", "echo error: no toolchain >&2; exit 1"),
+                          ("cargo 1.62.9 is too old; 1.63", 'echo cargo 1.62.9; [ "$*" = --version ]')):
         (tools / "cargo").unlink(missing_ok=True)
-        if version:
-            (tools / "cargo").write_text(script.format(version))
+        if script:
+            (tools / "cargo").write_text(f"#!/bin/sh\n{script}\n")
             (tools / "cargo").chmod(0o755)
         for words in ["install", "--cargo"], ["build_c_library", "--cargo", where / "none"]:
             done = subprocess.run([TOOLS / words[0], *words[1:]], env={**os.environ, **variables, "VTE_ARCHIVE": ""}, capture_output=True, text=True)
             report.holds(f"installation, {words[0]}: {fault}", done.returncode == 70 and fault in done.stderr and not (where / "none").exists(), done.stderr)
-    # a cargo that builds nothing
     said = "cargo 1.62.9\ninstall: cargo could not build vtlog, as above: the program was left out\ninstall: the library is given as "
     holds("without vtlog", TOOLS / "install", "--cargo", **{**variables, "VTLOG": ""}, says=said)
     report.holds("installation, the files without vtlog", not {name for name in installed(folder) if "vtlog" in name})

@@ -145,7 +145,10 @@ pub unsafe extern "C" fn vte_long_feed(
             &mut *counts,
         )
     };
-    *counts = VteCounts { events: 0, bytes: 0 };
+    *counts = VteCounts {
+        events: 0,
+        bytes: 0,
+    };
     *data = area.as_ptr();
     if events.len() < LEAST_EVENTS {
         return NO_ROOM;

@@ -1,16 +1,17 @@
 /* However a stream is read by the C library, with any room, it has the same events and text. Any
  * content of a parser is safe.
  *
- * The first three bytes of the input say how long pieces are, how much room there is, and where
- * calls stop. Every buffer has exactly its size. */
+ * The first three bytes of the input say how long pieces are, how much room there is, and which
+ * kinds of events are wanted or end a call. Every buffer has exactly its size. */
 #include <stdlib.h>
 #include <string.h>
 #include <vte.h>
 
 enum { FRONT = 3 };
 
-/* A sum of what was reported. */
+/* A sum of what was reported, and the kinds of events that are in it. */
 static uint64_t sum;
+static uint32_t counted;
 
 static void add(uint64_t number) {
     sum = (sum ^ number) * 0x100000001b3;
@@ -22,6 +23,7 @@ static void add_bytes(uint8_t kind, const uint8_t *bytes, size_t length) {
 
 /* Texts and data are added by the byte, because their events depend on the room. */
 static void add_event(const vte_event *event, const uint8_t *bytes, const uint8_t *data) {
+    if (!(counted & VTE_KIND(event->kind))) return;
     if (event->kind == VTE_TEXT || event->kind == VTE_DATA) {
         add_bytes(event->kind, vte_text_of(event, bytes, data), event->code);
         return;
@@ -52,18 +54,9 @@ static void must(int holds) {
     if (!holds) abort();
 }
 
-/* Feeds bytes, up to an event of a kind if there is one. */
-static size_t feed(vte_parser *parser, const uint8_t *bytes, size_t length, int kind,
-                   vte_event *reported, size_t room, uint8_t *data, size_t data_room,
-                   vte_counts *counts) {
-    if (kind < 0) return vte_feed(parser, bytes, length, reported, room, data, data_room, counts);
-    return vte_feed_until(parser, bytes, length, (uint8_t)kind, reported, room, data, data_room,
-                          counts);
-}
-
-/* Reads the stream in pieces, with stops after each event of a kind. Returns the sum of events. */
+/* Reads the stream in pieces, and returns the sum of its events that count. */
 static uint64_t events(vte_parser parser, const uint8_t *stream, size_t length, size_t piece,
-                       size_t more, int kind) {
+                       size_t more, uint32_t kinds, uint32_t stops) {
     size_t room = VTE_LEAST_EVENTS + more, data_room = VTE_LEAST_DATA + more;
     vte_event *reported = malloc(room * sizeof *reported);
     uint8_t *data = malloc(data_room);
@@ -75,8 +68,8 @@ static uint64_t events(vte_parser parser, const uint8_t *stream, size_t length, 
         for (size_t begun = 0; begun < left;) {
             vte_counts counts;
             const uint8_t *rest = bytes + begun;
-            size_t read = feed(&parser, rest, left - begun, kind, reported, room, data, data_room,
-                               &counts);
+            size_t read = vte_feed(&parser, rest, left - begun, kinds, stops, reported, room, data,
+                                   data_room, &counts);
             must(read <= left - begun && (read > 0 || counts.events > 0));
             must(counts.events <= room && counts.data <= data_room);
             for (size_t i = 0; i < counts.events; i++) add_event(&reported[i], rest, data);
@@ -115,18 +108,24 @@ static uint64_t text(vte_parser parser, const uint8_t *stream, size_t length, si
 int LLVMFuzzerTestOneInput(const uint8_t *input, size_t length) {
     if (length <= FRONT) return 0;
     size_t piece = 1 + input[0], room = input[1];
+    uint32_t all = VTE_ALL_KINDS, some = input[2];
     const uint8_t *stream = input + FRONT;
     vte_parser parser = {{0}};
     length -= FRONT;
-    uint64_t whole = events(parser, stream, length, length, 4096, -1);
-    must(events(parser, stream, length, piece, room, -1) == whole);
-    must(events(parser, stream, length, piece, room, input[2] % 9) == whole);
+    counted = all;
+    uint64_t whole = events(parser, stream, length, length, 4096, all, 0);
+    must(events(parser, stream, length, piece, room, all, 0) == whole);
+    must(events(parser, stream, length, piece, room, all, some) == whole);
+    counted = some;
+    whole = events(parser, stream, length, length, 4096, all, 0);
+    must(events(parser, stream, length, piece, room, some, input[1]) == whole);
     uint64_t whole_text = text(parser, stream, length, length, 4096);
     must(text(parser, stream, length, piece, room) == whole_text);
     /* the stream as a parser: whatever it means, its pieces mean the same again */
     memcpy(&parser, stream, length < sizeof parser ? length : sizeof parser);
-    whole = events(parser, stream, length, length, 4096, -1);
-    must(events(parser, stream, length, piece, room, -1) == whole);
+    counted = all;
+    whole = events(parser, stream, length, length, 4096, all, 0);
+    must(events(parser, stream, length, piece, room, all, some) == whole);
     text(parser, stream, length, piece, room);
     return 0;
 }

@@ -1,6 +1,6 @@
 //! Every way to read a stream by a parser.
 
-use vte::{LongParser, Parser, Perform, PerformText, Run};
+use vte::{LongParser, Parser, Perform, PerformText, Run, Taken};
 
 use crate::event_lines::{EventLines, Stop};
 
@@ -108,13 +108,19 @@ fn to_runs<R: Read>(pieces: &[&[u8]]) -> Outcome {
         let mut rest = *piece;
         while !rest.is_empty() {
             let run = parser.advance_to_run(&mut lines, rest);
-            assert_eq!(
-                &rest[run.start..run.end()],
-                [run.text.as_bytes(), run.data].concat()
-            );
-            run.text.chars().for_each(|c| lines.print(c));
-            run.data.iter().for_each(|byte| lines.put(*byte));
-            rest = &rest[run.end()..];
+            let (taken, after) = rest[run.start..].split_at(run.end - run.start);
+            match run.taken {
+                Taken::Text(text) => {
+                    assert_eq!(text.as_bytes(), taken);
+                    lines.print_text(text);
+                }
+                Taken::Data(data) => {
+                    assert_eq!(data, taken);
+                    lines.put_slice(data);
+                }
+                Taken::Nothing => assert_eq!((taken, after), (&b""[..], &b""[..]), "no run"),
+            }
+            rest = after;
         }
     }
     (lines.text, parser.is_open())

@@ -158,7 +158,7 @@ mod tests {
         let mut words = ArrayVec::<(u64, char), 2>::new();
         assert!(words.try_extend_from_slice(&[(1, 'a'), (2, 'b')]).is_ok());
         assert_eq!(words.as_slice(), [(1, 'a'), (2, 'b')]);
-        assert!(!std::mem::needs_drop::<ArrayVec<(u64, char), 2>>());
+        assert!(!core::mem::needs_drop::<ArrayVec<(u64, char), 2>>());
     }
 
     #[test]

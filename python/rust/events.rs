@@ -362,7 +362,17 @@ impl Recorder {
         self.add(kind, Record::Sequence);
     }
 
-    fn add_command(&mut self, pieces: &[&[u8]], bell_terminated: bool, truncated: bool) {
+    /// Notes that the command lost data that stopped a call, if there is one from an event on. At
+    /// most one event is behind it, of the byte that ended it.
+    pub fn truncate_command(&mut self, from: usize) {
+        for record in self.records[from..].iter_mut().rev().take(2) {
+            if let Record::Command { truncated, .. } = record {
+                *truncated = true;
+            }
+        }
+    }
+
+    fn add_command(&mut self, pieces: &[&[u8]], bell_terminated: bool) {
         if self.kinds.has(Kind::Osc) {
             pieces
                 .iter()
@@ -375,17 +385,13 @@ impl Recorder {
             Record::Command {
                 pieces,
                 bell_terminated,
-                truncated,
+                truncated: false,
             },
         );
     }
 }
 
 impl Perform for Recorder {
-    fn print(&mut self, c: char) {
-        self.add_text(c.encode_utf8(&mut [0; 4]));
-    }
-
     fn execute(&mut self, byte: u8) {
         self.add(Kind::Execute, Record::Execute(byte));
     }
@@ -400,20 +406,12 @@ impl Perform for Recorder {
         );
     }
 
-    fn put(&mut self, byte: u8) {
-        self.add_data(&[byte]);
-    }
-
     fn unhook(&mut self) {
         self.add(Kind::Unhook, Record::Unhook);
     }
 
     fn osc_dispatch(&mut self, pieces: &[&[u8]], bell_terminated: bool) {
-        self.add_command(pieces, bell_terminated, false);
-    }
-
-    fn osc_dispatch_truncated(&mut self, pieces: &[&[u8]], bell_terminated: bool) {
-        self.add_command(pieces, bell_terminated, true);
+        self.add_command(pieces, bell_terminated);
     }
 
     fn csi_dispatch(&mut self, params: &Params, intermediates: &[u8], ignore: bool, action: char) {

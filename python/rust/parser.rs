@@ -99,6 +99,13 @@ impl Machine {
         }
     }
 
+    fn command_lost_data(&self) -> bool {
+        match self {
+            Machine::Long(parser) => parser.command_lost_data(),
+            Machine::Limited(parser) => parser.0.command_lost_data(),
+        }
+    }
+
     /// How many bytes an open command has at most.
     fn command(&self) -> usize {
         match self {
@@ -124,9 +131,13 @@ impl Machine {
                 return (at, true);
             }
             recorder.go_on();
+            let before = recorder.count();
             match self.advance(recorder, step) {
                 Ok(read) => at += read,
                 Err(Refused { read }) => return (at + read, true),
+            }
+            if self.command_lost_data() {
+                recorder.truncate_command(before);
             }
             if recorder.has_stopped() {
                 break;

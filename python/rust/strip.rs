@@ -9,7 +9,7 @@ use pyo3::prelude::*;
 use pyo3::types::PyString;
 use std::borrow::Cow;
 use std::collections::TryReserveError;
-use vte::{LongParser, Perform, PerformText, Refused};
+use vte::{LongParser, Perform, PerformText, Refused, Taken};
 
 /// What is shown. Nothing is copied as long as it is the front of the source.
 struct Shown<'a> {
@@ -57,17 +57,8 @@ impl<'a> Shown<'a> {
     }
 }
 
-impl Perform for Shown<'_> {
-    fn print(&mut self, c: char) {
-        self.add(c.encode_utf8(&mut [0; 4]).as_bytes());
-    }
-
-    fn execute(&mut self, byte: u8) {
-        if matches!(byte, b'\t' | b'\n' | b'\r') {
-            self.add(&[byte]);
-        }
-    }
-}
+// all of the text, with the controls among it, comes by `print_text`
+impl Perform for Shown<'_> {}
 
 impl PerformText for Shown<'_> {
     fn keeps_layout(&self) -> bool {
@@ -127,8 +118,10 @@ fn shown_with_bytes(source: &[u8]) -> Result<Cow<'_, [u8]>, Refused> {
             Some(c) => shown.add(c.encode_utf8(&mut [0; 4]).as_bytes()),
             None => {}
         }
-        shown.add(run.text.as_bytes());
-        at += run.end();
+        if let Taken::Text(text) = run.taken {
+            shown.add(text.as_bytes());
+        }
+        at += run.end;
     }
     shown.all()
 }

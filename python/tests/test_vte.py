@@ -153,6 +153,14 @@ class Events(unittest.TestCase):
                 cut = Osc((b"a",) * 15 + (b"b",), True, truncated)
                 self.assertEqual(parser.feed(b"\x1b]" + b"a;" * 15 + b"b" + tail + b"\x07\x1b]0;c\x07"), [cut, Osc((b"0", b"c"), True)])
 
+    def test_only_a_command_that_lost_data_says_so(self):
+        lost, cut, whole = b"\x1b]" + b"a;" * 16 + b"b", Osc((b"a",) * 16, False, True), Osc((b"0", b"c"), True)
+        stream = b"\x1b]0;c\x07" + lost + b"\x18\x1b]0;c\x07" + lost
+        for parser in parsers():
+            # CAN ends a command, and is an event behind it
+            self.assertEqual(parser.feed(stream), [whole, cut, Execute(0x18), whole])
+            self.assertEqual(parser.feed(b"\x18b"), [cut, Execute(0x18), Text("b")])
+
     def test_many_different_sequences(self):
         stream = b"".join(b"\x1b[%d;%dH" % (number, number // 7) for number in range(5000))
         groups = [((number,), (number // 7,)) for number in range(5000)]

@@ -57,7 +57,11 @@ pub fn vte_strip(parser: &mut Saved, bytes: &[u8], room: &mut [u8], written: &mu
 
 /// Returns whether a sequence or a character is unfinished: 1 or 0.
 pub fn vte_is_open(parser: &Saved) -> u8 {
-    u8::from(Parser::restored(parser).is_open())
+    if Parser::restored(parser).is_open() {
+        1
+    } else {
+        0
+    }
 }
 
 /// Returns the version of this interface. It grows when programs compiled for an earlier version no

@@ -284,8 +284,9 @@ fn a_stop_ends_the_call_before_a_run() {
 fn the_text_is_the_callers() {
     let mut bytes = PLAIN.to_vec();
     let run = Parser::new().advance_to_run(&mut Events::default(), &bytes);
-    let Taken::Text(text) = run.taken else {
-        panic!("no text");
+    let text = match run.taken {
+        Taken::Text(text) => text,
+        _ => panic!("no text"),
     };
     assert_eq!((text.as_ptr(), text.len()), (bytes.as_ptr(), bytes.len()));
     bytes.clear();

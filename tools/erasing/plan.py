@@ -318,7 +318,6 @@ VTE_C = Plan(
     out="rust/vte_c/src/proved",
     modules={"vte_c": "crate::proved::vte_c"},
     outside={"vte_core": "vte"},
-    imports={"vte_c": {"arrayvec::ArrayVec": "crate::array_vec::ArrayVec"}},
     # what is by hand names these
     dropped={"vte_c/lib": ("use event", "use feed", "mod event")},
     added={"vte_c/lib": "pub(crate) mod event;\npub(crate) use event::VteEvent;\npub(crate) use events::Events;\n"

@@ -1,9 +1,5 @@
 -- What bytes add to a stream.
-use Rattle.std.proofs.Common.{◌≡◌, ℕ, List, [], ◌++◌, drop, length, Some, sym, ap, ◌∙◌, append_assoc}
-use Rattle.std.proofs.Math.Seq.{drop-append_seam}
-use Rattle.vte_core.specs.Event.{Event}
-use Rattle.vte_core.specs.Laws.{Grows}
-use Rattle.vte_core.specs.Stream.{added, events}
+use Rattle.vte_c.proofs.Common.{Event, Grows, List, Some, [], added, ap, append_assoc, drop, drop-append_seam, events, length, sym, ℕ, ◌++◌, ◌∙◌, ◌≡◌}
 use Rattle.vte_core.proofs.streams.After.{added-nothing}
 
 pub added_nothing : (stream : List ℕ) → added (Some 1024) stream [] ≡ []

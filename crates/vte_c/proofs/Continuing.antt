@@ -1,17 +1,8 @@
 -- How a parser continues after a part of a call, and after the next.
-use Rattle.std.proofs.Common.{◌≡◌, ℕ, zero, suc, ◌+◌, ◌≤◌, true, List, [], ◌∷◌, ◌++◌, inl, inr}
-use Rattle.std.proofs.Common.{length, drop, take, Some, refl, sym, ap, ◌∙◌, append_assoc, append-nil, arith}
-use Rattle.std.proofs.Math.Nat.{add_assoc, zero-add}
-use Rattle.std.proofs.Math.Seq.{drop-drop, take-add}
-use Rattle.std.proofs.lemmas.Bool.{cases_Bool}
-use Rattle.std.proofs.lemmas.List.{length-drop, take-append-drop}
+use Rattle.vte_c.proofs.Common.{AreFirst, Continues, Event, GoesOnFromPlaces, Grows, List, Print, Some, [], add_assoc, added, ap, append-nil, append_assoc, arith, breaks}
+use Rattle.vte_c.proofs.Common.{breaks_at, cases_Bool, drop, drop-drop, inl, inr, length, length-drop, open_end, refl, replacement, stream_at, suc, sym, take, take-add}
+use Rattle.vte_c.proofs.Common.{take-append-drop, told, true, zero, zero-add, ℕ, ◌++◌, ◌+◌, ◌∙◌, ◌∷◌, ◌≡◌, ◌≤◌}
 use Rattle.vte_c.proofs.Added.{added-append, added_nothing}
-use Rattle.vte_core.specs.EarlyStop.{breaks, breaks_at, stream_at, told}
-use Rattle.vte_core.specs.Event.{Event, Print, replacement}
-use Rattle.vte_core.specs.Laws.{Grows}
-use Rattle.vte_core.specs.Stops.{GoesOnFromPlaces}
-use Rattle.vte_core.specs.Stream.{added, open_end}
-use Rattle.vte_c.specs.Feeding.{AreFirst, Continues}
 
 -- ---- the first of a list of events
 
@@ -52,14 +43,9 @@ continues-then {bytes = bytes} {n = n} {m = m} {told = told} {more = more} a b w
 pub continues-added : Grows (Some 1024) → (since bytes : List ℕ) (n : ℕ)
     → Continues since (since ++ take n bytes) bytes n (added (Some 1024) since (take n bytes))
 continues-added grows since bytes n = record {
-  goes_on =
-      λ more.
-      rw (
-        ← added-append grows since (take n bytes) (drop n bytes ++ more),
-        ← append_assoc
-            (take n bytes),
-        take-append-drop,
-      ) refl;
+  goes_on = λ more.
+      let parts = added-append grows since (take n bytes) (drop n bytes ++ more) in
+      rw (← parts, ← append_assoc (take n bytes), take-append-drop) refl;
   fronts = λ k within. first_same (rw (take-add n k bytes, added-append grows) refl);
 }
 

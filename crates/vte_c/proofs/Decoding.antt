@@ -1,22 +1,11 @@
 -- Records and their data stand for the events that they were written for.
-use Rattle.std.proofs.Common.{◌≡◌, ℕ, ◌+◌, ◌*◌, ◌/◌, ◌%◌, ◌≤◌, min, Bool, true, false, ◌&&◌, ◌==◌, List, [], ◌∷◌, ◌++◌, get_or, map, set, inl, inr, ◌∙◌}
-use Rattle.std.proofs.Common.{length, take, drop, Some, refl, sym, ap, append_assoc, append-nil, length-append, arith}
-use Rattle.std.proofs.Math.Nat.{add-zero}
-use Rattle.std.proofs.Math.Seq.{drop-append_seam, drop-drop, map-set_same, take-append_seam}
-use Rattle.std.proofs.lemmas.Bool.{cases_Bool, eqb-true}
-use Rattle.std.proofs.lemmas.List.{take-append-drop, take-map}
-use Rattle.std.proofs.lemmas.List.Sums.{sum_by-cons}
-use Rattle.std.proofs.lemmas.Str.{chars-encodes}
+use Rattle.vte_c.proofs.Common.{AreGroups, AreReadable, Bool, CsiDispatch, DataRun, EscDispatch, Event, Hook, InInput, IsBounded, Item, List, OscDispatch, Print, Put, Run}
+use Rattle.vte_c.proofs.Common.{Single, Some, TextRun, VteEvent, [], add-zero, ap, append-nil, append_assoc, arith, cases_Bool, chars, chars-encodes, concat, count_byte}
+use Rattle.vte_c.proofs.Common.{count_of, data_of, drop, drop-append_seam, drop-drop, eqb-true, event_in, events_of, false, flag_byte, flat_map, get_or, group_bytes, groups_in}
+use Rattle.vte_c.proofs.Common.{inl, inr, intermediates_in, item_data, item_events, kinds_of, length, length-append, map, map-set_same, min, numbers_in, piece_bytes, pieces_in}
+use Rattle.vte_c.proofs.Common.{placed, records_from, refl, run_events, run_kind, run_record, set, sum_by-cons, sym, take, take-append-drop, take-append_seam, take-map, true}
+use Rattle.vte_c.proofs.Common.{two_bytes, with_intermediates, with_loss, without_loss, ℕ, ◌%◌, ◌&&◌, ◌*◌, ◌++◌, ◌+◌, ◌/◌, ◌==◌, ◌∙◌, ◌∷◌, ◌≡◌, ◌≤◌}
 use Rattle.std.specs.Char.{IsScalar, encode_utf8}
-use Rattle.std.specs.List.{concat, flat_map}
-use Rattle.std.specs.Str.{chars}
-use Rattle.vte_core.specs.Brief.{IsBounded}
-use Rattle.vte_core.specs.Event.{Event, Print, Hook, Put, OscDispatch, CsiDispatch, EscDispatch}
-use Rattle.vte_core.specs.Parameters.{AreGroups, count_of}
-use Rattle.vte_c.specs.Feeding.{AreReadable, kinds_of}
-use Rattle.vte_c.specs.Record.{Run, TextRun, DataRun, Item, Single, InInput, count_byte, data_of, event_in, events_of, flag_byte, group_bytes, groups_in, intermediates_in, item_data, item_events}
-use Rattle.vte_c.specs.Record.{numbers_in, piece_bytes, pieces_in, placed, records_from, run_events, run_kind, run_record, two_bytes, with_intermediates, with_loss, without_loss}
-use Rattle.vte_c.specs.declared.event.VteEvent.{VteEvent}
 use Rattle.vte_c.proofs.Sizes.{few_groups, length_numbers}
 
 -- ---- groups and pieces
@@ -37,15 +26,9 @@ read_groups (group ∷ groups) back small =
     let all = sum_by-cons length group groups in
     let few : count_byte (length group) ≡ length group = omega arith in
     let rest : List ℕ = flat_map group_bytes groups ++ back in
-    rw (
-      append_assoc (flat_map two_bytes group)
-          (flat_map group_bytes groups) back,
-      few,
-      read_numbers group rest,
-      drop_numbers group rest,
-      read_groups groups back
-          (omega arith),
-    ) refl
+    let parts = append_assoc (flat_map two_bytes group) (flat_map group_bytes groups) back in
+    let others = read_groups groups back (omega arith) in
+    rw (parts, few, read_numbers group rest, drop_numbers group rest, others) refl
 
 groups_read : (groups : List (List ℕ)) (back : List ℕ) → AreGroups groups
     → groups_in (count_byte (length groups)) (flat_map group_bytes groups ++ back) ≡ groups
@@ -63,15 +46,9 @@ read_pieces (piece ∷ pieces) back small =
     let size : n % 256 + 256 * ((n / 256) % 256) + 65536 * ((n / 65536) % 256) + 16777216 * (n / 16777216) ≡ n =
     omega arith in
     let rest : List ℕ = flat_map piece_bytes pieces ++ back in
-    rw (
-      append_assoc piece
-          (flat_map piece_bytes pieces) back,
-      least,
-      size,
-      take-append_seam piece rest,
-      drop-append_seam piece rest,
-      read_pieces pieces back (omega arith),
-    ) refl
+    let parts = append_assoc piece (flat_map piece_bytes pieces) back in
+    let others = read_pieces pieces back (omega arith) in
+    rw (parts, least, size, take-append_seam piece rest, drop-append_seam piece rest, others) refl
 
 -- ---- events
 
@@ -130,11 +107,8 @@ read_items input area back place (Single event ∷ items) are e =
     let rest : List ℕ = flat_map item_data items ++ back in
     let left : drop (place + length (data_of event)) area ≡ rest =
     rw (← drop-drop (length (data_of event)) place area, e, parts) (drop-append_seam (data_of event) rest) in
-    rw (
-      read_single input area rest place event are.0 (rw parts at e),
-      read_items input area back
-          (place + length (data_of event)) items are.1 left,
-    ) refl
+    let others = read_items input area back (place + length (data_of event)) items are.1 left in
+    rw (read_single input area rest place event are.0 (rw parts at e), others) refl
 
 -- whether a command lost data isn't read
 events_without_loss : (input area : List ℕ) (event : VteEvent)

@@ -1,20 +1,8 @@
 -- What a caller finds in its buffers.
-use Rattle.std.proofs.Common.{◌≡◌, ℕ, ◌+◌, ◌<◌, ◌≤◌, List, [], ◌∷◌, ◌++◌}
-use Rattle.std.proofs.Common.{length, length-append, drop, min, take, length-take, refl, sym, ap, ◌∙◌, arith}
-use Rattle.std.proofs.lemmas.List.{drop-append-le, length-drop, length-map, take-append-le}
-use Rattle.std.proofs.lemmas.List.Elements.{filter-append}
-use Rattle.std.specs.List.{flat_map}
-use Rattle.vte_core.specs.Event.{Event}
-use Rattle.vte_core.specs.Parser.{HasRead}
-use Rattle.vte_core.specs.Saved.{HasReadSaved}
-use Rattle.vte_core.specs.declared.parser.Parser.{Parser}
-use Rattle.vte_core.specs.declared.parser.saved.Saved.{Saved}
-use Rattle.vte_c.specs.Events.{Room, Starts, room_of}
-use Rattle.vte_c.specs.Feeding.{AreReadable, HasGone, HasItems, HaveOtherRecords}
-use Rattle.vte_c.specs.Record.{Run, Item, Single, InInput, events_in, item_events, without_loss}
-use Rattle.vte_c.specs.Told.{AreEncoded, AreRuns, HasFed, HasTold, IsRunAt}
-use Rattle.vte_c.specs.declared.event.VteEvent.{VteEvent}
-use Rattle.vte_c.specs.declared.events.Events.{Events}
+use Rattle.vte_c.proofs.Common.{AreEncoded, AreReadable, Event, Events, HasFed, HasGone, HasItems, HasRead, HasReadSaved, HasTold, HaveOtherRecords, InInput, IsRunAt, Item, List}
+use Rattle.vte_c.proofs.Common.{Parser, Room, Run, Saved, Single, Starts, VteEvent, [], ap, arith, drop, drop-append-le, events_in, filter-append, flat_map, item_events, length}
+use Rattle.vte_c.proofs.Common.{length-append, length-drop, length-map, length-take, min, refl, room_of, sym, take, take-append-le, without_loss, ℕ, ◌++◌, ◌+◌, ◌<◌, ◌∙◌, ◌∷◌}
+use Rattle.vte_c.proofs.Common.{◌≡◌, ◌≤◌}
 use Rattle.vte_c.proofs.Decoding.{all_without_loss, items_read, kinds_without_loss}
 use Rattle.vte_c.proofs.Joining.{given_more}
 use Rattle.vte_c.proofs.Rooms.{length-records}
@@ -53,11 +41,6 @@ item_events_later input more (InInput run start size ∷ items) are =
 
 -- ---- buffers that were empty
 
-are_runs : (input : List ℕ) (items : List Item) → AreReadable input items → AreRuns input items
-are_runs input [] are = tt
-are_runs input (Single event ∷ items) are = are_runs input items are.1
-are_runs input (InInput run start size ∷ items) are = (are.0, are_runs input items are.1)
-
 module _ (old new : Events) (input : List ℕ) (items : List Item) (starts : Starts (room_of old))
     (h : HasItems (room_of old) (room_of new) input items) (more : List ℕ) where
   abbrev encoded : AreEncoded (flat_map (item_events (input ++ more)) items) new.count new.used new.events.now
@@ -65,7 +48,7 @@ module _ (old new : Events) (input : List ℕ) (items : List Item) (starts : Sta
   encoded = record {
     items = items;
     told = refl;
-    runs = are_runs (input ++ more) items (readable_later input more items h.readable);
+    readable = readable_later input more items h.readable;
     number = omega (arith, ap (λ (r : Room). r.count) h.room, starts.count);
     recorded = rw (starts.events, starts.used) at (ap (λ (r : Room). r.events) h.room);
     size = omega (arith, ap (λ (r : Room). r.used) h.room, starts.used);
@@ -120,17 +103,10 @@ pub counts_are : {events : List Event} {input area : List ℕ} {records : List V
 counts_are room count used e records area least_count least_used =
     let few = length-take room.count room.events.now in
     let small = length-take room.used room.area.now in
+    let each = length-map (take room.count room.events.now) without_loss in
+    let all = length-records 0 e.items in
     record {
-      same_count =
-          omega (
-            arith,
-            e.number,
-            length-records 0 e.items,
-            ap length e.recorded,
-            length-map
-                (take room.count room.events.now) without_loss,
-            ap length records,
-          );
+      same_count = omega (arith, e.number, all, ap length e.recorded, each, ap length records);
       same_used = omega (arith, e.size, ap length e.held, ap length area);
       same_records = records;
       same_area = area;

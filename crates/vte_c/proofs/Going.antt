@@ -1,59 +1,34 @@
 -- How a call goes on by calls of the parser and by the runs that these return.
-use Rattle.std.proofs.Common.{◌≡◌, ℕ, ◌+◌, ◌-◌, ◌<◌, ◌≤◌, inl, inr, Bool, true, false, List, [], ◌∷◌, ◌++◌}
-use Rattle.std.proofs.Common.{length, drop, take, map, if◌then◌else◌, Some, refl, sym, ap, ◌∙◌, append-nil, length-append, nat_lt, subst, arith}
-use Rattle.std.proofs.Math.Nat.{add-zero, zero-add}
-use Rattle.std.proofs.Math.Seq.{drop-drop}
-use Rattle.std.proofs.lemmas.Bool.{cases_Bool, cases_lt, false≢true}
-use Rattle.std.proofs.lemmas.Bool.Decides.{nat_tests}
-use Rattle.std.proofs.lemmas.Grind.{flat_map-append}
-use Rattle.std.proofs.lemmas.List.{length-drop}
-use Rattle.std.proofs.lemmas.List.Elements.{filter-append}
-use Rattle.std.proofs.lemmas.Str.{chars-nil, length-encode, len_utf8_bounds}
-use Rattle.std.specs.List.{flat_map}
-use Rattle.std.specs.Str.{chars}
+use Rattle.vte_c.proofs.Common.{AreCharacters, Bool, ComesTo, DataRun, Event, Goes, GoesOnFromPlaces, Grows, HasGone, HasItems, HasRead, HaveOtherRecords, InInput, IsRun}
+use Rattle.vte_c.proofs.Common.{IsRunAt, List, OpensSilently, Parser, Print, Put, Room, Run, Single, Some, Starts, StopsAtNone, TellsUnits, TextRun, [], added, after, ap}
+use Rattle.vte_c.proofs.Common.{append-nil, arith, breaks_at, cases_Bool, cases_lt, chars, data_of, drop, drop-drop, false, false≢true, filter-append, flat_map, flat_map-append}
+use Rattle.vte_c.proofs.Common.{has, if◌then◌else◌, inl, inr, is_full, is_stop, item_events, kind_of, len_utf8_bounds, length, length-append, length-drop, length-encode, map}
+use Rattle.vte_c.proofs.Common.{nat_tests, refl, replacement, reported, resumed, run_events, run_kind, run_record, stream_at, subst, sym, take, told, true, with_event}
+use Rattle.vte_c.proofs.Common.{with_items, with_run, with_taken, with_wanted, zero-add, ℕ, ◌++◌, ◌+◌, ◌-◌, ◌<◌, ◌∙◌, ◌∷◌, ◌≡◌, ◌≤◌}
 use Rattle.vte_c.proofs.Added.{added_nothing}
 use Rattle.vte_core.specs.AdvanceToRun.{IsWhole, ReturnsRun, run_bytes, run_events as returned_events, taken_bytes}
-use Rattle.vte_core.specs.EarlyStop.{ComesTo, breaks_at, stream_at, told}
-use Rattle.vte_core.specs.Event.{Event, Print, Put, replacement}
-use Rattle.vte_core.specs.Laws.{Grows, OpensSilently}
-use Rattle.vte_core.specs.Parser.{HasRead}
-use Rattle.vte_core.specs.Perform.{after}
-use Rattle.vte_core.specs.Stops.{GoesOnFromPlaces, TellsUnits}
-use Rattle.vte_core.specs.Stream.{added}
-use Rattle.vte_core.specs.declared.parser.Parser.{Parser}
 use Rattle.vte_core.specs.declared.looks.taken.Run.{Run as Returned}
 use Rattle.vte_core.specs.declared.looks.taken.Taken.{Taken}
 use Rattle.vte_core.specs.declared.looks.taken.Taken.TheVariants.{Text, Data, Nothing}
 use Rattle.vte_core.proofs.stops.Kept.{kept_at}
-use Rattle.vte_c.specs.Events.{AreCharacters, Room, Starts, is_full, resumed, with_event, with_run, with_taken, with_wanted}
-use Rattle.vte_c.specs.Feeding.{Goes, HasGone, HasItems, HaveOtherRecords, StopsAtNone, with_items}
-use Rattle.vte_c.specs.Record.{Run, TextRun, DataRun, Single, InInput, data_of, has, item_events, kind_of, reported, run_events, run_kind, run_record}
-use Rattle.vte_c.specs.Told.{IsRun, IsRunAt, is_stop}
 use Rattle.vte_c.proofs.OtherKinds.{items_others, others_append, others_before, others_earlier, others_front, others_reported, runs_other}
 use Rattle.vte_c.proofs.Continuing.{continues-added, continues-call, continues-nothing, continues-then}
-use Rattle.vte_c.proofs.Rooms.{HasRoomFor, event_passed, event_written, items-nothing, items-run, items-then, items-unit_more, items_of, paused_after, resumed_free, resumed_same, unmet, unpaused}
+use Rattle.vte_c.proofs.Rooms.{event_passed, event_written, items-nothing, items-run, items-then, items-unit_more, items_of, paused_after, resumed_free, resumed_same, unmet, unpaused}
 
 -- ---- a run of the input
 
-each_reported : (kinds : ℕ) (call : ℕ → Event) → ((n : ℕ) → has kinds (kind_of (call n)) ≡ true) → (ns : List ℕ)
-    → reported kinds (map call ns) ≡ map call ns
-each_reported kinds call wanted [] = refl
-each_reported kinds call wanted (n ∷ ns) = rw (wanted n, each_reported kinds call wanted ns) refl
+-- all events of a run are reported, or none
+each_reported : (kinds : ℕ) (wanted : Bool) (call : ℕ → Event) → ((n : ℕ) → has kinds (kind_of (call n)) ≡ wanted)
+    → (ns : List ℕ) → reported kinds (map call ns) ≡ (if wanted then map call ns else [])
+each_reported kinds true call is [] = refl
+each_reported kinds false call is [] = refl
+each_reported kinds true call is (n ∷ ns) = rw (is n, each_reported kinds true call is ns) refl
+each_reported kinds false call is (n ∷ ns) = rw (is n) (each_reported kinds false call is ns)
 
-none_reported : (kinds : ℕ) (call : ℕ → Event) → ((n : ℕ) → has kinds (kind_of (call n)) ≡ false) → (ns : List ℕ)
-    → reported kinds (map call ns) ≡ []
-none_reported kinds call other [] = refl
-none_reported kinds call other (n ∷ ns) = rw (other n) (none_reported kinds call other ns)
-
-run_reported : (kinds : ℕ) (run : Run) (bytes : List ℕ) → has kinds (run_kind run) ≡ true
-    → reported kinds (run_events run bytes) ≡ run_events run bytes
-run_reported kinds TextRun bytes wanted = each_reported kinds Print (λ c. wanted) (chars bytes)
-run_reported kinds DataRun bytes wanted = each_reported kinds Put (λ b. wanted) bytes
-
-run_passed : (kinds : ℕ) (run : Run) (bytes : List ℕ) → has kinds (run_kind run) ≡ false
-    → reported kinds (run_events run bytes) ≡ []
-run_passed kinds TextRun bytes other = none_reported kinds Print (λ c. other) (chars bytes)
-run_passed kinds DataRun bytes other = none_reported kinds Put (λ b. other) bytes
+run_reported : (kinds : ℕ) (wanted : Bool) (run : Run) (bytes : List ℕ) → has kinds (run_kind run) ≡ wanted
+    → reported kinds (run_events run bytes) ≡ (if wanted then run_events run bytes else [])
+run_reported kinds wanted TextRun bytes is = each_reported kinds wanted Print (λ c. is) (chars bytes)
+run_reported kinds wanted DataRun bytes is = each_reported kinds wanted Put (λ b. is) bytes
 
 run_stops : (room : Room) (run : Run) → StopsAtNone room → is_stop room.kinds room.stops (run_kind run) ≡ false
 run_stops room TextRun none = none.0
@@ -74,7 +49,7 @@ goes-run {old} {new} {since = since} {bytes = bytes} run {from = from} {size = s
         told = run_events run part;
         items = InInput run from size ∷ [];
         continues = goes_on;
-        shows = rw (append-nil (run_events run part)) (sym (run_reported old.kinds run part wanted));
+        shows = rw (append-nil (run_events run part)) (sym (run_reported old.kinds true run part wanted));
         holds = items-run bytes run from size free stands (rw wanted at is);
         before = before;
       }
@@ -82,7 +57,7 @@ goes-run {old} {new} {since = since} {bytes = bytes} run {from = from} {size = s
         told = run_events run part;
         items = [];
         continues = goes_on;
-        shows = sym (run_passed old.kinds run part other);
+        shows = sym (run_reported old.kinds false run part other);
         holds = rw (rw other at is) (items-nothing old bytes);
         before = before;
       }
@@ -110,7 +85,7 @@ goes_on_at_first old true starts others =
       | inl wanted ↦
           let is : next ≡ with_items old (Single (Print replacement) ∷ []) =
           sym same
-          ∙ event_written old (Print replacement) (refl, refl) starts.paused
+          ∙ event_written old (Print replacement) starts.paused
           (record {
             events = omega (arith, starts.most, starts.count);
             data_fits = omega (arith, starts.size, starts.used);

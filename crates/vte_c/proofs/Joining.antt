@@ -1,13 +1,7 @@
 -- From calls to streams, for events and for text.
-use Rattle.std.proofs.Common.{◌≡◌, ◌<◌, ℕ, true, List, [], ◌∷◌, ◌++◌, drop, Some, append_assoc, append-nil, arith, refl}
-use Rattle.std.proofs.lemmas.Bool.Decides.{nat_tests}
+use Rattle.vte_c.proofs.Common.{CsiDispatch, EscDispatch, Event, Execute, HasGiven, HasReadSaved, Hook, List, OscDispatch, Print, Put, Saved, Some, Unhook, [], added, append-nil}
+use Rattle.vte_c.proofs.Common.{append_assoc, arith, drop, events, has, kind_of, nat_tests, no_room, read_count, refl, reported, true, ℕ, ◌++◌, ◌<◌, ◌∷◌, ◌≡◌}
 use Rattle.vte_c.proofs.Added.{added_nothing}
-use Rattle.vte_core.specs.Event.{Event, Print, Execute, Hook, Put, Unhook, OscDispatch, CsiDispatch, EscDispatch}
-use Rattle.vte_core.specs.Saved.{HasReadSaved}
-use Rattle.vte_core.specs.Stream.{added, events}
-use Rattle.vte_core.specs.declared.parser.saved.Saved.{Saved}
-use Rattle.vte_c.specs.Record.{has, kind_of, reported}
-use Rattle.vte_c.specs.Told.{HasGiven, no_room, read_count}
 
 -- what a call has read that isn't short of room
 pub counted : (n : ℕ) → n < no_room → read_count n ≡ n

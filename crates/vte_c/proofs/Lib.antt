@@ -1,4 +1,5 @@
 pub mod Added
+pub mod Common
 pub mod Continuing
 pub mod Decoding
 pub mod Found

@@ -1,20 +1,9 @@
 -- No event that stops a call is told before the last byte that it reads.
-use Rattle.std.proofs.Common.{◌≡◌, ℕ, zero, suc, ◌+◌, ◌-◌, ◌<◌, ◌≤◌, Bool, false, List, [], ◌∷◌, ◌++◌, get_or}
-use Rattle.std.proofs.Common.{length, drop, take, map, if◌then◌else◌, Some, inl, inr, refl, append_assoc, arith, add-one}
-use Rattle.std.proofs.lemmas.Bool.{cases_Bool, or_parts}
-use Rattle.std.proofs.Math.Seq.{take-add}
-use Rattle.std.proofs.lemmas.List.{take_more}
-use Rattle.std.specs.List.{flat_map}
-use Rattle.std.specs.Str.{chars}
-use Rattle.vte_core.specs.EarlyStop.{IsStart, breaks_at, told}
-use Rattle.vte_core.specs.Event.{Event, Print, Put, replacement}
-use Rattle.vte_core.specs.Laws.{Grows, OpensSilently}
-use Rattle.vte_core.specs.Stream.{added, open_end}
+use Rattle.vte_c.proofs.Common.{AreOthers, Bool, DataRun, Event, Grows, HaveOtherKinds, HaveOtherRecords, InInput, IsStart, Item, List, OpensSilently, Print, Put, Run, Single}
+use Rattle.vte_c.proofs.Common.{Some, TextRun, VteEvent, [], add-one, added, append_assoc, arith, breaks_at, cases_Bool, chars, drop, false, flat_map, get_or, has, has_kind}
+use Rattle.vte_c.proofs.Common.{if◌then◌else◌, inl, inr, is_stop, item_data, item_events, kind_of, length, map, open_end, or_parts, records_from, refl, replacement, reported}
+use Rattle.vte_c.proofs.Common.{run_events, run_kind, suc, take, take-add, take_more, told, zero, ℕ, ◌++◌, ◌+◌, ◌-◌, ◌<◌, ◌∷◌, ◌≡◌, ◌≤◌}
 use Rattle.vte_c.proofs.Added.{added-append, added_nothing}
-use Rattle.vte_c.specs.Feeding.{HaveOtherRecords, has_kind}
-use Rattle.vte_c.specs.Record.{Run, TextRun, DataRun, Item, Single, InInput, has, item_data, item_events, kind_of, records_from, reported, run_events, run_kind}
-use Rattle.vte_c.specs.Told.{AreOthers, HaveOtherKinds, is_stop}
-use Rattle.vte_c.specs.declared.event.VteEvent.{VteEvent}
 
 -- ---- records
 

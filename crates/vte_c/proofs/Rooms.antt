@@ -1,25 +1,14 @@
 -- What events leave in a room.
-use Rattle.std.proofs.Common.{◌≡◌, ℕ, ◌+◌, ◌%◌, ◌≤◌, Bool, true, false, ◌||◌, List, [], ◌∷◌, ◌++◌, map, Some, inl, inr, if◌then◌else◌}
-use Rattle.std.proofs.Common.{refl, sym, subst, ap, ◌∙◌, append_assoc, append-nil, length, length-append, nat_le, nat_lt, arith}
+use Rattle.vte_c.proofs.Common.{AreReadable, Bool, CsiDispatch, DataRun, EscDispatch, Event, Events, Execute, HasItems, HaveOtherRecords, Holds, Hook, InInput, IsBounded}
+use Rattle.vte_c.proofs.Common.{IsBrief, IsRunAt, Item, List, OscDispatch, Print, Put, Room, Run, Single, Some, StopsAtKind, TextRun, Unhook, VteEvent, [], add-zero, after, ap}
+use Rattle.vte_c.proofs.Common.{append-nil, append_assoc, arith, cases_Bool, data_of, false, filter-append, flag_byte, flat_map, flat_map-append, has, has_kind, has_room}
+use Rattle.vte_c.proofs.Common.{if◌then◌else◌, inl, inr, is_command, is_full, item_data, kind_of, kinds_of, length, length-append, length-map, map, map-append, most_added}
+use Rattle.vte_c.proofs.Common.{nat_lt, nat_tests, or_parts, placed, records_from, refl, reported, resumed, room_of, run_kind, run_record, subst, sym, take, true, with_event}
+use Rattle.vte_c.proofs.Common.{with_items, with_one, with_record, without_loss, ℕ, ◌%◌, ◌++◌, ◌+◌, ◌||◌, ◌∙◌, ◌∷◌, ◌≡◌, ◌≤◌}
 use Rattle.std.proofs.Math.Bool.{or-false, or_assoc}
-use Rattle.std.proofs.Math.Nat.{add-zero}
-use Rattle.std.proofs.lemmas.Bool.{cases_Bool, le-leb, or_parts}
-use Rattle.std.proofs.lemmas.Bool.Decides.{nat_tests}
-use Rattle.std.proofs.lemmas.Grind.{flat_map-append}
-use Rattle.std.proofs.lemmas.List.{length-map, map-append}
-use Rattle.std.proofs.lemmas.List.Elements.{filter-append}
 use Rattle.std.proofs.lemmas.List.Folds.{list_any-append}
-use Rattle.std.specs.List.{flat_map}
 use Rattle.vte_core.proofs.streams.Performing.{after-append}
-use Rattle.vte_core.specs.Brief.{IsBounded, IsBrief}
-use Rattle.vte_core.specs.Event.{Event, Print, Execute, Hook, Put, Unhook, OscDispatch, CsiDispatch, EscDispatch}
-use Rattle.vte_core.specs.Perform.{after}
-use Rattle.vte_c.specs.Events.{Room, has_room, is_command, is_full, most_added, packed_size, resumed, with_event, with_one, with_record}
-use Rattle.vte_c.specs.Feeding.{AreReadable, HasItems, HaveOtherRecords, has_kind, kinds_of, with_items}
-use Rattle.vte_c.specs.Record.{Run, TextRun, DataRun, Item, Single, InInput, data_of, flag_byte, has, item_data, kind_of, placed, records_from, reported, run_kind, run_record, without_loss}
-use Rattle.vte_c.specs.Told.{IsRunAt, StopsAtKind}
-use Rattle.vte_c.specs.declared.event.VteEvent.{VteEvent}
-use Rattle.vte_c.proofs.Sizes.{data_most, data_size, short_bounded, short_data}
+use Rattle.vte_c.proofs.Sizes.{data_most, short_bounded, short_data}
 use Rattle.vte_c.proofs.OtherKinds.{kinds-append, kinds_of_none}
 
 -- ---- items one after the other
@@ -46,17 +35,8 @@ with_items-append room front back =
     omega (arith, length-append (flat_map item_data front) (flat_map item_data back)) in
     let count : room.count + length front + length back ≡ room.count + length (front ++ back) =
     omega (arith, length-append front back) in
-    rw (
-      ← count,
-      records-append,
-      flat_map-append,
-      ← size,
-      list_any-append,
-      append_assoc room.events,
-      append_assoc
-          room.area,
-      or_assoc,
-    ) refl
+    rw (← count, records-append, flat_map-append, ← size, list_any-append)
+    (rw (append_assoc room.events, append_assoc room.area, or_assoc) refl)
 
 -- as long as a room isn't full, no record stops
 pub unmet : {old new : Room} {input : List ℕ} {items : List Item} → HasItems old new input items → is_full new ≡ false
@@ -111,6 +91,15 @@ items-then {old} {mid} {new} {input} {front} {back} a free b =
         few = s.few;
       };
     }
+
+-- ---- data
+
+pub holds_nothing : (events : Events) → Holds (room_of events) events events.used []
+holds_nothing events = record {
+  same = refl;
+  ends = omega (arith, events.used_limit, events.size_limit);
+  held = λ within. sym (append-nil (take events.used events.area.now));
+}
 
 -- ---- a run of the input
 
@@ -176,18 +165,16 @@ with_event_resumed : (room : Room) (event : Event)
 unfolding with_one with_record
 with_event_resumed room event =
     either (has room.kinds (kind_of event)) _ _ _ _
-    (either (nat_le (length (data_of event)) (packed_size event)) _ _ _ _
     (either (has_room room (length (data_of event))) _ _ _ _
-    (either (nat_lt room.count room.most) _ _ _ _ refl refl) refl) refl) refl
+    (either (nat_lt room.count room.most) _ _ _ _ refl refl) refl) refl
 
 pub paused_after : (room : Room) (event : Event) → (with_event room event).paused ≡ (is_command event || room.paused)
 unfolding with_one with_record
 paused_after room event =
     let paused : Bool = is_command event || room.paused in
     either_paused (has room.kinds (kind_of event)) paused _ _
-    (either_paused (nat_le (length (data_of event)) (packed_size event)) paused _ _
     (either_paused (has_room room (length (data_of event))) paused _ _
-    (either_paused (nat_lt room.count room.most) paused _ _ refl refl) refl) refl) refl
+    (either_paused (nat_lt room.count room.most) paused _ _ refl refl) refl) refl
 
 -- ---- events of the parser
 
@@ -200,15 +187,14 @@ pub record HasRoomFor (room : Room) (count size : ℕ) : Type 0 where
 roomy : (room : Room) → is_full room ≡ false → HasRoomFor room 2 most_added
 roomy room free = record { events = grind (arith, nat_tests); data_fits = grind (arith, nat_tests) }
 
-pub event_written : (room : Room) (event : Event) → IsBounded (Some 1024) event → room.paused ≡ false
+pub event_written : (room : Room) (event : Event) → room.paused ≡ false
     → HasRoomFor room 1 (length (data_of event))
     → has room.kinds (kind_of event) ≡ true → resumed (with_event room event) ≡ with_items room (Single event ∷ [])
 unfolding with_one with_record
-event_written room event bounded going room_for wanted =
-    let fits : nat_le (length (data_of event)) (packed_size event) ≡ true = le-leb _ _ (data_size event bounded) in
+event_written room event going room_for wanted =
     let has_both : has_room room (length (data_of event)) ≡ true = grind (arith, nat_tests) in
     let some : nat_lt room.count room.most ≡ true = grind (arith, nat_tests) in
-    rw (wanted, fits, has_both, some, single_plain room.used event, going) (simp (append-nil, or-false))
+    rw (wanted, has_both, some, single_plain room.used event, going) (simp (append-nil, or-false))
 
 -- an event that isn't reported leaves the room
 pub event_passed : (room : Room) (event : Event) → room.paused ≡ false → has room.kinds (kind_of event) ≡ false
@@ -224,7 +210,7 @@ items-event : (input : List ℕ) (room : Room) (event : Event) → IsBounded (So
     → HasItems room (resumed (with_event room event)) input (items_of room (event ∷ []))
 items-event input room event bounded going room_for = elim (cases_Bool (has room.kinds (kind_of event))) [
   | inl wanted ↦
-      rw (event_written room event bounded going room_for wanted, wanted)
+      rw (event_written room event going room_for wanted, wanted)
       (record {
         readable = (bounded, tt);
         room = refl;
@@ -264,27 +250,13 @@ items-unit input room (event ∷ last ∷ []) brief free =
     items-event input room event brief.0 (unpaused room free)
     (record { events = omega (arith, room_for.events); data_fits = omega (arith, room_for.data_fits) }) in
     let kinds : next.kinds ≡ room.kinds = ap (λ (r : Room). r.kinds) first.room in
+    let count = ap (λ (r : Room). r.count) first.room in
+    let most = ap (λ (r : Room). r.most) first.room in
+    let used = ap (λ (r : Room). r.used) first.room in
+    let whole = ap (λ (r : Room). r.size) first.room in
     let room_for_last : HasRoomFor next 1 (length (data_of last)) = record {
-      events =
-          omega (
-            arith,
-            room_for.events,
-            few.count,
-            ap (λ (r : Room). r.count) first.room,
-            ap
-                (λ (r : Room). r.most) first.room,
-          );
-      data_fits =
-          omega (
-            arith,
-            room_for.data_fits,
-            few.size,
-            size,
-            short,
-            ap (λ (r : Room). r.used) first.room,
-            ap
-                (λ (r : Room). r.size) first.room,
-          );
+      events = omega (arith, room_for.events, few.count, count, most);
+      data_fits = omega (arith, room_for.data_fits, few.size, size, short, used, whole);
     } in
     let second =
     subst (λ (k : ℕ). HasItems next (resumed (with_event next last)) input (map Single (reported k (last ∷ [])))) kinds

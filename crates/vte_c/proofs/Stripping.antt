@@ -1,22 +1,10 @@
 -- What text calls of the parser have written.
-use Rattle.std.proofs.Common.{◌≡◌, ℕ, ◌+◌, ◌*◌, ◌≤◌, true, List, [], ◌∷◌, ◌++◌, length, take, map, Some, refl, sym, ap, ◌∙◌, append_assoc, append-nil}
-use Rattle.std.proofs.Common.{length-append, arith}
-use Rattle.std.proofs.Math.Nat.{add-zero, add_assoc}
-use Rattle.std.proofs.lemmas.Bool.{le-leb}
-use Rattle.std.proofs.lemmas.Grind.{flat_map-append}
-use Rattle.std.proofs.lemmas.Str.{encodes-chars}
-use Rattle.std.specs.Str.{IsUtf8, chars}
-use Rattle.vte_core.specs.Event.{Event}
-use Rattle.vte_core.specs.Laws.{Grows}
-use Rattle.vte_core.specs.Parser.{HasRead}
-use Rattle.vte_core.specs.Perform.{after}
-use Rattle.vte_core.specs.Stream.{added}
+use Rattle.vte_c.proofs.Common.{Event, Grows, HasRead, IsUtf8, List, Parser, Some, TextRoom, [], add-zero, add_assoc, added, after, ap, append-nil, append_assoc, arith}
+use Rattle.vte_c.proofs.Common.{cases_Bool, chars, encodes-chars, false, flat_map-append, inl, inr, le-leb, length, length-append, map, nat_le, nat_tests, plain_text}
+use Rattle.vte_c.proofs.Common.{plain_text_of, refl, sym, take, true, with_text, with_text_of, ℕ, ◌&&◌, ◌*◌, ◌++◌, ◌+◌, ◌<◌, ◌∙◌, ◌∷◌, ◌≡◌, ◌≤◌}
 use Rattle.vte_core.specs.Text.{run_event}
-use Rattle.vte_core.specs.declared.parser.Parser.{Parser}
-use Rattle.event_log.specs.Plain.{plain_text, plain_text_of}
 use Rattle.event_log.proofs.TextInRuns.{text_of_run}
 use Rattle.vte_c.proofs.Added.{added-append, added_nothing}
-use Rattle.vte_c.specs.Text.{TextRoom, with_text, with_text_of}
 
 -- ---- texts that have room
 
@@ -27,28 +15,51 @@ with_all-append : (room : TextRoom) (front back : List ℕ)
     → with_all (with_all room front) back ≡ with_all room (front ++ back)
 with_all-append room front back = rw (append_assoc room.text, add_assoc room.used, length-append front back) refl
 
-text_written : (room : TextRoom) (text : List ℕ) → room.used + length text ≤ room.size
-    → with_text room text ≡ with_all room text
-unfolding with_text
-text_written room text fits = rw (le-leb _ _ fits) refl
-
-all_written : (room : TextRoom) (events : List Event) → room.used + length (plain_text events) ≤ room.size
+all_written : (room : TextRoom) (events : List Event) → room.fits ≡ true
+    → room.used + length (plain_text events) ≤ room.size
     → after with_text_of room events ≡ with_all room (plain_text events)
-all_written room [] fits = simp (append-nil, add-zero)
-all_written room (event ∷ events) fits =
+unfolding with_text
+all_written room [] whole fits = simp (append-nil, add-zero)
+all_written room (event ∷ events) whole fits =
     let all = length-append (plain_text_of event) (plain_text events) in
-    rw (text_written room (plain_text_of event) (omega arith))
-    (all_written (with_all room (plain_text_of event)) events (omega arith)
+    let first : (room.fits && nat_le (room.used + length (plain_text_of event)) room.size) ≡ true =
+    rw whole (le-leb _ _ (omega arith)) in
+    rw first
+    (all_written (with_all room (plain_text_of event)) events whole (omega arith)
     ∙ with_all-append room (plain_text_of event) (plain_text events))
 
--- if a run has room, it is written as its characters are, one after another
-pub writes_run : (room : TextRoom) (text : List ℕ) → IsUtf8 text → room.used + length text ≤ room.size
+-- ---- a run
+
+with_text-append : (room : TextRoom) (front back : List ℕ)
+    → with_text (with_text room front) back ≡ with_text room (front ++ back)
+unfolding with_text
+with_text-append room front back = elim (cases_Bool (room.fits && nat_le (room.used + length front) room.size)) [
+  | inl some ↦ rw (some, append_assoc room.text, add_assoc room.used, length-append front back) refl
+  | inr full ↦
+      let none : (room.fits && nat_le (room.used + length (front ++ back)) room.size) ≡ false =
+      grind (arith, nat_tests, length-append) in
+      rw (full, none) refl
+]
+
+some_written : (room : TextRoom) (event : Event) (events : List Event)
+    → after with_text_of room (event ∷ events) ≡ with_text room (plain_text (event ∷ events))
+some_written room event [] = rw (append-nil (plain_text_of event)) refl
+some_written room event (next ∷ events) =
+    some_written (with_text_of room event) next events
+    ∙ with_text-append room (plain_text_of event) (plain_text (next ∷ events))
+
+-- a run is written as its characters are, one after another
+pub writes_run : (room : TextRoom) (text : List ℕ) → IsUtf8 text → 0 < length text
     → with_text room text ≡ after with_text_of room (map (run_event true) (chars text))
-writes_run room text utf8 fits =
+writes_run room text utf8 some =
     let spelt : plain_text (map (run_event true) (chars text)) ≡ text =
     text_of_run (chars text) ∙ encodes-chars text utf8 in
-    text_written room text fits
-    ∙ sym (rw spelt at (all_written room (map (run_event true) (chars text)) (rw spelt fits)))
+    rw spelt at (written (chars text) (rw spelt some))
+  where
+    written : (cs : List ℕ) → 0 < length (plain_text (map (run_event true) cs))
+        → with_text room (plain_text (map (run_event true) cs)) ≡ after with_text_of room (map (run_event true) cs)
+    written [] none = absurd (omega arith)
+    written (c ∷ cs) some = sym (some_written room (run_event true c) (map (run_event true) cs))
 
 -- ---- chunks
 
@@ -64,20 +75,20 @@ written_nothing {stream} room bytes parsed =
     record { parsed = rw (append-nil stream) parsed; holds = rw (added_nothing stream) (simp (append-nil, add-zero)) }
 
 pub written_more : {old new later : TextRoom} {stream bytes : List ℕ} {n : ℕ} {parser parser_later : Parser 1024}
-    (chunk : List ℕ)
+    (chunk : List ℕ) → old.fits ≡ true
     → Grows (Some 1024) → length (plain_text (added (Some 1024) (stream ++ take n bytes) chunk)) ≤ 8 * length chunk
     → HasTextOf old new stream bytes n parser
     → take (n + length chunk) bytes ≡ take n bytes ++ chunk → new.used + 8 * length chunk ≤ new.size
     → later ≡ after with_text_of new (added (Some 1024) (stream ++ take n bytes) chunk)
     → HasRead parser_later ((stream ++ take n bytes) ++ chunk)
     → HasTextOf old later stream bytes (n + length chunk) parser_later
-written_more {old} {new} {stream = stream} {bytes = bytes} {n = n} chunk grows slow h parts fits performed parsed =
+written_more {old} {new} {stream = stream} {bytes = bytes} {n = n} chunk kept grows slow h parts fits performed parsed =
     let before = added (Some 1024) stream (take n bytes) in
     let more = added (Some 1024) (stream ++ take n bytes) chunk in
     record {
       parsed = rw (parts, ← append_assoc) parsed;
       holds = rw (parts, added-append grows stream (take n bytes) chunk, flat_map-append plain_text_of before more)
-          (performed ∙ all_written new more (omega (arith, fits, slow))
+          (performed ∙ all_written new more (ap (λ (r : TextRoom). r.fits) h.holds ∙ kept) (omega (arith, fits, slow))
           ∙ ap (λ (r : TextRoom). with_all r (plain_text more)) h.holds
           ∙ with_all-append old (plain_text before) (plain_text more));
     }

@@ -1,5 +1,5 @@
 -- The caller's buffers for events, and how an event changes them.
-use Rattle.std.specs.Prelude.{◌≡◌, ◌≤◌, ℕ, ◌+◌, ◌-◌, Bool, true, false, ◌&&◌, ◌||◌, List, [], ◌∷◌, ◌++◌, length, map, take, Option, IfSome, is_some, if◌then◌else◌, nat_le, nat_lt}
+use Rattle.std.specs.Prelude.{◌≡◌, ◌≤◌, ℕ, ◌+◌, ◌-◌, ◌^◌, Bool, true, false, ◌&&◌, ◌||◌, List, [], ◌∷◌, ◌++◌, length, map, min, take, if◌then◌else◌, nat_le, nat_lt}
 use Rattle.std.specs.Str.{IsUtf8}
 use Rattle.vte_core.specs.Event.{Event, OscDispatch}
 use Rattle.vte_core.specs.declared.looks.taken.Run.{Run}
@@ -60,9 +60,6 @@ with_one room event =
     }
     else room
 
-abbrev pub with_data : Room → List ℕ → Room
-with_data room bytes = record room { area = room.area ++ bytes; used = room.used + length bytes }
-
 -- There is room for an event with this many data bytes.
 abbrev pub has_room : Room → ℕ → Bool
 has_room room more = nat_lt room.count room.most && nat_le (room.used + more) room.size
@@ -70,21 +67,15 @@ has_room room more = nat_lt room.count room.most && nat_le (room.used + more) ro
 -- A record is written with its data, which follows that of the others, if there is room for both.
 unfoldable pub with_record : Room → VteEvent → List ℕ → Room
 with_record room event bytes =
+    let written = record room { area = room.area ++ bytes; used = room.used + length bytes } in
     if has_room room (length bytes)
-    then with_one (with_data room bytes) (record event { start = room.used })
+    then with_one written (record event { start = room.used })
     else room
 
--- The number of data bytes that fit into the `Packed` of a sequence, and into that of no command.
-abbrev pub packed_size : Event → ℕ
-packed_size (OscDispatch pieces bell) = length (data_of (OscDispatch pieces bell))
-packed_size _ = 96
-
--- A record of the kinds is written if its data fits into this many bytes.
-abbrev pub with_packed : Room → VteEvent → List ℕ → ℕ → Room
-with_packed room event bytes packed =
-    if has room.kinds event.kind
-    then (if nat_le (length bytes) packed then with_record room event bytes else room)
-    else room
+-- A record of the kinds is written.
+abbrev pub with_reported : Room → VteEvent → List ℕ → Room
+with_reported room event bytes =
+    if has room.kinds event.kind then with_record room event bytes else room
 
 abbrev pub is_command : Event → Bool
 is_command (OscDispatch pieces bell) = true
@@ -97,22 +88,13 @@ abbrev pub resumed : Room → Room
 resumed room = record room { paused = false }
 
 abbrev pub with_event : Room → Event → Room
-with_event room event =
-    with_packed (pausing room event) (record_of event) (data_of event) (packed_size event)
+with_event room event = with_reported (pausing room event) (record_of event) (data_of event)
 
--- After what was written in a room, the area holds a text up to a place.
+-- After what was written in a room, the area holds a text up to a place, or has no room for it.
 pub record Holds (room : Room) (events : Events) (place : ℕ) (text : List ℕ) : Type 0 where
   pub same : room_of events ≡ room
-  pub ends : place ≡ room.used + length text
-  pub fits : place ≤ room.size
-  pub held : take place events.area.now ≡ room.area ++ text
-
--- It holds the text, unless there is no room for that.
-pub record HasGrown (room : Room) (events : Events) (text : List ℕ)
-    (result : Option ℕ) : Type 0 where
-  pub same : room_of events ≡ room
-  pub some : IfSome result (λ place. Holds room events place text)
-  pub fits : is_some result ≡ nat_le (room.used + length text) room.size
+  pub ends : place ≡ min (room.used + length text) (2 ^ 64 - 1)
+  pub held : place ≤ room.size → take place events.area.now ≡ room.area ++ text
 
 -- A run of the kinds is written.
 abbrev pub with_wanted : Room → VteEvent → Room

@@ -1,14 +1,13 @@
 -- How far a call has come.
-use Rattle.std.specs.Prelude.{◌≡◌, ◌+◌, ◌<◌, ◌≤◌, ℕ, Bool, false, ◌||◌, List, [], ◌∷◌, ◌++◌, length, drop, map, take, Some}
+use Rattle.std.specs.Prelude.{◌≡◌, ◌+◌, ◌<◌, ◌≤◌, ℕ, Bool, false, ◌||◌, List, ◌++◌, length, drop, map, take, Some}
 use Rattle.std.specs.List.{flat_map, list_any}
-use Rattle.vte_core.specs.Brief.{IsBounded}
 use Rattle.vte_core.specs.Event.{Event}
 use Rattle.vte_core.specs.Parser.{HasRead}
 use Rattle.vte_core.specs.Stream.{added}
 use Rattle.vte_core.specs.declared.parser.Parser.{Parser}
 use Rattle.vte_c.specs.Events.{Room}
-use Rattle.vte_c.specs.Record.{Item, Single, InInput, has, item_data, item_events, records_from, reported}
-use Rattle.vte_c.specs.Told.{AreOthers, HaveOtherKinds, IsRunAt, StopsAtKind, is_stop}
+use Rattle.vte_c.specs.Record.{Item, has, item_data, item_events, records_from, reported}
+use Rattle.vte_c.specs.Told.{AreOthers, AreReadable, HaveOtherKinds, StopsAtKind, is_stop}
 use Rattle.vte_c.specs.declared.event.VteEvent.{VteEvent}
 
 -- The events are the first of those of another list.
@@ -26,13 +25,6 @@ pub record Continues (since next bytes : List ℕ) (n : ℕ) (told : List Event)
   pub fronts : (k : ℕ) → n + k ≤ length bytes →
       AreFirst (added (Some 1024) since (take (n + k) bytes))
       (told ++ added (Some 1024) next (take k (drop n bytes)))
-
--- The items can be read: an event is within the limits, and what is in the input is a run.
-abbrev pub AreReadable : List ℕ → List Item → Type 0
-AreReadable input [] = Unit {0}
-AreReadable input (Single event ∷ items) = IsBounded (Some 1024) event × AreReadable input items
-AreReadable input (InInput run start size ∷ items) =
-    IsRunAt input run start size × AreReadable input items
 
 -- Whether a record is of the kinds.
 abbrev pub has_kind : ℕ → List VteEvent → Bool

@@ -1,7 +1,6 @@
 pub mod Calls
 pub mod Events
 pub mod Feeding
-pub mod Packed
 pub mod Record
 pub mod Text
 pub mod Told

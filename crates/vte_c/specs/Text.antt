@@ -1,15 +1,16 @@
 -- The caller's buffer for text, and how an event changes it.
-use Rattle.std.specs.Prelude.{◌≡◌, ◌≤◌, ℕ, ◌+◌, List, [], ◌++◌, length, take, if◌then◌else◌, nat_le}
+use Rattle.std.specs.Prelude.{◌≡◌, ◌≤◌, ℕ, ◌+◌, Bool, true, false, ◌&&◌, List, [], ◌++◌, length, take, if◌then◌else◌, nat_le}
 use Rattle.event_log.specs.Plain.{plain_text_of}
 use Rattle.vte_core.specs.Event.{Event}
 use Rattle.vte_c.specs.declared.text.Text.{Text}
 
--- What was written, how much that is, how much there is room for, and which of the caller's slices
--- it is.
+-- What was written, how much that is, how much there is room for, whether all had room, and which
+-- of the caller's slices it is.
 pub record TextRoom : Type 0 where
   pub text : List ℕ
   pub used : ℕ
   pub size : ℕ
+  pub fits : Bool
   pub name : ℕ
 
 abbrev pub text_room_of : Text → TextRoom
@@ -17,17 +18,16 @@ text_room_of text = record {
   text = take text.used text.room.now;
   used = text.used;
   size = length text.room.now;
+  fits = text.fits;
   name = text.room.ghost_name;
 }
 
--- A text is written if there is room for it.
+-- A text is written if there is room for it, and was for all before; otherwise nothing is kept.
 unfoldable pub with_text : TextRoom → List ℕ → TextRoom
 with_text room text =
-    if nat_le (room.used + length text) room.size then record room {
-      text =
-          room.text ++ text;
-      used = room.used + length text;
-    } else room
+    if room.fits && nat_le (room.used + length text) room.size
+    then record room { text = room.text ++ text; used = room.used + length text }
+    else record room { text = []; used = 0; fits = false }
 
 abbrev pub with_text_of : TextRoom → Event → TextRoom
 with_text_of room event = with_text room (plain_text_of event)
@@ -37,3 +37,4 @@ pub record StartsText (room : TextRoom) : Type 0 where
   pub text : room.text ≡ []
   pub used : room.used ≡ 0
   pub size : 16 ≤ room.size
+  pub fits : room.fits ≡ true

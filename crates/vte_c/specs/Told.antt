@@ -3,6 +3,7 @@ use Rattle.std.specs.Prelude.{◌≡◌, ◌+◌, ◌-◌, ◌^◌, ◌<◌, ◌
 use Rattle.std.specs.List.{flat_map}
 use Rattle.std.specs.Str.{IsUtf8}
 use Rattle.event_log.specs.Plain.{plain_text}
+use Rattle.vte_core.specs.Brief.{IsBounded}
 use Rattle.vte_core.specs.Event.{Event}
 use Rattle.vte_core.specs.Saved.{HasReadSaved}
 use Rattle.vte_core.specs.Stream.{added, events}
@@ -75,11 +76,12 @@ pub record IsRunAt (input : List ℕ) (run : Run) (start size : ℕ) : Type 0 wh
   pub some : 0 < size
   pub is : IsRun run (take size (drop start input))
 
--- The items that are in the input are runs.
-abbrev pub AreRuns : List ℕ → List Item → Type 0
-AreRuns input [] = Unit {0}
-AreRuns input (Single event ∷ items) = AreRuns input items
-AreRuns input (InInput run start size ∷ items) = IsRunAt input run start size × AreRuns input items
+-- The items can be read: an event is within the limits, and what is in the input is a run.
+abbrev pub AreReadable : List ℕ → List Item → Type 0
+AreReadable input [] = Unit {0}
+AreReadable input (Single event ∷ items) = IsBounded (Some 1024) event × AreReadable input items
+AreReadable input (InInput run start size ∷ items) =
+    IsRunAt input run start size × AreReadable input items
 
 -- These events are encoded, and nothing else: by so many records, one for each item, and so many
 -- bytes of data, which begin in the area where the record says. A run in the input has no data.
@@ -88,7 +90,7 @@ pub record AreEncoded (events : List Event) (count used : ℕ) (records : List V
     (input area : List ℕ) : Type 0 where
   pub items : List Item
   pub told : flat_map (item_events input) items ≡ events
-  pub runs : AreRuns input items
+  pub readable : AreReadable input items
   pub number : count ≡ length items
   pub recorded : map without_loss (take count records) ≡ records_from 0 items
   pub size : used ≡ length (flat_map item_data items)

@@ -5,8 +5,7 @@ ghost use Rattle.vte_core.specs.Event.{OscDispatch, Print};
 ghost use Rattle.vte_core.specs.AdvanceToRun.{run_bytes};
 ghost use Rattle.vte_c.specs.Record.{data_of, group_bytes, has, piece_bytes, record_of, sequence_record};
 
-use crate::event::{self, VteEvent, has};
-use crate::packed::Packed;
+use crate::event::{self, VteEvent, count_byte, has};
 use vte_core::{Params, Perform, Run, Taken};
 
 /// The most data bytes of one event: 16 pieces of together 1,024 bytes, each after four with its
@@ -47,7 +46,7 @@ pub(crate) struct Events<'a> {
 }
 
 impl<'a> Events<'a> {
-    ghost use Rattle.vte_c.specs.Events.{AreCharacters, HasGrown, Holds, Room, Starts, is_full, pausing, resumed, room_of, with_data, with_event, with_one, with_packed, with_record, with_run};
+    ghost use Rattle.vte_c.specs.Events.{AreCharacters, Holds, Room, Starts, is_full, pausing, resumed, room_of, with_event, with_one, with_record, with_reported, with_run};
 
     pub(crate) fn new(
         events: &'a mut [VteEvent],
@@ -128,7 +127,7 @@ impl<'a> Events<'a> {
     #[inline(always)]
     #[tactic(auto, unfolding(crate::specs::Events::with_one, crate::specs::Events::with_record))]
     fn add_without_data(&mut self, event: VteEvent)
-        ensures { room_of self.new ≡ with_packed (room_of self.old) event [] 96 }
+        ensures { room_of self.new ≡ with_reported (room_of self.old) event [] }
     {
         if self.writes(event.kind) {
             self.add_record(VteEvent {
@@ -138,31 +137,13 @@ impl<'a> Events<'a> {
         }
     }
 
-    /// Writes bytes into the area.
-    #[inline(always)]
-    fn add_data(&mut self, bytes: &[u8])
-        requires { (room_of self.old).used + length bytes.now ≤ (room_of self.old).size }
-        ensures { room_of self.new ≡ with_data (room_of self.old) bytes.now }
-    {
-        let used = self.used;
-        self.area[used..used + bytes.len()].copy_from_slice(bytes);
-        self.used = used + bytes.len();
-        if self.size - self.used < MOST_ADDED {
-            self.full_count = 0;
-        }
-    }
-
     /// Writes an event and its data, if there is room for both.
     #[inline(always)]
-    #[tactic(auto, unfolding(crate::specs::Events::with_record))]
     fn add(&mut self, event: VteEvent, bytes: &[u8])
         ensures { room_of self.new ≡ with_record (room_of self.old) event bytes.now }
     {
-        let start = self.used as u32;
-        if self.count < self.events.len() && bytes.len() <= self.size - self.used {
-            self.add_data(bytes);
-            self.add_record(VteEvent { start, ..event });
-        }
+        let end = self.write(self.used, bytes);
+        self.add_written(event, end);
     }
 
     /// Writes a run that is in the input, where the parser returned it for the bytes from a place
@@ -193,7 +174,7 @@ impl<'a> Events<'a> {
     #[inline(always)]
     fn add_character(&mut self, c: char)
         ensures { room_of self.new
-            ≡ with_packed (room_of self.old) (record_of (Print c)) (data_of (Print c)) 96 }
+            ≡ with_reported (room_of self.old) (record_of (Print c)) (data_of (Print c)) }
     {
         if self.writes(event::TEXT) {
             let mut bytes = [0; 4];
@@ -212,21 +193,17 @@ impl<'a> Events<'a> {
         ignore: bool,
         action: char,
     )
-        ensures { room_of self.new ≡ with_packed (room_of self.old)
+        ensures { room_of self.new ≡ with_reported (room_of self.old)
             (sequence_record kind params.now intermediates.now ignore action)
-            (flat_map group_bytes params.now) 96 }
+            (flat_map group_bytes params.now) }
     {
-        if !self.writes(kind) {
-            return;
-        }
-        let mut groups = Packed::<96>::new();
-        groups.push_groups(params);
-        if let Some(bytes) = groups.bytes() {
+        if self.writes(kind) {
+            let end = self.write_groups(params);
             let event = VteEvent::new(kind, action as u32)
                 .with_intermediates(intermediates)
                 .with_flag(ignore)
                 .with_count(params.iter().size_hint().0);
-            self.add(event, bytes);
+            self.add_written(event, end);
         }
     }
 
@@ -274,10 +251,8 @@ impl<'a> Events<'a> {
             (λ piece. piece.now) pieces.now) bell_terminated) }
     {
         self.pause();
-        if !self.writes(event::OSC) || self.count >= self.events.len() {
-            return;
-        }
-        if let Some(end) = self.write_pieces(pieces) {
+        if self.writes(event::OSC) {
+            let end = self.write_pieces(pieces);
             let event = VteEvent::new(event::OSC, 0)
                 .with_flag(bell_terminated)
                 .with_count(pieces.len());
@@ -285,22 +260,45 @@ impl<'a> Events<'a> {
         }
     }
 
-    /// Writes the pieces of a command into the area. Returns where they end, if there is room.
-    fn write_pieces(&mut self, pieces: &[&[u8]]) -> Option<usize>
-        ensures { HasGrown (room_of self.old) self.new (flat_map piece_bytes (map
-            (λ piece. piece.now) pieces.now)) result }
+    /// Writes groups into the area. Returns where they end.
+    fn write_groups(&mut self, params: &Params) -> usize
+        ensures { Holds (room_of self.old) self.new result (flat_map group_bytes params.now) }
+    {
+        let mut end = self.used;
+        for group in params {
+            end = self.write_group(end, group);
+        }
+        end
+    }
+
+    /// Writes a group at a place in the area: its count of numbers, and two bytes for each.
+    fn write_group(&mut self, place: usize, group: &[u16]) -> usize
+        ensures { (room : Room) (text : List ℕ) → Holds room self.old place text →
+            Holds room self.new result (text ++ group_bytes group.now) }
+    {
+        let mut end = self.write(place, &[count_byte(group.len())]);
+        for number in group {
+            end = self.write(end, &[(*number % 256) as u8, (*number / 256) as u8]);
+        }
+        end
+    }
+
+    /// Writes the pieces of a command into the area. Returns where they end.
+    fn write_pieces(&mut self, pieces: &[&[u8]]) -> usize
+        ensures { Holds (room_of self.old) self.new result (flat_map piece_bytes (map
+            (λ piece. piece.now) pieces.now)) }
     {
         let mut end = self.used;
         for piece in pieces {
-            end = self.write_piece(end, piece)?;
+            end = self.write_piece(end, piece);
         }
-        Some(end)
+        end
     }
 
     /// Writes a piece at a place in the area, after four bytes with its length.
-    fn write_piece(&mut self, place: usize, piece: &[u8]) -> Option<usize>
+    fn write_piece(&mut self, place: usize, piece: &[u8]) -> usize
         ensures { (room : Room) (text : List ℕ) → Holds room self.old place text →
-            HasGrown room self.new (text ++ piece_bytes piece.now) result }
+            Holds room self.new result (text ++ piece_bytes piece.now) }
     {
         let length = piece.len().min(u32::MAX as usize);
         let bytes = [
@@ -309,36 +307,40 @@ impl<'a> Events<'a> {
             (length / 65536 % 256) as u8,
             (length / 16777216) as u8,
         ];
-        let place = self.write(place, &bytes)?;
+        let place = self.write(place, &bytes);
         self.write(place, piece)
     }
 
-    /// Writes bytes at a place in the area. Returns where they end, if there is room.
-    fn write(&mut self, place: usize, bytes: &[u8]) -> Option<usize>
-        ensures { (room : Room) (text : List ℕ) → Holds room self.old place text →
-            HasGrown room self.new (text ++ bytes.now) result }
+    /// Writes bytes at a place in the area, if there is room. Returns where they end, or would end.
+    #[inline(always)]
+    fn write(&mut self, place: usize, bytes: &[u8]) -> usize
+        ensures holds { (room : Room) (text : List ℕ) → Holds room self.old place text →
+            Holds room self.new result (text ++ bytes.now) }
+        ensures after { place ≤ result }
     {
-        if place > self.size || bytes.len() > self.size - place {
-            return None;
+        let end = place.saturating_add(bytes.len());
+        if end <= self.size {
+            self.area[place..end].copy_from_slice(bytes);
         }
-        let end = place + bytes.len();
-        self.area[place..end].copy_from_slice(bytes);
-        Some(end)
+        end
     }
 
-    /// Writes the record of an event whose data was written up to a place.
+    /// Writes the record of an event whose data was written up to a place, if that is in the area.
+    #[inline(always)]
+    #[tactic(auto, unfolding(crate::specs::Events::with_record))]
     fn add_written(&mut self, event: VteEvent, end: usize)
-        requires after { (room_of self.old).used ≤ end }
-        requires fits { end ≤ (room_of self.old).size }
+        requires { self.old.used ≤ end }
         ensures { (room : Room) (text : List ℕ) → Holds room self.old end text →
-            room_of self.new ≡ with_one (with_data room text) (record event { start = room.used }) }
+            room_of self.new ≡ with_record room event text }
     {
-        let start = self.used as u32;
-        self.used = end;
-        if self.size - end < MOST_ADDED {
-            self.full_count = 0;
+        if end <= self.size && self.count < self.events.len() {
+            let start = self.used as u32;
+            self.used = end;
+            if self.size - self.used < MOST_ADDED {
+                self.full_count = 0;
+            }
+            self.add_record(VteEvent { start, ..event });
         }
-        self.add_record(VteEvent { start, ..event });
     }
 }
 

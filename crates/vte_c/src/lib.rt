@@ -15,7 +15,6 @@ mod event;
 mod events;
 mod feed;
 pub mod laws;
-mod packed;
 mod text;
 
 use event::VteEvent;

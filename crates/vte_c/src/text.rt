@@ -12,12 +12,13 @@ pub(crate) const LEAST_TEXT: usize = 16;
 /// The most bytes of text that one byte of a stream adds: one byte adds at most two characters.
 const MOST_TEXT: usize = 8;
 
-/// Writes text into the caller's buffer. What doesn't fit is dropped, so it is given only what
-/// fits.
+/// Writes text into the caller's buffer, as long as all of it fits.
 #[derive(Drop)]
 struct Text<'a> {
     room: &'a mut [u8],
     used: usize,
+    // if not, nothing is kept
+    fits: bool,
 }
 
 impl Text<'_> {
@@ -34,10 +35,13 @@ impl Text<'_> {
     fn add(&mut self, text: &[u8])
         ensures { text_room_of self.new ≡ with_text (text_room_of self.old) text.now }
     {
-        let used = self.used;
-        if used <= self.room.len() && text.len() <= self.room.len() - used {
+        let (used, size) = (self.used, self.room.len());
+        if self.fits && used <= size && text.len() <= size - used {
             self.room[used..used + text.len()].copy_from_slice(text);
             self.used = used + text.len();
+        } else {
+            self.used = 0;
+            self.fits = false;
         }
     }
 }
@@ -115,12 +119,7 @@ impl PerformText for Text<'_> {
 
     #[inline]
     fn print_text(&mut self, text: &str) {
-        if text.len() <= self.left() {
-            return self.add(text.as_bytes());
-        }
-        for c in text.chars() {
-            self.add(c.encode_utf8(&mut [0; 4]).as_bytes());
-        }
+        self.add(text.as_bytes());
     }
 }
 
@@ -134,7 +133,11 @@ pub(crate) fn strip(parser: &mut Saved, bytes: &[u8], room: &mut [u8], written: 
         return NO_ROOM;
     }
     let size = room.len();
-    let mut text = Text { room, used: 0 };
+    let mut text = Text {
+        room,
+        used: 0,
+        fits: true,
+    };
     let read = read_into(parser, bytes, &mut text);
     *written = text.used.min(size);
     read

@@ -7,8 +7,6 @@
 
 extern crate alloc;
 
-#[path = "../../vte/src/adapter/array_vec.rs"]
-mod array_vec;
 mod border;
 mod long;
 mod memory;

@@ -1,7 +1,5 @@
-use Rattle.std.proofs.Common.{◌≡◌, ◌<◌, ◌≤◌, ◌++◌, ℕ, List, [], drop, length, length-take, rules, take, ◌∙◌, sym, append_assoc, arith}
-use Rattle.std.proofs.lemmas.List.{drop-append-le, take-append-drop, take-take}
-use Rattle.vte_core.specs.Event.{Event}
-use Rattle.vte_c.specs.Told.{HasTold, read_count}
+use Rattle.vte_c.proofs.Common.{Event, HasTold, List, [], append_assoc, arith, drop, drop-append-le, length, length-take, read_count, rules, sym, take, take-append-drop}
+use Rattle.vte_c.proofs.Common.{take-take, ℕ, ◌++◌, ◌<◌, ◌∙◌, ◌≡◌, ◌≤◌}
 use Rattle.vte_c.proofs.Found.{counts_are}
 use Rattle.vte_c.proofs.Joining.{counted}
 use Rattle.vte_c.proofs.feed.feed.Goals as goal
@@ -35,13 +33,9 @@ returns c =
       exact = λ told stream rest h.
           let a = are told stream rest h in
           let tells = rw kinds at ((feeds told stream rest h).tells (drop m bytes)) in
+          let unread = drop-append-le read.result (take m bytes) (drop m bytes) within in
           rw (count, a.same_count, a.same_records, a.same_area)
-          (rw (
-            ← append_assoc (drop read.result (take m bytes)),
-            ← drop-append-le read.result (take m bytes)
-                (drop m bytes) within,
-            whole,
-          ) at tells);
+          (rw (← append_assoc (drop read.result (take m bytes)), ← unread, whole) at tells);
       encoded = λ told stream rest h.
           let a = are told stream rest h in
           rw (a.same_count, a.same_used, a.same_records, a.same_area)
@@ -58,11 +52,7 @@ returns c =
           let a = are told stream rest h in
           rw (a.same_count, a.same_records, ← stops) (feeds told stream rest h).first;
       until = λ stream reads not_text not_data i earlier.
-          rw (
-            kinds,
-            stops,
-            take-take i m bytes
-                (omega (arith, count, within, length-take m bytes)),
-          ) at (read.ensures.stops stream reads
+          let front = take-take i m bytes (omega (arith, count, within, length-take m bytes)) in
+          rw (kinds, stops, front) at (read.ensures.stops stream reads
           (rw (kinds, stops) (not_text, not_data)) i (rw count at earlier));
     }

@@ -1,6 +1,4 @@
-use Rattle.std.proofs.Common.{◌≡◌, ◌+◌, ◌<◌, inl, inr, refl, sym, ◌∙◌, ap, arith}
-use Rattle.std.proofs.lemmas.Bool.{cases_lt}
-use Rattle.vte_c.specs.Events.{Room, room_of}
+use Rattle.vte_c.proofs.Common.{Room, ap, arith, cases_lt, inl, inr, refl, room_of, sym, ◌+◌, ◌<◌, ◌∙◌, ◌≡◌}
 use Rattle.vte_c.proofs.Going.{gone-nothing, gone-then}
 use Rattle.vte_c.proofs.feed.read_all.Goals as goal
 

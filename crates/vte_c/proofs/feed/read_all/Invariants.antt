@@ -1,7 +1,4 @@
-use Rattle.std.proofs.Common.{◌≡◌, ◌-◌, ◌≤◌, ℕ, List, length}
-use Rattle.vte_core.specs.Parser.{HasRead}
-use Rattle.vte_c.specs.Events.{room_of}
-use Rattle.vte_c.specs.Feeding.{HasGone}
+use Rattle.vte_c.proofs.Common.{HasGone, HasRead, List, length, room_of, ℕ, ◌-◌, ◌≡◌, ◌≤◌}
 use Rattle.vte_c.proofs.feed.read_all.Given as goal
 
 abbrev pub invariant-loop-position : goal.invariant-loop-position

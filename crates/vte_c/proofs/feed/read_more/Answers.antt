@@ -1,8 +1,5 @@
-use Rattle.std.proofs.Common.{◌≡◌, ◌≤◌, ◌-◌, ◌++◌, List, Some, ℕ, ap, drop, length, take, ◌∙◌, arith}
-use Rattle.std.proofs.lemmas.List.{length-drop, take_all}
+use Rattle.vte_c.proofs.Common.{List, Room, Some, ap, arith, drop, length, length-drop, room_of, stream_at, take, take_all, with_run, ℕ, ◌++◌, ◌-◌, ◌∙◌, ◌≡◌, ◌≤◌}
 use Rattle.vte_core.specs.AdvanceToRun.{run_bytes}
-use Rattle.vte_core.specs.EarlyStop.{stream_at}
-use Rattle.vte_c.specs.Events.{Room, room_of, with_run}
 use Rattle.vte_c.proofs.Going.{Laws, further, goes-to-run}
 use Rattle.vte_c.proofs.feed.read_more.Goals as goal
 

@@ -1,4 +1,4 @@
-use Rattle.std.proofs.Common.{Some, refl, sym, ◌∙◌}
+use Rattle.vte_c.proofs.Common.{Some, refl, sym, ◌∙◌}
 use Rattle.vte_c.proofs.Joining.{all_reported, given_all, given_before, given_first}
 use Rattle.vte_c.proofs.laws.events_are_told.Goals as goal
 

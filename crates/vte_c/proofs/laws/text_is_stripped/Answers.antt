@@ -1,4 +1,4 @@
-use Rattle.std.proofs.Common.{Some, refl, sym, ◌∙◌}
+use Rattle.vte_c.proofs.Common.{Some, refl, sym, ◌∙◌}
 use Rattle.vte_c.proofs.Joining.{given_all, given_before, given_first}
 use Rattle.vte_c.proofs.laws.text_is_stripped.Goals as goal
 

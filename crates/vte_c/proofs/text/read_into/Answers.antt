@@ -1,10 +1,5 @@
-use Rattle.std.proofs.Common.{◌≡◌, ◌<◌, ◌++◌, ◌+◌, ◌-◌, ◌*◌, ◌≤◌, length, length-drop, length-take, take, drop, Some, refl, ap, sym, ◌∙◌, arith}
-use Rattle.std.proofs.Math.Seq.{take-add}
-use Rattle.std.proofs.lemmas.Grind.{flat_map-append}
-use Rattle.std.proofs.lemmas.List.{take_all}
-use Rattle.vte_core.specs.Stream.{added}
-use Rattle.event_log.specs.Plain.{plain_text, plain_text_of}
-use Rattle.vte_c.specs.Text.{TextRoom, text_room_of}
+use Rattle.vte_c.proofs.Common.{Some, TextRoom, added, ap, arith, drop, flat_map-append, length, length-drop, length-take, plain_text, plain_text_of, refl, sym, take, take-add}
+use Rattle.vte_c.proofs.Common.{take_all, text_room_of, ◌*◌, ◌++◌, ◌+◌, ◌-◌, ◌<◌, ◌∙◌, ◌≡◌, ◌≤◌}
 use Rattle.vte_c.proofs.Joining.{given_more}
 use Rattle.vte_c.proofs.Continuing.{continues-added}
 use Rattle.event_log.proofs.Lengths.{text_grows_slowly}
@@ -40,7 +35,7 @@ loop-count-preserved c =
       begins = λ none. absurd (omega arith);
       written = λ stream reads.
           let h = c.loop-count.invariant.written stream reads in
-          written_more chunk (c.events_grow.ensures (Some 1024))
+          written_more chunk c.requires.starts.fits (c.events_grow.ensures (Some 1024))
           (text_grows_slowly (c.events_grow.ensures (Some 1024)) (c.bytes_are_brief.ensures (Some 1024))
           (stream ++ take n bytes) chunk) h
           (rw (size, unread) (take-add n m bytes)) fits

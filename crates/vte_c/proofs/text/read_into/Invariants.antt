@@ -1,6 +1,4 @@
-use Rattle.std.proofs.Common.{◌≡◌, ◌-◌, ◌≤◌, ℕ, List, length}
-use Rattle.vte_core.specs.Saved.{HasReadSaved}
-use Rattle.vte_c.specs.Text.{text_room_of}
+use Rattle.vte_c.proofs.Common.{HasReadSaved, List, length, text_room_of, ℕ, ◌-◌, ◌≡◌, ◌≤◌}
 use Rattle.vte_c.proofs.Stripping.{HasTextOf}
 use Rattle.vte_c.proofs.text.read_into.Given as goal
 

@@ -1,5 +1,4 @@
-use Rattle.std.proofs.Common.{◌≡◌, ◌≤◌, ℕ, length, length-take, rules, sym, ap, arith}
-use Rattle.vte_c.specs.Told.{read_count}
+use Rattle.vte_c.proofs.Common.{ap, arith, length, length-take, read_count, rules, sym, ℕ, ◌≡◌, ◌≤◌}
 use Rattle.vte_c.proofs.Joining.{counted}
 use Rattle.vte_c.proofs.text.strip.Goals as goal
 

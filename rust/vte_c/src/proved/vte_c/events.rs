@@ -1,8 +1,7 @@
 // Written by tools/erase from crates/vte_c/src/events.rt. Don't edit this file: edit that one, and run the tool.
 //! The performer that writes events into the caller's buffers.
 
-use crate::proved::vte_c::event::{self, has, VteEvent};
-use crate::proved::vte_c::packed::Packed;
+use crate::proved::vte_c::event::{self, count_byte, has, VteEvent};
 use vte::{Params, Perform, Run, Taken};
 
 /// The most data bytes of one event: 16 pieces of together 1,024 bytes, each after four with its
@@ -105,25 +104,11 @@ impl<'a> Events<'a> {
         }
     }
 
-    /// Writes bytes into the area.
-    #[inline(always)]
-    fn add_data(&mut self, bytes: &[u8]) {
-        let used = self.used;
-        self.area[used..used + bytes.len()].copy_from_slice(bytes);
-        self.used = used + bytes.len();
-        if self.size - self.used < MOST_ADDED {
-            self.full_count = 0;
-        }
-    }
-
     /// Writes an event and its data, if there is room for both.
     #[inline(always)]
     fn add(&mut self, event: VteEvent, bytes: &[u8]) {
-        let start = self.used as u32;
-        if self.count < self.events.len() && bytes.len() <= self.size - self.used {
-            self.add_data(bytes);
-            self.add_record(VteEvent { start, ..event });
-        }
+        let end = self.write(self.used, bytes);
+        self.add_written(event, end);
     }
 
     /// Writes a run that is in the input, where the parser returned it for the bytes from a place
@@ -166,17 +151,13 @@ impl<'a> Events<'a> {
         ignore: bool,
         action: char,
     ) {
-        if !self.writes(kind) {
-            return;
-        }
-        let mut groups = Packed::<96>::new();
-        groups.push_groups(params);
-        if let Some(bytes) = groups.bytes() {
+        if self.writes(kind) {
+            let end = self.write_groups(params);
             let event = VteEvent::new(kind, action as u32)
                 .with_intermediates(intermediates)
                 .with_flag(ignore)
                 .with_count(params.iter().size_hint().0);
-            self.add(event, bytes);
+            self.add_written(event, end);
         }
     }
 
@@ -212,10 +193,8 @@ impl<'a> Events<'a> {
     /// Writes an operating system command.
     fn add_command(&mut self, pieces: &[&[u8]], bell_terminated: bool) {
         self.pause();
-        if !self.writes(event::OSC) || self.count >= self.events.len() {
-            return;
-        }
-        if let Some(end) = self.write_pieces(pieces) {
+        if self.writes(event::OSC) {
+            let end = self.write_pieces(pieces);
             let event = VteEvent::new(event::OSC, 0)
                 .with_flag(bell_terminated)
                 .with_count(pieces.len());
@@ -223,17 +202,35 @@ impl<'a> Events<'a> {
         }
     }
 
-    /// Writes the pieces of a command into the area. Returns where they end, if there is room.
-    fn write_pieces(&mut self, pieces: &[&[u8]]) -> Option<usize> {
+    /// Writes groups into the area. Returns where they end.
+    fn write_groups(&mut self, params: &Params) -> usize {
+        let mut end = self.used;
+        for group in params {
+            end = self.write_group(end, group);
+        }
+        end
+    }
+
+    /// Writes a group at a place in the area: its count of numbers, and two bytes for each.
+    fn write_group(&mut self, place: usize, group: &[u16]) -> usize {
+        let mut end = self.write(place, &[count_byte(group.len())]);
+        for number in group {
+            end = self.write(end, &[(*number % 256) as u8, (*number / 256) as u8]);
+        }
+        end
+    }
+
+    /// Writes the pieces of a command into the area. Returns where they end.
+    fn write_pieces(&mut self, pieces: &[&[u8]]) -> usize {
         let mut end = self.used;
         for piece in pieces {
-            end = self.write_piece(end, piece)?;
+            end = self.write_piece(end, piece);
         }
-        Some(end)
+        end
     }
 
     /// Writes a piece at a place in the area, after four bytes with its length.
-    fn write_piece(&mut self, place: usize, piece: &[u8]) -> Option<usize> {
+    fn write_piece(&mut self, place: usize, piece: &[u8]) -> usize {
         let length = piece.len().min(u32::MAX as usize);
         let bytes = [
             (length % 256) as u8,
@@ -241,28 +238,31 @@ impl<'a> Events<'a> {
             (length / 65536 % 256) as u8,
             (length / 16777216) as u8,
         ];
-        let place = self.write(place, &bytes)?;
+        let place = self.write(place, &bytes);
         self.write(place, piece)
     }
 
-    /// Writes bytes at a place in the area. Returns where they end, if there is room.
-    fn write(&mut self, place: usize, bytes: &[u8]) -> Option<usize> {
-        if place > self.size || bytes.len() > self.size - place {
-            return None;
+    /// Writes bytes at a place in the area, if there is room. Returns where they end, or would end.
+    #[inline(always)]
+    fn write(&mut self, place: usize, bytes: &[u8]) -> usize {
+        let end = place.saturating_add(bytes.len());
+        if end <= self.size {
+            self.area[place..end].copy_from_slice(bytes);
         }
-        let end = place + bytes.len();
-        self.area[place..end].copy_from_slice(bytes);
-        Some(end)
+        end
     }
 
-    /// Writes the record of an event whose data was written up to a place.
+    /// Writes the record of an event whose data was written up to a place, if that is in the area.
+    #[inline(always)]
     fn add_written(&mut self, event: VteEvent, end: usize) {
-        let start = self.used as u32;
-        self.used = end;
-        if self.size - end < MOST_ADDED {
-            self.full_count = 0;
+        if end <= self.size && self.count < self.events.len() {
+            let start = self.used as u32;
+            self.used = end;
+            if self.size - self.used < MOST_ADDED {
+                self.full_count = 0;
+            }
+            self.add_record(VteEvent { start, ..event });
         }
-        self.add_record(VteEvent { start, ..event });
     }
 }
 

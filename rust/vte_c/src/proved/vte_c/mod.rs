@@ -12,7 +12,6 @@ pub(crate) use events::Events;
 pub(crate) use feed::{VteCounts, LEAST_EVENTS, NO_ROOM};
 mod events;
 mod feed;
-mod packed;
 mod text;
 
 use core::mem::size_of;

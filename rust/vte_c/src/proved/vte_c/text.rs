@@ -9,11 +9,12 @@ pub(crate) const LEAST_TEXT: usize = 16;
 /// The most bytes of text that one byte of a stream adds: one byte adds at most two characters.
 const MOST_TEXT: usize = 8;
 
-/// Writes text into the caller's buffer. What doesn't fit is dropped, so it is given only what
-/// fits.
+/// Writes text into the caller's buffer, as long as all of it fits.
 struct Text<'a> {
     room: &'a mut [u8],
     used: usize,
+    // if not, nothing is kept
+    fits: bool,
 }
 
 impl Text<'_> {
@@ -25,10 +26,13 @@ impl Text<'_> {
     /// Writes a text, if there is room for it.
     #[inline(always)]
     fn add(&mut self, text: &[u8]) {
-        let used = self.used;
-        if used <= self.room.len() && text.len() <= self.room.len() - used {
+        let (used, size) = (self.used, self.room.len());
+        if self.fits && used <= size && text.len() <= size - used {
             self.room[used..used + text.len()].copy_from_slice(text);
             self.used = used + text.len();
+        } else {
+            self.used = 0;
+            self.fits = false;
         }
     }
 }
@@ -88,12 +92,7 @@ impl PerformText for Text<'_> {
 
     #[inline]
     fn print_text(&mut self, text: &str) {
-        if text.len() <= self.left() {
-            return self.add(text.as_bytes());
-        }
-        for c in text.chars() {
-            self.add(c.encode_utf8(&mut [0; 4]).as_bytes());
-        }
+        self.add(text.as_bytes());
     }
 }
 
@@ -110,7 +109,11 @@ pub(crate) fn strip(
         return NO_ROOM;
     }
     let size = room.len();
-    let mut text = Text { room, used: 0 };
+    let mut text = Text {
+        room,
+        used: 0,
+        fits: true,
+    };
     let read = read_into(parser, bytes, &mut text);
     *written = text.used.min(size);
     read

@@ -1,7 +1,5 @@
-use Rattle.std.proofs.Common.{length, map, refl, set, take, ◌≡◌}
-use Rattle.std.proofs.lemmas.List.{length-set}
+use Rattle.vte_c.proofs.Common.{length, length-set, map, refl, set, take, without_loss, ◌≡◌}
 use Rattle.vte_c.proofs.Decoding.{loss_unseen}
-use Rattle.vte_c.specs.Record.{without_loss}
 use Rattle.vte_c.proofs.events.Events.add_loss.Goals as goal
 
 pub returns-then-self-place-eq-OSC : goal.returns-then-self-place-eq-OSC

@@ -1,7 +1,4 @@
-use Rattle.std.proofs.Common.{ℕ, List, map, take}
-use Rattle.std.specs.List.{flat_map}
-use Rattle.vte_c.specs.Events.{Holds, room_of}
-use Rattle.vte_c.specs.Record.{piece_bytes}
+use Rattle.vte_c.proofs.Common.{Holds, flat_map, map, piece_bytes, room_of, take}
 use Rattle.vte_c.proofs.events.Events.write_pieces.Given as goal
 
 abbrev pub invariant-loop-piece : goal.invariant-loop-piece

@@ -1,0 +1,11 @@
+use Rattle.vte_c.proofs.Common.{Room, ap, arith}
+use Rattle.vte_c.proofs.Rooms.{holds_nothing}
+use Rattle.vte_c.proofs.events.Events.add.Goals as goal
+
+pub add_written-requires : goal.add_written-requires
+add_written-requires c =
+    let held = c.write-end.ensures.holds _ _ (holds_nothing c.args.self.now) in
+    omega (arith, c.write-end.ensures.after, ap (λ (r : Room). r.used) held.same)
+
+pub returns : goal.returns
+returns c = c.add_written.ensures _ _ (c.write-end.ensures.holds _ _ (holds_nothing c.args.self.now))

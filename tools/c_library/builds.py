@@ -15,6 +15,9 @@ CRATE = TOOLS.parent / "crates/vte_c"
 BESIDE = TOOLS.parent / "rust/vte_c"
 WARNINGS = ["-O2", "-Wall", "-Wextra", "-Werror", f"-I{CRATE / 'include'}", f"-I{BESIDE / 'include'}"]
 SANITIZERS = ["-g", "-fsanitize=address,undefined", "-fno-sanitize-recover=all"]
+# a program over an earlier table of functions, and the calls of that
+OLD_PROGRAM = TOOLS / "c_library/old_program.c"
+OLD_CALLS = b"input a\nbell\nbackspace\ninput b\ninput c\n"
 # the only functions that the library of each build may need
 NEEDED = {"rt": {"memcpy", "memmove", "memset"},
           "cargo": {"abort", "clock_gettime", "free", "malloc", "memchr", "memcpy", "memmove", "memrchr", "memset", "realloc"}}
@@ -127,6 +130,9 @@ def test_any_parser(library, report):
     any_parser = library.program(CRATE / "examples/any_parser.c", *words)
     report.same("any bytes as a parser", b"", output_of([any_parser]), b"")
     report.same("edges of vte.h", b"", output_of([library.program(TOOLS / "c_library/border.c", *library.of_events, *words)]), b"")
+    if library.is_whole:
+        old = library.program(OLD_PROGRAM, *words)
+        report.same("an old program", b"", output_of([old]), OLD_CALLS)
     library.program(CRATE / "examples/time_calls.c", "-std=c99", "-pedantic-errors")
 
 

@@ -6,12 +6,18 @@ import subprocess
 import sys
 from pathlib import Path
 
-from c_library.builds import CRATE, SANITIZERS, TOOLS
+from c_library.builds import CRATE, OLD_CALLS, OLD_PROGRAM, SANITIZERS, TOOLS
 from c_library.report import output_of
 
 EXAMPLES = CRATE / "examples"
 # before glibc 2.34 pseudo-terminals were in a library of their own
-OF_PTY = {"pty_events": ["-lutil"]}
+OF_PTY = "-lutil"
+# the compiler of each language, its sources, and its examples
+LANGUAGES = {
+    "C": ("cc", "c/{}.c", ["stripper", "title_watcher", "pty_events"]),
+    "C++": ("c++", "cpp/{}.cpp", ["pty_events"]),
+    "Go": ("go", "go/{}/main.go", ["title_watcher", "pty_events"]),
+}
 STREAM = b"a\xc3\xbc\x1b[1;31m\x1b]2;a;b\x07\xff\n"
 # what each example writes: those of a pty run a program that writes the stream, and a pty writes CR before LF
 PRINTS = r"printf 'a\303\274\033[1;31m\033]2;a;b\007\377\n'"
@@ -29,10 +35,15 @@ OF_LIBRARY = {f"include/{name}" for name in HEADERS} | {f"lib/{name}" for name i
 
 
 def test_examples(library, report):
-    test_compiled(library, report, "C", "cc", lambda name: library.program(EXAMPLES / f"c/{name}.c", *OF_PTY.get(name, ())))
-    test_compiled(library, report, "C++", "c++",
-                  lambda name: library.program(EXAMPLES / f"cpp/{name}.cpp", *OF_PTY.get(name, ()), compiler="c++"))
-    test_compiled(library, report, "Go", "go", lambda name: go_program(library, name))
+    tests = {"stripper": test_stripper, "title_watcher": test_title_watcher, "pty_events": test_pty_events}
+    for language, (compiler, sources, examples) in LANGUAGES.items():
+        if shutil.which(compiler) is None:
+            report.missing(compiler, f"the examples in {language} were not built")
+            continue
+        for example in examples:
+            source = EXAMPLES / sources.format(example)
+            program = go_program(library, source) if compiler == "go" else library.program(source, OF_PTY, compiler=compiler)
+            tests[example](f"example in {language}, {example}", program, report)
     if library.is_whole:
         test_whole(library, report)
     test_forward(library, report)
@@ -71,37 +82,43 @@ def test_whole(library, report):
         test_slow_pipe("example in C++, outline", [library.folder / "outline_cpp"], [(b"a\x1b[1m", b"a[bold]"), (b"b", b"b")], report)
 
 
-def go_program(library, name):
-    program = library.folder / f"{name}_go"
-    environment = {**os.environ, "CGO_ENABLED": "1", "CGO_CFLAGS": f"-I{CRATE / 'include'}", "CGO_LDFLAGS": f"{library.archive} -lutil",
+def go_program(library, source):
+    program = library.folder / f"{source.parent.name}_go"
+    environment = {**os.environ, "CGO_ENABLED": "1", "CGO_CFLAGS": f"-I{CRATE / 'include'}", "CGO_LDFLAGS": f"{library.archive} {OF_PTY}",
                    "GOFLAGS": "-mod=mod", "GO111MODULE": "off"}
-    done = subprocess.run(["go", "build", "-o", program, EXAMPLES / f"go/{name}/main.go"], env=environment, capture_output=True, text=True)
+    done = subprocess.run(["go", "build", "-o", program, source], env=environment, capture_output=True, text=True)
     if done.returncode != 0:
-        sys.exit(f"test_c_library: go build of {name}\n{done.stderr}")
+        sys.exit(f"test_c_library: go build of {source}\n{done.stderr}")
     return program
 
 
-def test_compiled(library, report, language, compiler, build):
-    """Builds the three examples of a language and runs them."""
-    if shutil.which(compiler) is None:
-        report.missing(compiler, f"the examples in {language} were not built")
-        return
-    name = f"example in {language}"
-    stripper, watcher, printer = map(build, ("stripper", "title_watcher", "pty_events"))
-    report.same(f"{name}, stripper", STREAM, output_of([stripper], STREAM), TEXT)
-    # more text and more events than there is room for
-    report.same(f"{name}, stripper", b"", output_of([stripper], b"\xff" * 9000), "\ufffd".encode() * 9000)
-    many = b"\r" * 2500 + b"\x1b]0;t\x07" * 2
-    report.same(f"{name}, title_watcher", many, output_of([watcher], many), many + b"\nstatus 0: title: t\ntitle: t\n")
+def fails(program, **given):
+    return subprocess.run([program], **given).returncode == 1
+
+
+def test_stripper(name, stripper, report):
+    report.same(name, STREAM, output_of([stripper], STREAM), TEXT)
+    # more text than there is room for
+    report.same(name, b"", output_of([stripper], b"\xff" * 9000), "\ufffd".encode() * 9000)
     with open("/dev/full", "w") as full:
-        failing = [(stripper, dict(input=STREAM, stdout=full)), *((program, dict(stdin=os.open("/", os.O_RDONLY))) for program in (stripper, watcher))]
-        for program, given in failing[:{"C": 3, "Go": 2}.get(language, 0)]:
-            report.holds(f"{name}, what fails", subprocess.run([program], **given).returncode == 1)
-    test_slow_pipe(f"{name}, stripper", [stripper], LINES, report)
-    report.same(f"{name}, title_watcher", STREAM, output_of([watcher], STREAM), STREAM + b"\nstatus 0: title: a;b\n")
-    test_slow_pipe(f"{name}, title_watcher", [watcher], SLOWLY, report)
-    report.same(f"{name}, pty_events", STREAM, output_of([printer, "sh", "-c", PRINTS]), EVENTS)
-    test_slow_program(f"{name}, pty_events", printer, library.folder / f"{language}_goes_on", report)
+        report.holds(f"{name}, a full disk", fails(stripper, input=STREAM, stdout=full))
+    report.holds(f"{name}, a folder", fails(stripper, stdin=os.open("/", os.O_RDONLY)))
+    test_slow_pipe(name, [stripper], LINES, report)
+
+
+def test_title_watcher(name, watcher, report):
+    # more events than there is room for
+    many = b"\r" * 2500 + b"\x1b]0;t\x07" * 2
+    for stream, said in (STREAM, b"title: a;b\n"), (many, b"title: t\ntitle: t\n"):
+        report.same(name, stream, output_of([watcher], stream), stream + b"\nstatus 0: " + said)
+    if watcher.name == "title_watcher_c":
+        report.holds(f"{name}, a folder", fails(watcher, stdin=os.open("/", os.O_RDONLY)))
+    test_slow_pipe(name, [watcher], SLOWLY, report)
+
+
+def test_pty_events(name, printer, report):
+    report.same(name, STREAM, output_of([printer, "sh", "-c", PRINTS]), EVENTS)
+    test_slow_program(name, printer, printer.with_suffix(".goes_on"), report)
 
 
 def test_slow_program(name, printer, mark, report):
@@ -200,6 +217,9 @@ def test_installation(library, report):
         strips("stripper")
         if library.is_whole:
             holds("vte_long.h by pkg-config", "cc", EXAMPLES / "c/clipboards.c", *flags, "-o", "clipboards")
+            holds("an old program by pkg-config", "cc", OLD_PROGRAM, *flags, "-o", "old_program")
+            said = holds("an old program over the shared library", "./old_program")
+            report.holds("installation, an old program", said.encode() == OLD_CALLS, said)
             if shutil.which("c++"):
                 holds("vte.hpp by pkg-config", "c++", "-std=c++17", EXAMPLES / "cpp/outline.cpp", *flags, "-o", "outline")
     else:

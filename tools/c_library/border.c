@@ -23,16 +23,28 @@ static uint8_t data[VTE_LEAST_DATA];
 static uint8_t text[64];
 static const vte_parser new_parser;
 
-/* Feeds a new parser with so much, and returns how many bytes were read. */
-static size_t feed(size_t length, uint32_t kinds, uint32_t stops, size_t event_room, size_t data_room, size_t wanted_events, size_t wanted_data,
-                   const char *what) {
+/* Feeds a new parser, also one without a limit if there is room for the data of one that has a
+ * limit, and compares how many bytes are read and what is written. */
+static void edge(const char *what, size_t length, uint32_t kinds, uint32_t stops, size_t event_room,
+                 size_t data_room, size_t wanted, size_t wanted_events, size_t wanted_data) {
+    const uint8_t *given = length ? bytes : NULL;
+    vte_event *room = event_room ? events : NULL;
     vte_parser parser = new_parser;
     vte_counts counts = {77, 77};
-    size_t read = vte_feed(&parser, length ? bytes : NULL, length, kinds, stops, event_room ? events : NULL, event_room, data_room ? data : NULL,
-                           data_room, &counts);
-    holds(counts.events == wanted_events && counts.data == wanted_data, what);
-    holds(read != VTE_NO_ROOM || memcmp(&parser, &new_parser, sizeof parser) == 0, "a parser without room");
-    return read;
+    size_t read = vte_feed(&parser, given, length, kinds, stops, room, event_room,
+                           data_room ? data : NULL, data_room, &counts);
+    holds(read == wanted && counts.events == wanted_events && counts.data == wanted_data, what);
+    holds(read != VTE_NO_ROOM || memcmp(&parser, &new_parser, sizeof parser) == 0,
+          "a parser without room");
+#ifdef WITH_LONG
+    if (data_room < VTE_LEAST_DATA) return;
+    const uint8_t *area;
+    vte_long_parser *long_parser = vte_long_parser_new();
+    counts = (vte_counts){77, 77};
+    read = vte_long_feed(long_parser, given, length, kinds, stops, room, event_room, &area, &counts);
+    holds(read == wanted && counts.events == wanted_events && counts.data == wanted_data, what);
+    vte_long_parser_free(long_parser);
+#endif
 }
 
 static size_t strip(size_t length, size_t room, size_t wanted, const char *what) {
@@ -159,17 +171,6 @@ static void test_stops(void) {
 }
 
 #ifdef WITH_LONG
-/* Feeds a new parser without a limit, as above. */
-static size_t feed_long(size_t length, uint32_t kinds, uint32_t stops, size_t room, size_t wanted, const char *what) {
-    vte_long_parser *parser = vte_long_parser_new();
-    const uint8_t *area;
-    vte_counts counts = {77, 77};
-    size_t read = vte_long_feed(parser, length ? bytes : NULL, length, kinds, stops, room ? events : NULL, room, &area, &counts);
-    holds(counts.events == wanted && (wanted || counts.data == 0), what);
-    vte_long_parser_free(parser);
-    return read;
-}
-
 /* A command has all its bytes, and no flag but that of its end, if it has 16 pieces at most. */
 static void test_long_commands(void) {
     static const size_t letters[] = {0, 1023, 1024, 1025, 60000};
@@ -241,25 +242,20 @@ static void test_runs(void) {
     vte_processor_free(processor);
 }
 
-/* A program that was compiled when tables had fewer calls passes its own size: no other call is made, and nothing after it is read. */
-static void test_old_table(void) {
-    size_t count = 0, read, size = offsetof(vte_handler, bell);
-    const vte_handler now = {.input = count_input};
-    void *old = malloc(size);
-    memcpy(old, &now, size);
-    vte_processor *processor = vte_processor_new(old, size, &count);
-    free(old);
-    holds(vte_processor_advance(processor, (const uint8_t *)"a\a\r", 3, &read) == VTE_OK && count == 1, "an old table");
-    vte_processor_free(processor);
-    processor = vte_processor_new(NULL, 0, NULL);
-    holds(vte_processor_advance(processor, (const uint8_t *)"a\a\r", 3, &read) == VTE_OK && read == 3, "a table without calls");
-    vte_processor_free(processor);
+/* A table may have no calls, and those of later versions. old_program.c has one of an earlier. */
+static void test_tables(void) {
     struct {
         vte_handler calls;
         void *later[3];
-    } new_table = {{.input = count_input}, {&count, &count, &count}};
-    processor = vte_processor_new(&new_table.calls, sizeof new_table, &count);
-    holds(vte_processor_advance(processor, (const uint8_t *)"a", 1, &read) == VTE_OK && count == 2, "a table with calls of later versions");
+    } later = {{.input = count_input}, {&later, &later, &later}};
+    size_t count = 0, read;
+    vte_processor *processor = vte_processor_new(NULL, 0, NULL);
+    holds(vte_processor_advance(processor, (const uint8_t *)"a\a\r", 3, &read) == VTE_OK && read == 3,
+          "a table without calls");
+    vte_processor_free(processor);
+    processor = vte_processor_new(&later.calls, sizeof later, &count);
+    holds(vte_processor_advance(processor, (const uint8_t *)"a", 1, &read) == VTE_OK && count == 1,
+          "a table with calls of later versions");
     vte_processor_free(processor);
 }
 
@@ -307,42 +303,43 @@ static void test_texts(void) {
 }
 
 #ifdef WITH_LONG
-static void test_long(size_t all) {
-    vte_long_parser_free(NULL);
-    holds(feed_long(0, VTE_ALL_KINDS, 0, VTE_LEAST_EVENTS, 0, "long counts of no bytes") == 0, "no bytes are read, long");
-    for (size_t room = 0; room < VTE_LEAST_EVENTS; room++) {
-        holds(feed_long(all, VTE_ALL_KINDS, 0, room, 0, "long counts without room") == VTE_NO_ROOM, "no room, long");
-        holds(feed_long(0, VTE_ALL_KINDS, 0, room, 0, "long counts without room or bytes") == VTE_NO_ROOM, "no room or bytes, long");
-    }
-    holds(feed_long(all, VTE_ALL_KINDS, ~VTE_ALL_KINDS, 64, 3, "long counts of all") == all, "all is read, long");
-    holds(feed_long(all, VTE_ALL_KINDS, VTE_KIND(VTE_CSI), 64, 2, "long counts of a sequence") == 5, "a sequence stops, long");
-    holds(feed_long(all, ~VTE_ALL_KINDS, 0, 64, 0, "long counts of no kind") == all, "no kind, long");
+static void test_long_again(size_t all) {
     vte_long_parser *parser = vte_long_parser_new();
     for (int round = 0; round < 2; round++) {
         const uint8_t *area;
         vte_counts counts;
-        holds(vte_long_feed(parser, bytes, all, VTE_ALL_KINDS, 0, events, 64, &area, &counts) == all, "all is read again");
+        size_t read =
+            vte_long_feed(parser, bytes, all, VTE_ALL_KINDS, 0, events, 64, &area, &counts);
+        holds(read == all, "all is read again");
         holds(counts.data == 3 && events[1].start == 0, "data of earlier calls are gone");
     }
     vte_long_parser_free(parser);
+    vte_long_parser_free(NULL);
 }
 #endif
+
+static void test_edges(size_t all) {
+    const size_t most = VTE_LEAST_EVENTS, least = VTE_LEAST_DATA;
+    edge("no bytes", 0, VTE_ALL_KINDS, 0, most, least, 0, 0, 0);
+    for (size_t length = 0; length <= all; length += all) {
+        for (size_t room = 0; room < most; room++)
+            edge("too few events", length, VTE_ALL_KINDS, 0, room, least, VTE_NO_ROOM, 0, 0);
+        edge("too few data", length, VTE_ALL_KINDS, 0, most, least - 1, VTE_NO_ROOM, 0, 0);
+        edge("no room", length, VTE_ALL_KINDS, 0, 0, 0, VTE_NO_ROOM, 0, 0);
+    }
+    /* a group of one number takes three bytes */
+    edge("all", all, VTE_ALL_KINDS, 0, 64, least, all, 3, 3);
+    for (int kind = 8; kind < 32; kind++)
+        edge("a kind that doesn't exist", all, ~0u, VTE_KIND(kind), 64, least, all, 3, 3);
+    edge("kinds that don't exist", all, ~VTE_ALL_KINDS, ~VTE_ALL_KINDS, 64, least, all, 0, 0);
+    edge("a text stops", all, VTE_ALL_KINDS, VTE_KIND(VTE_TEXT), 64, least, 1, 1, 0);
+    edge("a sequence stops", all, VTE_ALL_KINDS, VTE_KIND(VTE_CSI), 64, least, 5, 2, 3);
+}
 
 int main(void) {
     const size_t all = sizeof bytes - 1;
     holds(VTE_KIND(all ? VTE_OSC : VTE_CSI) == 1 << VTE_OSC, "a kind may be an expression");
-    holds(feed(0, VTE_ALL_KINDS, 0, VTE_LEAST_EVENTS, VTE_LEAST_DATA, 0, 0, "counts of no bytes") == 0, "no bytes are read");
-    for (size_t length = 0; length <= all; length += all) {
-        holds(feed(length, VTE_ALL_KINDS, 0, VTE_LEAST_EVENTS - 1, VTE_LEAST_DATA, 0, 0, "counts of too few events") == VTE_NO_ROOM, "too few events");
-        holds(feed(length, VTE_ALL_KINDS, 0, VTE_LEAST_EVENTS, VTE_LEAST_DATA - 1, 0, 0, "counts of too few data") == VTE_NO_ROOM, "too few data");
-        holds(feed(length, VTE_ALL_KINDS, 0, 0, 0, 0, 0, "counts of no room") == VTE_NO_ROOM, "no room");
-    }
-    /* a group of one number takes three bytes */
-    holds(feed(all, VTE_ALL_KINDS, 0, 64, VTE_LEAST_DATA, 3, 3, "counts of all") == all, "all is read");
-    for (int kind = 8; kind < 32; kind++)
-        holds(feed(all, ~0u, VTE_KIND(kind), 64, VTE_LEAST_DATA, 3, 3, "counts of a kind that doesn't exist") == all, "a kind that doesn't exist stops");
-    holds(feed(all, VTE_ALL_KINDS, VTE_KIND(VTE_TEXT), 64, VTE_LEAST_DATA, 1, 0, "counts of a text") == 1, "a text stops");
-    holds(feed(all, VTE_ALL_KINDS, VTE_KIND(VTE_CSI), 64, VTE_LEAST_DATA, 2, 3, "counts of a sequence") == 5, "a sequence stops");
+    test_edges(all);
     holds(strip(0, VTE_LEAST_TEXT, 0, "text of no bytes") == 0, "no bytes are stripped");
     for (size_t room = 0; room < VTE_LEAST_TEXT; room++) {
         holds(strip(all, room, 0, "text without room") == VTE_NO_ROOM, "room for too little text");
@@ -356,11 +353,11 @@ int main(void) {
     test_texts();
     test_most();
 #ifdef WITH_LONG
-    test_long(all);
+    test_long_again(all);
     test_long_commands();
     test_places();
     test_processor();
-    test_old_table();
+    test_tables();
     test_runs();
 #endif
     return status;

@@ -56,21 +56,31 @@ static void begin(const char *name, void *user) {
 #define TWO(name, first, second) SOME(name, first one, second two) { BEGIN(#name), number((long long)one), number((long long)two), puts(""); }
 #define ONE_TEXT(name) SOME(name, TEXT(value)) { BEGIN(#name), SHOWN(value), puts(""); }
 
-ONE_TEXT(input) PLAIN(backspace) ONE(put_tab, uint16_t) PLAIN(linefeed) PLAIN(carriage_return) PLAIN(newline) PLAIN(substitute)
-TWO(go_to, int32_t, size_t) ONE(goto_line, int32_t) ONE(goto_col, size_t) ONE(move_up, size_t) ONE(move_down, size_t)
-ONE(move_forward, size_t) ONE(move_backward, size_t) ONE(move_down_and_cr, size_t) ONE(move_up_and_cr, size_t)
-PLAIN(save_cursor_position) PLAIN(restore_cursor_position) PLAIN(reverse_index) ONE(scroll_up, size_t) ONE(scroll_down, size_t)
-TWO(set_scrolling_region, size_t, size_t) PLAIN(set_horizontal_tabstop) ONE(clear_tabs, uint8_t) ONE(set_tabs, uint16_t)
-ONE(move_forward_tabs, uint16_t) ONE(move_backward_tabs, uint16_t) ONE(insert_blank, size_t) ONE(insert_blank_lines, size_t)
-ONE(delete_chars, size_t) ONE(delete_lines, size_t) ONE(erase_chars, size_t) ONE(clear_line, uint8_t) ONE(clear_screen, uint8_t)
-PLAIN(decaln) ONE(reset_color, size_t) TWO(set_cursor_style, int32_t, uint8_t) ONE(set_cursor_shape, int32_t)
-ONE_TEXT(set_mouse_cursor_icon) ONE(set_active_charset, uint8_t) TWO(configure_charset, uint8_t, uint8_t) TWO(set_scp, uint8_t, uint8_t)
-ONE(set_mode, uint16_t) ONE(unset_mode, uint16_t) ONE(report_mode, uint16_t) ONE(set_private_mode, uint16_t)
-ONE(unset_private_mode, uint16_t) ONE(report_private_mode, uint16_t) PLAIN(reset_state) PLAIN(set_keypad_application_mode)
-PLAIN(unset_keypad_application_mode) ONE(push_keyboard_mode, uint8_t) ONE(pop_keyboard_modes, uint16_t)
-TWO(set_keyboard_mode, uint8_t, uint8_t) PLAIN(report_keyboard_mode) ONE(set_modify_other_keys, uint8_t)
-PLAIN(report_modify_other_keys) ONE_TEXT(set_title) PLAIN(push_title) PLAIN(pop_title) ONE(device_status, size_t)
-ONE(identify_terminal, uint8_t) PLAIN(text_area_size_pixels) PLAIN(text_area_size_chars)
+/* the calls but for `bell` and those below it, by what they pass */
+#define CALLS(NO, ONE, TWO, TEXTS) \
+    TEXTS(input) NO(backspace) ONE(put_tab, uint16_t) NO(linefeed) NO(carriage_return) NO(newline) \
+    NO(substitute) TWO(go_to, int32_t, size_t) ONE(goto_line, int32_t) ONE(goto_col, size_t) \
+    ONE(move_up, size_t) ONE(move_down, size_t) ONE(move_forward, size_t) \
+    ONE(move_backward, size_t) ONE(move_down_and_cr, size_t) ONE(move_up_and_cr, size_t) \
+    NO(save_cursor_position) NO(restore_cursor_position) NO(reverse_index) ONE(scroll_up, size_t) \
+    ONE(scroll_down, size_t) TWO(set_scrolling_region, size_t, size_t) NO(set_horizontal_tabstop) \
+    ONE(clear_tabs, uint8_t) ONE(set_tabs, uint16_t) ONE(move_forward_tabs, uint16_t) \
+    ONE(move_backward_tabs, uint16_t) ONE(insert_blank, size_t) ONE(insert_blank_lines, size_t) \
+    ONE(delete_chars, size_t) ONE(delete_lines, size_t) ONE(erase_chars, size_t) \
+    ONE(clear_line, uint8_t) ONE(clear_screen, uint8_t) NO(decaln) ONE(reset_color, size_t) \
+    TWO(set_cursor_style, int32_t, uint8_t) ONE(set_cursor_shape, int32_t) \
+    TEXTS(set_mouse_cursor_icon) ONE(set_active_charset, uint8_t) \
+    TWO(configure_charset, uint8_t, uint8_t) TWO(set_scp, uint8_t, uint8_t) \
+    ONE(set_mode, uint16_t) ONE(unset_mode, uint16_t) ONE(report_mode, uint16_t) \
+    ONE(set_private_mode, uint16_t) ONE(unset_private_mode, uint16_t) \
+    ONE(report_private_mode, uint16_t) NO(reset_state) NO(set_keypad_application_mode) \
+    NO(unset_keypad_application_mode) ONE(push_keyboard_mode, uint8_t) \
+    ONE(pop_keyboard_modes, uint16_t) TWO(set_keyboard_mode, uint8_t, uint8_t) \
+    NO(report_keyboard_mode) ONE(set_modify_other_keys, uint8_t) NO(report_modify_other_keys) \
+    TEXTS(set_title) NO(push_title) NO(pop_title) ONE(device_status, size_t) \
+    ONE(identify_terminal, uint8_t) NO(text_area_size_pixels) NO(text_area_size_chars)
+
+CALLS(PLAIN, ONE, TWO, ONE_TEXT)
 
 SOME(terminal_attribute, uint8_t attribute, vte_color of) { BEGIN("terminal_attribute"), number(attribute), color(of), puts(""); }
 SOME(set_color, size_t index, vte_color of) { BEGIN("set_color"), number((long long)index), color(of), puts(""); }
@@ -140,20 +150,10 @@ NONE(bell) {
     BEGIN("bell"), puts("");
 }
 
-#define IN(name) .name = name
+#define IN(name, ...) .name = name,
 static const vte_handler calls = {
-    IN(input), IN(bell), IN(backspace), IN(put_tab), IN(linefeed), IN(carriage_return), IN(newline), IN(substitute), IN(go_to),
-    IN(goto_line), IN(goto_col), IN(move_up), IN(move_down), IN(move_forward), IN(move_backward), IN(move_down_and_cr),
-    IN(move_up_and_cr), IN(save_cursor_position), IN(restore_cursor_position), IN(reverse_index), IN(scroll_up), IN(scroll_down),
-    IN(set_scrolling_region), IN(set_horizontal_tabstop), IN(clear_tabs), IN(set_tabs), IN(move_forward_tabs), IN(move_backward_tabs),
-    IN(insert_blank), IN(insert_blank_lines), IN(delete_chars), IN(delete_lines), IN(erase_chars), IN(clear_line), IN(clear_screen),
-    IN(decaln), IN(terminal_attribute), IN(set_color), IN(reset_color), IN(dynamic_color_sequence), IN(set_hyperlink),
-    IN(set_cursor_style), IN(set_cursor_shape), IN(set_mouse_cursor_icon), IN(set_active_charset), IN(configure_charset), IN(set_scp),
-    IN(set_mode), IN(unset_mode), IN(report_mode), IN(set_private_mode), IN(unset_private_mode), IN(report_private_mode), IN(reset_state),
-    IN(set_keypad_application_mode), IN(unset_keypad_application_mode), IN(push_keyboard_mode), IN(pop_keyboard_modes),
-    IN(set_keyboard_mode), IN(report_keyboard_mode), IN(set_modify_other_keys), IN(report_modify_other_keys), IN(set_title),
-    IN(push_title), IN(pop_title), IN(clipboard_store), IN(clipboard_load), IN(device_status), IN(identify_terminal),
-    IN(text_area_size_pixels), IN(text_area_size_chars),
+    CALLS(IN, IN, IN, IN) IN(bell) IN(terminal_attribute) IN(set_color) IN(dynamic_color_sequence)
+    IN(set_hyperlink) IN(clipboard_store) IN(clipboard_load)
 };
 
 static void end(void) {

@@ -87,34 +87,23 @@ pub unsafe extern "C" fn vte_is_open(parser: *const Saved) -> u8 {
     vte_c::vte_is_open(unsafe { &*parser })
 }
 
-#[no_mangle]
-pub extern "C" fn vte_version() -> u32 {
-    vte_c::vte_version()
+/// Exports functions without arguments.
+macro_rules! export {
+    ($($name:ident: $number:ty;)*) => {
+        $(#[no_mangle]
+        pub extern "C" fn $name() -> $number {
+            vte_c::$name()
+        })*
+    };
 }
 
-#[no_mangle]
-pub extern "C" fn vte_parser_size() -> usize {
-    vte_c::vte_parser_size()
-}
-
-#[no_mangle]
-pub extern "C" fn vte_event_size() -> usize {
-    vte_c::vte_event_size()
-}
-
-#[no_mangle]
-pub extern "C" fn vte_least_events() -> usize {
-    vte_c::vte_least_events()
-}
-
-#[no_mangle]
-pub extern "C" fn vte_least_data() -> usize {
-    vte_c::vte_least_data()
-}
-
-#[no_mangle]
-pub extern "C" fn vte_least_text() -> usize {
-    vte_c::vte_least_text()
+export! {
+    vte_version: u32;
+    vte_parser_size: usize;
+    vte_event_size: usize;
+    vte_least_events: usize;
+    vte_least_data: usize;
+    vte_least_text: usize;
 }
 
 /// Ends the program. rustc checks each index; that all are within bounds is proved, so nothing gets here.

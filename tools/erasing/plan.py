@@ -9,7 +9,7 @@ from erasing.passes import INLINE
 from erasing.rules import ALLOCATORS, COUNTS, PARAMETERS
 
 WITH_MEMORY = 'any(feature = "std", feature = "ansi")'
-# With `std` parsers and processors have no limit: what has one is there without it.
+# With `std` processors have no limit: what has one is there without it.
 WITH_LIMIT = 'not(feature = "std")'
 # A parser as plain data, for the C library. It has a limit.
 SAVED = 'all(feature = "saved", not(feature = "std"))'
@@ -74,6 +74,9 @@ debug_assert!(may_begin_four(first, second));
 debug_assert!(is_continuation(third) && is_continuation(fourth));
 """
 
+# The Rust crate's parsers and processors can be copied, with as much memory.
+CLONE = "#[derive(Clone)]"
+
 # What the parser's text says of the count of looks (COUNTS), by file.
 WITHOUT_COUNTS = {
     "vte_core/looks": [
@@ -112,15 +115,11 @@ VTE = Plan(
     },
     conditions={name: 'feature = "ansi"' for name in ("vte_types", "vte_handler", "vte")},
     under={
-        "vte_core": {WITH_MEMORY: {"LongParser", "Vec", "long"}, WITH_LIMIT: {"Parser"}},
+        "vte_core": {WITH_MEMORY: {"LongParser", "Vec", "long"}},
         "vte_core/lib": {WITH_MEMORY: {"LongParser", "Refused", "long"}, SAVED: {"Saved"}},
-        "vte_core/parser/to_run": {WITH_LIMIT: {"Parser", "Perform", "Run", "take_run"}},
         # the module has the condition
         "vte_core/parser/long": None,
-        "vte_core/buffer": {WITH_LIMIT: {"ArrayVec"}},
-        "vte_core/parser": {WITH_LIMIT: {"ArrayVec", "Grain", "InRuns", "MAX_OSC_RAW", "Parser", "Perform", "PerformAs",
-                                         "PerformText", "Singly"},
-                            SAVED: {"Saved", "saved"}},
+        "vte_core/parser": {SAVED: {"Saved", "saved"}},
         "vte/ansi": {WITH_LIMIT: {"Processor", "processor"}},
         "vte/ansi/parsing": {WITH_LIMIT: {"ArrayString", "HandlerText", "Parser", "ProcessorParser", "ProcessorText", "TEXT_ROOM"}},
         "vte/ansi/titles": {WITH_LIMIT: {"TEXT_ROOM"}},
@@ -190,16 +189,21 @@ VTE = Plan(
     },
     has_idioms=True,
     lines={
-        "vte_core/parser": {'#[must_use = "the bytes after the stop are still to be read"]': [
-            "pub fn advance_until_terminated", "pub fn advance_text_until_terminated"]},
+        "vte_core/head": {CLONE: ["pub(crate) struct Collected"]},
+        "vte_core/parser/machine": {CLONE: ["pub(crate) struct Machine"]},
+        "vte_core/parser": {
+            CLONE: ["pub struct Parser"],
+            '#[must_use = "the bytes after the stop are still to be read"]': [
+                "pub fn advance_until_terminated", "pub fn advance_text_until_terminated"],
+        },
         "vte_core/parser/to_run": {'#[must_use = "the bytes after the run are still to be read"]': ["pub fn advance_to_run"]},
         "vte_core/params": {
             '#[doc = include_str!("../../docs/params.md")]': ["pub struct Params {"],
-            "#[derive(Clone)]": ["pub struct Params"], "#[derive(Clone, Debug)]": ["pub struct ParamsIter"],
+            CLONE: ["pub struct Params"], "#[derive(Clone, Debug)]": ["pub struct ParamsIter"],
             INLINE: ["pub(crate) fn is_full", "fn take_joined", "pub fn iter", "fn into_iter", "fn next"],
             f"#[cfg({SAVED})]": ["pub(crate) fn parts", "pub(crate) fn from_parts", "fn are_lengths"],
         },
-        "vte_core/store": {f"#[cfg({SAVED})]": ["impl<const N: usize> Store<ArrayVec<u8, N>>", "fn are_piece_ends"]},
+        "vte_core/store": {CLONE: ["pub(crate) struct Store"], f"#[cfg({SAVED})]": ["impl<const N: usize> Store<ArrayVec<u8, N>>", "fn are_piece_ends"]},
         "vte_core/parser/saved": {
             "#[allow(clippy::new_without_default)]": ["pub fn new"],
             "#[derive(Debug)]": ["pub struct Saved"],
@@ -213,9 +217,9 @@ VTE = Plan(
         "vte_core/parser/text": {INLINE: ["pub(crate) fn read_text"], "#[inline(never)]": ["fn search_text"]},
         # as a part of a program's own function, its loops would keep their places on the stack
         "vte_core/parser/drive": {"#[inline(never)]": ["pub(crate) fn drive<"]},
-        "vte_core/parser/long": {'#[must_use = "the memory may be refused"]': ["pub fn reserve"]},
+        "vte_core/parser/long": {CLONE: ["pub struct LongParser"], '#[must_use = "the memory may be refused"]': ["pub fn reserve"]},
         # what a processor does per event, between those loops and the handler
-        "vte/ansi/performer": {INLINE: ["fn print", "fn execute", "fn csi_dispatch", "fn terminated", "fn print_text"]},
+        "vte/ansi/performer": {CLONE: ["pub(crate) struct ProcessorState"], INLINE: ["fn print", "fn execute", "fn csi_dispatch", "fn terminated", "fn print_text"]},
         "vte/ansi/control_calls": {
             INLINE: ["pub(crate) fn perform_control", "fn perform_plain"],
             # a guard would read the numbers
@@ -225,11 +229,14 @@ VTE = Plan(
         "vte/ansi/numbers": {INLINE: ["fn next_or", "pub(crate) fn first_number"]},
         # what a processor does per call, which matters if a call has few bytes
         "vte/ansi/turns": {
+            CLONE: ["pub(crate) struct Turns"],
             INLINE: ["pub(crate) fn read<", "fn turn<", "fn hold_bytes"],
             # stops are rare: kept out of a turn, they leave its loop over bytes as it is
             "#[inline(never)]": ["pub(crate) fn stop<"],
         },
-        "vte/ansi/long_processor": {'#[must_use = "the memory may be refused"]': ["pub fn reserve"]},
+        **{f"vte/ansi/{name}": {CLONE: [f"pub(crate) struct {kind}"]} for name, kind in (("growing_text", "GrowingText"), ("hold", "SyncState"))},
+        "vte/ansi/processor": {CLONE: ["pub struct Processor"]},
+        "vte/ansi/long_processor": {CLONE: ["pub struct LongProcessor"], '#[must_use = "the memory may be refused"]': ["pub fn reserve"]},
         # three numbers for one jump by a table: a range is compared first
         "vte/ansi/escape_calls": {"#[allow(clippy::manual_range_patterns)]": ["pub(crate) fn perform_execute"]},
         "vte_types/lib": {"#[allow(non_snake_case)]": ["pub mod C0"]},

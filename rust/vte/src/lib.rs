@@ -32,7 +32,8 @@
 //! # Features
 //!
 //! - `std` (default): operating system commands, titles and links are kept whatever their length, and the parameter of
-//!   [`Parser`] has no effect. A parser without it keeps as many data bytes of a command as its parameter says.
+//!   [`Parser`] has no effect. Without it, [`Parser`] is [`BoundedParser`], which keeps as many data bytes of a command as its
+//!   parameter says.
 //! - `ansi`: the processor.
 //! - `serde`: colours can be serialized.
 //!
@@ -40,8 +41,8 @@
 //!
 //! # Memory
 //!
-//! A parser has some 300 bytes and, with `std`, memory for the longest command that it has read; without `std`, as many bytes
-//! more as its parameter says. A processor also takes 2 MiB for updates when it is created. With `std`, before it parses the next
+//! A parser has some 300 bytes and memory for the longest command that it has read; a [`BoundedParser`], as many bytes more as
+//! its parameter says, and no other memory. A processor also takes 2 MiB for updates when it is created. With `std`, before it parses the next
 //! 64 KiB of a call or holds bytes back, it takes twice the memory of these bytes and an open command. It keeps that, as a parser keeps
 //! its own, until `shrink`. The program ends if memory runs out, as for any `Vec`; `LongParser` and `ansi::lent::LongProcessor` return
 //! an error instead.
@@ -77,6 +78,7 @@ mod proved;
 pub use adapter::parser::Parser;
 #[cfg(not(feature = "std"))]
 pub use proved::vte_core::Parser;
+pub use proved::vte_core::Parser as BoundedParser;
 #[cfg(all(feature = "saved", not(feature = "std")))]
 #[doc(hidden)]
 pub use proved::vte_core::Saved;

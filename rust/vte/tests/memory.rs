@@ -8,13 +8,17 @@ mod memory;
 #[allow(dead_code, unused_imports)]
 #[path = "../src/prelude.rs"]
 mod prelude;
+#[allow(dead_code)]
+#[path = "../examples/refused.rs"]
+mod refused_command;
 mod support;
 
 use memory::{counted, ends_without, refused};
+use refused_command::CuttingParser;
 use support::Pending;
 use vte::ansi::lent::{Handler, HandlerText, LongProcessor};
 use vte::ansi::{PrivateMode, Processor};
-use vte::{LongParser, Perform, Refused};
+use vte::{BoundedParser, LongParser, Perform, Refused};
 
 const MOST_HELD: usize = 0x20_0000 - 2;
 
@@ -93,6 +97,42 @@ fn a_processor_takes_its_hold_and_memory_for_commands() {
     } else {
         assert_eq!(taken[0], 0);
     }
+}
+
+#[test]
+fn a_bounded_parser_takes_no_memory() {
+    let command = [&b"\x1b]2;"[..], &[b'a'; 3000], b"\x07"].concat();
+    let ((), taken) = counted(|| {
+        let (mut parser, mut size) = (BoundedParser::<1000>::default(), Size::default());
+        parser.advance(&mut size, &command[..500]);
+        parser.clone().advance(&mut size, &command[500..]);
+        assert_eq!(size.0, 1000);
+    });
+    assert_eq!(taken, 0);
+}
+
+#[test]
+fn copies_have_as_much_memory() {
+    let (mut parser, mut size) = (LongParser::new(), Size::default());
+    assert!(parser.reserve(9000));
+    parser.advance(&mut size, b"\x1b]2;").unwrap();
+    let (mut copy, rest) = (parser.clone(), [&[b'a'; 8000][..], b"\x07"].concat());
+    assert_eq!(refused(|| copy.advance(&mut size, &rest)), Ok(()));
+    assert_eq!(size.0, 8001);
+
+    let mut processor = LongProcessor::new(Pending::default()).ok().unwrap();
+    let mut titles = Titles(String::with_capacity(8000), 0);
+    processor.advance(&mut titles, b"\x1b[?2026h").unwrap();
+    processor.advance(&mut titles, b"\x1b]2;a;").unwrap();
+    processor.advance(&mut titles, &rest[5000..]).unwrap();
+    let mut copy = processor.clone();
+    refused(|| copy.stop_sync(&mut titles));
+    assert_eq!(titles.0, format!("a;{}|", "a".repeat(3000)));
+    assert_eq!(processor.sync_bytes_count(), 6 + 3001);
+    let new = LongProcessor::new(Pending::default()).ok().unwrap();
+    ends_without(0x20_0000, "copies_have_as_much_memory", || {
+        drop(new.clone())
+    });
 }
 
 #[test]
@@ -419,6 +459,36 @@ struct Pieces(Vec<Vec<u8>>);
 impl Perform for Pieces {
     fn osc_dispatch(&mut self, params: &[&[u8]], _: bool) {
         self.0.extend(params.iter().map(|piece| piece.to_vec()));
+    }
+}
+
+#[test]
+fn what_a_refused_command_has_left_is_no_text() {
+    let stream = b"a\x1b]52;c;aGVsbG8=\x07b\x1b]0;t\x1b\\c\x1b]2;u\x18d";
+    for at in 0..=stream.len() {
+        let (mut parser, mut seen) = (CuttingParser::default(), Seen::default());
+        seen.text.reserve(10);
+        refused(|| parser.advance(&mut seen, &stream[..at]));
+        parser.advance(&mut seen, &stream[at..]);
+        assert_eq!(seen.text, "abcd", "{at}");
+        assert_eq!(seen.count, 3);
+    }
+}
+
+/// The text, and how many commands there were.
+#[derive(Default)]
+struct Seen {
+    text: String,
+    count: usize,
+}
+
+impl Perform for Seen {
+    fn print(&mut self, c: char) {
+        self.text.push(c);
+    }
+
+    fn osc_dispatch(&mut self, _: &[&[u8]], _: bool) {
+        self.count += 1;
     }
 }
 

@@ -4,14 +4,14 @@ mod support;
 
 use std::panic::{AssertUnwindSafe, RefUnwindSafe, UnwindSafe};
 
-use vte::{Params, ParamsIter, Parser};
+use vte::{BoundedParser, Params, ParamsIter, Parser};
 
 /// Compiles if the type has all of these.
 fn is_shared<T: Send + Sync + Unpin + RefUnwindSafe + UnwindSafe>() {}
 
 #[test]
 fn parsers_can_be_sent_and_shared() {
-    is_shared::<Parser>();
+    is_shared::<(Parser, BoundedParser)>();
     is_shared::<Params>();
     is_shared::<ParamsIter<'_>>();
     #[cfg(any(feature = "std", feature = "ansi"))]
@@ -34,12 +34,17 @@ fn processors_and_what_they_pass_can_be_sent_and_shared() {
 /// A name and what callers can query, but not the bytes that are kept.
 #[test]
 fn debug_shows_a_name() {
-    let mut parser = Parser::new();
-    assert_eq!(format!("{parser:?}"), "Parser { .. }");
     struct Nothing;
     impl vte::Perform for Nothing {}
+    let mut parser = BoundedParser::new();
     parser.advance(&mut Nothing, b"\x1b]0;some title");
-    assert_eq!(format!("{parser:?}"), "Parser { .. }");
+    assert_eq!(format!("{parser:?}"), "BoundedParser { .. }");
+    #[cfg(feature = "std")]
+    {
+        let mut parser = Parser::new();
+        parser.advance(&mut Nothing, b"\x1b]0;some title");
+        assert_eq!(format!("{parser:?}"), "Parser { .. }");
+    }
     #[cfg(any(feature = "std", feature = "ansi"))]
     {
         let mut parser = vte::LongParser::default();

@@ -17,8 +17,9 @@ use crate::proved::vte_core::{LongParser, Perform, PerformText, Refused, Run};
 /// ```
 ///
 /// With the feature `std` it keeps all data bytes of an operating system command, and `OSC_RAW_BUF_SIZE` has no effect. The program
-/// ends if memory runs out, as for any `Vec`; [`LongParser`](crate::LongParser) returns an error instead. Without the feature, a
-/// parser keeps `OSC_RAW_BUF_SIZE` of these bytes, and drops the rest.
+/// ends if memory runs out, as for any `Vec`; [`LongParser`](crate::LongParser) returns an error instead, and
+/// [`BoundedParser`](crate::BoundedParser) keeps a number of these bytes, as this type does without the feature.
+#[derive(Clone)]
 pub struct Parser<const OSC_RAW_BUF_SIZE: usize = 1024>(LongParser);
 
 impl Parser {

@@ -20,7 +20,6 @@ mod store;
 mod utf8;
 
 pub use params::{Params, ParamsIter};
-#[cfg(not(feature = "std"))]
 pub use parser::Parser;
 pub use scan::{Run, Taken};
 // for C alone

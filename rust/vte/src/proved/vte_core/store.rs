@@ -11,6 +11,7 @@ use crate::proved::vte_core::grain::{Grain, PerformAs};
 const MOST_PIECES: usize = 16;
 
 /// The items of a command, as far as they are kept.
+#[derive(Clone)]
 pub(crate) struct Store<B: Buffer> {
     // the data bytes, without the `;` between the pieces
     bytes: B,

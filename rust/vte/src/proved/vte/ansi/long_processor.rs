@@ -27,6 +27,7 @@ use crate::proved::vte_handler::{Handler, HandlerText, Timeout};
 /// # Ok(())
 /// # }
 /// ```
+#[derive(Clone)]
 pub struct LongProcessor<T: Timeout> {
     turns: Turns<LongParser, GrowingText, T>,
 }

@@ -29,6 +29,7 @@ use crate::proved::vte_core::scan::{take_run, Run};
 ///
 /// The limit of 16 pieces stays. What stands after the sixteenth `;` needs no memory. The memory of
 /// one command serves the next.
+#[derive(Clone)]
 pub struct LongParser {
     machine: Machine<Vec<u8>>,
 }

@@ -1,4 +1,6 @@
-//! Writes the operating system commands of standard input, a line for each: `printf '\033]0;title\a' | cargo run --example refused`
+//! Writes the operating system commands of standard input, a line for each.
+//!
+//! `printf '\033]0;title\a' | cargo run --example refused`
 
 use std::io::{self, Read, Write};
 

@@ -14,6 +14,8 @@ pub(crate) mod keyboard;
 mod long;
 #[cfg(feature = "std")]
 pub(crate) mod memory;
+#[cfg(feature = "__own")]
+pub(crate) mod own;
 #[cfg(feature = "std")]
 pub(crate) mod parser;
 #[cfg(feature = "ansi")]

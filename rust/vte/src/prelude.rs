@@ -62,10 +62,6 @@ mod memory {
             Ok(Vec(made))
         }
 
-        pub(crate) fn capacity(&self) -> usize {
-            self.0.capacity()
-        }
-
         pub(crate) fn reserve(&mut self, more: usize) -> Result<(), AllocError> {
             self.0.try_reserve(more).map_err(|_| AllocError)
         }

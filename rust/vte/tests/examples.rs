@@ -138,7 +138,8 @@ fn examples_write_what_they_say() {
     }
 }
 
-/// Each program that docs/RUST.md shows is one of these, or a part of one that compiles by itself. A package hasn't the page.
+/// Each program that docs/RUST.md shows is one of these, or a part of one that compiles by itself.
+/// A package hasn't the page.
 #[test]
 fn the_page_shows_examples() {
     let folder = Path::new(env!("CARGO_MANIFEST_DIR"));
@@ -150,6 +151,23 @@ fn the_page_shows_examples() {
     for shown in page.split("```rust\n").skip(1) {
         let shown = shown.split("```").next().unwrap();
         assert!(examples.iter().any(|it| it.contains(shown)), "{shown}");
+    }
+}
+
+/// Each item that docs/RUST.md lists as new stands in the file that it names for it.
+#[test]
+fn the_page_names_uses_of_new_items() {
+    let folder = Path::new(env!("CARGO_MANIFEST_DIR"));
+    let page = fs::read_to_string(folder.join("../../docs/RUST.md")).unwrap_or_default();
+    let list = page.split("surface -->\n\n").nth(1).unwrap_or_default();
+    let list = list.split("\n\n").next().unwrap();
+    for row in list.split("- ").skip(1) {
+        let mut spans: Vec<_> = row.split('`').skip(1).step_by(2).collect();
+        let file = fs::read_to_string(folder.join(spans.pop().unwrap())).unwrap();
+        for item in spans.iter().filter(|it| !it.contains(": ")) {
+            let name = item.rsplit("::").next().unwrap();
+            assert!(file.contains(name), "{item}");
+        }
     }
 }
 

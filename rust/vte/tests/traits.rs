@@ -22,13 +22,36 @@ fn parsers_can_be_sent_and_shared() {
 #[test]
 fn processors_and_what_they_pass_can_be_sent_and_shared() {
     use support::Pending;
-    use vte::ansi::lent::{ByCall, HandlerCall, Hyperlink, LongProcessor};
+    use vte::ansi::lent::{Hyperlink, LongProcessor};
     use vte::ansi::{self, Processor};
-    is_shared::<(Processor<Pending>, LongProcessor<Pending>, ByCall<()>)>();
-    is_shared::<(HandlerCall<'_>, Hyperlink<'_>, ansi::Hyperlink)>();
+    is_shared::<(Processor<Pending>, LongProcessor<Pending>)>();
+    is_shared::<(Hyperlink<'_>, ansi::Hyperlink)>();
     is_shared::<(ansi::Attr, ansi::Mode, ansi::PrivateMode, ansi::CursorStyle)>();
     #[cfg(feature = "std")]
     is_shared::<(Processor, ansi::StdSyncHandler)>();
+}
+
+/// Compiles if values of the type can be copied and shown.
+fn is_kept<T: Clone + std::fmt::Debug>() {}
+
+#[test]
+fn what_a_program_keeps_can_be_copied_and_shown() {
+    fn ends<T: std::iter::FusedIterator>() {}
+    is_kept::<Params>();
+    is_kept::<ParamsIter<'_>>();
+    ends::<ParamsIter<'_>>();
+    is_kept::<Parser>();
+    #[cfg(feature = "ansi")]
+    {
+        use vte::ansi::{self, lent};
+        is_kept::<ansi::Attr>();
+        is_kept::<ansi::Hyperlink>();
+        is_kept::<lent::Hyperlink<'_>>();
+        is_kept::<ansi::Processor<support::Pending>>();
+        is_kept::<lent::LongProcessor<support::Pending>>();
+        #[cfg(feature = "std")]
+        is_kept::<ansi::StdSyncHandler>();
+    }
 }
 
 /// A name and what callers can query, but not the bytes that are kept.

@@ -23,7 +23,7 @@ pub use params::{Params, ParamsIter};
 pub use parser::Parser;
 pub use scan::{Run, Taken};
 // for C alone
-#[cfg(all(feature = "saved", not(feature = "std")))]
+#[cfg(feature = "__own")]
 pub use parser::Saved;
 // takes memory
 #[cfg(any(feature = "std", feature = "ansi"))]

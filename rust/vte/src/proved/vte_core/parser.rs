@@ -12,7 +12,7 @@ mod ignored_string;
 mod long;
 mod machine;
 mod refused;
-#[cfg(all(feature = "saved", not(feature = "std")))]
+#[cfg(feature = "__own")]
 mod saved;
 mod system_command;
 mod text;
@@ -27,7 +27,7 @@ use crate::proved::vte_core::utf8::Unfinished;
 pub use long::LongParser;
 use machine::Machine;
 pub use refused::Refused;
-#[cfg(all(feature = "saved", not(feature = "std")))]
+#[cfg(feature = "__own")]
 pub use saved::Saved;
 
 /// How many data bytes of an operating system command are kept, unless a parser is given another
@@ -137,8 +137,8 @@ impl<const OSC_RAW_BUF_SIZE: usize> Parser<OSC_RAW_BUF_SIZE> {
     /// Reads bytes as [`advance_until_terminated`](Self::advance_until_terminated) does, and passes
     /// characters to print in [runs](crate::PerformText). Only for performers that nothing in a run
     /// terminates: they aren't asked there.
-    #[must_use = "the bytes after the stop are still to be read"]
-    pub fn advance_text_until_terminated<P: PerformText>(
+    #[cfg(any(feature = "__own", all(feature = "ansi", not(feature = "std"))))]
+    pub(crate) fn advance_text_until_terminated<P: PerformText>(
         &mut self,
         performer: &mut P,
         bytes: &[u8],

@@ -128,6 +128,7 @@ impl Saved {
 
 impl Parser<MAX_OSC_RAW> {
     /// Saves the parser as plain data, but not whether a command that has ended lost data.
+    #[doc(hidden)]
     pub fn save(&self, saved: &mut Saved) {
         let machine = &self.machine;
         // Numbers and commands of earlier sequences don't count.
@@ -155,6 +156,7 @@ impl Parser<MAX_OSC_RAW> {
     }
 
     /// Returns the parser that was saved.
+    #[doc(hidden)]
     pub fn restored(saved: &Saved) -> Self {
         let mut parser = Parser::new();
         let machine = &mut parser.machine;

@@ -75,6 +75,18 @@ macro_rules! handlers {
                     fn $method(&mut self $(, $argument: $crate::adapter::handlers::last!($type $($owned)?))*) {}
                 )*
             }
+
+            impl<H: Handler + ?Sized> Handler for &mut H {
+                $(
+                    #[inline]
+                    fn $method(
+                        &mut self
+                        $(, $argument: $crate::adapter::handlers::last!($type $($owned)?))*
+                    ) {
+                        (**self).$method($($argument),*);
+                    }
+                )*
+            }
         }
     };
 }

@@ -8,8 +8,8 @@ pub trait Own {
     /// What a call returns that reads bytes.
     type Read;
 
-    /// Reads bytes as `advance_until_terminated` does, and passes text in runs. Only for performers that nothing in a run
-    /// terminates: they aren't asked there.
+    /// Reads bytes as `advance_until_terminated` does, and passes text in runs. Only for performers
+    /// that nothing in a run terminates: they aren't asked there.
     fn advance_text_until_terminated<P: PerformText>(
         &mut self,
         performer: &mut P,

@@ -8,7 +8,9 @@ use crate::block::{blocks, cuttings, Block};
 use crate::call_lines::CallLines;
 #[cfg(feature = "__own")]
 use crate::reader::CallsInRuns;
-use crate::reader::{LentTexts, LentTextsInRuns, OwnedTexts, OwnedTextsInRuns, Reader};
+use crate::reader::{
+    ByReference, LentTexts, LentTextsInRuns, OwnedTexts, OwnedTextsInRuns, Reader,
+};
 
 const ROWS: &str = include_str!("../../../../crates/call_rows/stdin");
 const LONGEST_PIECE: usize = 32;
@@ -80,6 +82,11 @@ fn check_rows<R: Reader>() {
 #[test]
 fn owned_texts() {
     check_rows::<OwnedTexts>();
+}
+
+#[test]
+fn calls_by_reference() {
+    check_rows::<ByReference>();
 }
 
 #[test]

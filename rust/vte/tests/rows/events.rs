@@ -3,7 +3,7 @@
 //! In an `until`, `stop` says when the performer is terminated, `before` has bytes that were read before, and `answer` is what
 //! `advance_until_terminated` returns.
 
-use vte::{BoundedParser, Parser};
+use vte::{BoundedParser, Parser, PerformText};
 
 use crate::block::{blocks, cuttings, Block};
 use crate::event_lines::{EventLines, Stop};
@@ -31,6 +31,21 @@ fn events_of(pieces: &[&[u8]]) -> String {
 fn events_in_runs_of(pieces: &[&[u8]]) -> String {
     let mut parser = Parser::new();
     let read = |lines: &mut EventLines, piece: &[u8]| parser.advance_text(lines, piece);
+    events_by(read, pieces)
+}
+
+/// The same by a performer of which the parser knows only the trait, in each of two ways.
+fn events_by_reference_of<const IN_RUNS: bool>(pieces: &[&[u8]]) -> String {
+    let mut parser = Parser::new();
+    let read = |lines: &mut EventLines, piece: &[u8]| {
+        let mut lines: &mut dyn PerformText = lines;
+        if IN_RUNS {
+            parser.advance_text(&mut lines, piece);
+        } else {
+            let read = parser.advance_until_terminated(&mut lines, piece);
+            assert_eq!(read, piece.len());
+        }
+    };
     events_by(read, pieces)
 }
 
@@ -136,6 +151,7 @@ fn streams_give_their_events() {
     for row in streams_for_all() {
         check_stream(&row, events_of);
         check_stream(&row, unterminated_events_of);
+        check_stream(&row, events_by_reference_of::<false>);
         #[cfg(any(feature = "std", feature = "ansi"))]
         check_stream(&row, long_events_of);
     }
@@ -145,6 +161,7 @@ fn streams_give_their_events() {
 fn streams_give_their_events_in_runs() {
     for row in streams_for_all() {
         check_stream(&row, events_in_runs_of);
+        check_stream(&row, events_by_reference_of::<true>);
         check_stream(&row, events_in_lines_of);
         check_stream(&row, events_in_turn_of);
         #[cfg(any(feature = "std", feature = "ansi"))]

@@ -6,7 +6,7 @@ use std::time::Duration;
 
 #[cfg(feature = "__own")]
 use vte::ansi::lent::ByCall;
-use vte::ansi::{Processor, Timeout};
+use vte::ansi::{Handler, Processor, Timeout};
 
 #[cfg(feature = "__own")]
 use crate::by_call::Values;
@@ -60,6 +60,7 @@ macro_rules! readers {
 
 readers! {
     OwnedTexts: advance, stop_sync, lines => lines;
+    ByReference: advance, stop_sync, lines => &mut (lines as &mut dyn Handler);
     OwnedTextsInRuns: advance_text, stop_sync_text, lines => lines;
     LentTexts: advance, stop_sync, lines => &mut Lent(lines);
     LentTextsInRuns: advance_text, stop_sync_text, lines => &mut Lent(lines);

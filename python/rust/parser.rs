@@ -6,7 +6,7 @@ use pyo3::exceptions::{PyMemoryError, PyTypeError, PyValueError};
 use pyo3::prelude::*;
 use pyo3::types::{PyBytes, PyList, PyString, PyTuple};
 use std::mem::{align_of, size_of};
-use vte::{LongParser, Refused, Saved};
+use vte::{LongParser, Own as _, Refused, Saved};
 
 /// How many data bytes of a command a parser with a limit keeps.
 const LIMIT: usize = 1024;

@@ -9,10 +9,11 @@ from erasing.passes import INLINE
 from erasing.rules import ALLOCATORS, COUNTS, PARAMETERS
 
 WITH_MEMORY = 'any(feature = "std", feature = "ansi")'
-# With `std` parsers and processors have no limit: what has one is there without it.
+# With `std` processors have no limit: what has one is there without it.
 WITH_LIMIT = 'not(feature = "std")'
-# A parser as plain data, for the C library. It has a limit.
-SAVED = 'all(feature = "saved", not(feature = "std"))'
+# What only other crates of this repository need, as a parser that is plain data.
+OWN = 'feature = "__own"'
+OWN_OR_ANSI = f'any({OWN}, feature = "ansi")'
 
 
 @dataclass(frozen=True)
@@ -74,6 +75,14 @@ debug_assert!(may_begin_four(first, second));
 debug_assert!(is_continuation(third) && is_continuation(fourth));
 """
 
+def private(*names):
+    """Rules by which functions are the crate's own."""
+    return [(f"pub fn {name}", f"pub(crate) fn {name}") for name in names]
+
+
+# The Rust crate's parsers and processors can be copied, with as much memory.
+CLONE = "#[derive(Clone)]"
+
 # What the parser's text says of the count of looks (COUNTS), by file.
 WITHOUT_COUNTS = {
     "vte_core/looks": [
@@ -112,15 +121,12 @@ VTE = Plan(
     },
     conditions={name: 'feature = "ansi"' for name in ("vte_types", "vte_handler", "vte")},
     under={
-        "vte_core": {WITH_MEMORY: {"LongParser", "Vec", "long"}, WITH_LIMIT: {"Parser"}},
-        "vte_core/lib": {WITH_MEMORY: {"LongParser", "Refused", "long"}, SAVED: {"Saved"}},
-        "vte_core/parser/to_run": {WITH_LIMIT: {"Parser", "Perform", "Run", "take_run"}},
+        "vte_core": {WITH_MEMORY: {"LongParser", "Vec", "long"}},
+        "vte_core/lib": {WITH_MEMORY: {"LongParser", "Refused", "long"}, OWN: {"Saved"}},
         # the module has the condition
         "vte_core/parser/long": None,
-        "vte_core/buffer": {WITH_LIMIT: {"ArrayVec"}},
-        "vte_core/parser": {WITH_LIMIT: {"ArrayVec", "Grain", "InRuns", "MAX_OSC_RAW", "Parser", "Perform", "PerformAs",
-                                         "PerformText", "Singly"},
-                            SAVED: {"Saved", "saved"}},
+        "vte_core/parser": {OWN: {"Saved", "saved"}},
+        "vte_handler/lib": {OWN: {"by_call"}},
         "vte/ansi": {WITH_LIMIT: {"Processor", "processor"}},
         "vte/ansi/parsing": {WITH_LIMIT: {"ArrayString", "HandlerText", "Parser", "ProcessorParser", "ProcessorText", "TEXT_ROOM"}},
         "vte/ansi/titles": {WITH_LIMIT: {"TEXT_ROOM"}},
@@ -145,6 +151,9 @@ VTE = Plan(
         # derived, so that constants can be patterns
         "vte_types/color": (
             "impl PartialEq for NamedColor", "impl Eq for NamedColor", "impl Ord for NamedColor", "impl PartialOrd for NamedColor"),
+        # nobody asks
+        "vte_core/parser/long": ("fn memory",),
+        "vte_core/store": ("fn capacity",),
         # src/lib.rs says what the crate shows
         "vte/lib": ("use vte_core",),
         "vte/ansi": ("use vte_handler", "use vte_types"),
@@ -164,7 +173,13 @@ VTE = Plan(
         **WITHOUT_COUNTS,
         "": ALLOCATORS,
         "vte_core": COUNTS + PARAMETERS,
-        "vte_core/parser": [("struct Parser<const OSC_RAW_BUF_SIZE: usize>", "struct Parser<const OSC_RAW_BUF_SIZE: usize = MAX_OSC_RAW>")],
+        "vte_core/parser": [
+            ("struct Parser<const OSC_RAW_BUF_SIZE: usize>",
+             "struct Parser<const OSC_RAW_BUF_SIZE: usize = MAX_OSC_RAW>"),
+            *private("advance_text_until_terminated"),
+        ],
+        "vte_core/parser/long": private("advance_text_until_terminated", "stored"),
+        "vte_types/mode": private("new"),
         "vte_core/perform": [
             ("fn keeps_layout(&self) -> bool;", "fn keeps_layout(&self) -> bool { false }")],
         # a performer takes the parts of what is held of a sequence
@@ -190,19 +205,31 @@ VTE = Plan(
     },
     has_idioms=True,
     lines={
-        "vte_core/parser": {'#[must_use = "the bytes after the stop are still to be read"]': [
-            "pub fn advance_until_terminated", "pub fn advance_text_until_terminated"]},
+        "vte_core/head": {CLONE: ["pub(crate) struct Collected"]},
+        "vte_core/parser/machine": {CLONE: ["pub(crate) struct Machine"]},
+        "vte_core/parser": {
+            CLONE: ["pub struct Parser"],
+            '#[must_use = "the bytes after the stop are still to be read"]': [
+                "pub fn advance_until_terminated"],
+            f'#[cfg(any({OWN}, all(feature = "ansi", {WITH_LIMIT})))]': [
+                "pub(crate) fn advance_text_until_terminated"],
+        },
         "vte_core/parser/to_run": {'#[must_use = "the bytes after the run are still to be read"]': ["pub fn advance_to_run"]},
         "vte_core/params": {
             '#[doc = include_str!("../../docs/params.md")]': ["pub struct Params {"],
-            "#[derive(Clone)]": ["pub struct Params"], "#[derive(Clone, Debug)]": ["pub struct ParamsIter"],
+            CLONE: ["pub struct Params"], "#[derive(Clone, Debug)]": ["pub struct ParamsIter"],
             INLINE: ["pub(crate) fn is_full", "fn take_joined", "pub fn iter", "fn into_iter", "fn next"],
-            f"#[cfg({SAVED})]": ["pub(crate) fn parts", "pub(crate) fn from_parts", "fn are_lengths"],
+            f"#[cfg({OWN})]": ["pub(crate) fn parts", "pub(crate) fn from_parts", "fn are_lengths"],
         },
-        "vte_core/store": {f"#[cfg({SAVED})]": ["impl<const N: usize> Store<ArrayVec<u8, N>>", "fn are_piece_ends"]},
+        "vte_core/store": {
+            CLONE: ["pub(crate) struct Store"],
+            f"#[cfg({OWN})]": ["impl<const N: usize> Store<ArrayVec<u8, N>>", "fn are_piece_ends"],
+            f"#[cfg({OWN_OR_ANSI})]": ["pub(crate) fn len"],
+        },
         "vte_core/parser/saved": {
             "#[allow(clippy::new_without_default)]": ["pub fn new"],
             "#[derive(Debug)]": ["pub struct Saved"],
+            "#[doc(hidden)]": ["pub fn save", "pub fn restored"],
         },
         "vte_core/perform": {'#[doc = include_str!("../../docs/perform.md")]': ["pub trait Perform {"],
                              '#[doc = include_str!("../../docs/perform_text.md")]': ["pub trait PerformText: Perform {"]},
@@ -213,9 +240,17 @@ VTE = Plan(
         "vte_core/parser/text": {INLINE: ["pub(crate) fn read_text"], "#[inline(never)]": ["fn search_text"]},
         # as a part of a program's own function, its loops would keep their places on the stack
         "vte_core/parser/drive": {"#[inline(never)]": ["pub(crate) fn drive<"]},
-        "vte_core/parser/long": {'#[must_use = "the memory may be refused"]': ["pub fn reserve"]},
+        "vte_core/parser/long": {
+            CLONE: ["pub struct LongParser"],
+            '#[must_use = "the memory may be refused"]': ["pub fn reserve"],
+            f"#[cfg({OWN_OR_ANSI})]": [
+                "pub(crate) fn advance_text_until_terminated", "pub(crate) fn stored"],
+        },
         # what a processor does per event, between those loops and the handler
-        "vte/ansi/performer": {INLINE: ["fn print", "fn execute", "fn csi_dispatch", "fn terminated", "fn print_text"]},
+        "vte/ansi/performer": {
+            CLONE: ["pub(crate) struct ProcessorState"],
+            INLINE: ["fn print", "fn execute", "fn csi_dispatch", "fn terminated", "fn print_text"],
+        },
         "vte/ansi/control_calls": {
             INLINE: ["pub(crate) fn perform_control", "fn perform_plain"],
             # a guard would read the numbers
@@ -225,11 +260,18 @@ VTE = Plan(
         "vte/ansi/numbers": {INLINE: ["fn next_or", "pub(crate) fn first_number"]},
         # what a processor does per call, which matters if a call has few bytes
         "vte/ansi/turns": {
+            CLONE: ["pub(crate) struct Turns"],
             INLINE: ["pub(crate) fn read<", "fn turn<", "fn hold_bytes"],
             # stops are rare: kept out of a turn, they leave its loop over bytes as it is
             "#[inline(never)]": ["pub(crate) fn stop<"],
         },
-        "vte/ansi/long_processor": {'#[must_use = "the memory may be refused"]': ["pub fn reserve"]},
+        "vte/ansi/growing_text": {CLONE: ["pub(crate) struct GrowingText"]},
+        "vte/ansi/hold": {CLONE: ["pub(crate) struct SyncState"]},
+        "vte/ansi/processor": {CLONE: ["pub struct Processor"]},
+        "vte/ansi/long_processor": {
+            CLONE: ["pub struct LongProcessor"],
+            '#[must_use = "the memory may be refused"]': ["pub fn reserve"],
+        },
         # three numbers for one jump by a table: a range is compared first
         "vte/ansi/escape_calls": {"#[allow(clippy::manual_range_patterns)]": ["pub(crate) fn perform_execute"]},
         "vte_types/lib": {"#[allow(non_snake_case)]": ["pub mod C0"]},
@@ -238,11 +280,10 @@ VTE = Plan(
         "vte_types/mode": {"#[repr(u16)]": ["pub enum NamedMode"]},
         "vte_types/color": {"#[derive(PartialEq, Eq, PartialOrd, Ord)]": ["pub enum NamedColor"], "#[derive(Clone, Copy)]": ["pub enum Attr"],
                             "#[must_use]": ["pub fn to_bright", "pub fn to_dim"]},
-        "vte_types/screen": {"#[derive(Clone, Copy, PartialEq, Eq)]": [
-            "pub enum LineClearMode", "pub enum ClearMode", "pub enum TabulationClearMode"]},
         "vte_handler/hyperlink": {"#[derive(Clone, Copy)]": ["pub struct Hyperlink"]},
-        "vte_handler/by_call": {"#[derive(Clone, Copy, Debug, PartialEq)]": ["pub enum HandlerCall"],
-                                "#[derive(Clone, Copy, Debug)]": ["pub struct ByCall"]},
+        "vte_handler/by_call": {"#[derive(Debug)]": ["pub enum HandlerCall", "pub struct ByCall"]},
+        "vte_handler/handler": {
+            '#[doc = include_str!("../../docs/handler_text.md")]': ["pub trait HandlerText"]},
         "vte_handler/timeout": {'#[doc = include_str!("../../docs/timeout.md")]': ["pub trait Timeout"]},
     },
     comments=wording.VTE,
@@ -269,13 +310,8 @@ VTE = Plan(
             "Ok(())", "}"),
         "vte_types/color": ("use vte::ansi::Rgb;",),
         "vte_types/charset": ("use vte::ansi::StandardCharset;",),
-        "vte_types/mode": ("use vte::ansi::{Mode, NamedMode};",),
-        "vte_handler/by_call": (
-            "use std::time::Duration;", "use vte::ansi::{Processor, Timeout, lent::{ByCall, HandlerCall, TakeCall}};",
-            "#[derive(Default)]", "struct Never;", "impl Timeout for Never {", "    fn set_timeout(&mut self, _: Duration) {}",
-            "    fn clear_timeout(&mut self) {}", "    fn pending_timeout(&self) -> bool { false }", "}",
-            "struct Page;", "impl Page { fn show(&mut self, _: char) {} fn next_line(&mut self) {} }",
-            "let mut processor = Processor::<Never>::new();", "let page = Page;"),
+        # what they call is the crate's own
+        "vte_types/mode": None, "vte_handler/by_call": None,
     },
     inlined={
         "vte_core/buffer": "impl Buffer for Vec",
@@ -289,7 +325,8 @@ VTE = Plan(
     handler=("vte_handler/handler", (
         ("title: Option<&str>", "title: Option<&str> as Option<String> = title.map(Into::into)"),
         ("prefix: &str", "prefix: &str as String = prefix.into()"),
-        ("link: Option<Hyperlink<'_>>", "link: Option<Hyperlink<'_>> as Option<Hyperlink> = link.map(Into::into)"),
+        ("link: Option<Hyperlink<'_>>",
+         "link: Option<Hyperlink<'_>> as Option<Hyperlink> = link.map(|link| link.owned())"),
     )),
     renamed={"vte_core/looks": "vte_core/scan", "vte_core/looks/grain": "vte_core/grain",
              "vte_core/looks/taken": "vte_core/scan/taken"},

@@ -5,8 +5,13 @@
 use std::io::{self, Read, Write};
 use std::time::Duration;
 
-use vte::ansi::lent::{ByCall, HandlerCall, TakeCall};
-use vte::ansi::{Processor, Timeout};
+use vte::ansi::cursor_icon::CursorIcon;
+use vte::ansi::lent::{Handler, Hyperlink};
+use vte::ansi::{
+    Attr, CharsetIndex, ClearMode, CursorShape, CursorStyle, KeyboardModes,
+    KeyboardModesApplyBehavior, LineClearMode, Mode, ModifyOtherKeys, PrivateMode, Processor, Rgb,
+    ScpCharPath, ScpUpdateMode, StandardCharset, TabulationClearMode, Timeout,
+};
 use vte::{Params, Parser, Perform};
 
 /// Stops the parser after each event, and describes the sequences.
@@ -63,10 +68,39 @@ impl Perform for Seen {
 #[derive(Default)]
 struct Called(bool);
 
-impl TakeCall for Called {
-    fn take(&mut self, _: HandlerCall<'_>) {
-        self.0 = true;
-    }
+macro_rules! calls {
+    ($($call:ident($($argument:ty),*))*) => {
+        impl Handler for Called {
+            $(fn $call(&mut self $(, _: $argument)*) {
+                self.0 = true;
+            })*
+        }
+    };
+}
+
+calls! {
+    input(char) bell() backspace() put_tab(u16) linefeed() carriage_return() newline()
+    substitute() goto(i32, usize) goto_line(i32) goto_col(usize) move_up(usize) move_down(usize)
+    move_forward(usize) move_backward(usize) move_down_and_cr(usize) move_up_and_cr(usize)
+    save_cursor_position() restore_cursor_position() reverse_index() scroll_up(usize)
+    scroll_down(usize) set_scrolling_region(usize, Option<usize>) set_horizontal_tabstop()
+    clear_tabs(TabulationClearMode) set_tabs(u16) move_forward_tabs(u16) move_backward_tabs(u16)
+    insert_blank(usize) insert_blank_lines(usize) delete_chars(usize) delete_lines(usize)
+    erase_chars(usize) clear_line(LineClearMode) clear_screen(ClearMode) decaln()
+    terminal_attribute(Attr) set_color(usize, Rgb) reset_color(usize)
+    dynamic_color_sequence(&str, usize, &str) set_hyperlink(Option<Hyperlink<'_>>)
+    set_cursor_style(Option<CursorStyle>) set_cursor_shape(CursorShape)
+    set_mouse_cursor_icon(CursorIcon) set_active_charset(CharsetIndex)
+    configure_charset(CharsetIndex, StandardCharset) set_scp(ScpCharPath, ScpUpdateMode)
+    set_mode(Mode) unset_mode(Mode) report_mode(Mode) set_private_mode(PrivateMode)
+    unset_private_mode(PrivateMode) report_private_mode(PrivateMode) reset_state()
+    set_keypad_application_mode() unset_keypad_application_mode()
+    push_keyboard_mode(KeyboardModes) pop_keyboard_modes(u16)
+    set_keyboard_mode(KeyboardModes, KeyboardModesApplyBehavior) report_keyboard_mode()
+    set_modify_other_keys(ModifyOtherKeys) report_modify_other_keys() set_title(Option<&str>)
+    push_title() pop_title() clipboard_store(u8, &[u8]) clipboard_load(u8, &str)
+    device_status(usize) identify_terminal(Option<char>) text_area_size_pixels()
+    text_area_size_chars()
 }
 
 /// A timeout that is never pending, so that no bytes are held back.
@@ -87,7 +121,7 @@ impl Timeout for Never {
 pub fn write_unknown(mut input: impl Read, mut output: impl Write) -> io::Result<()> {
     let mut parser = Parser::new();
     let mut processor = Processor::<Never>::new();
-    let mut handler = ByCall(Called::default());
+    let mut called = Called::default();
     let mut room = [0; 4096];
     loop {
         let count = input.read(&mut room)?;
@@ -98,9 +132,9 @@ pub fn write_unknown(mut input: impl Read, mut output: impl Write) -> io::Result
         while !bytes.is_empty() {
             let mut seen = Seen::default();
             let read = parser.advance_until_terminated(&mut seen, bytes);
-            handler.0 .0 = false;
-            processor.advance(&mut handler, &bytes[..read]);
-            if let (Some(sequence), false) = (seen.sequence, handler.0 .0) {
+            called.0 = false;
+            processor.advance(&mut called, &bytes[..read]);
+            if let (Some(sequence), false) = (seen.sequence, called.0) {
                 writeln!(output, "{sequence}")?;
             }
             bytes = &bytes[read..];

@@ -14,10 +14,13 @@ pub(crate) mod keyboard;
 mod long;
 #[cfg(feature = "std")]
 pub(crate) mod memory;
+#[cfg(feature = "__own")]
+pub(crate) mod own;
 #[cfg(feature = "std")]
 pub(crate) mod parser;
 #[cfg(feature = "ansi")]
 pub(crate) mod processor;
+mod references;
 #[cfg(all(feature = "ansi", feature = "std"))]
 mod rgb;
 #[cfg(all(feature = "ansi", feature = "std"))]

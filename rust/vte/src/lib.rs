@@ -31,8 +31,9 @@
 //!
 //! # Features
 //!
-//! - `std` (default): operating system commands, titles and links are kept whatever their length, and the parameter of
-//!   [`Parser`] has no effect. A parser without it keeps as many data bytes of a command as its parameter says.
+//! - `std` (default): operating system commands, titles and links are kept whatever their length,
+//!   and the parameter of [`Parser`] has no effect. Without it, [`Parser`] is [`BoundedParser`],
+//!   which keeps as many data bytes of a command as its parameter says.
 //! - `ansi`: the processor.
 //! - `serde`: colours can be serialized.
 //!
@@ -40,11 +41,13 @@
 //!
 //! # Memory
 //!
-//! A parser has some 300 bytes and, with `std`, memory for the longest command that it has read; without `std`, as many bytes
-//! more as its parameter says. A processor also takes 2 MiB for updates when it is created. With `std`, before it parses the next
-//! 64 KiB of a call or holds bytes back, it takes twice the memory of these bytes and an open command. It keeps that, as a parser keeps
-//! its own, until `shrink`. The program ends if memory runs out, as for any `Vec`; `LongParser` and `ansi::lent::LongProcessor` return
-//! an error instead.
+//! A parser has some 300 bytes and memory for the longest command that it has read; a
+//! [`BoundedParser`], as many bytes more as its parameter says, and no other memory. A processor
+//! also takes 2 MiB for updates when it is created. With `std`, before it parses the next 64 KiB of
+//! a call or holds bytes back, it takes twice the memory of these bytes and an open command. It
+//! keeps that, as a parser keeps its own, until `shrink`. The program ends if memory runs out, as
+//! for any `Vec`; `LongParser` and `ansi::lent::LongProcessor` return an error instead. A copy of a
+//! parser or processor has read the same, and takes as much memory.
 //!
 //! # Performers that panic
 //!
@@ -77,23 +80,23 @@ mod proved;
 pub use adapter::parser::Parser;
 #[cfg(not(feature = "std"))]
 pub use proved::vte_core::Parser;
-#[cfg(all(feature = "saved", not(feature = "std")))]
-#[doc(hidden)]
-pub use proved::vte_core::Saved;
+pub use proved::vte_core::Parser as BoundedParser;
 #[cfg(any(feature = "std", feature = "ansi"))]
 pub use proved::vte_core::{LongParser, Refused};
 pub use proved::vte_core::{Params, ParamsIter, Perform, PerformText, Run, Taken};
+#[cfg(feature = "__own")]
+#[doc(hidden)]
+pub use {adapter::own::Own, proved::vte_core::Saved};
 
 /// A processor that calls a handler for what the events of a stream ask of a terminal.
 #[cfg(feature = "ansi")]
 pub mod ansi {
-    pub use crate::adapter::handlers::HandlerText;
     pub use crate::adapter::hyperlink::Hyperlink;
     pub use crate::adapter::processor::Processor;
     #[cfg(feature = "std")]
     pub use crate::adapter::std_sync_handler::StdSyncHandler;
     pub use crate::proved::vte_handler::owned::Handler;
-    pub use crate::proved::vte_handler::Timeout;
+    pub use crate::proved::vte_handler::{HandlerText, Timeout};
     pub use crate::proved::vte_types::{
         Attr, CharsetIndex, ClearMode, Color, CursorShape, CursorStyle, KeyboardModes,
         KeyboardModesApplyBehavior, LineClearMode, Mode, ModifyOtherKeys, NamedColor, NamedMode,
@@ -104,13 +107,11 @@ pub mod ansi {
     pub use cursor_icon;
 
     /// Handlers that take texts without owning them, so that they aren't copied, and a processor that returns errors.
-    ///
-    /// [`ByCall`](lent::ByCall) makes a [`lent::Handler`] of one function that matches on a [`HandlerCall`](lent::HandlerCall).
     pub mod lent {
-        pub use crate::adapter::processor::Processor;
         pub use crate::proved::vte::ansi::LongProcessor;
-        pub use crate::proved::vte_handler::{
-            ByCall, Handler, HandlerCall, HandlerText, Hyperlink, TakeCall, TakeText,
-        };
+        #[cfg(feature = "__own")]
+        #[doc(hidden)]
+        pub use crate::proved::vte_handler::{ByCall, HandlerCall, TakeCall, TakeText};
+        pub use crate::proved::vte_handler::{Handler, Hyperlink};
     }
 }

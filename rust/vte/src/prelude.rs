@@ -41,6 +41,15 @@ mod memory {
     /// It has no `Deref`: a method that is missing here must be an error, and not the method of a trait that has its name.
     pub(crate) struct Vec<T>(alloc::vec::Vec<T>);
 
+    /// A copy has as much memory, and the program ends if there is none.
+    impl<T: Copy> Clone for Vec<T> {
+        fn clone(&self) -> Self {
+            let mut copy = alloc::vec::Vec::with_capacity(self.0.capacity());
+            copy.extend_from_slice(&self.0);
+            Vec(copy)
+        }
+    }
+
     #[cfg_attr(not(feature = "ansi"), allow(dead_code))]
     impl<T: Copy> Vec<T> {
         pub(crate) fn new() -> Self {
@@ -51,10 +60,6 @@ mod memory {
             let mut made = alloc::vec::Vec::new();
             made.try_reserve_exact(count).map_err(|_| AllocError)?;
             Ok(Vec(made))
-        }
-
-        pub(crate) fn capacity(&self) -> usize {
-            self.0.capacity()
         }
 
         pub(crate) fn reserve(&mut self, more: usize) -> Result<(), AllocError> {
@@ -95,6 +100,15 @@ mod memory {
     /// A text whose methods return an error if memory is refused.
     #[cfg(feature = "ansi")]
     pub(crate) struct String(alloc::string::String);
+
+    #[cfg(feature = "ansi")]
+    impl Clone for String {
+        fn clone(&self) -> Self {
+            let mut copy = alloc::string::String::with_capacity(self.0.capacity());
+            copy.push_str(&self.0);
+            String(copy)
+        }
+    }
 
     #[cfg(feature = "ansi")]
     impl String {

@@ -285,29 +285,6 @@ fn names_can_be_patterns_and_have_numbers() {
     );
 }
 
-#[test]
-fn lent_texts_reach_a_handler_of_one_function() {
-    use vte::ansi::lent::{ByCall, HandlerCall, TakeCall};
-
-    #[derive(Default)]
-    struct Titles(Vec<String>);
-
-    impl TakeCall for Titles {
-        fn take(&mut self, call: HandlerCall<'_>) {
-            match call {
-                HandlerCall::SetTitle(Some(title)) => self.0.push(title.to_owned()),
-                HandlerCall::Input(c) => self.0.push(c.to_string()),
-                _ => {}
-            }
-        }
-    }
-
-    let mut processor = Processor::<Pending>::new();
-    let mut titles = ByCall(Titles::default());
-    processor.advance(&mut titles, b"a\x1b]0;one\x07\x1b]2;two\x07");
-    assert_eq!(titles.0 .0, ["a", "one", "two"]);
-}
-
 /// A handler of lent texts around anything.
 struct Around<T>(T, String);
 

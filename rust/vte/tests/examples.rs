@@ -8,6 +8,9 @@ mod parallel_strip;
 #[path = "../examples/parselog.rs"]
 mod parselog;
 #[allow(dead_code)]
+#[path = "../examples/refused.rs"]
+mod refused;
+#[allow(dead_code)]
 #[path = "../examples/strip.rs"]
 mod strip;
 #[allow(dead_code)]
@@ -17,7 +20,9 @@ mod unknown;
 #[path = "../examples/updates.rs"]
 mod updates;
 
+use std::fs;
 use std::io::{self, Read, Write};
+use std::path::Path;
 
 /// An example that reads pieces and writes to something.
 type Example = fn(&mut dyn Read, &mut dyn Write) -> io::Result<()>;
@@ -54,7 +59,7 @@ hook [1] [] 'q'
 csi_dispatch [7] [3e] 'i'
 "#;
 
-const EXAMPLES: [(Example, &[u8], &str); 6] = [
+const EXAMPLES: [(Example, &[u8], &str); 7] = [
     (
         |input, output| parselog::write_events(input, output),
         EVENTS,
@@ -64,6 +69,11 @@ const EXAMPLES: [(Example, &[u8], &str); 6] = [
         |input, output| strip::strip(input, output),
         b"a\x1b[1mb\x1b[m\tc\r\n\x07\x08\x1b]0;t\x07\xff\x1bPd\x1b\\e",
         "ab\tc\r\n\u{fffd}e",
+    ),
+    (
+        |input, output| refused::write_commands(input, output),
+        b"a\x1b]0;t\x07b\x1b]52;c;eA==\x1b\\c\x1b]open",
+        "0;t\n52;c;eA==\n",
     ),
     (
         |input, output| updates::write_updates(input, output),
@@ -125,6 +135,39 @@ fn examples_write_what_they_say() {
         example(&mut Singly(stream), &mut singly).unwrap();
         assert_eq!(String::from_utf8(whole).unwrap(), wanted);
         assert_eq!(String::from_utf8(singly).unwrap(), wanted);
+    }
+}
+
+/// Each program that docs/RUST.md shows is one of these, or a part of one that compiles by itself.
+/// A package hasn't the page.
+#[test]
+fn the_page_shows_examples() {
+    let folder = Path::new(env!("CARGO_MANIFEST_DIR"));
+    let page = fs::read_to_string(folder.join("../../docs/RUST.md")).unwrap_or_default();
+    let examples = fs::read_dir(folder.join("examples")).unwrap();
+    let examples: Vec<_> = examples
+        .map(|it| fs::read_to_string(it.unwrap().path()).unwrap())
+        .collect();
+    for shown in page.split("```rust\n").skip(1) {
+        let shown = shown.split("```").next().unwrap();
+        assert!(examples.iter().any(|it| it.contains(shown)), "{shown}");
+    }
+}
+
+/// Each item that docs/RUST.md lists as new stands in the file that it names for it.
+#[test]
+fn the_page_names_uses_of_new_items() {
+    let folder = Path::new(env!("CARGO_MANIFEST_DIR"));
+    let page = fs::read_to_string(folder.join("../../docs/RUST.md")).unwrap_or_default();
+    let list = page.split("surface -->\n\n").nth(1).unwrap_or_default();
+    let list = list.split("\n\n").next().unwrap();
+    for row in list.split("- ").skip(1) {
+        let mut spans: Vec<_> = row.split('`').skip(1).step_by(2).collect();
+        let file = fs::read_to_string(folder.join(spans.pop().unwrap())).unwrap();
+        for item in spans.iter().filter(|it| !it.contains(": ")) {
+            let name = item.rsplit("::").next().unwrap();
+            assert!(file.contains(name), "{item}");
+        }
     }
 }
 

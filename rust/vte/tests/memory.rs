@@ -8,13 +8,19 @@ mod memory;
 #[allow(dead_code, unused_imports)]
 #[path = "../src/prelude.rs"]
 mod prelude;
+#[allow(dead_code)]
+#[path = "../examples/refused.rs"]
+mod refused_command;
 mod support;
 
 use memory::{counted, ends_without, refused};
+use refused_command::CuttingParser;
 use support::Pending;
-use vte::ansi::lent::{Handler, HandlerText, LongProcessor};
-use vte::ansi::{PrivateMode, Processor};
-use vte::{LongParser, Perform, Refused};
+use vte::ansi::lent::{Handler, LongProcessor};
+use vte::ansi::{HandlerText, PrivateMode, Processor};
+#[cfg(feature = "__own")]
+use vte::Own;
+use vte::{BoundedParser, LongParser, Perform, Refused};
 
 const MOST_HELD: usize = 0x20_0000 - 2;
 
@@ -93,6 +99,42 @@ fn a_processor_takes_its_hold_and_memory_for_commands() {
     } else {
         assert_eq!(taken[0], 0);
     }
+}
+
+#[test]
+fn a_bounded_parser_takes_no_memory() {
+    let command = [&b"\x1b]2;"[..], &[b'a'; 3000], b"\x07"].concat();
+    let ((), taken) = counted(|| {
+        let (mut parser, mut size) = (BoundedParser::<1000>::default(), Size::default());
+        parser.advance(&mut size, &command[..500]);
+        parser.clone().advance(&mut size, &command[500..]);
+        assert_eq!(size.0, 1000);
+    });
+    assert_eq!(taken, 0);
+}
+
+#[test]
+fn copies_have_as_much_memory() {
+    let (mut parser, mut size) = (LongParser::new(), Size::default());
+    assert!(parser.reserve(9000));
+    parser.advance(&mut size, b"\x1b]2;").unwrap();
+    let (mut copy, rest) = (parser.clone(), [&[b'a'; 8000][..], b"\x07"].concat());
+    assert_eq!(refused(|| copy.advance(&mut size, &rest)), Ok(()));
+    assert_eq!(size.0, 8001);
+
+    let mut processor = LongProcessor::new(Pending::default()).ok().unwrap();
+    let mut titles = Titles(String::with_capacity(8000), 0);
+    processor.advance(&mut titles, b"\x1b[?2026h").unwrap();
+    processor.advance(&mut titles, b"\x1b]2;a;").unwrap();
+    processor.advance(&mut titles, &rest[5000..]).unwrap();
+    let mut copy = processor.clone();
+    refused(|| copy.stop_sync(&mut titles));
+    assert_eq!(titles.0, format!("a;{}|", "a".repeat(3000)));
+    assert_eq!(processor.sync_bytes_count(), 6 + 3001);
+    let new = LongProcessor::new(Pending::default()).ok().unwrap();
+    ends_without(0x20_0000, "copies_have_as_much_memory", || {
+        drop(new.clone())
+    });
 }
 
 #[test]
@@ -235,13 +277,18 @@ fn a_long_parser_gives_back_what_an_open_command_does_not_need() {
     let stream = [&b"\x1b]2;"[..], &[b'a'; 3000], b"\x07"].concat();
     parser.advance(&mut size, &stream[..2000]).unwrap();
     assert!(parser.reserve(9000));
-    assert_eq!(parser.stored(), 1997);
+    // what a copy takes is what there is
+    assert!(counted(|| drop(parser.clone())).1 >= 1997 + 9000);
     parser.shrink();
-    assert!((1997..3000).contains(&parser.memory()));
+    assert!((1997..3000).contains(&counted(|| drop(parser.clone())).1));
+    #[cfg(feature = "__own")]
+    assert_eq!(Own::stored(&parser), 1997);
     parser.advance(&mut size, &stream[2000..]).unwrap();
-    assert_eq!((size.0, parser.stored()), (3001, 0));
+    assert_eq!(size.0, 3001);
+    #[cfg(feature = "__own")]
+    assert_eq!(Own::stored(&parser), 0);
     parser.shrink();
-    assert_eq!(parser.memory(), 0);
+    assert_eq!(counted(|| drop(parser.clone())).1, 0);
 }
 
 #[cfg(feature = "std")]
@@ -344,7 +391,7 @@ mod without_a_limit {
             }
         });
         assert_eq!(taken, 0);
-        let sized = counted(Parser::<7>::default).1 + counted(Parser::<7>::new_with_size).1;
+        let sized = counted(Parser::<7>::default).1;
         let long = counted(LongParser::default).1 + counted(LongParser::new).1;
         assert_eq!(sized + long, 0);
     }
@@ -373,14 +420,6 @@ mod without_a_limit {
         let test = "without_a_limit::advance_until_terminated_ends_the_program_without_memory";
         ends_without(6, test, || {
             let _ = Parser::new().advance_until_terminated(&mut Pieces::default(), COMMAND);
-        });
-    }
-
-    #[test]
-    fn advance_text_until_terminated_ends_the_program_without_memory() {
-        let test = "without_a_limit::advance_text_until_terminated_ends_the_program_without_memory";
-        ends_without(6, test, || {
-            let _ = Parser::new().advance_text_until_terminated(&mut Pieces::default(), COMMAND);
         });
     }
 
@@ -423,6 +462,36 @@ impl Perform for Pieces {
 }
 
 #[test]
+fn what_a_refused_command_has_left_is_no_text() {
+    let stream = b"a\x1b]52;c;aGVsbG8=\x07b\x1b]0;t\x1b\\c\x1b]2;u\x18d";
+    for at in 0..=stream.len() {
+        let (mut parser, mut seen) = (CuttingParser::default(), Seen::default());
+        seen.text.reserve(10);
+        refused(|| parser.advance(&mut seen, &stream[..at]));
+        parser.advance(&mut seen, &stream[at..]);
+        assert_eq!(seen.text, "abcd", "{at}");
+        assert_eq!(seen.count, 3);
+    }
+}
+
+/// The text, and how many commands there were.
+#[derive(Default)]
+struct Seen {
+    text: String,
+    count: usize,
+}
+
+impl Perform for Seen {
+    fn print(&mut self, c: char) {
+        self.text.push(c);
+    }
+
+    fn osc_dispatch(&mut self, _: &[&[u8]], _: bool) {
+        self.count += 1;
+    }
+}
+
+#[test]
 fn a_long_parser_stops_before_the_byte_that_needs_memory() {
     let (mut parser, mut pieces) = (LongParser::new(), Pieces::default());
     let answer = refused(|| parser.advance(&mut pieces, b"\x1b]2;abc\x07"));
@@ -446,15 +515,16 @@ fn a_long_parser_with_reserved_memory_is_refused_none() {
     let (mut parser, mut size) = (LongParser::new(), Size::default());
     let stream = [&b"\x1b]2;"[..], &[b'a'; 3000], b"\x07"].concat();
     assert!(!refused(|| parser.reserve(stream.len())));
-    assert_eq!(parser.memory(), 0);
     assert!(parser.reserve(stream.len()));
-    assert!(parser.memory() >= stream.len());
     let answer = refused(|| parser.advance(&mut size, &stream));
     assert_eq!((answer, size.0), (Ok(()), 3001));
     // the bytes of an open command count too
     assert_eq!(parser.advance(&mut size, &stream[..2000]), Ok(()));
     assert!(parser.reserve(4000));
-    assert!(parser.memory() >= 1997 + 4000);
+    let more = [b'b'; 4000];
+    assert_eq!(refused(|| parser.advance(&mut size, &more)), Ok(()));
+    assert_eq!(parser.advance(&mut size, b"\x07"), Ok(()));
+    assert_eq!(size.0, 1997 + 4000);
 }
 
 /// Memory grows by factors: if each byte moved what there is, these calls would take 200 MB.

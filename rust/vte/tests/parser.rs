@@ -1,5 +1,5 @@
-//! What the adapter adds to the proved parser: defaults, and operating system commands without a limit.
-use vte::{Params, Parser, Perform, PerformText};
+//! What the adapter adds to the proved parser: defaults, copies, and operating system commands without a limit.
+use vte::{BoundedParser, Params, Parser, Perform, PerformText};
 
 /// Collects what is dispatched.
 #[derive(Default)]
@@ -45,19 +45,20 @@ fn the_default_parser_is_of_1024_bytes() {
     let parser: Parser = Parser::new();
     let _: Parser<1024> = parser;
     let _: Parser<64> = Parser::default();
-    let _ = Parser::<64>::new_with_size();
+    let bounded: BoundedParser = BoundedParser::new();
+    let _: BoundedParser<1024> = bounded;
 }
 
-/// Some 300 bytes, and without `std` as many more as the parameter says.
+/// Some 300 bytes, and if there is a limit as many more.
 #[test]
 fn parsers_are_small() {
     use std::mem::size_of;
-    for (room, size) in [
-        (0, size_of::<Parser<0>>()),
-        (1024, size_of::<Parser>()),
-        (5000, size_of::<Parser<5000>>()),
+    for size in [
+        size_of::<BoundedParser<0>>(),
+        size_of::<BoundedParser>() - 1024,
+        size_of::<BoundedParser<5000>>() - 5000,
+        size_of::<Parser>() - 1024 * usize::from(cfg!(not(feature = "std"))),
     ] {
-        let size = size - room * usize::from(cfg!(not(feature = "std")));
         assert!((200..400).contains(&size), "{size}");
     }
 }
@@ -114,17 +115,41 @@ fn commands_have_no_limit() {
     }
 }
 
-#[cfg(not(feature = "std"))]
 #[test]
-fn commands_have_the_limit_of_the_parameter() {
+fn a_bounded_parser_has_the_limit_of_its_parameter() {
     for (count, kept) in [(0, 0), (5, 5), (6, 5), (2000, 5)] {
-        let mut collected = Collected::default();
-        Parser::<5>::new_with_size().advance(&mut collected, &command(count));
+        let (mut collected, mut parser) = (Collected::default(), BoundedParser::<5>::default());
+        parser.advance(&mut collected, &command(count));
         assert_eq!(collected.pieces, [vec![b'a'; kept]]);
+        assert_eq!(parser.command_lost_data(), count > kept);
     }
     let mut collected = Collected::default();
-    Parser::new().advance(&mut collected, &command(1025));
+    BoundedParser::new().advance(&mut collected, &command(1025));
     assert_eq!(collected.pieces, [vec![b'a'; 1024]]);
+}
+
+/// Asserts that copies of this parser go on from where it was, whatever it reads meanwhile.
+macro_rules! assert_copies_read_on {
+    ($new:expr) => {
+        let stream = "é\x1b[1:2;3mü\x1b]0;ab;c\x07\x1bP1$qm\x1b\\x".as_bytes();
+        for at in 0..=stream.len() {
+            let (mut parser, mut collected) = ($new, Collected::default());
+            let _ = parser.advance(&mut collected, &stream[..at]);
+            let (mut copy, mut other) = (parser.clone(), Collected::default());
+            let _ = parser.advance(&mut other, b"\x18\x1b]9;y");
+            let _ = copy.advance(&mut collected, &stream[at..]);
+            assert_eq!(collected.text, "é<[1, 2][3]m>üx", "copied at {at}");
+            assert_eq!(collected.pieces, [&b"0"[..], b"ab", b"c"]);
+        }
+    };
+}
+
+#[test]
+fn copies_read_on() {
+    assert_copies_read_on!(Parser::new());
+    assert_copies_read_on!(BoundedParser::<5>::default());
+    #[cfg(any(feature = "std", feature = "ansi"))]
+    assert_copies_read_on!(vte::LongParser::new());
 }
 
 /// Commands, and whether they lost data.

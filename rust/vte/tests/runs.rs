@@ -48,7 +48,7 @@ impl lent::Handler for Lent<'_> {
     }
 }
 
-impl lent::HandlerText for Lent<'_> {
+impl HandlerText for Lent<'_> {
     fn input_text(&mut self, text: &str) {
         self.0.runs.push(text.to_owned());
     }
@@ -109,7 +109,7 @@ fn processors_of_lent_texts_do_too() {
 #[test]
 fn long_processors_do_too() {
     let processor = lent::LongProcessor::new(Pending::default());
-    let (mut received, mut processor) = (Received::default(), processor.ok().expect("memory"));
+    let (mut received, mut processor) = (Received::default(), processor.expect("memory"));
     assert_eq!(processor.advance_text(&mut received, STREAM), Ok(()));
     received.assert_runs(&["before it"]);
     processor.stop_sync_text(&mut received);
@@ -120,20 +120,14 @@ fn long_processors_do_too() {
 fn parsers_do_too() {
     let (mut received, mut parser) = (Received::default(), Parser::new());
     parser.advance_text(&mut received, b"all of it");
-    let read = parser.advance_text_until_terminated(&mut received, b"and more");
-    assert_eq!(read, 8);
-    received.assert_runs(&["all of it", "and more"]);
+    received.assert_runs(&["all of it"]);
 }
 
 #[test]
 fn long_parsers_do_too() {
     let (mut received, mut parser) = (Received::default(), LongParser::new());
     assert_eq!(parser.advance_text(&mut received, b"all of it"), Ok(()));
-    assert_eq!(
-        parser.advance_text_until_terminated(&mut received, b"and more"),
-        Ok(8)
-    );
-    received.assert_runs(&["all of it", "and more"]);
+    received.assert_runs(&["all of it"]);
 }
 
 /// Text with HT, LF and CR, and the other controls.
@@ -196,9 +190,11 @@ fn parsers_pass_device_data_in_slices() {
     received.assert_slices(&[b"#0", b"~\r~", b"~~"]);
 }
 
+#[cfg(feature = "__own")]
 #[test]
 fn calls_that_may_stop_pass_slices_of_one_byte() {
-    let (mut received, mut parser) = (Received::default(), Parser::new());
+    use vte::{BoundedParser, Own};
+    let (mut received, mut parser) = (Received::default(), BoundedParser::new());
     let read = parser.advance_text_until_terminated(&mut received, IMAGE);
     assert_eq!(read, IMAGE.len());
     received.assert_slices(&[b"#", b"0", b"~", b"\r", b"~", b"~", b"~"]);

@@ -1,5 +1,7 @@
 //! Early stops between runs of text.
-use vte::{Params, Parser, Perform, PerformText};
+#![cfg(all(feature = "std", feature = "__own"))]
+
+use vte::{BoundedParser, LongParser, Own, Params, Parser, Perform, PerformText};
 
 /// Each kind of event, with runs of one byte, two and three bytes per character, and malformed bytes among them.
 const STREAM: &[u8] =
@@ -113,7 +115,7 @@ fn a_stop_between_runs_loses_nothing() {
     let whole = events_of(&[STREAM, REST].concat());
     // the last event is of the rest
     for stop in 0..whole.others {
-        let (mut events, mut parser) = (Events::until(stop), Parser::new());
+        let (mut events, mut parser) = (Events::until(stop), BoundedParser::new());
         let read = parser.advance_text_until_terminated(&mut events, STREAM);
         // the events so far are those of the bytes read, of which the last told the event of the stop
         assert!(events.terminated(), "stop after {stop} events");
@@ -135,11 +137,8 @@ fn a_stop_between_runs_loses_nothing() {
 }
 
 /// A parser without a limit stops at the same places.
-#[cfg(any(feature = "std", feature = "ansi"))]
 #[test]
 fn a_long_parser_stops_where_a_parser_does() {
-    use vte::LongParser;
-
     for stop in 0..events_of(STREAM).others {
         let mut events = Events::until(stop);
         let read = Parser::new().advance_until_terminated(&mut events, STREAM);
@@ -154,7 +153,7 @@ fn a_long_parser_stops_where_a_parser_does() {
 
 /// The events of a stream in two calls, with a stop after each event that isn't text.
 fn events_by_steps(stream: &[u8], cut: usize) -> Events {
-    let (mut events, mut parser) = (Events::default(), Parser::new());
+    let (mut events, mut parser) = (Events::default(), BoundedParser::new());
     for piece in [&stream[..cut], &stream[cut..]] {
         let mut unread = piece;
         while !unread.is_empty() {

@@ -4,14 +4,14 @@ mod support;
 
 use std::panic::{AssertUnwindSafe, RefUnwindSafe, UnwindSafe};
 
-use vte::{Params, ParamsIter, Parser};
+use vte::{BoundedParser, Params, ParamsIter, Parser};
 
 /// Compiles if the type has all of these.
 fn is_shared<T: Send + Sync + Unpin + RefUnwindSafe + UnwindSafe>() {}
 
 #[test]
 fn parsers_can_be_sent_and_shared() {
-    is_shared::<Parser>();
+    is_shared::<(Parser, BoundedParser)>();
     is_shared::<Params>();
     is_shared::<ParamsIter<'_>>();
     #[cfg(any(feature = "std", feature = "ansi"))]
@@ -22,24 +22,52 @@ fn parsers_can_be_sent_and_shared() {
 #[test]
 fn processors_and_what_they_pass_can_be_sent_and_shared() {
     use support::Pending;
-    use vte::ansi::lent::{ByCall, HandlerCall, Hyperlink, LongProcessor};
+    use vte::ansi::lent::{Hyperlink, LongProcessor};
     use vte::ansi::{self, Processor};
-    is_shared::<(Processor<Pending>, LongProcessor<Pending>, ByCall<()>)>();
-    is_shared::<(HandlerCall<'_>, Hyperlink<'_>, ansi::Hyperlink)>();
+    is_shared::<(Processor<Pending>, LongProcessor<Pending>)>();
+    is_shared::<(Hyperlink<'_>, ansi::Hyperlink)>();
     is_shared::<(ansi::Attr, ansi::Mode, ansi::PrivateMode, ansi::CursorStyle)>();
     #[cfg(feature = "std")]
     is_shared::<(Processor, ansi::StdSyncHandler)>();
 }
 
+/// Compiles if values of the type can be copied and shown.
+fn is_kept<T: Clone + std::fmt::Debug>() {}
+
+#[test]
+fn what_a_program_keeps_can_be_copied_and_shown() {
+    fn ends<T: std::iter::FusedIterator>() {}
+    is_kept::<Params>();
+    is_kept::<ParamsIter<'_>>();
+    ends::<ParamsIter<'_>>();
+    is_kept::<Parser>();
+    #[cfg(feature = "ansi")]
+    {
+        use vte::ansi::{self, lent};
+        is_kept::<ansi::Attr>();
+        is_kept::<ansi::Hyperlink>();
+        is_kept::<lent::Hyperlink<'_>>();
+        is_kept::<ansi::Processor<support::Pending>>();
+        is_kept::<lent::LongProcessor<support::Pending>>();
+        #[cfg(feature = "std")]
+        is_kept::<ansi::StdSyncHandler>();
+    }
+}
+
 /// A name and what callers can query, but not the bytes that are kept.
 #[test]
 fn debug_shows_a_name() {
-    let mut parser = Parser::new();
-    assert_eq!(format!("{parser:?}"), "Parser { .. }");
     struct Nothing;
     impl vte::Perform for Nothing {}
+    let mut parser = BoundedParser::new();
     parser.advance(&mut Nothing, b"\x1b]0;some title");
-    assert_eq!(format!("{parser:?}"), "Parser { .. }");
+    assert_eq!(format!("{parser:?}"), "BoundedParser { .. }");
+    #[cfg(feature = "std")]
+    {
+        let mut parser = Parser::new();
+        parser.advance(&mut Nothing, b"\x1b]0;some title");
+        assert_eq!(format!("{parser:?}"), "Parser { .. }");
+    }
     #[cfg(any(feature = "std", feature = "ansi"))]
     {
         let mut parser = vte::LongParser::default();

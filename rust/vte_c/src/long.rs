@@ -11,7 +11,7 @@ use crate::memory;
 use crate::proved::vte_c::{event, Events, VteCounts, VteEvent, LEAST_EVENTS, NO_ROOM};
 use alloc::boxed::Box;
 use alloc::vec::Vec;
-use vte::{LongParser, Refused};
+use vte::{LongParser, Own as _, Refused};
 
 /// What a call returns if memory was refused before it read a byte.
 const REFUSED: usize = usize::MAX - 1;
@@ -153,7 +153,7 @@ pub unsafe extern "C" fn vte_long_feed(
     if events.len() < LEAST_EVENTS {
         return NO_ROOM;
     }
-    let size = parser.memory() + DATA_PER_BYTE * bytes.len() + DATA_BEFORE;
+    let size = parser.stored() + DATA_PER_BYTE * bytes.len() + DATA_BEFORE;
     if reserve(area, size).is_err() {
         return REFUSED;
     }

@@ -15,9 +15,9 @@ use core::ptr;
 use core::sync::atomic::{AtomicBool, Ordering};
 use core::time::Duration;
 use vte::ansi::cursor_icon::CursorIcon;
-use vte::ansi::lent::{Handler, HandlerText, Hyperlink, LongProcessor};
+use vte::ansi::lent::{Handler, Hyperlink, LongProcessor};
 use vte::ansi::{
-    Attr, CharsetIndex, ClearMode, Color, CursorShape, CursorStyle, KeyboardModes,
+    Attr, CharsetIndex, ClearMode, Color, CursorShape, CursorStyle, HandlerText, KeyboardModes,
     KeyboardModesApplyBehavior, LineClearMode, Mode, ModifyOtherKeys, PrivateMode, Rgb,
     ScpCharPath, ScpUpdateMode, StandardCharset, TabulationClearMode, Timeout,
 };

@@ -2,6 +2,7 @@
 use crate::adapter::array_vec::ArrayVec;
 
 /// Room for N bytes of text. A part that doesn't fit is left out.
+#[derive(Clone)]
 pub(crate) struct ArrayString<const N: usize>(ArrayVec<u8, N>);
 
 impl<const N: usize> ArrayString<N> {

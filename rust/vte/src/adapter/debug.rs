@@ -1,9 +1,16 @@
 //! `Debug` of parsers and processors: their name, and what callers can query.
 use core::fmt;
 
-use crate::Parser;
+use crate::BoundedParser;
 
-impl<const OSC_RAW_BUF_SIZE: usize> fmt::Debug for Parser<OSC_RAW_BUF_SIZE> {
+impl<const OSC_RAW_BUF_SIZE: usize> fmt::Debug for BoundedParser<OSC_RAW_BUF_SIZE> {
+    fn fmt(&self, f: &mut fmt::Formatter<'_>) -> fmt::Result {
+        f.debug_struct("BoundedParser").finish_non_exhaustive()
+    }
+}
+
+#[cfg(feature = "std")]
+impl<const OSC_RAW_BUF_SIZE: usize> fmt::Debug for crate::Parser<OSC_RAW_BUF_SIZE> {
     fn fmt(&self, f: &mut fmt::Formatter<'_>) -> fmt::Result {
         f.debug_struct("Parser").finish_non_exhaustive()
     }

@@ -16,11 +16,12 @@ pub struct Hyperlink {
     pub uri: String,
 }
 
-impl From<LentHyperlink<'_>> for Hyperlink {
-    fn from(link: LentHyperlink<'_>) -> Self {
+impl LentHyperlink<'_> {
+    /// Copies its texts.
+    pub(crate) fn owned(self) -> Hyperlink {
         Hyperlink {
-            id: link.id.map(ToOwned::to_owned),
-            uri: link.uri.to_owned(),
+            id: self.id.map(ToOwned::to_owned),
+            uri: self.uri.to_owned(),
         }
     }
 }

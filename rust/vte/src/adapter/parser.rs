@@ -16,30 +16,28 @@ use crate::proved::vte_core::{LongParser, Perform, PerformText, Refused, Run};
 /// parser.advance(&mut performer, b"m"); // one `csi_dispatch`, of the two pieces together
 /// ```
 ///
-/// With the feature `std` it keeps all data bytes of an operating system command, and `OSC_RAW_BUF_SIZE` has no effect. The program
-/// ends if memory runs out, as for any `Vec`; [`LongParser`](crate::LongParser) returns an error instead. Without the feature, a
-/// parser keeps `OSC_RAW_BUF_SIZE` of these bytes, and drops the rest.
+/// With the feature `std` it keeps all data bytes of an operating system command, and
+/// `OSC_RAW_BUF_SIZE` has no effect. The program ends if memory runs out, as for any `Vec`;
+/// [`LongParser`](crate::LongParser) returns an error instead, and
+/// [`BoundedParser`](crate::BoundedParser) keeps so many of these bytes, as this type does without
+/// the feature.
+#[derive(Clone)]
 pub struct Parser<const OSC_RAW_BUF_SIZE: usize = 1024>(LongParser);
 
 impl Parser {
     /// Creates a parser that has read nothing. It takes no memory.
     pub fn new() -> Self {
-        Parser::new_with_size()
+        Self::default()
     }
 }
 
 impl<const OSC_RAW_BUF_SIZE: usize> Default for Parser<OSC_RAW_BUF_SIZE> {
     fn default() -> Self {
-        Self::new_with_size()
+        Parser(LongParser::new())
     }
 }
 
 impl<const OSC_RAW_BUF_SIZE: usize> Parser<OSC_RAW_BUF_SIZE> {
-    /// Creates a parser that has read nothing, whatever `OSC_RAW_BUF_SIZE` is. It takes no memory.
-    pub fn new_with_size() -> Self {
-        Parser(LongParser::new())
-    }
-
     /// Reads the next bytes of the stream, and performs the events that they add to it.
     ///
     /// However calls split the stream, the events are the same. An unfinished character or sequence at the end waits for more
@@ -70,20 +68,6 @@ impl<const OSC_RAW_BUF_SIZE: usize> Parser<OSC_RAW_BUF_SIZE> {
         bytes: &[u8],
     ) -> usize {
         match self.0.advance_until_terminated(performer, bytes) {
-            Ok(read) => read,
-            Err(Refused { read }) => end_without(bytes.len() - read),
-        }
-    }
-
-    /// Reads bytes as [`advance_until_terminated`](Self::advance_until_terminated) does, and passes characters to print in
-    /// [runs](PerformText). Only for performers that nothing in a run terminates: they aren't asked there.
-    #[must_use = "the bytes after the stop are still to be read"]
-    pub fn advance_text_until_terminated<P: PerformText>(
-        &mut self,
-        performer: &mut P,
-        bytes: &[u8],
-    ) -> usize {
-        match self.0.advance_text_until_terminated(performer, bytes) {
             Ok(read) => read,
             Err(Refused { read }) => end_without(bytes.len() - read),
         }

@@ -51,12 +51,14 @@ use crate::{
 /// # }
 /// ```
 #[cfg(feature = "std")]
+#[derive(Clone)]
 pub struct Processor<T: Timeout = StdSyncHandler>(Proved<T>);
 
 /// A processor of the bytes that programs send to a terminal, which calls a handler for what they ask of it.
 ///
 /// It keeps 1,024 data bytes of an operating system command, and takes no memory after it was created.
 #[cfg(not(feature = "std"))]
+#[derive(Clone)]
 pub struct Processor<T: Timeout>(Proved<T>);
 
 /// Ends the program if memory was refused to a call with this many bytes.

@@ -1,6 +1,6 @@
 //! The calls of a stream in pieces, to each kind of handler, and which pieces there are.
 
-use vte::ansi::lent::{self, Handler as _, HandlerText as _};
+use vte::ansi::lent::{self, Handler as _};
 use vte::ansi::{Handler, HandlerText, Hyperlink, PrivateMode, Processor, Rgb};
 
 use crate::support::Pending;
@@ -43,7 +43,7 @@ impl lent::Handler for Calls {
     }
 }
 
-impl lent::HandlerText for Calls {
+impl HandlerText for Calls {
     fn input_text(&mut self, text: &str) {
         text.chars().for_each(|c| self.input(c));
     }

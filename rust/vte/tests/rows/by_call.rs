@@ -1,6 +1,7 @@
 //! The same lines from calls as values, which the handler of one function receives.
 
-use vte::ansi::lent::{Handler, HandlerCall, HandlerText, TakeCall, TakeText};
+use vte::ansi::lent::{Handler, HandlerCall, TakeCall, TakeText};
+use vte::ansi::HandlerText;
 
 use crate::call_lines::{CallLines, Lent};
 

@@ -239,7 +239,7 @@ impl HandlerText for CallLines {
 }
 
 #[cfg(feature = "ansi")]
-impl lent::HandlerText for Lent<'_> {
+impl HandlerText for Lent<'_> {
     fn input_text(&mut self, text: &str) {
         characters_of_run(text).for_each(|c| lent::Handler::input(self, c));
     }

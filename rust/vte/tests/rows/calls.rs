@@ -6,7 +6,11 @@
 use crate::acts::check_acts;
 use crate::block::{blocks, cuttings, Block};
 use crate::call_lines::CallLines;
-use crate::reader::{CallsInRuns, LentTexts, OwnedTexts, OwnedTextsInRuns, Reader};
+#[cfg(feature = "__own")]
+use crate::reader::CallsInRuns;
+use crate::reader::{
+    ByReference, LentTexts, LentTextsInRuns, OwnedTexts, OwnedTextsInRuns, Reader,
+};
 
 const ROWS: &str = include_str!("../../../../crates/call_rows/stdin");
 const LONGEST_PIECE: usize = 32;
@@ -81,6 +85,11 @@ fn owned_texts() {
 }
 
 #[test]
+fn calls_by_reference() {
+    check_rows::<ByReference>();
+}
+
+#[test]
 fn lent_texts() {
     check_rows::<LentTexts>();
 }
@@ -90,6 +99,12 @@ fn owned_texts_in_runs() {
     check_rows::<OwnedTextsInRuns>();
 }
 
+#[test]
+fn lent_texts_in_runs() {
+    check_rows::<LentTextsInRuns>();
+}
+
+#[cfg(feature = "__own")]
 #[test]
 fn calls_in_runs() {
     check_rows::<CallsInRuns>();

@@ -3,7 +3,7 @@
 //! In an `until`, `stop` says when the performer is terminated, `before` has bytes that were read before, and `answer` is what
 //! `advance_until_terminated` returns.
 
-use vte::Parser;
+use vte::{BoundedParser, Parser, PerformText};
 
 use crate::block::{blocks, cuttings, Block};
 use crate::event_lines::{EventLines, Stop};
@@ -22,14 +22,41 @@ fn events_by<const KEEPS: bool>(
     lines.text
 }
 
-fn events_of<const N: usize>(pieces: &[&[u8]]) -> String {
-    let mut parser = Parser::<N>::default();
+fn events_of(pieces: &[&[u8]]) -> String {
+    let mut parser = Parser::new();
     let read = |lines: &mut EventLines, piece: &[u8]| parser.advance(lines, piece);
     events_by(read, pieces)
 }
 
-fn events_in_runs_of<const N: usize>(pieces: &[&[u8]]) -> String {
-    let mut parser = Parser::<N>::default();
+fn events_in_runs_of(pieces: &[&[u8]]) -> String {
+    let mut parser = Parser::new();
+    let read = |lines: &mut EventLines, piece: &[u8]| parser.advance_text(lines, piece);
+    events_by(read, pieces)
+}
+
+/// The same by a performer of which the parser knows only the trait, in each of two ways.
+fn events_by_reference_of<const IN_RUNS: bool>(pieces: &[&[u8]]) -> String {
+    let mut parser = Parser::new();
+    let read = |lines: &mut EventLines, piece: &[u8]| {
+        let mut lines: &mut dyn PerformText = lines;
+        if IN_RUNS {
+            parser.advance_text(&mut lines, piece);
+        } else {
+            let read = parser.advance_until_terminated(&mut lines, piece);
+            assert_eq!(read, piece.len());
+        }
+    };
+    events_by(read, pieces)
+}
+
+fn bounded_events_of<const N: usize>(pieces: &[&[u8]]) -> String {
+    let mut parser = BoundedParser::<N>::default();
+    let read = |lines: &mut EventLines, piece: &[u8]| parser.advance(lines, piece);
+    events_by(read, pieces)
+}
+
+fn bounded_events_in_runs_of<const N: usize>(pieces: &[&[u8]]) -> String {
+    let mut parser = BoundedParser::<N>::default();
     let read = |lines: &mut EventLines, piece: &[u8]| parser.advance_text(lines, piece);
     events_by(read, pieces)
 }
@@ -55,8 +82,8 @@ fn events_in_turn_of(pieces: &[&[u8]]) -> String {
     events_by(read, pieces)
 }
 
-fn unterminated_events_of<const N: usize>(pieces: &[&[u8]]) -> String {
-    let mut parser = Parser::<N>::default();
+fn unterminated_events_of(pieces: &[&[u8]]) -> String {
+    let mut parser = Parser::new();
     let read = |lines: &mut EventLines, piece: &[u8]| {
         assert_eq!(parser.advance_until_terminated(lines, piece), piece.len());
     };
@@ -122,8 +149,9 @@ fn streams_for_all() -> Vec<Block<'static>> {
 #[test]
 fn streams_give_their_events() {
     for row in streams_for_all() {
-        check_stream(&row, events_of::<1024>);
-        check_stream(&row, unterminated_events_of::<1024>);
+        check_stream(&row, events_of);
+        check_stream(&row, unterminated_events_of);
+        check_stream(&row, events_by_reference_of::<false>);
         #[cfg(any(feature = "std", feature = "ansi"))]
         check_stream(&row, long_events_of);
     }
@@ -132,7 +160,8 @@ fn streams_give_their_events() {
 #[test]
 fn streams_give_their_events_in_runs() {
     for row in streams_for_all() {
-        check_stream(&row, events_in_runs_of::<1024>);
+        check_stream(&row, events_in_runs_of);
+        check_stream(&row, events_by_reference_of::<true>);
         check_stream(&row, events_in_lines_of);
         check_stream(&row, events_in_turn_of);
         #[cfg(any(feature = "std", feature = "ansi"))]
@@ -151,13 +180,11 @@ fn commands_without_a_limit_are_kept() {
     }
 }
 
-#[cfg(not(feature = "std"))]
 fn check_both<const N: usize>(row: &Block<'_>) {
-    check_stream(row, events_of::<N>);
-    check_stream(row, events_in_runs_of::<N>);
+    check_stream(row, bounded_events_of::<N>);
+    check_stream(row, bounded_events_in_runs_of::<N>);
 }
 
-#[cfg(not(feature = "std"))]
 #[test]
 fn commands_are_kept_up_to_a_limit() {
     for (row, size) in streams() {

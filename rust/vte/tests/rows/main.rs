@@ -8,7 +8,7 @@ mod events;
 
 #[cfg(feature = "ansi")]
 mod acts;
-#[cfg(feature = "ansi")]
+#[cfg(all(feature = "ansi", feature = "__own"))]
 mod by_call;
 #[cfg(feature = "ansi")]
 mod call_lines;

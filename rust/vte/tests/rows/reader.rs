@@ -4,9 +4,11 @@ use std::cell::{Cell, RefCell};
 use std::rc::Rc;
 use std::time::Duration;
 
+#[cfg(feature = "__own")]
 use vte::ansi::lent::ByCall;
-use vte::ansi::{Processor, Timeout};
+use vte::ansi::{Handler, Processor, Timeout};
 
+#[cfg(feature = "__own")]
 use crate::by_call::Values;
 use crate::call_lines::{CallLines, Lent};
 
@@ -58,8 +60,14 @@ macro_rules! readers {
 
 readers! {
     OwnedTexts: advance, stop_sync, lines => lines;
+    ByReference: advance, stop_sync, lines => &mut (lines as &mut dyn Handler);
     OwnedTextsInRuns: advance_text, stop_sync_text, lines => lines;
     LentTexts: advance, stop_sync, lines => &mut Lent(lines);
+    LentTextsInRuns: advance_text, stop_sync_text, lines => &mut Lent(lines);
+}
+
+#[cfg(feature = "__own")]
+readers! {
     CallsInRuns: advance_text, stop_sync_text, lines => &mut ByCall(Values(lines));
 }
 

@@ -5,7 +5,7 @@ use std::time::Duration;
 use vte::ansi::Timeout;
 
 /// A timeout that is pending from when it is set until it is cleared.
-#[derive(Default)]
+#[derive(Clone, Debug, Default)]
 pub struct Pending(pub bool);
 
 impl Timeout for Pending {

@@ -1,7 +1,6 @@
 // Written by tools/erase from crates/vte_core/src/buffer.rt. Don't edit this file: edit that one, and run the tool.
 //! The buffer for the data bytes of an operating system command.
 
-#[cfg(not(feature = "std"))]
 use crate::adapter::array_vec::ArrayVec;
 #[cfg(any(feature = "std", feature = "ansi"))]
 use crate::prelude::Vec;
@@ -23,7 +22,6 @@ pub(crate) trait Buffer {
     fn append(&mut self, input: &[u8], from: usize, to: usize);
 }
 
-#[cfg(not(feature = "std"))]
 impl<const N: usize> Buffer for ArrayVec<u8, N> {
     fn bytes(&self) -> &[u8] {
         self.as_slice()

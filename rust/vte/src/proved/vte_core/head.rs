@@ -37,6 +37,7 @@ pub(crate) struct HeadEnd {
 }
 
 /// What is collected of a sequence: intermediates and parameters.
+#[derive(Clone)]
 pub(crate) struct Collected {
     // the first two, a marker among them
     pub(crate) intermediates: ArrayVec<u8, 2>,

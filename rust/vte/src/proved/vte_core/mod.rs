@@ -20,11 +20,10 @@ mod store;
 mod utf8;
 
 pub use params::{Params, ParamsIter};
-#[cfg(not(feature = "std"))]
 pub use parser::Parser;
 pub use scan::{Run, Taken};
 // for C alone
-#[cfg(all(feature = "saved", not(feature = "std")))]
+#[cfg(feature = "__own")]
 pub use parser::Saved;
 // takes memory
 #[cfg(any(feature = "std", feature = "ansi"))]

@@ -49,13 +49,13 @@ impl Params {
     }
 
     /// How many numbers stand in each group, and all numbers in a row.
-    #[cfg(all(feature = "saved", not(feature = "std")))]
+    #[cfg(feature = "__own")]
     pub(crate) fn parts(&self) -> (&[u8], &[u16]) {
         (self.lengths.as_slice(), self.numbers.as_slice())
     }
 
     /// Returns the parameters with these parts, or none if the lengths don't cover all numbers.
-    #[cfg(all(feature = "saved", not(feature = "std")))]
+    #[cfg(feature = "__own")]
     pub(crate) fn from_parts(lengths: ArrayVec<u8, 32>, numbers: ArrayVec<u16, 32>) -> Self {
         if are_lengths(lengths.as_slice(), numbers.as_slice()) {
             Params { numbers, lengths }
@@ -95,7 +95,7 @@ fn take_joined(lengths: &mut ArrayVec<u8, 32>, joined: bool) -> Option<u8> {
 }
 
 /// Whether these are the lengths of groups with these numbers.
-#[cfg(all(feature = "saved", not(feature = "std")))]
+#[cfg(feature = "__own")]
 fn are_lengths(lengths: &[u8], numbers: &[u16]) -> bool {
     let mut left = numbers.len();
     for length in lengths {

@@ -12,30 +12,26 @@ mod ignored_string;
 mod long;
 mod machine;
 mod refused;
-#[cfg(all(feature = "saved", not(feature = "std")))]
+#[cfg(feature = "__own")]
 mod saved;
 mod system_command;
 mod text;
 mod to_run;
 
-#[cfg(not(feature = "std"))]
 use crate::adapter::array_vec::ArrayVec;
-#[cfg(not(feature = "std"))]
 use crate::proved::vte_core::grain::{Grain, InRuns, PerformAs, Singly};
 use crate::proved::vte_core::head::HeadPart;
-#[cfg(not(feature = "std"))]
 use crate::proved::vte_core::perform::{Perform, PerformText};
 use crate::proved::vte_core::utf8::Unfinished;
 #[cfg(any(feature = "std", feature = "ansi"))]
 pub use long::LongParser;
 use machine::Machine;
 pub use refused::Refused;
-#[cfg(all(feature = "saved", not(feature = "std")))]
+#[cfg(feature = "__own")]
 pub use saved::Saved;
 
 /// How many data bytes of an operating system command are kept, unless a parser is given another
 /// number.
-#[cfg(not(feature = "std"))]
 pub(crate) const MAX_OSC_RAW: usize = 1024;
 
 /// Where in a text or a body the parser stands.
@@ -59,7 +55,7 @@ pub(crate) enum State {
     IgnoredString,
 }
 
-/// A parser of the bytes that programs send to a terminal.
+/// A parser of the bytes that programs send to a terminal, with a limit.
 ///
 /// It reads a stream in pieces of any length, and calls a [`Perform`](crate::Perform) for each
 /// event.
@@ -74,33 +70,34 @@ pub(crate) enum State {
 /// parser.advance(&mut performer, b"m"); // one `csi_dispatch`, of the two pieces together
 /// ```
 ///
-/// With the feature `std` it keeps all data bytes of an operating system command, and `OSC_RAW_BUF_SIZE` has no effect.
-/// Without it, it keeps that many, and drops the rest. Its size is then about `OSC_RAW_BUF_SIZE` and 300 bytes.
-#[cfg(not(feature = "std"))]
+/// It keeps up to `OSC_RAW_BUF_SIZE` data bytes of an operating system command, and drops the rest. So it takes no
+/// memory, whatever the stream. [`command_lost_data`](Self::command_lost_data) says whether something was dropped. Its
+/// size is about `OSC_RAW_BUF_SIZE` and 300 bytes.
+///
+/// `BoundedParser` is its name with and without the feature `std`. Without it, [`Parser`](crate::Parser) is the same
+/// type.
+#[derive(Clone)]
 pub struct Parser<const OSC_RAW_BUF_SIZE: usize = MAX_OSC_RAW> {
     machine: Machine<ArrayVec<u8, OSC_RAW_BUF_SIZE>>,
 }
 
-#[cfg(not(feature = "std"))]
 impl Parser<MAX_OSC_RAW> {
-    /// Creates a parser that has read nothing. Without the feature `std` it has room for 1,024 data bytes of an
-    /// operating system command.
+    /// Creates a parser that has read nothing, with room for 1,024 data bytes of an operating
+    /// system command.
     pub fn new() -> Self {
         Parser::new_with_size()
     }
 }
 
-#[cfg(not(feature = "std"))]
 impl<const OSC_RAW_BUF_SIZE: usize> Default for Parser<OSC_RAW_BUF_SIZE> {
     fn default() -> Self {
         Self::new_with_size()
     }
 }
 
-#[cfg(not(feature = "std"))]
 impl<const OSC_RAW_BUF_SIZE: usize> Parser<OSC_RAW_BUF_SIZE> {
-    /// Creates a parser that has read nothing. Without the feature `std` it has room for `OSC_RAW_BUF_SIZE` data bytes
-    /// of an operating system command, which may be 0.
+    /// Creates a parser that has read nothing, with room for `OSC_RAW_BUF_SIZE` data bytes of an
+    /// operating system command, which may be 0.
     pub fn new_with_size() -> Self {
         Parser {
             machine: Machine::new(ArrayVec::new()),
@@ -140,8 +137,8 @@ impl<const OSC_RAW_BUF_SIZE: usize> Parser<OSC_RAW_BUF_SIZE> {
     /// Reads bytes as [`advance_until_terminated`](Self::advance_until_terminated) does, and passes
     /// characters to print in [runs](crate::PerformText). Only for performers that nothing in a run
     /// terminates: they aren't asked there.
-    #[must_use = "the bytes after the stop are still to be read"]
-    pub fn advance_text_until_terminated<P: PerformText>(
+    #[cfg(any(feature = "__own", all(feature = "ansi", not(feature = "std"))))]
+    pub(crate) fn advance_text_until_terminated<P: PerformText>(
         &mut self,
         performer: &mut P,
         bytes: &[u8],

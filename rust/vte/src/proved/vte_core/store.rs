@@ -11,6 +11,7 @@ use crate::proved::vte_core::grain::{Grain, PerformAs};
 const MOST_PIECES: usize = 16;
 
 /// The items of a command, as far as they are kept.
+#[derive(Clone)]
 pub(crate) struct Store<B: Buffer> {
     // the data bytes, without the `;` between the pieces
     bytes: B,
@@ -99,7 +100,7 @@ impl<B: Buffer> Store<B> {
     }
 }
 
-#[cfg(all(feature = "saved", not(feature = "std")))]
+#[cfg(feature = "__own")]
 impl<const N: usize> Store<ArrayVec<u8, N>> {
     /// Returns the data bytes, the ends of the first 16 pieces in them, and whether data bytes were
     /// dropped.
@@ -122,14 +123,9 @@ impl<const N: usize> Store<ArrayVec<u8, N>> {
 
 #[cfg(any(feature = "std", feature = "ansi"))]
 impl Store<Vec<u8>> {
-    /// Returns for how many data bytes there is memory.
-    #[inline]
-    pub(crate) fn capacity(&self) -> usize {
-        self.bytes.capacity()
-    }
-
     /// Returns how many data bytes it has.
     #[inline]
+    #[cfg(any(feature = "__own", feature = "ansi"))]
     pub(crate) fn len(&self) -> usize {
         self.bytes.len()
     }
@@ -143,7 +139,7 @@ impl Store<Vec<u8>> {
 
 /// Whether pieces with this many bytes in all can end at these places, of which there are at most
 /// 16.
-#[cfg(all(feature = "saved", not(feature = "std")))]
+#[cfg(feature = "__own")]
 fn are_piece_ends(ends: &[usize], count: usize) -> bool {
     ends.windows(2).all(|pair| pair[0] <= pair[1]) && ends.iter().all(|end| *end <= count)
 }

@@ -11,7 +11,7 @@ use crate::proved::vte_types::{
 };
 
 /// A call of a [`Handler`], as a value. Each variant has the name and the arguments of its method.
-#[derive(Clone, Copy, Debug, PartialEq)]
+#[derive(Debug)]
 pub enum HandlerCall<'a> {
     /// The call [`Handler::backspace`].
     Backspace,
@@ -158,34 +158,6 @@ pub enum HandlerCall<'a> {
 }
 
 /// Takes the calls of a handler as values.
-///
-/// ```
-/// # use std::time::Duration;
-/// # use vte::ansi::{Processor, Timeout, lent::{ByCall, HandlerCall, TakeCall}};
-/// # #[derive(Default)]
-/// # struct Never;
-/// # impl Timeout for Never {
-/// #     fn set_timeout(&mut self, _: Duration) {}
-/// #     fn clear_timeout(&mut self) {}
-/// #     fn pending_timeout(&self) -> bool { false }
-/// # }
-/// # struct Page;
-/// # impl Page { fn show(&mut self, _: char) {} fn next_line(&mut self) {} }
-/// # let mut processor = Processor::<Never>::new();
-/// # let page = Page;
-/// impl TakeCall for Page {
-///     fn take(&mut self, call: HandlerCall<'_>) {
-///         match call {
-///             HandlerCall::Input(c) => self.show(c),
-///             HandlerCall::Linefeed => self.next_line(),
-///             _ => {}
-///         }
-///     }
-/// }
-///
-/// let mut handler = ByCall(page);
-/// processor.advance(&mut handler, b"text\n");
-/// ```
 pub trait TakeCall {
     /// Takes one call.
     fn take(&mut self, call: HandlerCall<'_>);
@@ -204,7 +176,7 @@ pub trait TakeText: TakeCall {
 
 /// A [`Handler`] that passes each call on as a value. It takes text in runs if the inner value is
 /// [`TakeText`].
-#[derive(Clone, Copy, Debug)]
+#[derive(Debug)]
 pub struct ByCall<T>(pub T);
 
 impl<T: TakeCall> Handler for ByCall<T> {

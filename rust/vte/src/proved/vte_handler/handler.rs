@@ -178,7 +178,7 @@ handlers! {
 
     /// OSC 8: the characters that follow are a link; `None` ends it (the hyperlinks proposal of VTE
     /// and iTerm2).
-    fn set_hyperlink(&mut self, link: Option<Hyperlink<'_>> as Option<Hyperlink> = link.map(Into::into)) {}
+    fn set_hyperlink(&mut self, link: Option<Hyperlink<'_>> as Option<Hyperlink> = link.map(|link| link.owned())) {}
 
     /// DECSCUSR, `CSI Ps SP q`: the cursor's shape, and whether it blinks (DEC VT510; xterm).
     /// `None`, for 0, is the terminal's own style.
@@ -297,6 +297,7 @@ handlers! {
 /// [`input`](Handler::input) isn't called.
 ///
 /// How a text is cut into runs may change from version to version.
+#[doc = include_str!("../../docs/handler_text.md")]
 pub trait HandlerText: Handler {
     /// Characters to show, at least one, in order. None is a control: neither U+0000..U+001F nor
     /// U+0080..U+009F.

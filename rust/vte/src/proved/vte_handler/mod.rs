@@ -5,11 +5,13 @@
 //! calls matter to you, [`ByCall`] passes each on as a [`HandlerCall`], and one `match` picks those.
 
 pub(crate) use handler::owned;
+#[cfg(feature = "__own")]
 mod by_call;
 mod handler;
 mod hyperlink;
 mod timeout;
 
+#[cfg(feature = "__own")]
 pub use by_call::{ByCall, HandlerCall, TakeCall, TakeText};
 pub use handler::{Handler, HandlerText};
 pub use hyperlink::Hyperlink;

@@ -2,14 +2,6 @@
 //! Modes, which are set and reset by number (ECMA-48, SM and RM; DEC, DECSET and DECRST).
 
 /// A mode of ECMA-48.
-///
-/// ```
-/// # use vte::ansi::{Mode, NamedMode};
-/// let mode = Mode::new(4);
-/// assert_eq!(mode, Mode::Named(NamedMode::Insert));
-/// assert_eq!(mode.raw(), 4);
-/// assert_eq!(Mode::new(12), Mode::Unknown(12));
-/// ```
 #[derive(Debug, Clone, Copy, Eq, PartialEq)]
 pub enum Mode {
     /// One that has a name.
@@ -78,7 +70,7 @@ pub enum NamedPrivateMode {
 
 impl Mode {
     /// Returns the mode with this number.
-    pub fn new(mode: u16) -> Self {
+    pub(crate) fn new(mode: u16) -> Self {
         match mode {
             4 => Mode::Named(NamedMode::Insert),
             20 => Mode::Named(NamedMode::LineFeedNewLine),
@@ -103,7 +95,7 @@ impl From<NamedMode> for Mode {
 
 impl PrivateMode {
     /// Returns the private mode with this number.
-    pub fn new(mode: u16) -> Self {
+    pub(crate) fn new(mode: u16) -> Self {
         match mode {
             1 => PrivateMode::Named(NamedPrivateMode::CursorKeys),
             3 => PrivateMode::Named(NamedPrivateMode::ColumnMode),

@@ -2,7 +2,7 @@
 //! Parts of the screen, the look of the cursor, and the direction of text.
 
 /// Which part of the cursor's line is cleared (ECMA-48, EL).
-#[derive(Debug, Clone, Copy, PartialEq, Eq)]
+#[derive(Debug)]
 pub enum LineClearMode {
     /// From the cursor to the end of the line.
     Right,
@@ -13,7 +13,7 @@ pub enum LineClearMode {
 }
 
 /// Which part of the screen is cleared (ECMA-48, ED).
-#[derive(Debug, Clone, Copy, PartialEq, Eq)]
+#[derive(Debug)]
 pub enum ClearMode {
     /// From the cursor to the end of the screen.
     Below,
@@ -26,7 +26,7 @@ pub enum ClearMode {
 }
 
 /// Which tab stops are cleared (ECMA-48, TBC).
-#[derive(Debug, Clone, Copy, PartialEq, Eq)]
+#[derive(Debug)]
 pub enum TabulationClearMode {
     /// The one at the cursor.
     Current,

@@ -5,6 +5,7 @@ use crate::prelude::String;
 use crate::proved::vte::ansi::text_buffer::TextBuffer;
 
 /// A joined text, with as much room as was asked for.
+#[derive(Clone)]
 pub(crate) struct GrowingText {
     text: String,
     // for how many bytes room was asked

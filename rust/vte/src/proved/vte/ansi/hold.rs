@@ -11,6 +11,7 @@ const ROOM: usize = 2_097_152;
 pub(crate) const MOST_HELD: usize = ROOM - 2;
 
 /// The held bytes, none of which end an update, after those that were released last.
+#[derive(Clone)]
 pub(crate) struct SyncState {
     bytes: Vec<u8>,
     released: usize,

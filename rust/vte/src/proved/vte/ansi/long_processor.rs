@@ -7,8 +7,10 @@ use crate::proved::vte::ansi::turns::Turns;
 use crate::proved::vte_core::{LongParser, Refused};
 use crate::proved::vte_handler::{Handler, HandlerText, Timeout};
 
-/// A [`Processor`](crate::ansi::Processor) that keeps commands, titles and links whatever their
-/// length.
+/// A processor whose calls return an error if they are refused memory.
+///
+/// It keeps commands, titles and links whatever their length, as [`Processor`](crate::ansi::Processor) does with the
+/// feature `std`.
 ///
 /// A call takes memory before it parses each 65,536 bytes: for them and an open command, and for a
 /// text that is joined from these. Bytes that are held back take theirs whole. If memory is
@@ -27,6 +29,7 @@ use crate::proved::vte_handler::{Handler, HandlerText, Timeout};
 /// # Ok(())
 /// # }
 /// ```
+#[derive(Clone)]
 pub struct LongProcessor<T: Timeout> {
     turns: Turns<LongParser, GrowingText, T>,
 }

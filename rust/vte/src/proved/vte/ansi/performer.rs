@@ -18,6 +18,7 @@ use core::time::Duration;
 pub(crate) const UPDATE_TIMEOUT_MILLIS: u64 = 150;
 
 /// What a processor keeps between events.
+#[derive(Clone)]
 pub(crate) struct ProcessorState<T, J> {
     pub(crate) preceding_char: Option<char>,
     pub(crate) text: J,

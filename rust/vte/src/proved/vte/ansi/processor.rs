@@ -11,6 +11,7 @@ use crate::proved::vte_handler::{Handler, HandlerText, Timeout};
 /// The bytes of a synchronized update are held back, so that the handler receives the update in one
 /// piece when it ends. The [`Timeout`] decides how long, and [`stop_sync`](Processor::stop_sync)
 /// stops an update that has expired.
+#[derive(Clone)]
 pub struct Processor<T: Timeout> {
     turns: Turns<ProcessorParser, ProcessorText, T>,
 }

@@ -15,6 +15,7 @@ const SLICE: usize = 65_536;
 
 /// What takes the turns of a processor: a parser, the bytes that are held back, and what is kept
 /// between events.
+#[derive(Clone)]
 pub(crate) struct Turns<B, J, T> {
     pub(crate) parser: B,
     pub(crate) hold: SyncState,

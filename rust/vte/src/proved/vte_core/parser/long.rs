@@ -7,8 +7,9 @@ use crate::proved::vte_core::parser::{Machine, Refused, State};
 use crate::proved::vte_core::perform::{Perform, PerformText};
 use crate::proved::vte_core::scan::{take_run, Run};
 
-/// A [`Parser`](crate::Parser) that keeps operating system commands of any length, and whose calls
-/// can be refused memory.
+/// A parser whose calls return an error if they are refused memory.
+///
+/// It keeps operating system commands of any length, as [`Parser`](crate::Parser) does with the feature `std`.
 ///
 /// If memory for it is refused, the call stops before the byte that needs it, and the rest can be passed in again:
 ///
@@ -29,6 +30,7 @@ use crate::proved::vte_core::scan::{take_run, Run};
 ///
 /// The limit of 16 pieces stays. What stands after the sixteenth `;` needs no memory. The memory of
 /// one command serves the next.
+#[derive(Clone)]
 pub struct LongParser {
     machine: Machine<Vec<u8>>,
 }
@@ -42,15 +44,10 @@ impl LongParser {
         }
     }
 
-    /// Returns for how many data bytes of an operating system command it has memory.
-    #[inline]
-    pub fn memory(&self) -> usize {
-        self.machine.command.capacity()
-    }
-
     /// Returns how many data bytes it stores of an operating system command: 0 if none is open.
     #[inline]
-    pub fn stored(&self) -> usize {
+    #[cfg(any(feature = "__own", feature = "ansi"))]
+    pub(crate) fn stored(&self) -> usize {
         match self.machine.state {
             State::SystemCommand => self.machine.command.len(),
             _ => 0,
@@ -124,7 +121,8 @@ impl LongParser {
     /// Reads bytes as [`advance_until_terminated`](Self::advance_until_terminated) does, and passes
     /// characters to print in [runs](crate::PerformText). Only for performers that nothing in a run
     /// terminates: they aren't asked there.
-    pub fn advance_text_until_terminated<P: PerformText>(
+    #[cfg(any(feature = "__own", feature = "ansi"))]
+    pub(crate) fn advance_text_until_terminated<P: PerformText>(
         &mut self,
         performer: &mut P,
         bytes: &[u8],

@@ -7,6 +7,7 @@ use crate::proved::vte_core::parser::{State, Unfinished};
 use crate::proved::vte_core::store::Store;
 
 /// A parser over any buffer for operating system commands. The state functions are its methods.
+#[derive(Clone)]
 pub(crate) struct Machine<B: Buffer> {
     pub(crate) state: State,
     pub(crate) collected: Collected,

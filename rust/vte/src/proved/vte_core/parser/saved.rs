@@ -4,9 +4,7 @@
 use crate::adapter::array_vec::ArrayVec;
 use crate::proved::vte_core::head::HeadPart;
 use crate::proved::vte_core::params::Params;
-#[cfg(not(feature = "std"))]
-use crate::proved::vte_core::parser::Parser;
-use crate::proved::vte_core::parser::{State, Unfinished, MAX_OSC_RAW};
+use crate::proved::vte_core::parser::{Parser, State, Unfinished, MAX_OSC_RAW};
 
 /// A parser as plain data, laid out as a C struct. All zeros is a new parser, and any other bytes
 /// are some parser.
@@ -128,9 +126,9 @@ impl Saved {
     }
 }
 
-#[cfg(not(feature = "std"))]
 impl Parser<MAX_OSC_RAW> {
     /// Saves the parser as plain data, but not whether a command that has ended lost data.
+    #[doc(hidden)]
     pub fn save(&self, saved: &mut Saved) {
         let machine = &self.machine;
         // Numbers and commands of earlier sequences don't count.
@@ -158,6 +156,7 @@ impl Parser<MAX_OSC_RAW> {
     }
 
     /// Returns the parser that was saved.
+    #[doc(hidden)]
     pub fn restored(saved: &Saved) -> Self {
         let mut parser = Parser::new();
         let machine = &mut parser.machine;

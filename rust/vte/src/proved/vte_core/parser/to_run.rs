@@ -4,18 +4,12 @@
 use crate::proved::vte_core::buffer::Buffer;
 use crate::proved::vte_core::class::ESCAPE;
 use crate::proved::vte_core::grain::{PerformAs, Singly};
-#[cfg(not(feature = "std"))]
-use crate::proved::vte_core::parser::Parser;
-use crate::proved::vte_core::parser::{Machine, Refused, State};
-#[cfg(not(feature = "std"))]
+use crate::proved::vte_core::parser::{Machine, Parser, Refused, State};
 use crate::proved::vte_core::perform::Perform;
 use crate::proved::vte_core::run::find_rest_end;
-use crate::proved::vte_core::scan::{find_put_end, RunKind, RunPlace};
-#[cfg(not(feature = "std"))]
-use crate::proved::vte_core::scan::{take_run, Run};
+use crate::proved::vte_core::scan::{find_put_end, take_run, Run, RunKind, RunPlace};
 use crate::proved::vte_core::utf8::{is_lead, is_printed_ascii, tell_single};
 
-#[cfg(not(feature = "std"))]
 impl<const OSC_RAW_BUF_SIZE: usize> Parser<OSC_RAW_BUF_SIZE> {
     /// Reads bytes up to a run of text, or of data of a device control string, and the run itself,
     /// which it returns instead of performing it.

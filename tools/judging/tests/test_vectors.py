@@ -33,14 +33,6 @@ def test_definition_gives_the_vectors(vector):
     assert "\n".join(lines) == "\n".join(lines_of(vector["events"]))
 
 
-def test_vectors_of_a_house():
-    _, text = run_python(TOOLS / "make_vectors.py", "--house", "delete=drop", "bell=drop")
-    for own, vector in zip(EVENTS, json.loads(text)["vectors"]):
-        is_same = own["events"] == vector["events"]
-        assert is_same == vector.get("by_hand", True), own["id"]
-        assert is_same or {"delete", "bell", "limit"} & set(own["house"]), own["id"]
-
-
 # in each language what builds the runner and what runs it, and how the example ignores pieces that
 # are as long as $SKIP, and fails without $SKIP
 SKIP = '''import "os"

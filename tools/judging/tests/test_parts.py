@@ -4,7 +4,7 @@ import re
 import time
 
 import pytest
-from judging import candidate, definition, formats, house, report, shrinking, views
+from judging import candidate, definition, formats, house, reference, report, shrinking, views
 from judging.classes import Difference
 from judging.judgement import Finding, Judgement
 from judging.rules import ALONE, CUT, RULES
@@ -61,6 +61,39 @@ def test_cases_are_read_as_shown():
         shown = report.shown_case(Difference(pieces, [], [], ([b"b", b"c"], [b"d"])))
         assert report.case_shown(shown) == [[b"b", b"c"], [b"d"], pieces]
     assert report.bytes_shown("31+3b*9 61") == [b"1;" * 9 + b"a"]
+
+
+@pytest.mark.parametrize("pieces, shown", [
+    ([b"\x1b]a\x80\x07"], "ESC ]a <80> BEL"), ([b"ab \x7f", b"c"], "ab blank <7F> | c"),
+    ([b"a" * 4 + b"b" * 3], "4 x a bbb"), ([b"\xff" * 2, b""], "<FF> <FF> |")])
+def test_streams_are_shown_as_text(pieces, shown):
+    assert report.shown_text(pieces) == shown
+
+
+def test_the_reference_and_the_definition_must_agree(tmp_path):
+    program = tmp_path / "vtlog"
+    program.write_text("#!/bin/sh\necho print 0062\n")
+    program.chmod(0o755)
+    assert reference.Reference(program).answers([b"a"]) == [["print 0062"]]
+    with pytest.raises(reference.NoReference, match="differ"):
+        reference.Reference(program, house.house_of(["delete=drop"])).answers([b"a"])
+
+
+def test_a_vtlog_of_this_repository_comes_before_others(tmp_path, monkeypatch):
+    monkeypatch.delenv("VTLOG", raising=False)
+    proved = tmp_path / "crates/vtlog/out/vtlog"
+    monkeypatch.setattr(reference, "TOP", tmp_path)
+    monkeypatch.setattr(reference.shutil, "which", {"vtlog": "/bin/installed"}.get)
+    for built, place in (("built", "built"), (None, "/bin/installed")):
+        monkeypatch.setattr(reference, "built_by_cargo", lambda built=built: built)
+        assert reference.find_vtlog() == place
+    proved.parent.mkdir(parents=True)
+    proved.write_text("")
+    assert reference.find_vtlog() == str(proved)
+    proved.unlink()
+    monkeypatch.setattr(reference.shutil, "which", lambda _: None)
+    with pytest.raises(reference.NoReference):
+        reference.find_vtlog()
 
 
 def test_untold_fields_are_left_out():

@@ -1,5 +1,6 @@
 #!/usr/bin/env python3
-"""Writes the rows of tools/rows and tools/vector_rows.json for parsers in any language: tools/make_vectors.py [--check]
+"""Writes the rows of tools/rows and tools/vector_rows.json for parsers in any language:
+tools/make_vectors.py [--check]
 
 The files are vectors/events.json, and vectors/calls.json for what Rust's handler gets, with one vector per line; docs/VECTORS.md describes
 them, and vectors/schema.json is their schema. What a vector expects is what the row expects, which was worked out by hand; the script adds

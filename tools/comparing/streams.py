@@ -68,8 +68,9 @@ def long_streams(given):
         yield from ((f"{number}, cutting {cutting}", pieces) for cutting, pieces in enumerate(long_stream(given.seed, number)))
 
 
-KINDS = {"streams": named_streams, "random": lambda given: hostile_streams(given, "text/", OF_TEXT), "calls": call_streams, "updates": update_streams,
-         "hostile": hostile_streams, "long": long_streams}
+KINDS = {"streams": named_streams,
+         "random": lambda given: hostile_streams(given, "text/", OF_TEXT), "calls": call_streams,
+         "updates": update_streams, "hostile": hostile_streams, "long": long_streams}
 # streams in memory at a time: a repetition may make 65,535 calls, and a command may have 100,000 bytes
 BATCH = {"long": 40, "streams": 40}
 

@@ -155,7 +155,8 @@ def trait_of(text):
 
 def normal(code, name):
     """Rust on a page, without names of arguments, and with one spelling of what has several."""
-    text = html.unescape(re.sub(r"<[^>]*>", "", code.replace("<div", " <div").replace("</div>", " ")))
+    code = code.replace("<div", " <div").replace("</div>", " ")
+    text = html.unescape(re.sub(r"<[^>]*>", "", code))
     text = " ".join(text.rstrip(" ⓘ").split())
     text = text.replace("( ", "(").replace(", )", ")").replace("MAX_OSC_RAW", "1024")
     text = re.sub(r"0x[0-9A-F]+", lambda number: number[0].lower(), text)

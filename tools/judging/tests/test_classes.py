@@ -220,7 +220,8 @@ def test_which_streams_are_judged():
 
 def test_all_vectors_are_judged():
     found = {case.name: b"".join(case.pieces) for case in cases.all_cases(["vectors"], "1", 0)}
-    wanted = [f"vector {vector['id']}" for file in FILES for vector in file["vectors"] + file["long"]
+    wanted = [f"vector {vector['id']}" for file in FILES
+              for vector in file["vectors"] + file["long"]
               if vector["kind"] not in ("colour", "number")]
     assert [*found] == wanted
     assert found["vector ff-100-000-times"] == b"\xff" * 100000

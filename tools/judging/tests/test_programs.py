@@ -106,9 +106,15 @@ def test_the_children_of_a_program_are_ended(judge_toy, pieces):
 
 @pytest.mark.parametrize("fault", ["hang", "unsteady", "cut-character"])
 def test_the_time_is_kept(judge, fault):
-    begun = time.monotonic()
-    judge(1, "--seconds", 4, "--timeout", 60, *toy(f"{fault},wrapping-number"))
-    assert time.monotonic() - begun < 4 + 10
+    def seconds(*given):
+        begun = time.monotonic()
+        judge(*given)
+        return time.monotonic() - begun
+
+    # on a busy machine a program takes long to begin
+    usual = seconds(0, "--case", "61", *toy())
+    words = ["--seconds", 4, "--timeout", 60, *toy(f"{fault},wrapping-number")]
+    assert seconds(1, *words) < 4 + 10 + 2 * usual
 
 
 def test_closed_standard_output(vtlog):

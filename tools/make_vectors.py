@@ -1,12 +1,12 @@
 #!/usr/bin/env python3
-"""Writes the rows of tools/rows and tools/vector_rows.json for parsers in any language: tools/make_vectors.py [--check | --house RULE=VALUE ..]
+"""Writes the rows of tools/rows and tools/vector_rows.json for parsers in any language:
+tools/make_vectors.py [--check]
 
 The files are vectors/events.json, and vectors/calls.json for what Rust's handler gets, with one vector per line; docs/VECTORS.md describes
 them, and vectors/schema.json is their schema. What a vector expects is what the row expects, which was worked out by hand; the script adds
 an id, the names of the rules that the stream uses, the level that follows from them, and the house rules on which the answer depends. Rows
 that only test this repository's own interface are left out, and counted. vectors/ids.txt lists all ids there have been; one that is gone is
-an error. With --check nothing is written, and the status is 1 if a file isn't up to date. With --house the events of parsers with these
-house rules are printed instead; those that differ are by tools/judging/definition.py.
+an error. With --check nothing is written, and the status is 1 if a file isn't up to date.
 """
 import argparse
 import json
@@ -21,7 +21,7 @@ sys.dont_write_bytecode = True
 from generating.rows import all_rows, bytes_of, lines_of  # noqa: E402
 from judging import definition  # noqa: E402
 from vector_functions import COMMANDS_HEADING, XTERM, functions_of  # noqa: E402
-from judging.house import CHOICES, House, house_of  # noqa: E402
+from judging.house import CHOICES, House  # noqa: E402
 from judging.rules import DIFFERS, LEVELS, MUST, RULES, SHOULD, Rule  # noqa: E402
 
 TOP = Path(__file__).resolve().parent.parent
@@ -186,16 +186,6 @@ def all_vectors():
     return [[vector for vector in vectors if (vector["kind"] == "events") == is_event] for is_event in (True, False)], left_out
 
 
-def for_house(vectors, house):
-    """The vectors of events of parsers that have some house rules."""
-    for vector in vectors:
-        if not is_repeated(vector):
-            stream = bytes_of(vector["pieces"])
-            lines = definition.lines_of(stream, house)
-            is_same = lines == vector["events"]
-            yield {**vector, "limit": house.limit, "events": lines, **({} if is_same else {"by_hand": False})}
-
-
 def written(quietly):
     lists, left_out = all_vectors()
     texts = dict(zip(("events.json", "calls.json"), map(text_of, lists)))
@@ -213,17 +203,9 @@ def written(quietly):
 def main():
     parser = argparse.ArgumentParser(description=__doc__, formatter_class=argparse.RawDescriptionHelpFormatter)
     parser.add_argument("--check", action="store_true")
-    parser.add_argument("--house", nargs="+", metavar="RULE=VALUE")
-    given = parser.parse_args()
-    if given.house:
-        try:
-            house = house_of(given.house)
-        except ValueError as error:
-            parser.error(str(error))
-        print(text_of(list(for_house(all_vectors()[0][0], house))), end="")
-        return
-    for name, text in written(given.check).items():
-        if not given.check:
+    is_check = parser.parse_args().check
+    for name, text in written(is_check).items():
+        if not is_check:
             (FOLDER / name).write_text(text)
         elif not (FOLDER / name).exists() or (FOLDER / name).read_text() != text:
             sys.exit(f"tools/make_vectors.py: vectors/{name} isn't up to date; run tools/make_vectors.py")

@@ -26,14 +26,9 @@ LONGEST_WORD = 100_000
 
 
 class Proved:
-    """The programs of crates/: vtlog, and the one that replays pieces, each built when it is first needed."""
+    """The program of crates/ that replays pieces, built when it is first needed."""
 
     longest_piece = 0xFFF9
-
-    def __init__(self, given):
-        self.given = given
-
-    vtlog = cached_property(lambda self: peers.program("vtlog", self.given.vtlog))
     conformance = cached_property(lambda self: peers.program("conformance"))
 
     def events(self, streams, in_runs=False):
@@ -66,7 +61,7 @@ def framed_piece(piece):
 
 
 class Erased:
-    """The program of rust/vtlog, and tools/peer over rust/vte instead of the crate."""
+    """tools/peer over rust/vte instead of the crate."""
 
     longest_piece = sys.maxsize
 
@@ -76,7 +71,6 @@ class Erased:
         self.folder.mkdir(parents=True)
         self.words = words
 
-    vtlog = cached_property(lambda self: rust_builds.vtlog(self.folder / "vtlog"))
     peer = cached_property(lambda self: rust_builds.peer(rust_builds.OURS, self.folder / "peer", self.words))
 
     def events(self, streams, in_runs=False):

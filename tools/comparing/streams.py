@@ -1,4 +1,4 @@
-"""Compares events and handler calls of streams with those of the crate: `tools/compare random|calls|updates|hostile|long`.
+"""Compares events and handler calls of streams with those of the crate, for tools/compare.
 
 Four things are compared of each stream, which comes in pieces:
 
@@ -24,13 +24,23 @@ from comparing.sides import EXPIRY, STOP, answer, cuts_of, places_of
 from generating.hostile_streams import OF_CALLS, OF_TEXT, OF_UPDATES, hostile_stream
 from generating.long_commands import long_stream
 from generating.random_text import cut_at, cut_at_random, ends_inside_a_character
-from generating.streams import recorded
+from generating.streams import STREAMS, generate, recorded
 
 OTHER_COLOR = re.compile(rb"#([0-9A-Fa-f+]{3,})|rgb:[0-9A-Fa-f+]*/[0-9A-Fa-f+]*/[0-9A-Fa-f+]*")
 END_OF_UPDATE = b"unset_private_mode Named(SyncUpdate)"
 
 
 # ---- the streams of each kind: names and pieces
+
+def named_streams(given):
+    """Those that real programs wrote, and generated ones, in each of several cuttings."""
+    chance = random.Random(given.seed)
+    named = [*recorded(), *((name, [generate(name, given.bytes)]) for name in STREAMS)]
+    for name, pieces in named:
+        stream = b"".join(pieces)
+        cuttings = [pieces, *(cut_at_random(chance, stream, share) for share in (0.3, 0.001))]
+        yield from ((name, cutting) for cutting in cuttings)
+
 
 def call_streams(given):
     """Those that real programs wrote, whole and in pieces, and random ones of what a processor knows."""
@@ -58,10 +68,11 @@ def long_streams(given):
         yield from ((f"{number}, cutting {cutting}", pieces) for cutting, pieces in enumerate(long_stream(given.seed, number)))
 
 
-KINDS = {"random": lambda given: hostile_streams(given, "text/", OF_TEXT), "calls": call_streams, "updates": update_streams,
-         "hostile": hostile_streams, "long": long_streams}
+KINDS = {"streams": named_streams,
+         "random": lambda given: hostile_streams(given, "text/", OF_TEXT), "calls": call_streams,
+         "updates": update_streams, "hostile": hostile_streams, "long": long_streams}
 # streams in memory at a time: a repetition may make 65,535 calls, and a command may have 100,000 bytes
-BATCH = {"long": 40}
+BATCH = {"long": 40, "streams": 40}
 
 
 # ---- comparing
@@ -72,7 +83,9 @@ def comparing(kind):
         with concurrent.futures.ThreadPoolExecutor(os.cpu_count()) as threads:
             while batch := list(itertools.islice(streams, BATCH.get(kind, 1000))):
                 compare_lines(comparison, threads, kind, batch)
-                listed += compare_calls(comparison, threads, kind, batch)
+                # some of the others repeat a character very often
+                if kind != "streams":
+                    listed += compare_calls(comparison, threads, kind, batch)
         print(f"{kind}: {listed} streams differ by a colour text that only the crate reads", file=sys.stderr)
 
     return compare

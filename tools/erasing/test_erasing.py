@@ -1,6 +1,5 @@
 #!/usr/bin/env python3
 """Tests of tools/erase: python3 tools/erasing/test_erasing.py"""
-import re
 import sys
 import unittest
 from pathlib import Path
@@ -10,12 +9,10 @@ TOOLS = Path(__file__).resolve().parent.parent
 sys.path.insert(0, str(TOOLS))
 
 from erasing import rules, wording  # noqa: E402
-from erasing.crate import Failure, erase, target, write_crate  # noqa: E402
-from erasing.plan import PLANS, VTE, Plan  # noqa: E402
+from erasing.crate import Failure, erase, write_crate  # noqa: E402
+from erasing.plan import VTE, Plan  # noqa: E402
 from erasing.source import Source  # noqa: E402
-from rattle_text.tokens import CLAUSE, COMMENT, GHOST, WORD, Refused, split  # noqa: E402
-
-CRATES = TOOLS.parent / "crates"
+from rattle_text.tokens import COMMENT, Refused, split  # noqa: E402
 
 
 def plan(**given):
@@ -309,165 +306,6 @@ class Erasing(unittest.TestCase):
             write_crate(plan(), lambda _crate: {"x.rt": "\n#[test]\nfn f() {}\n"})
         with self.assertRaisesRegex(Failure, "a/gone"):
             write_crate(plan(added={"a/gone": ""}), lambda _crate: {"x.rt": ""})
-
-
-# assertions for tests before `unsafe`, and a character of two bytes by safe code
-ASSERTION = re.compile(r"debug_assert ?! ?\(.*?\) ?; ?(?=debug_assert|unsafe)")
-SAFE = re.compile(r"(char ?: ?: ?from_u32)( ?\( ?number_of_two ?\(.*?\) ?\)) ?\. ?unwrap_or ?\(.*?\)")
-
-
-def as_proved(body):
-    return SAFE.sub(r"unsafe { \1_unchecked\2 }", ASSERTION.sub("", body))
-
-
-class WordForWord(unittest.TestCase):
-    """The bodies of all functions that the tool writes are those of the Rattle text, without the count of looks."""
-
-    @classmethod
-    def setUpClass(cls):
-        cls.written = [(given, write_crate(given, read_files)) for given in PLANS]
-
-    def test_bodies(self):
-        count, functions = 0, 0
-        for given, written in self.written:
-            functions += sum(len(re.findall(r"^ *(?!//)[^/\n]*\bfn \w+", text, re.M)) for text in written.values())
-            kept = {name: set(re.findall(rf"fn (\w+)<[^(]*\b{name}\b", "".join(written.values()))) for name in ("G", "ASKS")}
-            for crate in given.modules:
-                for place, text in read_files(crate).items():
-                    if (made := written.get(target(given, f"{crate}/{place.removesuffix('.rt')}"))) is not None:
-                        count += self.compare(given, place, text, made, kept)
-        self.assertEqual(count, functions)
-
-    def compare(self, given, place, text, made, kept):
-        proved, written = bodies(place, text, given), [(head, as_proved(body.replace(", }", "}"))) for head, body in bodies(place, made, given)]
-        left = [(head, in_rusts_forms(head, without_counts(body, kept) if given.has_idioms else body, given)) for head, body in proved]
-        with self.subTest(file=place):
-            for head, body in written:
-                # the type of an input is another; by default a method does nothing, or says no
-                alike = (body, ";") if body in ("{ }", "{ false }", "{}", "{ false}") else (body,)
-                while left and (left[0][0].split()[0] != head.split()[0] or left[0][1] not in alike):
-                    left.pop(0)  # of a test, taken from elsewhere, or unused
-                self.assertTrue(left, f"{head} isn't in {place} as it is written: {body}")
-                left.pop(0)
-        return len(written)
-
-    def test_docs(self):
-        """What is written names its source, and has the docs of that, with the words that replace others."""
-        count = 0
-        for given, written in self.written:
-            for name, text in ((f"{crate}/{place.removesuffix('.rt')}", text) for crate in given.modules for place, text in read_files(crate).items()):
-                written_text = written.get(target(given, name), "")
-                made = [*docs(written_text)]
-                self.assertTrue(not written_text or written_text.startswith(f"// Written by tools/erase from crates/{name.replace('/', '/src/', 1)}.rt. "))
-                for item, said in docs(wording.reword(text, given.comments.get(name, {}))):
-                    found = [other for it, other in made if it == item]
-                    self.assertTrue(not found or any(said in other for other in found), f"{name}: {item}: {said}, not {found}")
-                    count += bool(found)
-        self.assertGreater(count, 600)
-        texts = "".join(text for _, written in self.written for text in written.values())
-        for page in (CRATES.parent / "rust/vte/src/docs").glob("*.md"):
-            self.assertIn(f'#[doc = include_str!("../../docs/{page.name}")]', texts)
-
-
-DOCUMENTED = re.compile(r"((?:^ *//[^\n]*\n)+)(?: *#\[[^\n]*\n)* *(?:pub(?:\([^)]*\))? )?((?:fn|struct|enum|trait|static|type|const|[A-Z]) ?\w+)", re.M)
-
-
-def docs(text):
-    """The items and variants with comments right above them, and these up to the first example."""
-    for lines, item in DOCUMENTED.findall(text):
-        yield item, " ".join(re.sub(r"^ */+", "", lines, flags=re.M).partition("```")[0].split())
-
-
-def read_files(crate):
-    folder = CRATES / crate / "src"
-    return {str(file.relative_to(folder)): file.read_text() for file in sorted(folder.rglob("*.rt"))}
-
-
-# What is left of a body without looks, written without the tool's own rules: patterns over words with one blank between them.
-COUNTS = [
-    (r"looks \. add \(.*?\) ; ", ""),
-    (r"looks : Looks : : (?:un)?limited \( \) , ", ""),
-    (r"looks \. at \( (\w+) , ([^()]*) \)", r"\1 [ \2 ]"),
-    (r"looks \. copy_to_array \( (\w+) , (\w+) , ([^,]*) , (\w+) \)", r"\4 . try_extend_from_slice ( & \1 [ \2 . . \3 ] )"),
-    (r"looks \. copy_to_vec \( (\w+) , (\w+) , (\w+) , (\w+) \)", r"\4 . extend_from_slice ( & \1 [ \2 . . \3 ] )"),
-    (r"looks \. (\w+(?: : : < \w+ >)?) \(", r"\1 ("),
-    (r"(?:& mut (?:self \. )?)?\blooks , ", ""),
-    (r"\( looks \)", "( )"),
-    (r"Input : : new \( (\w+) \)", r"\1"),
-    (r"input \. bytes|self \. bytes(?= \[ (?:from )?\. \. to \])", "input"),
-    (r"Input \{ bytes : (.*?) , buffer : PhantomData , \}", r"\1"),
-    (r"(?:input|self) \. (data|take_run|text|up_to) \(", r"\1 ( input ,"),
-    (r": : < B , ", ": : < "),
-    # the parts of what is held of a sequence
-    (r"(hook|csi_dispatch) \( & (self \. collected) , ignore , byte \)",
-     r"\1 ( & \2 . params , \2 . intermediates . as_slice ( ) , ignore , char : : from ( byte ) )"),
-    (r"esc_dispatch \( & (self \. collected) , byte \)", r"esc_dispatch ( \1 . intermediates . as_slice ( ) , \1 . too_many , byte )"),
-    # the vectors of the adapter
-    (r"\* self = Params : : new \( \)", "self . numbers . clear ( ) ; self . lengths . clear ( )"),
-    # the allocator
-    (r"\( alloc \)", "( )"),
-    (r"\( alloc , ", "( "),
-    # the clone of what is copied
-    (r"^\{ Ok \( (\* self) \) \}$", r"{ \1 }"),
-]
-
-
-def without_counts(text, kept):
-    for pattern, left in COUNTS:
-        text = re.sub(pattern, left, text)
-
-    def passed_on(found):
-        name, grain, asks = found[1], found[2] if found[1] in kept["G"] else "", found[3] if found[1] in kept["ASKS"] else ""
-        # the grain of the caller is told by the arguments
-        return f"{name} : : < P{grain or ''}{asks or ''} >" if asks or grain not in ("", None, " , G") else name
-
-    return re.sub(r"(\w+) : : < P( , (?:G|Singly|InRuns))?( , (?:ASKS|true|false))? >", passed_on, text)
-
-
-# what the oldest Rust lacks
-NEWER = [
-    (r"([\w.]+ \[ [^\]]* \]) \. first_chunk : : < (\w+) > \( \)", r"first_chunk : : < \2 > ( & \1 )"),
-    (r"ends \. is_sorted \( \)", "ends . windows ( 2 ) . all ( | pair | pair [ 0 ] < = pair [ 1 ] )"),
-]
-
-
-def in_rusts_forms(head, body, given):
-    """A body with the tool's idioms, which have tests of their own."""
-    if body == ";":
-        return body
-    for pattern, left in NEWER:
-        body = re.sub(pattern, left, body)
-    source = Source(f"fn {head} {body}", "vte_core/x")
-    if given.has_idioms:
-        rules.use_idioms(source)
-    rules.apply(source, rules.OLDER)
-    kept = [token.text for token in source.tokens if not token.is_blank]
-    return " ".join(kept[1 + len(head.split()):]).replace(", }", "}")
-
-
-def bodies(place, text, given):
-    """The name and the type of each function, and the words of its body with a blank between two, or `;`: without calls of laws and roots of
-    paths."""
-    source = Source(text, place)
-    source.tokens = [token for token in source.tokens if token.kind not in (CLAUSE, GHOST) and not token.is_blank]
-    roots = "|".join({"crate", "std", "core", "proved", "prelude", *given.modules})
-    of_looks = [range(at, source.item_end(at)) for at in source.places("impl<B> Looks<B> {")]
-    for at in range(len(source.tokens)):
-        if not source.is_word(at, "fn") or source.kind(at + 1) != WORD:
-            continue
-        start = at
-        while source.text(start) not in ("{", ";"):
-            start = source.match(start) + 1 if source.text(start) in ("(", "[") else start + 1
-        end = start if source.text(start) == ";" else source.match(start)
-        head = [source.text(it) for it in range(at, start)]
-        kind = next((head[it + 2] for it in range(len(head) - 2) if head[it : it + 2] == ["-", ">"]), "")
-        body = " ".join(source.text(it) for it in range(start, end + 1))
-        if any(at in it for it in of_looks):
-            # what counts is lent to a function
-            body = re.sub(r"\bself\b", "looks", body)
-        for left in (rf"(?<!\S)(?:{roots}) : : ", r"laws : : \w+ \( \) ; ", r", (?=[)\]])"):
-            body = re.sub(left, "", body)
-        yield f"{source.text(at + 1)} ( ) - > {kind} < T >" if kind.isidentifier() else source.text(at + 1), body
 
 
 if __name__ == "__main__":

@@ -1,7 +1,9 @@
-"""Streams of long operating system commands, each in several cuttings. A stream depends only on a seed and its number.
+"""Streams of long operating system commands, each in several cuttings. A stream depends only on a
+seed and its number.
 
-A stream has one to six commands with texts of 1,000 to 100,000 bytes: titles, links, clipboards, colours and others, most with
-hostile bytes in them. Short commands, text, and beginnings and ends of updates are between them.
+A stream has one to six commands with texts of 1,000 to 100,000 bytes: titles, links, clipboards,
+colours and others, most with hostile bytes in them. Short commands, text, and beginnings and ends
+of updates are between them.
 """
 import random
 import re
@@ -13,7 +15,12 @@ from generating.streams import BASE64, words
 
 BEGIN, END = b"\x1b[?2026h", b"\x1b[?2026l"
 # what would show the text of a long command before it
-SHORT = [b"\x1b]2;s;t\x07", b"\x1b]0;u\x1b\\", b"\x1b]8;;v;w\x1b\\", b"\x1b]8;id=x;y\x07", b"\x1b]8;;\x07", b"\x1b]52;c;z\x07", b"\x1b]4;1;?;2;?\x07"]
+SHORT = [b"\x1b]2;s;t\x07", b"\x1b]0;u\x1b\\", b"\x1b]8;;v;w\x1b\\", b"\x1b]8;id=x;y\x07",
+         b"\x1b]8;;\x07", b"\x1b]52;c;z\x07", b"\x1b]4;1;?;2;?\x07"]
+# what a long text or a colour comes after, without the last `;`
+FRONTS = [b"0", b"2", b"8;", b"8;id=x", b"8;a=b:id=y:c", b"8;id=\xff", b"8", b"52;c", b"52;",
+          b"4;1", b"4;7;?;256", b"4", b"10", b"11;?", b"12", b"22", b"50", b"104", b"1337", b"2x",
+          b"52;cs", b""]
 # lengths at which something may be full or grow
 LIMITS = [1023, 1024, 1025, 1040, 2048, 4096, 8192, 16384, 32768, 65536]
 ENDS = [b"\x07"] * 4 + [b"\x1b\\"] * 4 + [b"\x18", b"\x1a", b"\x1b\x07", b"\x1bc", b"\x1b[", b""]
@@ -21,7 +28,6 @@ ENDS = [b"\x07"] * 4 + [b"\x1b\\"] * 4 + [b"\x18", b"\x1a", b"\x1b\x07", b"\x1bc
 ODD = [b";", b";", b";", b"\x7f", b"\x80", b"\x9c", b"\xff", b" ", *MALFORMED, *CHARACTERS]
 ENDING = [b"\x18", b"\x1a", b"\x1b", b"\x07", BEGIN, END, b"\x1b]"]
 CONTROLS = [bytes([byte]) for byte in range(0x20) if byte not in (0x07, 0x18, 0x1A, 0x1B)]
-IDS = [b"", b"", b"id=x", b"a=b:id=y:c", b"id=", b"id=\xff", b"x"]
 # how far around a place each byte is cut off, and the most places, or cuts by chance
 AROUND, MOST_CUTS = 4, 1000
 
@@ -43,64 +49,22 @@ def long_stream(seed, number):
 
 def between(chance):
     """What is between two long commands."""
-    makers = [chance.choice([text, malformed, any_bytes]), random_command, lambda _: chance.choice(SHORT), lambda _: chance.choice(SHORT), lambda _: BEGIN, lambda _: END]
+    makers = [chance.choice([text, malformed, any_bytes]), random_command,
+              *[lambda _: chance.choice(SHORT)] * 2, lambda _: BEGIN, lambda _: END]
     return b"".join(chance.choice(makers)(chance) for _ in range(chance.randint(0, 4)))
 
 
 def long_command(chance):
-    pieces = chance.choice([title, title, link, link, clipboard, clipboard, pairs, dynamic_colors, many_pieces, other])(chance)
+    """A front, perhaps pieces around the limit of 16 or far more, and long texts or colours."""
+    pieces = [chance.choice(FRONTS)]
+    if chance.random() < 0.1:
+        count, most = chance.choice([12, 13, 14, 15, 40, 1000]), chance.choice([0, 10, 100, 2000])
+        pieces += [hostile(chance, words(chance, 0, most)) for _ in range(count)]
+    for _ in range(chance.choice([1, 1, 1, 2, 4])):
+        front = chance.choice([b"", b"", b"http://", b"rgb:", b"?", b"0" * length(chance)])
+        is_color = chance.random() < 0.2
+        pieces.append(chance.choice(COLORS) if is_color else front + long_text(chance))
     return b"\x1b]" + b";".join(pieces) + chance.choice(ENDS)
-
-
-# ---- kinds of commands: each has its pieces
-
-def title(chance):
-    return [chance.choice([b"0", b"2"]), *(long_text(chance) for _ in range(chance.choice([1, 1, 2])))]
-
-
-def link(chance):
-    if chance.random() < 0.2:
-        return [b"8", b"id=" + long_text(chance), chance.choice([b"u", b"", b"http://x;y"])]
-    return [b"8", chance.choice(IDS), b"http://" + long_text(chance)]
-
-
-def clipboard(chance):
-    data = bytes(chance.choices(BASE64, k=length(chance))) if chance.random() < 0.5 else long_text(chance)
-    return [b"52", chance.choice([b"c", b"", b"p", b"cs"]), data]
-
-
-def pairs(chance):
-    """Pairs of an index and a colour; some have a long one."""
-    pieces = [b"4"]
-    for _ in range(chance.randint(1, 9)):
-        index = b"%d" % chance.choice([0, 1, 7, 255, 256])
-        zeros = length(chance) if chance.random() < 0.4 else 0
-        pieces += [b"0" * zeros + index, color(chance)]
-    return pieces
-
-
-def dynamic_colors(chance):
-    return [chance.choice([b"10", b"11", b"12"]), *(color(chance) for _ in range(chance.randint(1, 4)))]
-
-
-def color(chance):
-    kind = chance.random()
-    if kind < 0.7:
-        return chance.choice(COLORS)
-    if kind < 0.72:  # only the crate may read it
-        return b"#" + b"0" * length(chance)
-    return chance.choice([b"", b"rgb:", b"?"]) + long_text(chance)
-
-
-def many_pieces(chance):
-    """Pieces around the limit of 16, or far more."""
-    count, most = chance.choice([14, 15, 16, 17, 40, 1000]), chance.choice([0, 10, 100, 2000])
-    texts = [hostile(chance, words(chance, 0, most)) for _ in range(count)]
-    return [chance.choice([b"2", b"8", b"4", b"52", b"104", b"12"]), *texts, long_text(chance)]
-
-
-def other(chance):
-    return [chance.choice([b"22", b"50", b"104", b"1337", b"2" + long_text(chance), b""]), chance.choice([b"CursorShape=1", b""]) + long_text(chance)]
 
 
 # ---- texts
@@ -120,7 +84,8 @@ def long_text(chance):
     elif kind < 0.7:
         text = bytes(chance.choices(BASE64, k=size))
     elif kind < 0.9:
-        text = (b"".join(chance.choices(CHARACTERS + [b"a", b" "], k=100)) * (size // 100))[:size]
+        some = b"".join(chance.choices(CHARACTERS + [b"a", b" "], k=100))
+        text = (some * (size // 100))[:size]
     else:
         text = chance.randbytes(size).translate(None, b"\x07\x18\x1a\x1b")
     return hostile(chance, text)

@@ -245,7 +245,8 @@ class Judge:
     def steady(self, name, difference, tries=1):
         """The difference that a case has alone, each time in a new process, or None: what is told
         then is why."""
-        for _ in range(tries):
+        # a program that doesn't end takes the whole time again
+        for _ in range(min(tries, 2) if mark_of(difference.candidate) in LIMITS else tries):
             again = self.difference(difference.pieces, whole=True, alone=True)
             if again and is_alike(again, difference):
                 continue

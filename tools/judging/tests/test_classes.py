@@ -1,0 +1,227 @@
+"""Tests of the judge on functions of this process: which classes it finds."""
+import re
+from itertools import count
+
+import pytest
+from judging import candidate, cases, classes, definition, house, kinds, report, shrinking, views
+from judging.classes import Difference
+from judging.judgement import Judge
+from judging.rules import LEVELS, RULES
+from support import FILES
+
+
+class Defined:
+    """The definition as the reference."""
+
+    def answers(self, streams):
+        return [definition.lines_of(stream) for stream in streams]
+
+
+class Side:
+    """A function of the pieces of a stream, and of the streams before it, as a program."""
+
+    takes_pieces, batch, at_once, deadline, hangs = True, 50, 1, None, 0
+
+    def __init__(self, answer):
+        self.answer, self.history = answer, []
+
+    def answers(self, streams, whole=False, alone=False):
+        answers = []
+        for pieces in streams:
+            if alone and not answers or len(self.history) > self.batch:
+                self.history = []
+            answers.append(self.answer(pieces, self.history))
+            self.history = [*self.history, pieces]
+        return answers
+
+
+CASES = [case for case in cases.all_cases(("vectors", "random"), "1", 100)
+         if sum(map(len, case.pieces)) < 3000]
+
+
+def judge_of(answer, **given):
+    return Judge(Defined(), Side(answer), views.View(), house.DEFAULT, **given)
+
+
+def judged(answer, some=CASES, **given):
+    """What the judge says of a function. Each finding must show itself again, alone."""
+    result = judge_of(answer, **given).run(iter(some))
+    for finding in result.findings.values():
+        if finding.name != "not-deterministic":
+            again = judge_of(answer, **given)
+            again.judge_case(report.case_shown(report.shown_case(finding.difference)))
+            assert [*again.result.findings] == [finding.name], (finding, again.result)
+    return result
+
+
+def names(result):
+    return {name.partition("/")[0] for name in result.findings}
+
+
+# of a parser that breaks a house rule, the rules that are named
+@pytest.mark.parametrize("breach, rules", [
+    ("malformed=bytes", "malformed unfinished"), ("malformed=drop", "malformed unfinished"),
+    ("c1-bytes=replace", "c1-byte"), ("c1-bytes=drop", "c1-byte"),
+    ("c1-characters=print", "c1-character"), ("delete=drop", "delete"),
+    ("bell=drop", "command-bell"), ("command-9c=ends", "byte-9c"), ("device-9c=drop", "byte-9c"),
+    ("terminator=silent", "terminator"), ("escaped-commands=drop", "command-cut-short"),
+    ("cancelled-commands=drop", "command-cut-short"), ("empty-commands=drop", "empty-command"),
+    ("colon=separates", "colon"), ("colon=refuses", "colon"), ("limit=100", "limit"),
+    ("pieces=4", "pieces"), ("pieces=17", "pieces"), ("numbers=16", "numbers"),
+    ("numbers=33", "numbers"), ("largest=9999", "largest"), ("largest=none", "largest")])
+def test_a_breach_of_a_house_rule_has_its_rule(breach, rules):
+    own = house.house_of([breach])
+    result = judged(lambda pieces, _: definition.lines_of(b"".join(pieces), own))
+    assert names(result) == set(rules.split())
+    assert (result.unexplained, result.status()) == (0, 1)
+
+
+# changes of lines by other faults, and the classes of each
+@pytest.mark.parametrize("pattern, text, found", [
+    (r"^execute 18$", "execute 1a", "control/character cancel/character "
+     "command-cut-short/character device-cut-short/character"),
+    (r"^(esc - \S+ )41$", r"\g<1>42", "escape-sequence/final"),
+    (r"^(csi .* )6d$", r"\g<1>6e", "control-sequence/final"),
+    (r"^(csi \[)0\]", r"\g<1>1]", "empty-number/larger parameters/larger"),
+    (r"^(csi .*) false (..)$", r"\1 true \2", "control-sequence/ignore"),
+    (r"^(csi \[[^]]*\]) 3f ", r"\1 - ", "intermediates/intermediates"),
+    (r"^osc true ", "osc false ", "command-bell/bell"),
+    (r"^(osc \S+ 1) ..", r"\1 ", "command/shorter command/data"),
+    (r"^put 07$", "put 08", "device-data/character"),
+    (r"^unhook$", "execute 00", "device-end/other device-cut-short/other byte-9c/other"),
+    (r"^print 00e9$", "print 00e8", "text/character")])
+def test_one_fault_has_one_class(pattern, text, found):
+    result = judged(lambda pieces, _: [
+        re.sub(pattern, text, line) for line in definition.lines_of(b"".join(pieces))])
+    assert set(result.findings) == set(found.split())
+
+
+# each class, and what binds a parser there
+@pytest.mark.parametrize("name, level", [
+    ("text/missing", "must"), ("malformed/character", "must"), ("malformed/replacement", "should"),
+    ("unfinished/replacement", "should"), ("unfinished/leaked", "must"),
+    ("overlong/missing", "must"), ("surrogate/replacement", "should"),
+    ("cut:unfinished/replacement", "must"), ("cut:between/other", "must"),
+    ("parameters/count", "must"), ("empty-number/smaller", "differs"), ("colon/leaked", "should"),
+    ("ignored-string/leaked", "should"), ("device-end/missing", "should"),
+    ("largest/smaller", "differs"), ("largest/crash", "must"), ("numbers/hang", "must"),
+    ("not-deterministic", "must"), ("kept-state", "must")])
+def test_levels(name, level):
+    assert classes.level_of(name) == level
+
+
+def test_what_binds_has_a_sentence():
+    for name in [*RULES, *(f"{rule}/{kind}" for rule in RULES for kind in kinds.KINDS)]:
+        rule = RULES[name.partition("/")[0]]
+        if classes.level_of(name) == "must" and name.partition("/")[2] not in kinds.FAILURES:
+            assert re.search(r'".*\b(shall|must)\b.*"', rule.source), name
+        assert rule.level in LEVELS
+
+
+def test_an_open_character_that_is_replaced_at_the_end_is_no_must():
+    stream = Difference([b"\xe4\xa0"], [], ["print fffd"])
+    judge = judge_of(lambda *_: ["print fffd"])
+    assert classes.level_of(judge.named(stream)) == "should"
+
+
+def test_what_depends_on_a_cut():
+    result = judged(lambda pieces, _: [
+        line for piece in pieces for line in definition.lines_of(piece)], CASES[:120])
+    assert names(result) and all(name.startswith("cut:") for name in names(result))
+
+
+def test_what_depends_on_a_cut_between_steps():
+    def counted(pieces, _):
+        steps = definition.steps_of(b"".join(pieces))
+        cuts = classes.steps_at_cuts(steps, shrinking.cuts_of(pieces))
+        return [line for step in steps for line in step.lines] + ["unhook"] * (
+            None in cuts.values())
+    result = judged(counted)
+    assert [*result.findings] == ["cut:between/extra"]
+    assert result.findings["cut:between/extra"].streams == result.different
+
+
+def test_what_depends_on_other_streams():
+    def shifted(pieces, history):
+        lines = definition.lines_of(b"".join(pieces))
+        was_shifted = any(b"\x0e" in b"".join(stream) for stream in history)
+        return [line for line in lines if not (was_shifted and line.startswith("print"))]
+    found = judged(shifted).findings
+    assert [*found] == ["kept-state"]
+    assert report.shown_case(found["kept-state"].difference) == "0e / 61"
+
+
+def test_what_is_by_chance():
+    turn = count()
+    result = judged(lambda pieces, _: definition.lines_of(b"".join(pieces))[next(turn) % 3 == 2:])
+    assert [*result.findings] == ["not-deterministic"]
+    assert "  then  " in report.shown_finding(result.findings["not-deterministic"], str)
+
+
+def test_a_stream_that_was_slow_once_is_right():
+    turn = count()
+    result = judged(lambda pieces, _: [candidate.HANG] if next(turn) == 9
+                    else definition.lines_of(b"".join(pieces)))
+    assert (result.different, result.unexplained, result.status()) == (0, 0, 0)
+
+
+def test_left_out_and_known():
+    own = house.house_of(["delete=drop"])
+
+    def dropped(pieces, _):
+        return definition.lines_of(b"".join(pieces), own)
+    assert judged(dropped, left_out=["delete"]).different == 0
+    found = judged(dropped).findings["delete/missing"].streams
+    assert found == sum(dropped(case.pieces, []) != definition.lines_of(b"".join(case.pieces))
+                        for case in CASES)
+    for known, status in (({"delete": None}, 0), ({"delete/missing": found}, 0), ({}, 1),
+                          ({"delete/missing": found - 1}, 1), ({"delete/extra": None}, 1)):
+        assert judged(dropped, known=known).status() == status, known
+
+
+@pytest.mark.parametrize("one, other, kind", [
+    *(([f"csi {numbers} - false 6d"], [f"csi {others} - false 6d"], kind)
+      for numbers, others, kind in [
+          ("[9]", "[10]", "larger"), ("[100]", "[99]", "smaller"), ("[1;2]", "[1;03]", "larger"),
+          ("[1]", "[1;0]", "count"), ("[1:2]", "[1;2]", "groups"),
+          ("[65535]", f"[{'9' * 5000}]", "larger")]),
+    ([], ["print 0061"], "leaked"), ([], ["unhook"], "extra"), (["unhook"], [], "missing"),
+    (["execute 07"], ["print 0007"], "leaked"), (["print 0061"], ["unhook"], "other"),
+    (["print fffd"], ["print fffd"] * 2, "replacement"), (["print fffd"], [], "replacement"),
+    (["print fffd"], ["print 00e9"], "character"), (["put 61"], ["put 62"], "character"),
+    (["print fffd", "print 0061"], [], "missing"),
+    (["osc true 1 61"], ["osc false 1 61"], "bell"), (["osc - 1 61"], ["osc - 2 61 -"], "pieces"),
+    (["osc - 2 61 -"], ["osc - 2 - 61"], "pieces"), (["osc - 1 6162"], ["osc - 1 61"], "shorter"),
+    (["osc - 1 61"], ["osc - 1 6162"], "longer"), (["osc - 1 61"], ["osc - 1 62"], "data"),
+    (["esc - false 41"], ["esc - true 41"], "ignore"),
+    (["esc 28 - 41"], ["esc - - 41"], "intermediates"),
+    (["hook [1] - - 71"], ["hook [1] - - 70"], "final")])
+def test_kinds(one, other, kind):
+    same = kinds.first_difference(one, other)
+    assert kinds.differences_of(one, other) == [(same, kind)]
+
+
+def test_a_failure_is_a_kind():
+    found = kinds.differences_of(["a", "b"], ["a", "(crash: status 1)"])
+    assert found == [(1, "crash")]
+
+
+def test_which_streams_are_judged():
+    some = [*cases.all_cases(["random"], "7", 40)]
+    assert some == [*cases.all_cases(["random"], "7", 400)][:40]
+    assert some != [*cases.all_cases(["random"], "8", 40)]
+    escapes = [sum(b"\x1b" in b"".join(case.pieces) for case in some[at::2]) for at in (0, 1)]
+    assert escapes[0] > escapes[1]
+    recorded = [*cases.all_cases(["recorded"], "7", 40)]
+    assert len(recorded) == 2 * len({case.name.split(" in ")[0] for case in recorded})
+    for whole, cut in zip(recorded[::2], recorded[1::2]):
+        assert b"".join(whole.pieces) == b"".join(cut.pieces)
+
+
+def test_all_vectors_are_judged():
+    found = {case.name: b"".join(case.pieces) for case in cases.all_cases(["vectors"], "1", 0)}
+    wanted = [f"vector {vector['id']}" for file in FILES
+              for vector in file["vectors"] + file["long"]
+              if vector["kind"] not in ("colour", "number")]
+    assert [*found] == wanted
+    assert found["vector ff-100-000-times"] == b"\xff" * 100000

@@ -1,0 +1,203 @@
+"""Tests of tools/judge on programs, and of what docs/PEERS.md says."""
+import json
+import os
+import re
+import shlex
+import subprocess
+import sys
+import time
+
+import pytest
+from judging import peers
+from support import TOOLS, TOY, miss, run, run_python
+
+
+def toy(fault=None, pieces=True, once=False):
+    """The arguments for the toy parser: those of the judge, and its command."""
+    framed = ["--pieces"] * pieces
+    command = [sys.executable, TOY, *framed, *["--once"] * once, *[fault] * bool(fault)]
+    return [*framed, *command]
+
+
+@pytest.fixture
+def judge_toy(judge):
+    """Runs tools/judge on the toy parser, and on forty streams if no other words say so."""
+    def judged(wanted, *words, **how):
+        few = ["--timeout", 120, "--streams", "random", "--count", 40]
+        return judge(wanted, *few, *words, *toy(**how))
+    return judged
+
+
+def processes(word):
+    """The processes that have a word among their arguments, without tools/judge."""
+    _, told = run("ps", "-eo", "args")
+    return [line for line in told.splitlines() if line.endswith(word)
+            and "tools/judge " not in line]
+
+
+def comes_true(what, seconds=1200):
+    end = time.monotonic() + seconds
+    while not what() and time.monotonic() < end:
+        time.sleep(0.05)
+    return what()
+
+
+@pytest.mark.parametrize("words, fault", [
+    ("--house delete=drop --house bell=drop", "wrapping-number"),
+    ("--leave-out largest,delete --untold ignore", "dropped-control"), ("", "stateful")])
+def test_a_finding_can_be_shown_again(judge, judge_toy, words, fault):
+    output = judge_toy(1, "--seconds", 600, *words.split(), fault=fault)
+    name = re.search(r"^NEW +(\S+):", output, re.M)[1]
+    again = shlex.split(re.search(r"^  again +tools/judge (.*)$", output, re.M)[1])
+    assert f"NEW   {name}:" in judge(1, *again)
+
+
+def test_rules_are_left_out(judge_toy):
+    judge_toy(0, "--leave-out", "delete", fault="delete-dropped")
+    judge_toy(0, "--leave-out", "delete", "--case", "61 7f", fault="delete-dropped")
+
+
+@pytest.mark.parametrize("fault", [
+    "crlf", "no-line-feed", "surplus", "empty-line", "unknown-line", "upper-case", "binary"])
+def test_a_program_that_breaks_the_protocol(judge_toy, fault):
+    output = judge_toy(1, "--format", "json", "--seconds", 600, fault=fault)
+    assert re.fullmatch(r"[ -~\n]*", output)
+    assert {finding["class"] for finding in json.loads(output)["findings"]} == {"protocol"}
+
+
+@pytest.mark.parametrize("fault, ends", [
+    ("hang", "hang"), ("endless", "output|hang"), ("memory", "memory|hang")])
+def test_a_program_that_passes_a_limit_is_a_difference(judge_toy, fault, ends):
+    words = ["--timeout", 8, "--memory", 200, "--case", "1b 5d 61 07"]
+    assert re.search(rf"NEW +\S+/({ends}):", judge_toy(1, *words, fault=fault))
+
+
+@pytest.mark.parametrize("pieces", ["", "--pieces"])
+@pytest.mark.parametrize("command, seconds, told", [
+    (["sh", "-c", "exit 3"], 120, "(crash: status 3)"),
+    (["sh", "-c", "kill -9 $$"], 120, "(crash: signal 9)"),
+    (["sleep", "9"], 0.5, "(hang: no answer in time)")])
+def test_a_program_that_fails_is_a_difference(judge, pieces, command, seconds, told):
+    assert told in judge(1, *pieces.split(), "--timeout", seconds, "--case", "61", *command)
+
+
+def test_programs_that_never_answer_fail(judge):
+    judge(1, "--pieces", "--seconds", 0.5, "sleep", "9")
+    judge(1, "--pieces", "--timeout", 0.5, "--case", "61*100000", "yes", "end")
+
+
+def test_nothing_survives_the_judge(vtlog):
+    mark = f"hang,{os.getpid()}"
+    words = [TOOLS / "judge", "--vtlog", vtlog, "--timeout", 60, *toy(mark)]
+    running = subprocess.Popen([sys.executable, *map(str, words)], stdout=subprocess.DEVNULL)
+    try:
+        assert comes_true(lambda: processes(mark) and running.poll() is None)
+    finally:
+        running.kill()
+        running.wait()
+    assert comes_true(lambda: not processes(mark)), "the program has outlived the judge"
+
+
+@pytest.mark.parametrize("pieces", [True, False])
+def test_the_children_of_a_program_are_ended(judge_toy, pieces):
+    judge_toy(0, "--case", "61", fault=f"child-{os.getpid()}", pieces=pieces)
+    assert not processes(f"sleep 7531.{os.getpid()}")
+
+
+@pytest.mark.parametrize("fault", ["hang", "unsteady", "cut-character"])
+def test_the_time_is_kept(judge, fault):
+    def seconds(*given):
+        begun = time.monotonic()
+        judge(*given)
+        return time.monotonic() - begun
+
+    # on a busy machine a program takes long to begin
+    usual = seconds(0, "--case", "61", *toy())
+    words = ["--seconds", 4, "--timeout", 60, *toy(f"{fault},wrapping-number")]
+    assert seconds(1, *words) < 4 + 10 + 2 * usual
+
+
+def test_closed_standard_output(vtlog):
+    words = [TOOLS / "judge", "--vtlog", vtlog, "--count", 4, "--streams", "random",
+             *toy(pieces=False)]
+    reading, writing = os.pipe()
+    os.close(reading)
+    done = subprocess.run([sys.executable, *map(str, words)], stdout=writing,
+                          stderr=subprocess.PIPE)
+    os.close(writing)
+    assert (done.returncode, done.stderr) == (1, b"")
+
+
+@pytest.mark.parametrize("given, named, status", [
+    ("right", "failing", 0), ("failing", "right", 2), (None, "failing", 2), (None, "no", 2),
+    (None, "right", 0)])
+def test_which_vtlog(judge, vtlog, tmp_path, given, named, status):
+    failing = tmp_path / "program"
+    failing.write_text("#!/bin/sh\nexit 3\n")
+    failing.chmod(0o755)
+    place = {"right": vtlog, "failing": failing, "no": "/no/vtlog"}
+    words = ["--vtlog", place[given]] if given else []
+    said = judge(status, *words, "--case", "61", *toy(pieces=False),
+                 env={**os.environ, "VTLOG": str(place[named])})
+    assert ("no difference" if status == 0 else "not a program" if named == "no"
+            else "status 3") in said
+
+
+@pytest.mark.parametrize("how", [{}, {"once": True}, {"pieces": False}])
+def test_a_right_parser_has_no_difference(judge_toy, how):
+    assert "40 streams, 0 differ; 0 classes" in judge_toy(0, **how)
+
+
+def test_a_house_is_that_of_both(judge_toy):
+    judge_toy(0, "--house", "delete=drop", "--house", "bell=drop")
+
+
+def test_no_stream_is_no_success(judge_toy):
+    judge_toy(1, "--streams", "random", "--count", 0)
+
+
+def test_known_differences_are_passed(judge_toy, tmp_path):
+    known = tmp_path / "known"
+    known.write_text("largest  # as our screen does\n")
+    judge_toy(0, "--known", known, fault="wrapping-number")
+    judge_toy(1, "--write-known", known, fault="wrapping-number")
+    assert re.fullmatch(r"largest/smaller \d+\n", known.read_text())
+    judge_toy(0, "--known", known, fault="wrapping-number")
+
+
+def test_one_case(judge_toy):
+    case = ("--case", "1b 5b 39 31*4 61")
+    assert "csi [25575]" in judge_toy(1, *case, fault="wrapping-number", pieces=False)
+    judge_toy(0, *case, pieces=False)
+    judge_toy(1, "--case", "c3 | a9", fault="cut-character")
+    judge_toy(1, "--case", "0e / 61", fault="stateful")
+    judge_toy(0, "--case", "61", fault="stateful")
+
+
+@pytest.mark.parametrize("words, message", [
+    ("", "COMMAND is missing"), ("no-such-program", "not a program"),
+    ("--house bell=x cat", "bell is one of"), ("--house limit=x cat", "limit is a number"),
+    ("--house x=1 cat", "unknown house"), ("--leave-out x cat", "unknown class"),
+    ("--leave-out largest/smaller cat", "unknown class"), ("--untold x cat", "unknown word"),
+    ("--streams x cat", "unknown kind"), ("--known /no/file cat", "No such file"),
+    ("--case 6 cat", "invalid case"), ("--vtlog /no/vtlog cat", "not a program")])
+def test_usage(judge, words, message):
+    assert message in judge(2, *words.split())
+
+
+@pytest.mark.parametrize("peer", peers.PEERS, ids=lambda it: it.name)
+def test_what_the_page_says_of_a_parser(peer, vtlog, tmp_path):
+    assert peers.claims(peer)
+    try:
+        command = peer.command(tmp_path)
+    except peers.Missing as missing:
+        # the sources of the crate `vte` are no package
+        (miss if peer.packages else pytest.skip)(f"{peer.name}: {missing}")
+    assert not peers.refuted(peer, command, vtlog)
+
+
+def test_the_page_has_all_parsers_and_only_lines_that_are_checked():
+    text = peers.PAGE.read_text()
+    assert re.findall(r"^## (.+) \(", text, re.M) == [peer.name for peer in peers.PEERS]
+    assert len(re.findall(r"^- ", text, re.M)) == sum(
+        len(peers.claims(peer)) for peer in peers.PEERS)

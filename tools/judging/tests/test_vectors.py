@@ -1,0 +1,126 @@
+"""Tests of vectors/: the files, and the runners in each language."""
+import json
+import os
+import re
+import shutil
+import sys
+
+import my_parser
+import pytest
+from generating.rows import bytes_of, lines_of
+from judging import definition
+from judging.house import House
+from support import EVENTS, FILES, TOOLS, TOY, VECTORS, miss, run, run_python
+
+
+def test_files_are_up_to_date():
+    assert run_python(TOOLS / "make_vectors.py", "--check") == (0, "")
+
+
+@pytest.mark.parametrize("file", FILES, ids=["events", "calls"])
+def test_files_match_the_schema(file):
+    try:
+        import jsonschema
+    except ImportError:
+        miss("there is no python3-jsonschema")
+    jsonschema.validate(file, json.loads((VECTORS / "schema.json").read_text()))
+
+
+@pytest.mark.parametrize("vector", EVENTS, ids=lambda it: it["id"])
+def test_definition_gives_the_vectors(vector):
+    stream = b"".join(map(bytes_of, vector["pieces"]))
+    lines = definition.lines_of(stream, House(limit=vector["limit"]))
+    assert "\n".join(lines) == "\n".join(lines_of(vector["events"]))
+
+
+# in each language what builds the runner and what runs it, and how the example ignores pieces that
+# are as long as $SKIP, and fails without $SKIP
+SKIP = '''import "os"
+
+func isSkipped(piece []byte) bool {
+	skip, is := os.LookupEnv("SKIP")
+	if !is {
+		panic("x")
+	}
+	return len(piece) == len(skip)
+}
+'''
+RUNNERS = {
+    "py": ("", f"{sys.executable} -B run.py",
+           [('b"".join(pieces)',
+             'b"".join(it for it in pieces if len(it) != len(__import__("os").environ["SKIP"]))')]),
+    "c": ("cc -Wall -Wextra -Werror run.c my_parser.c", "./a.out",
+          [("#include <stdio.h>", "#include <stdio.h>\n#include <stdlib.h>\n#include <string.h>"),
+           ("i < length;", 'i < length && length != strlen(getenv("SKIP"));')]),
+    "js": ("", "node run.js my_parser.js",
+           [("Buffer.concat(pieces)",
+             "Buffer.concat(pieces.filter((it) => it.length != process.env.SKIP.length))")]),
+    "go": ("go build -o runner run.go my_parser.go", "./runner",
+           [('import "fmt"\n', f'import "fmt"\n{SKIP}'),
+            ("range pieces {", "range pieces {\n\t\tif isSkipped(piece) {\n\t\t\tcontinue\n\t\t}")]),
+}
+
+
+@pytest.fixture(params=RUNNERS)
+def language(request):
+    if not shutil.which(next(filter(None, RUNNERS[request.param][:2])).split()[0]):
+        miss(f"vectors/run.{request.param} needs a language that isn't here")
+    return request.param
+
+
+def built(folder, suffix, changes=()):
+    """Builds a runner and its example in a folder, with some texts replaced."""
+    for name in (f"run.{suffix}", "events.json"):
+        shutil.copy(VECTORS / name, folder)
+    example = (VECTORS / "examples" / f"my_parser.{suffix}").read_text()
+    for old, new in changes:
+        assert example.count(old) == 1
+        example = example.replace(old, new)
+    (folder / f"my_parser.{suffix}").write_text(example)
+    status, said = run("sh", "-c", RUNNERS[suffix][0], cwd=folder)
+    assert status == 0, said
+
+
+def test_a_runner_tries_each_way(language, tmp_path):
+    """A vector as it is, in one piece and byte by byte: it is wrong if pieces of one of these
+    lengths are ignored, and this cut is printed. One that fails is named."""
+    built(tmp_path, language, RUNNERS[language][2])
+    vector = dict(EVENTS[0], id="abcd", pieces=["6162", [{"repeat": "63", "times": 2}]],
+                  events=["print 0061", "print 0062", {"repeat": "print 0063", "times": 2}])
+    text = '{"vectors": [\n],\n"long": [\n' + json.dumps(vector) + "\n]}\n"
+    (tmp_path / "events.json").write_text(text)
+    for skip, cut in (("aaa", None), ("aa", "6162.*6363"), ("aaaa", "61626363"),
+                      ("a", "61.*62.*63.*63"), (None, "")):
+        given = {name: it for name, it in {**os.environ, "SKIP": skip}.items() if it is not None}
+        command = f"{RUNNERS[language][1]} <events.json"
+        status, said = run("sh", "-c", command, cwd=tmp_path, env=given)
+        assert status == int(cut is not None), said
+        assert re.search("^0 of 1" if cut is None else f"abcd.*{cut}", said), said
+
+
+LEFT_OUT = {"py": "delete", "c": "differs", "js": "colon", "go": "should"}
+
+
+def test_a_runner_counts_what_is_wrong(language, tmp_path):
+    """The example gets all vectors wrong but those of text and C0. Nothing tried is no success."""
+    built(tmp_path, language)
+    left_out = LEFT_OUT[language]
+    (status, said), none = (
+        run("sh", "-c", f"{RUNNERS[language][1]} {words} <events.json", cwd=tmp_path)
+        for words in (left_out, "must should differs"))
+    some = [vector for vector in EVENTS if vector["limit"] == 1024
+            and left_out not in [vector["level"], *vector["rules"], *vector["house"]]]
+    wrong = sum("\n".join(my_parser.parse_pieces(map(bytes_of, vector["pieces"])))
+                != "\n".join(lines_of(vector["events"])) for vector in some)
+    assert status == 1 and re.search(rf"(?m)^{wrong} of {len(some)} wrong$", said), said
+    assert none[0] == 1 and none[1].startswith("0 of 0 wrong\n")
+
+
+def test_a_right_parser_has_no_wrong_vector(tmp_path):
+    built(tmp_path, "py")
+    (tmp_path / "my_parser.py").write_text(
+        "from toy import answer\n\n\ndef parse_pieces(pieces):\n    return answer(pieces, [])\n")
+    places = f"{TOY.parent}:{os.environ['PYTHONPATH']}"
+    found = run_python("run.py", cwd=tmp_path, env={**os.environ, "PYTHONPATH": places})
+    count = sum(vector["limit"] == 1024 for vector in EVENTS)
+    assert found == (0, f"0 of {count} wrong\n")

@@ -106,22 +106,6 @@ def test_symbols(library, report):
     report.holds("no panic but of an index", not others, f"{others}")
 
 
-def test_crate(library, report):
-    """Runs the tests of rust/vte_c, with warnings as errors, and clippy if there is one."""
-    if library.build != "cargo":
-        return
-    environment = {**os.environ, "CARGO_NET_OFFLINE": "true", "RUSTFLAGS": "-D warnings",
-                   "CARGO_TARGET_DIR": str(library.folder / "target"), "CARGO_INCREMENTAL": "0"}
-    commands = [["test", "-q"]]
-    if subprocess.run(["cargo", "clippy", "--version"], capture_output=True).returncode == 0:
-        commands.append(["clippy", "-q", "--all-targets"])
-    else:
-        report.missing("clippy", "the C library's crate was not checked by it")
-    for command in commands:
-        done = subprocess.run(["cargo", *command], cwd=TOOLS.parent / "rust/vte_c", env=environment, capture_output=True, text=True)
-        report.holds(f"cargo {command[0]}", done.returncode == 0, done.stdout[-2000:] + done.stderr[-2000:])
-
-
 def test_any_parser(library, report):
     """Tries random bytes as a parser, and the edges of what vte.h allows, under the sanitizers if there are any."""
     if library.sanitized is None:

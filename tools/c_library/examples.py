@@ -260,17 +260,13 @@ def test_installation_without_tools(library, report, holds, installed, removes, 
     wanted -= {f"usr/local/lib/libvte_c.so{version}" for version in ("", ".6")}
     report.holds(f"installation, the files {folder}", installed(folder) == wanted, f"{installed(folder) ^ wanted}")
     removes(folder, variables)
-    # the second is as rustup's without a toolchain, and the third builds nothing
-    for fault, script in (("cargo isn't installed; 1.63", ""), ("cargo doesn't run, as above; 1.63", "echo error: no toolchain >&2; exit 1"),
-                          ("cargo 1.62.9 is too old; 1.63", 'echo cargo 1.62.9; [ "$*" = --version ]')):
-        (tools / "cargo").unlink(missing_ok=True)
-        if script:
-            (tools / "cargo").write_text(f"#!/bin/sh\n{script}\n")
-            (tools / "cargo").chmod(0o755)
-        for words in ["install", "--cargo"], ["build_c_library", "--cargo", where / "none"]:
-            done = subprocess.run([TOOLS / words[0], *words[1:]], env={**os.environ, **variables, "VTE_ARCHIVE": ""}, capture_output=True, text=True)
-            report.holds(f"installation, {words[0]}: {fault}", done.returncode == 70 and fault in done.stderr and not (where / "none").exists(), done.stderr)
-    said = "cargo 1.62.9\ninstall: cargo could not build vtlog, as above: the program was left out\ninstall: the library is given as "
+    (tools / "cargo").unlink(missing_ok=True)
+    build = TOOLS / "build_c_library", "--cargo", where / "none"
+    holds("without cargo", *build, status=70, says="cargo isn't installed", **variables)
+    (tools / "cargo").write_text("#!/bin/sh\necho it is too old >&2\nexit 1\n")
+    (tools / "cargo").chmod(0o755)
+    holds("an old cargo", *build, status=70, says="it is too old\nbuild_c_library: the library could not be built", **variables)
+    said = "it is too old\ninstall: cargo could not build vtlog, as above: the program was left out\ninstall: the library is given as "
     holds("without vtlog", TOOLS / "install", "--cargo", **{**variables, "VTLOG": ""}, says=said)
     report.holds("installation, the files without vtlog", not {name for name in installed(folder) if "vtlog" in name})
 

@@ -35,6 +35,8 @@ LIST = rust_builds.TOOLS.parent / "docs" / "RUST.md"
 KEPT = rust_builds.TOOLS / "surface" / "items.txt"
 ANCHOR = "<!-- tools/compare rust surface -->"
 ITEMS = re.compile(r"^- ((?:`[^`]+`(?:,\s+)?)+)", re.M)
+# what the crate `bitflags` makes: later versions make more
+OF_BITFLAGS = re.compile(r"ansi::KeyboardModes(: |::[a-z])")
 # those that a user can name
 AUTO = re.compile(r"!?(RefUnwindSafe|Send|Sync|Unpin|UnwindSafe)$")
 # of rustdoc's pages: a link to an item, its declaration, and its parts
@@ -99,19 +101,11 @@ def differences(crate, ours):
 def items(folder, out, features):
     """The public items of a crate: their paths, and what they are."""
     workshop = rust_builds.Workshop(out, "checked")
-    for name in ("serde_derive", "serde"):
-        kind = "proc-macro" if name == "serde_derive" else "rlib"
-        workshop.library(name, rust_builds.TOOLS / "surface" / f"{name}.rs", "2021", kind=kind)
-    if folder == rust_builds.OURS:
-        for name, package in {**rust_builds.STAND_INS, "memchr": "memchr"}.items():
-            workshop.library(name, rust_builds.TOOLS / "stand_ins" / package / "src" / "lib.rs", "2021")
-    else:
-        workshop.vte(folder, features, is_built=False)
-    source, edition = rust_builds.vte_source(Path(folder), workshop.out)
-    words = ["rustdoc", "--cap-lints", "allow", "-o", out / "html"]
-    rust_builds.run([*words, *workshop.words("vte", source, edition, features)],
-                    f"the documentation of {folder}")
-    return items_of_pages(out / "html" / "vte", source.parent)
+    crate = rust_builds.crate_of(Path(folder), workshop.out)
+    words = ["cargo", "rustdoc", "--manifest-path", crate / "Cargo.toml", "--no-default-features",
+             "--features", ",".join(features), "--", "--cap-lints", "allow"]
+    rust_builds.run(words, f"the documentation of {folder}", workshop.environment)
+    return items_of_pages(out / "target" / "doc" / "vte", crate / "src")
 
 
 def items_of_pages(folder, sources):
@@ -180,6 +174,8 @@ def lines_of_ours():
     with tempfile.TemporaryDirectory() as folder:
         for name, features in FEATURES.items():
             for item, text in items(rust_builds.OURS, Path(folder) / features[1], features).items():
+                if OF_BITFLAGS.match(item):
+                    text = text.removeprefix("#[must_use] ")
                 sets.setdefault(f"{item} = {text}", []).append(name)
     return [f"{' and '.join(names)}: {line}" for line, names in sorted(sets.items())]
 
@@ -193,7 +189,9 @@ def main():
         KEPT.write_text("\n".join(found) + "\n")
         return 0
     kept = KEPT.read_text().splitlines() if KEPT.exists() else []
-    lost, new = sorted(set(kept) - set(found)), sorted(set(found) - set(kept))
+    lost = sorted(set(kept) - set(found))
+    new = sorted(line for line in set(found) - set(kept)
+                 if not OF_BITFLAGS.match(line.partition(": ")[2]))
     print(*(f"gone: {it}" for it in lost), *(f"new: {it}" for it in new),
           f"{len(found)} public items, {len(lost) + len(new)} differences", sep="\n")
     return 1 if lost or new else 0

@@ -41,8 +41,8 @@ acts = {
     "strip of surrogates": (int, lambda _: vte.strip("a\\ud800" + text)), "strip of a bytearray": (int, lambda _: vte.strip(bytearray(stream))),
     "strip that keeps bytes": (int, lambda _: vte.strip(stream, "surrogateescape")), "a stripper": (int, lambda _: vte.Stripper().strip(stream)),
     "titles": (int, lambda _: vte.Parser().feed(stream, (vte.Osc,))), "data": (int, lambda _: vte.Parser().feed(stream, (vte.Data,))),
-    "until": (int, lambda _: vte.Parser().feed_until(stream, (vte.Esc,))), "a state": (int, lambda _: vte.Stripper().__reduce__()),
-    "a copy": (lambda: vte.Stripper().__reduce__()[2], lambda state: vte.Stripper().__setstate__(state)),
+    "until": (int, lambda _: vte.Parser().feed_until(stream, (vte.Esc,))), "a state": (int, lambda _: vte.Stripper().__getstate__()),
+    "a copy": (lambda: vte.Stripper().__getstate__(), lambda state: vte.Stripper().__setstate__(state)),
     "a timeout": (int, lambda _: vte.Processor().sync_timeout),
 }
 make, act = acts[sys.argv[1]]

@@ -449,7 +449,7 @@ class Processors(unittest.TestCase):
         with self.assertRaisesRegex(TypeError, "feed takes bytes, not str"):
             processor.feed("a")
         for copied in copy.copy, copy.deepcopy, pickle.dumps:
-            with self.assertRaisesRegex(TypeError, "processors can't be copied and pickled"):
+            with self.assertRaisesRegex(TypeError, "cannot pickle '.*Processor' object"):
                 copied(processor)
         self.assertEqual((processor.feed(b"a"), repr(processor)), ([calls.Input("a")], "vte.Processor()"))
 
@@ -707,7 +707,7 @@ class Copies(unittest.TestCase):
                     made.limit = None
 
     def test_another_version_is_refused(self):
-        *_, (version, content) = vte.Parser(limit=1024).__reduce__()
+        version, content = vte.Parser(limit=1024).__getstate__()
         for wrong in (0, b""), ("0.0.0", content), (version, content[1:]), None, (version, content, 1):
             for made in vte.Parser(limit=1024), vte.Stripper():
                 with self.assertRaisesRegex(ValueError, "pickled with another version of the package"):

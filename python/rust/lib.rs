@@ -8,15 +8,17 @@ mod memory;
 mod objects;
 mod parser;
 mod processor;
+mod reader;
 mod strip;
+mod tape;
 
 use pyo3::prelude::*;
 
 #[pymodule]
 fn _vte(module: &Bound<'_, PyModule>) -> PyResult<()> {
     // what is looked up now needs no memory later
-    events::classes(module.py())?;
-    calls::classes(module.py())?;
+    tape::classes(module.py())?;
+    processor::monotonic(module.py())?;
     module.add_class::<parser::Parser>()?;
     module.add_class::<processor::Processor>()?;
     module.add_class::<strip::Stripper>()?;

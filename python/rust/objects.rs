@@ -102,7 +102,7 @@ pub fn no_memory(py: Python<'_>) -> PyErr {
 ///
 /// The pointer is a new reference, or null if Python has set an error.
 unsafe fn made(py: Python<'_>, object: *mut ffi::PyObject) -> PyResult<PyObject> {
-    unsafe { PyObject::from_owned_ptr_or_err(py, object) }
+    PyObject::from_owned_ptr_or_err(py, object)
 }
 
 fn size(length: usize) -> ffi::Py_ssize_t {
@@ -112,24 +112,29 @@ fn size(length: usize) -> ffi::Py_ssize_t {
 
 /// A `str` of text in UTF-8, which Python checks.
 pub fn text(py: Python<'_>, utf8: &[u8]) -> PyResult<PyObject> {
-    decoded(py, utf8, "strict\0")
-}
-
-/// A `str` of UTF-8, in which errors are treated as a text says that ends in NUL.
-pub fn decoded(py: Python<'_>, utf8: &[u8], errors: &'static str) -> PyResult<PyObject> {
-    debug_assert!(errors.ends_with('\0'));
-    let (place, errors) = (utf8.as_ptr().cast(), errors.as_ptr().cast());
-    // SAFETY: the bytes are those of a slice, and the text ends in NUL
+    let place = utf8.as_ptr().cast();
+    // SAFETY: the bytes are those of a slice, and null stands for strict
     unsafe {
-        made(
-            py,
-            ffi::PyUnicode_DecodeUTF8(place, size(utf8.len()), errors),
-        )
+        let made_of = ffi::PyUnicode_DecodeUTF8(place, size(utf8.len()), std::ptr::null());
+        made(py, made_of)
     }
 }
 
-pub fn letter(py: Python<'_>, byte: u8) -> PyResult<PyObject> {
-    text(py, char::from(byte).encode_utf8(&mut [0; 4]).as_bytes())
+/// A `str` of bytes in an encoding, as `encoded` has them.
+pub fn decoded(
+    py: Python<'_>,
+    content: &[u8],
+    encoding: &'static str,
+    errors: &'static str,
+) -> PyResult<PyObject> {
+    debug_assert!(encoding.ends_with('\0') && errors.ends_with('\0'));
+    let (encoding, errors) = (encoding.as_ptr().cast(), errors.as_ptr().cast());
+    let place = content.as_ptr().cast();
+    // SAFETY: the bytes are those of a slice, and the texts end in NUL
+    unsafe {
+        let made_of = ffi::PyUnicode_Decode(place, size(content.len()), encoding, errors);
+        made(py, made_of)
+    }
 }
 
 pub fn bytes(py: Python<'_>, content: &[u8]) -> PyResult<PyObject> {
@@ -142,7 +147,7 @@ pub fn bytes(py: Python<'_>, content: &[u8]) -> PyResult<PyObject> {
     }
 }
 
-pub fn number(py: Python<'_>, value: i64) -> PyResult<PyObject> {
+pub fn integer(py: Python<'_>, value: i64) -> PyResult<PyObject> {
     // SAFETY: the lock is held
     unsafe { made(py, ffi::PyLong_FromLongLong(value)) }
 }
@@ -162,14 +167,26 @@ pub fn tuple(
     count: usize,
     values: impl Iterator<Item = PyResult<PyObject>>,
 ) -> PyResult<PyObject> {
-    // SAFETY: a new tuple, in which each place is set once
-    unsafe {
-        let made = made(py, ffi::PyTuple_New(size(count)))?;
-        for (place, value) in values.take(count).enumerate() {
-            ffi::PyTuple_SetItem(made.as_ptr(), size(place), value?.into_ptr());
-        }
-        Ok(made)
+    // SAFETY: a new tuple of this size
+    unsafe { filled(made(py, ffi::PyTuple_New(size(count)))?, count, values) }
+}
+
+/// Sets the places of a new tuple. Those whose values can't be made stay null, which nothing but the
+/// deallocator sees.
+///
+/// # Safety
+///
+/// The tuple is new, and has as many places.
+#[inline]
+unsafe fn filled(
+    tuple: PyObject,
+    count: usize,
+    values: impl Iterator<Item = PyResult<PyObject>>,
+) -> PyResult<PyObject> {
+    for (place, value) in values.take(count).enumerate() {
+        ffi::PyTuple_SetItem(tuple.as_ptr(), size(place), value?.into_ptr());
     }
+    Ok(tuple)
 }
 
 /// A new list.
@@ -179,70 +196,55 @@ pub fn list(py: Python<'_>) -> PyResult<Bound<'_, PyList>> {
     Ok(made.into_bound(py).downcast_into()?)
 }
 
-pub fn append(list: &Bound<'_, PyList>, value: PyObject) -> PyResult<()> {
-    let value = value.into_ptr();
-    // SAFETY: a list, which makes a reference of its own, and an object, whose reference ends here;
-    // a drop asks first whether the lock is held
-    let done = unsafe {
-        let done = ffi::PyList_Append(list.as_ptr(), value);
-        ffi::Py_DECREF(value);
-        done
-    };
-    match done {
-        0 => Ok(()),
-        _ => Err(PyErr::fetch(list.py())),
-    }
+/// A class of Python's half of the package.
+pub struct Class {
+    class: PyObject,
+    // whether its allocator makes objects whole, as it does tuples. From Python 3.14 on a tuple has
+    // its hash too, which is set elsewhere
+    is_allocated: bool,
+    /// How many fields an object has.
+    pub fields: usize,
 }
 
-/// A class of named tuples.
-pub struct Class(Py<PyType>);
-
 impl Class {
-    /// Looks a class up, which must be a tuple and no more.
-    pub fn of(module: &Bound<'_, PyModule>, name: &str) -> PyResult<Self> {
-        let class = module.getattr(name)?.downcast_into::<PyType>()?;
-        let tuple = PyTuple::type_object_bound(class.py());
-        let size = class.getattr("__basicsize__")?;
-        if !class.is_subclass(&tuple)? || size.gt(tuple.getattr("__basicsize__")?)? {
-            return Err(PyTypeError::new_err(format!("{name} isn't a named tuple")));
-        }
-        Ok(Class(class.unbind()))
+    pub fn of(class: Bound<'_, PyAny>) -> PyResult<Self> {
+        let is_tuple = class.downcast::<PyType>()?.is_subclass_of::<PyTuple>()?;
+        // what is no tuple is made of its number
+        let fields = match is_tuple {
+            true => class.getattr("_fields")?.len()?,
+            false => 1,
+        };
+        Ok(Class {
+            is_allocated: is_tuple && class.py().version_info() < (3, 14),
+            fields,
+            class: class.unbind(),
+        })
     }
 
     pub fn is(&self, other: &Bound<'_, PyAny>) -> bool {
-        self.0.is(other)
+        self.class.is(other)
     }
 
-    /// Makes a tuple of values.
+    /// Makes an object of as many fields: a named tuple in a quarter of the time of a call.
     #[inline]
-    pub fn make<const N: usize>(
-        &self,
-        py: Python<'_>,
-        values: [PyObject; N],
-    ) -> PyResult<PyObject> {
-        self.make_of(py, N, values.into_iter().map(Ok))
-    }
-
-    /// Makes a tuple of as many values.
-    #[inline]
-    pub fn make_of(
+    pub fn make(
         &self,
         py: Python<'_>,
         count: usize,
-        values: impl Iterator<Item = PyResult<PyObject>>,
+        fields: impl Iterator<Item = PyResult<PyObject>>,
     ) -> PyResult<PyObject> {
-        // SAFETY: the class has the layout of a tuple, of which its allocator makes one with as
-        // many places; each is set once, or stays null if a value can't be made, which
-        // nothing but the deallocator sees
+        let class = self.class.as_ptr();
+        // SAFETY: a class is called with a tuple, or has the layout of a tuple, of which its
+        // allocator makes one of this size; both are new references
         unsafe {
-            let class = self.0.as_ptr().cast::<ffi::PyTypeObject>();
-            let made = made(py, ffi::PyType_GenericAlloc(class, size(count)))?;
+            if !self.is_allocated {
+                let fields = tuple(py, count, fields)?;
+                return made(py, ffi::PyObject_CallObject(class, fields.as_ptr()));
+            }
+            let made = made(py, ffi::PyType_GenericAlloc(class.cast(), size(count)))?;
             // what it holds is in no cycle, so the collector needn't look at it
             ffi::PyObject_GC_UnTrack(made.as_ptr().cast());
-            for (place, value) in values.take(count).enumerate() {
-                ffi::PyTuple_SetItem(made.as_ptr(), size(place), value?.into_ptr());
-            }
-            Ok(made)
+            filled(made, count, fields)
         }
     }
 }

@@ -1,11 +1,10 @@
 //! The processor of calls.
 
-use crate::calls::{classes, make, Recorder};
-use crate::objects::{borrowed, bytes_of, error, list, no_memory, number, real, run, text};
-use crate::parser::{refused, MOST_EVENTS, PIECE, STEP};
-use pyo3::exceptions::PyTypeError;
+use crate::objects::{borrowed, bytes_of, integer, list, no_memory, real, text};
+use crate::reader::{make, read, step, Reader};
+use crate::tape::Tape;
 use pyo3::prelude::*;
-use pyo3::types::PyList;
+use pyo3::sync::GILOnceCell;
 use std::time::{Duration, Instant};
 use vte::ansi::lent::{ByCall, LongProcessor};
 use vte::ansi::Timeout;
@@ -29,6 +28,14 @@ impl Timeout for Deadline {
     }
 }
 
+/// The function `time.monotonic`.
+pub fn monotonic(py: Python<'_>) -> PyResult<&'static PyObject> {
+    static MONOTONIC: GILOnceCell<PyObject> = GILOnceCell::new();
+    MONOTONIC.get_or_try_init(py, || {
+        Ok(py.import_bound("time")?.getattr("monotonic")?.unbind())
+    })
+}
+
 /// Reads a stream in pieces of any length and returns what it asks of a terminal, as calls of
 /// `vte.calls`.
 ///
@@ -37,7 +44,7 @@ impl Timeout for Deadline {
 #[pyclass(module = "vte", subclass, weakref)]
 pub struct Processor {
     processor: LongProcessor<Deadline>,
-    calls: ByCall<Recorder>,
+    calls: ByCall<Tape>,
     // how many bytes an open command has at most
     command: usize,
 }
@@ -49,7 +56,7 @@ impl Processor {
         let processor = LongProcessor::new(Deadline(None)).map_err(|_| no_memory(py))?;
         Ok(Processor {
             processor,
-            calls: ByCall(Recorder::default()),
+            calls: ByCall(Tape::default()),
             command: 0,
         })
     }
@@ -65,41 +72,29 @@ impl Processor {
     #[pyo3(signature = (data))]
     fn feed(slf: &Bound<'_, Self>, data: &Bound<'_, PyAny>) -> PyResult<PyObject> {
         let source = bytes_of(data, "feed")?;
-        let (made, mut at, source) = (list(slf.py())?, 0, source.as_bytes());
-        let mut processor = borrowed(slf)?;
-        processor.calls.0.start();
-        loop {
-            let piece = &source[at..source.len().min(at + PIECE)];
-            let reader = &mut *processor;
-            let (read, is_refused) = run(slf.py(), piece.len(), || reader.read(piece));
-            at += read;
-            processor.make(&made, at, is_refused, is_refused || at == source.len())?;
-            if at == source.len() {
-                return Ok(made.into_any().unbind());
-            }
-        }
+        let (made, _) = read(slf.py(), &mut *borrowed(slf)?, source.as_bytes())?;
+        Ok(made.into_any().unbind())
     }
 
     /// Ends an update whose end doesn't come, and returns the calls of what was held.
     fn stop_sync(slf: &Bound<'_, Self>) -> PyResult<PyObject> {
-        let made = list(slf.py())?;
-        let mut processor = borrowed(slf)?;
-        processor.calls.0.start();
-        let is_refused = !processor.reserve(0);
-        if !is_refused {
-            let Processor {
-                processor, calls, ..
-            } = &mut *processor;
+        let (made, mut processor) = (list(slf.py())?, borrowed(slf)?);
+        let Processor {
+            processor, calls, ..
+        } = &mut *processor;
+        calls.0.end_run();
+        let has_room = calls.0.reserve(processor.sync_bytes_count(), 0);
+        if has_room {
             processor.stop_sync_text(calls);
         }
-        processor.make(&made, 0, is_refused, true)?;
+        make(&made, &mut calls.0, 0, !has_room, true)?;
         Ok(made.into_any().unbind())
     }
 
     /// How many bytes are held.
     #[getter]
     fn sync_bytes_count(slf: &Bound<'_, Self>) -> PyResult<PyObject> {
-        number(slf.py(), borrowed(slf)?.processor.sync_bytes_count() as i64)
+        integer(slf.py(), borrowed(slf)?.processor.sync_bytes_count() as i64)
     }
 
     /// Until when an update is pending, by `time.monotonic()`, or None.
@@ -110,66 +105,30 @@ impl Processor {
             Some(deadline) => deadline,
             None => return Ok(py.None()),
         };
-        let now: f64 = classes(py)?.monotonic.call0(py)?.extract(py)?;
-        let left = deadline
-            .saturating_duration_since(Instant::now())
-            .as_secs_f64();
-        real(py, now + left - deadline.elapsed().as_secs_f64())
-    }
-
-    fn __reduce__(slf: &Bound<'_, Self>) -> PyResult<PyObject> {
-        Err(error::<PyTypeError>(
-            slf.py(),
-            "processors can't be copied and pickled\0",
-        ))
+        let now = monotonic(py)?.call0(py)?.extract::<f64>(py)?;
+        let left = deadline.saturating_duration_since(Instant::now());
+        let late = deadline.elapsed();
+        real(py, now + left.as_secs_f64() - late.as_secs_f64())
     }
 }
 
-impl Processor {
-    /// Takes memory for the calls of what is held and of more bytes, and returns whether it is
-    /// there.
-    fn reserve(&mut self, more: usize) -> bool {
-        self.calls
-            .0
-            .reserve(self.processor.sync_bytes_count() + more, self.command)
+impl Reader for Processor {
+    fn tape(&mut self) -> &mut Tape {
+        &mut self.calls.0
     }
 
-    /// Reads the steps of a piece. Returns how much was read, and whether memory was refused.
-    fn read(&mut self, piece: &[u8]) -> (usize, bool) {
-        let mut at = 0;
-        while at < piece.len() && self.calls.0.count() < MOST_EVENTS {
-            let step = &piece[at..piece.len().min(at + STEP)];
-            if !self.reserve(step.len()) {
-                return (at, true);
-            }
-            let before = self.calls.0.size();
-            if let Err(Refused { read }) = self.processor.advance_text(&mut self.calls, step) {
-                return (at + read, true);
-            }
-            self.command = match self.calls.0.size() == before {
-                true => self.command + step.len(),
-                false => step.len(),
-            };
-            at += step.len();
+    fn read(&mut self, bytes: &[u8]) -> Result<usize, Refused> {
+        let (step, tape) = (step(bytes), &mut self.calls.0);
+        let held = self.processor.sync_bytes_count();
+        if !tape.reserve(held + step.len(), self.command) {
+            return Err(Refused { read: 0 });
         }
-        (at, false)
-    }
-
-    /// Makes the calls of what was read.
-    fn make(
-        &mut self,
-        made: &Bound<'_, PyList>,
-        read: usize,
-        is_refused: bool,
-        ends: bool,
-    ) -> PyResult<()> {
-        if self.calls.0.has_lost_calls() {
-            return Err(no_memory(made.py()));
-        }
-        make(made, &mut self.calls.0, ends).map_err(|error| refused(read, made, Some(error)))?;
-        match is_refused {
-            true => Err(refused(read, made, None)),
-            false => Ok(()),
-        }
+        let before = tape.size();
+        self.processor.advance_text(&mut self.calls, step)?;
+        self.command = match self.calls.0.size() == before {
+            true => self.command + step.len(),
+            false => step.len(),
+        };
+        Ok(step.len())
     }
 }

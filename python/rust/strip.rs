@@ -1,8 +1,6 @@
 //! Texts without sequences.
 
-use crate::objects::{
-    borrowed, bytes, bytes_of, decoded, encoded, is_plain, no_memory, run, text, tuple,
-};
+use crate::objects::{borrowed, bytes, bytes_of, decoded, encoded, is_plain, no_memory, run, text};
 use crate::parser::Limited;
 use pyo3::exceptions::{PyUnicodeEncodeError, PyValueError};
 use pyo3::prelude::*;
@@ -82,7 +80,7 @@ fn shown(source: &[u8]) -> Result<Cow<'_, [u8]>, Refused> {
 /// The text of more of a stream.
 fn shown_by<'a>(parser: &mut Limited, source: &'a [u8]) -> Result<Cow<'a, [u8]>, Refused> {
     let mut shown = Shown::new(source);
-    parser.get().advance_text(&mut shown, source);
+    parser.0.advance_text(&mut shown, source);
     shown.all()
 }
 
@@ -109,7 +107,7 @@ fn shown_with_bytes(source: &[u8]) -> Result<Cow<'_, [u8]>, Refused> {
     let (mut parser, mut shown, mut at) = (Limited::new(), Shown::new(source), 0);
     while at < source.len() {
         let mut single = Single::default();
-        let run = parser.get().advance_to_run(&mut single, &source[at..]);
+        let run = parser.0.advance_to_run(&mut single, &source[at..]);
         match single.0 {
             // a well-formed one comes in a run
             Some(char::REPLACEMENT_CHARACTER) => {
@@ -137,60 +135,54 @@ fn malformed_end(bytes: &[u8]) -> &[u8] {
     end((1..=most).rev().find(is_front).unwrap_or(1))
 }
 
-/// The UTF-8 of a `str`, with a replacement character for each surrogate.
-fn without_surrogates(data: &Bound<'_, PyString>) -> PyResult<Vec<u8>> {
-    let codes = encoded(data, "utf-32-le\0", "surrogatepass\0")?;
-    let codes = codes.as_bytes();
-    let mut made = Vec::new();
-    // no character has more bytes in UTF-8 than in UTF-32
-    made.try_reserve(codes.len())
-        .map_err(|_| no_memory(data.py()))?;
-    for code in codes.chunks_exact(4) {
-        let code = u32::from_le_bytes([code[0], code[1], code[2], code[3]]);
-        let c = char::from_u32(code).unwrap_or(char::REPLACEMENT_CHARACTER);
-        made.extend_from_slice(c.encode_utf8(&mut [0; 4]).as_bytes());
+/// A `str` with a replacement character for each surrogate.
+fn without_surrogates<'py>(data: &Bound<'py, PyString>) -> PyResult<Bound<'py, PyString>> {
+    match data.to_str() {
+        Ok(_) => Ok(data.clone()),
+        Err(error) if error.is_instance_of::<PyUnicodeEncodeError>(data.py()) => {
+            let codes = encoded(data, "utf-32-le\0", "surrogatepass\0")?;
+            let made = decoded(data.py(), codes.as_bytes(), "utf-32-le\0", "replace\0")?;
+            Ok(made.into_bound(data.py()).downcast_into()?)
+        }
+        Err(error) => Err(error),
     }
-    Ok(made)
 }
 
-/// The text of a `str` or bytes by a function of bytes.
-fn strip_by<F>(py: Python<'_>, data: &Bound<'_, PyAny>, read: F) -> PyResult<PyObject>
+/// The text of a `str` or bytes by a function of bytes. If it is all of them, it is the same object.
+fn strip_by<F>(data: &Bound<'_, PyAny>, read: F) -> PyResult<PyObject>
 where
     F: for<'a> FnOnce(&'a [u8]) -> Result<Cow<'a, [u8]>, Refused> + Send,
 {
-    let (of_text, of_bytes);
-    let (source, is_text, is_itself) = match data.downcast::<PyString>() {
-        Ok(data) => match data.to_str() {
-            Ok(utf8) => (utf8.as_bytes(), true, true),
-            Err(error) if error.is_instance_of::<PyUnicodeEncodeError>(py) => {
-                of_text = without_surrogates(data)?;
-                (of_text.as_slice(), true, false)
-            }
-            Err(error) => return Err(error),
-        },
+    let (text_of, bytes_of_data);
+    let (data, source, is_text) = match data.downcast::<PyString>() {
+        Ok(data) => {
+            text_of = without_surrogates(data)?;
+            (text_of.as_any(), text_of.to_str()?.as_bytes(), true)
+        }
         Err(_) => {
-            of_bytes = bytes_of(data, "strip")?;
-            (of_bytes.as_bytes(), false, true)
+            bytes_of_data = bytes_of(data, "strip")?;
+            (bytes_of_data.as_any(), bytes_of_data.as_bytes(), false)
         }
     };
-    let shown = run(py, source.len(), || read(source)).map_err(|_| no_memory(py))?;
-    let is_all = matches!(&shown, Cow::Borrowed(same) if same.len() == source.len());
-    match is_text {
-        _ if is_all && is_itself && is_plain(data) => Ok(data.clone().unbind()),
-        true => text(py, &shown),
-        false => bytes(py, &shown),
+    let py = data.py();
+    match run(py, source.len(), || read(source)).map_err(|_| no_memory(py))? {
+        Cow::Borrowed(shown) if shown.len() == source.len() && is_plain(data) => {
+            Ok(data.clone().unbind())
+        }
+        shown if is_text => text(py, &shown),
+        shown => bytes(py, &shown),
     }
 }
 
 /// The text of a `str` or bytes, in which bytes that aren't UTF-8 stay.
-fn strip_with_bytes(py: Python<'_>, data: &Bound<'_, PyAny>) -> PyResult<PyObject> {
-    let data = match data.downcast::<PyString>() {
-        Ok(data) => encoded(data, "utf-8\0", "surrogateescape\0")?,
-        Err(_) => return strip_by(py, data, shown_with_bytes),
+fn strip_with_bytes(data: &Bound<'_, PyAny>) -> PyResult<PyObject> {
+    let text = match data.downcast::<PyString>() {
+        Ok(text) => encoded(text, "utf-8\0", "surrogateescape\0")?,
+        Err(_) => return strip_by(data, shown_with_bytes),
     };
-    let source = data.as_bytes();
+    let (py, source) = (data.py(), text.as_bytes());
     let shown = run(py, source.len(), || shown_with_bytes(source)).map_err(|_| no_memory(py))?;
-    decoded(py, &shown, "surrogateescape\0")
+    decoded(py, &shown, "utf-8\0", "surrogateescape\0")
 }
 
 /// Returns the text of a whole stream, a `str` or bytes, without its sequences.
@@ -200,10 +192,10 @@ fn strip_with_bytes(py: Python<'_>, data: &Bound<'_, PyAny>) -> PyResult<PyObjec
 /// unfinished character at the end gives no text.
 #[pyfunction]
 #[pyo3(signature = (data, errors="replace"))]
-pub fn strip(py: Python<'_>, data: &Bound<'_, PyAny>, errors: &str) -> PyResult<PyObject> {
+pub fn strip(data: &Bound<'_, PyAny>, errors: &str) -> PyResult<PyObject> {
     match errors {
-        "replace" => strip_by(py, data, shown),
-        "surrogateescape" => strip_with_bytes(py, data),
+        "replace" => strip_by(data, shown),
+        "surrogateescape" => strip_with_bytes(data),
         _ => Err(PyValueError::new_err(format!(
             "errors must be 'replace' or 'surrogateescape', not {errors:?}"
         ))),
@@ -234,22 +226,11 @@ impl Stripper {
     fn strip(slf: &Bound<'_, Self>, data: &Bound<'_, PyAny>) -> PyResult<PyObject> {
         let mut stripper = borrowed(slf)?;
         let parser = &mut stripper.0;
-        strip_by(slf.py(), data, |source| shown_by(parser, source))
+        strip_by(data, |source| shown_by(parser, source))
     }
 
-    fn __reduce__(slf: &Bound<'_, Self>) -> PyResult<PyObject> {
-        let (stripper, py) = (borrowed(slf)?, slf.py());
-        let class = slf.get_type().into_any().unbind();
-        tuple(
-            py,
-            3,
-            [
-                Ok(class),
-                tuple(py, 0, std::iter::empty()),
-                stripper.0.state(py),
-            ]
-            .into_iter(),
-        )
+    fn __getstate__(slf: &Bound<'_, Self>) -> PyResult<PyObject> {
+        borrowed(slf)?.0.state(slf.py())
     }
 
     fn __setstate__(slf: &Bound<'_, Self>, state: &Bound<'_, PyAny>) -> PyResult<()> {

@@ -1,21 +1,30 @@
 """Calls as the test vectors write them: in Rust's names."""
+import enum
 import re
+
+from vte.calls import Rgb
 
 MODES = {4: "Insert", 20: "LineFeedNewLine"}
 PRIVATE_MODES = {
-    1: "CursorKeys", 3: "ColumnMode", 6: "Origin", 7: "LineWrap", 12: "BlinkingCursor", 25: "ShowCursor",
-    1000: "ReportMouseClicks", 1002: "ReportCellMouseMotion", 1003: "ReportAllMouseMotion",
-    1004: "ReportFocusInOut", 1005: "Utf8Mouse", 1006: "SgrMouse", 1007: "AlternateScroll", 1042: "UrgencyHints",
-    1049: "SwapScreenAndSetRestoreCursor", 2004: "BracketedPaste", 2026: "SyncUpdate",
+    1: "CursorKeys", 3: "ColumnMode", 6: "Origin", 7: "LineWrap", 12: "BlinkingCursor",
+    25: "ShowCursor", 1000: "ReportMouseClicks", 1002: "ReportCellMouseMotion",
+    1003: "ReportAllMouseMotion", 1004: "ReportFocusInOut", 1005: "Utf8Mouse", 1006: "SgrMouse",
+    1007: "AlternateScroll", 1042: "UrgencyHints", 1049: "SwapScreenAndSetRestoreCursor",
+    2004: "BracketedPaste", 2026: "SyncUpdate",
 }
 
 
-def quoted(text):
-    shown = (f"\\{c}" if c in '"\\' else c if " " <= c <= "~" else f"\\u{{{ord(c):x}}}" for c in text)
-    return '"' + "".join(shown) + '"'
+def shown(value):
+    if isinstance(value, str):
+        parts = (f"\\{c}" if c in '"\\' else c if " " <= c <= "~" else f"\\u{{{ord(c):x}}}"
+                 for c in value)
+        return '"' + "".join(parts) + '"'
+    if isinstance(value, Rgb):
+        return "Rgb {{ r: {}, g: {}, b: {} }}".format(*value)
+    return str(value).lower() if isinstance(value, bool) else repr(value)
 
 
-def optional(value, show=str):
+def optional(value, show=shown):
     return "None" if value is None else f"Some({show(value)})"
 
 
@@ -23,55 +32,48 @@ def mode(number, names):
     return f"Named({names[number]})" if number in names else f"Unknown({number})"
 
 
-def rgb(color):
-    return f"Rgb {{ r: {color[0]}, g: {color[1]}, b: {color[2]} }}"
-
-
-def color_text(color):
-    if isinstance(color, tuple):
-        return f"Spec({rgb(color)})"
-    return f"Named({color.name})" if hasattr(color, "name") else f"Indexed({color})"
+def color(value):
+    if isinstance(value, Rgb):
+        return f"Spec({shown(value)})"
+    return f"{'Named' if isinstance(value, enum.Enum) else 'Indexed'}({value!r})"
 
 
 def attribute(call):
-    name, color = call.attribute.name, call.color
+    name, given = call.attribute.name, call.color
     if name == "UnderlineColor":
-        return f"{name}({optional(color, color_text)})"
-    return name if color is None else f"{name}({color_text(color)})"
+        return f"{name}({optional(given, color)})"
+    return name if given is None else f"{name}({color(given)})"
 
 
 def style(call):
-    shown = f"CursorStyle {{ shape: {call.shape!r}, blinking: {str(call.blinking).lower()} }}"
-    return optional(None if call.shape is None else shown)
+    parts = f"CursorStyle {{ shape: {call.shape!r}, blinking: {shown(call.blinking)} }}"
+    return "None" if call.shape is None else f"Some({parts})"
 
 
 def link(call):
-    shown = f"Hyperlink {{ id: {optional(call.id, quoted)}, uri: {quoted(call.uri or '')} }}"
-    return optional(None if call.uri is None else shown)
+    parts = f"Hyperlink {{ id: {optional(call.id)}, uri: {shown(call.uri)} }}"
+    return "None" if call.uri is None else f"Some({parts})"
 
 
-def letter(c):
-    return "'\\''" if c == "'" else f"'{c}'"
-
-
-# how the arguments of a call are written, if not one after another
+# how the fields of a call are written, if not one after another
 SHOWN = {
     "TerminalAttribute": attribute,
     "SetCursorStyle": style,
     "SetHyperlink": link,
     "SetScrollingRegion": lambda call: f"{call.top} {optional(call.bottom)}",
-    "IdentifyTerminal": lambda call: optional(call.intermediate, letter),
-    "SetTitle": lambda call: optional(call.title, quoted),
-    "SetColor": lambda call: f"{call.index} {rgb(call.color)}",
-    "DynamicColorSequence": lambda call: f"{quoted(call.prefix)} {call.index} {quoted(call.terminator)}",
-    "SetMouseCursorIcon": lambda call: "".join(word.title() for word in call.keyword.split("-")),
+    "IdentifyTerminal": lambda call: optional(
+        call.intermediate, lambda letter: repr(letter) if letter != "'" else r"'\''"),
+    "SetTitle": lambda call: optional(call.title),
+    "SetMouseCursorIcon": lambda call: call.keyword.title().replace("-", ""),
     "SetActiveCharset": lambda call: f"G{call.index}",
     "ConfigureCharset": lambda call: f"G{call.index} {call.charset!r}",
     "ClipboardStore": lambda call: f"{ord(call.clipboard):02x} {call.data.hex() or '-'}",
-    "ClipboardLoad": lambda call: f"{ord(call.clipboard):02x} {quoted(call.terminator)}",
-    **{f"{what}Mode": lambda call: mode(call.mode, MODES) for what in ("Set", "Unset", "Report")},
-    **{f"{what}PrivateMode": lambda call: mode(call.mode, PRIVATE_MODES) for what in ("Set", "Unset", "Report")},
+    "ClipboardLoad": lambda call: f"{ord(call.clipboard):02x} {shown(call.terminator)}",
 }
+
+
+def name_of(kind):
+    return re.sub("(?<!^)(?=[A-Z])", "_", kind.__name__).lower()
 
 
 def lines_of(call):
@@ -79,5 +81,8 @@ def lines_of(call):
     name = type(call).__name__
     if name == "Input":
         return [f"input {ord(c):04x}" for c in call.text]
-    shown = SHOWN[name](call) if name in SHOWN else " ".join(map(repr, call))
-    return [f"{re.sub('(?<!^)(?=[A-Z])', '_', name).lower()} {shown}".rstrip()]
+    if re.fullmatch("(Set|Unset|Report)(Private)?Mode", name):
+        text = mode(call.mode, PRIVATE_MODES if "Private" in name else MODES)
+    else:
+        text = SHOWN[name](call) if name in SHOWN else " ".join(map(shown, call))
+    return [f"{name_of(type(call))} {text}".rstrip()]

@@ -1,7 +1,8 @@
-"""What a stream asks of a terminal: the calls that `vte.Processor` returns. docs/CALLS.md says which sequences make which.
+"""What a stream asks of a terminal: the calls that `vte.Processor` returns.
 
-Lines and columns are counted from 0, those of a scrolling region from 1. Modes and the bits of keyboard modes are numbers. A call
-equals another if both are of the same type and have the same values.
+docs/CALLS.md says which sequences make which. Lines and columns are counted from 0, those of a
+scrolling region from 1. Modes and the bits of keyboard modes are numbers. A call equals another of
+the same type with the same values.
 """
 import enum
 from typing import NamedTuple, Union, get_args
@@ -22,17 +23,13 @@ class Rgb(NamedTuple):
 
 
 class NamedColor(_Named):
-    """A colour by its name.
-
-    Those of the palette, of text and of the cursor, and their bright and dim forms.
-    """
-    Black, Red, Green, Yellow, Blue, Magenta, Cyan, White = 0, 1, 2, 3, 4, 5, 6, 7
-    BrightBlack, BrightRed, BrightGreen, BrightYellow = 8, 9, 10, 11
-    BrightBlue, BrightMagenta, BrightCyan, BrightWhite = 12, 13, 14, 15
-    Foreground, Background, Cursor = 256, 257, 258
-    DimBlack, DimRed, DimGreen, DimYellow = 259, 260, 261, 262
-    DimBlue, DimMagenta, DimCyan, DimWhite = 263, 264, 265, 266
-    BrightForeground, DimForeground = 267, 268
+    """A colour of the palette, of text or of the cursor, or its bright or dim form, by its name."""
+    Black, Red, Green, Yellow, Blue, Magenta, Cyan, White = range(8)
+    BrightBlack, BrightRed, BrightGreen, BrightYellow = range(8, 12)
+    BrightBlue, BrightMagenta, BrightCyan, BrightWhite = range(12, 16)
+    Foreground, Background, Cursor = range(256, 259)
+    DimBlack, DimRed, DimGreen, DimYellow, DimBlue, DimMagenta, DimCyan, DimWhite = range(259, 267)
+    BrightForeground, DimForeground = range(267, 269)
 
 
 # by name, by red, green and blue, or the index in the palette
@@ -41,57 +38,57 @@ Color = Union[NamedColor, Rgb, int]
 
 class Attribute(_Named):
     """What a `TerminalAttribute` changes."""
-    Reset, Bold, Dim, Italic = 0, 1, 2, 3
-    Underline, DoubleUnderline, Undercurl, DottedUnderline, DashedUnderline = 4, 5, 6, 7, 8
-    BlinkSlow, BlinkFast, Reverse, Hidden, Strike = 9, 10, 11, 12, 13
-    CancelBold, CancelBoldDim, CancelItalic, CancelUnderline = 14, 15, 16, 17
-    CancelBlink, CancelReverse, CancelHidden, CancelStrike = 18, 19, 20, 21
-    Foreground, Background, UnderlineColor = 22, 23, 24
+    Reset, Bold, Dim, Italic = range(4)
+    Underline, DoubleUnderline, Undercurl, DottedUnderline, DashedUnderline = range(4, 9)
+    BlinkSlow, BlinkFast, Reverse, Hidden, Strike = range(9, 14)
+    CancelBold, CancelBoldDim, CancelItalic, CancelUnderline = range(14, 18)
+    CancelBlink, CancelReverse, CancelHidden, CancelStrike = range(18, 22)
+    Foreground, Background, UnderlineColor = range(22, 25)
 
 
 class LinePart(_Named):
     """A part of the line: from the cursor to its end, from its start to the cursor, all of it."""
-    Right, Left, All = 0, 1, 2
+    Right, Left, All = range(3)
 
 
 class ScreenPart(_Named):
     """A part of the screen: below the cursor, above it, all of it, or the scrollback."""
-    Below, Above, All, Saved = 0, 1, 2, 3
+    Below, Above, All, Saved = range(4)
 
 
 class Tabs(_Named):
     """The tab stop in the cursor's column, or all of them."""
-    Current, All = 0, 1
+    Current, All = range(2)
 
 
 class Shape(_Named):
     """The cursor's shape."""
-    Block, Underline, Beam, HollowBlock, Hidden = 0, 1, 2, 3, 4
+    Block, Underline, Beam, HollowBlock, Hidden = range(5)
 
 
 class Charset(_Named):
     """A character set: ASCII, or DEC Special Graphics."""
-    Ascii, SpecialCharacterAndLineDrawing = 0, 1
+    Ascii, SpecialCharacterAndLineDrawing = range(2)
 
 
 class Path(_Named):
     """The direction of characters: the terminal's own, from left to right, from right to left."""
-    Default, LTR, RTL = 0, 1, 2
+    Default, LTR, RTL = range(3)
 
 
 class Update(_Named):
     """What follows the direction: as the terminal decides, what is shown, or the data."""
-    ImplementationDependant, DataToPresentation, PresentationToData = 0, 1, 2
+    ImplementationDependant, DataToPresentation, PresentationToData = range(3)
 
 
 class Behavior(_Named):
     """What happens to the keyboard modes that are set."""
-    Replace, Union, Difference = 0, 1, 2
+    Replace, Union, Difference = range(3)
 
 
 class OtherKeys(_Named):
     """Which keys are sent with their modifiers."""
-    Reset, EnableExceptWellDefined, EnableAll = 0, 1, 2
+    Reset, EnableExceptWellDefined, EnableAll = range(3)
 
 
 class Input(NamedTuple):
@@ -113,10 +110,7 @@ class PutTab(NamedTuple):
 
 
 class Linefeed(NamedTuple):
-    """LF, VT, FF and IND, `ESC D`.
-
-    One line down; at the bottom of the scrolling region the text scrolls up.
-    """
+    """LF, VT, FF and IND, `ESC D`: one line down; at the region's bottom the text scrolls up."""
 
 
 class CarriageReturn(NamedTuple):
@@ -178,10 +172,7 @@ class MoveUpAndCr(NamedTuple):
 
 
 class SaveCursorPosition(NamedTuple):
-    """DECSC, `ESC 7`, and SCOSC, `CSI s`.
-
-    Save the cursor's position, rendition and character sets.
-    """
+    """DECSC, `ESC 7`, SCOSC, `CSI s`: save the cursor's position, rendition, character sets."""
 
 
 class RestoreCursorPosition(NamedTuple):
@@ -189,7 +180,7 @@ class RestoreCursorPosition(NamedTuple):
 
 
 class ReverseIndex(NamedTuple):
-    """RI, `ESC M`: one line up; at the top of the scrolling region the text scrolls down."""
+    """RI, `ESC M`: one line up; at the scrolling region's top the text scrolls down."""
 
 
 class ScrollUp(NamedTuple):
@@ -274,32 +265,25 @@ class Decaln(NamedTuple):
 class TerminalAttribute(NamedTuple):
     """SGR, `CSI m`: one attribute of the characters that follow.
 
-    `Foreground`, `Background` and `UnderlineColor` have a colour; None, of the last, is the text's. Others have none.
+    `Foreground`, `Background` and `UnderlineColor` have a colour; None, of the last, is the text's.
     """
     attribute: Attribute
     color: Color | None
 
 
 class SetColor(NamedTuple):
-    """OSC 4, 10, 11, 12.
-
-    The colour of an index: 0 to 255 the palette, 256 the foreground, 257 the background, 258
-    the cursor.
-    """
+    """OSC 4, 10, 11, 12: a colour of the palette, or of 256 text, 257 background, 258 cursor."""
     index: int  # type: ignore[assignment]
     color: Rgb
 
 
 class ResetColor(NamedTuple):
-    """OSC 104, 110, 111, 112.
-
-    The colour of an index, as in `SetColor`, is reset to its first value.
-    """
+    """OSC 104, 110, 111, 112: the colour of an index is reset to its first value."""
     index: int  # type: ignore[assignment]
 
 
 class DynamicColorSequence(NamedTuple):
-    """OSC 4, 10, 11, 12 with `?`: report the colour of an index, as in `SetColor`.
+    """OSC 4, 10, 11, 12 with `?`: report the colour of an index.
 
     The answer is `ESC ]`, the prefix, `;`, the colour and the terminator.
     """
@@ -315,10 +299,7 @@ class SetHyperlink(NamedTuple):
 
 
 class SetCursorStyle(NamedTuple):
-    """DECSCUSR, `CSI SP q`.
-
-    The cursor's shape, and whether it blinks. A shape of None is the terminal's own style.
-    """
+    """DECSCUSR, `CSI SP q`: the cursor's style. A shape of None is the terminal's own style."""
     shape: Shape | None
     blinking: bool
 
@@ -435,10 +416,7 @@ class PopTitle(NamedTuple):
 
 
 class ClipboardStore(NamedTuple):
-    """OSC 52.
-
-    Store data in a clipboard, named by a letter. They should be base64, and may be anything.
-    """
+    """OSC 52: store data, which should be base64, in a clipboard, named by a letter."""
     clipboard: str
     data: bytes
 

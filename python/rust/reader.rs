@@ -1,0 +1,93 @@
+//! How streams are read, and what an error has.
+
+use crate::calls::Kind;
+use crate::objects::{integer, list, no_memory, run};
+use crate::tape::{classes, Tape};
+use pyo3::exceptions::PyMemoryError;
+use pyo3::prelude::*;
+use pyo3::types::PyList;
+use vte::Refused;
+
+/// How many bytes are read between two questions for memory, and how many bytes or objects before
+/// objects are made.
+const STEP: usize = 1 << 14;
+const PIECE: usize = 1 << 20;
+const MOST: usize = 1 << 14;
+
+/// Records what a stream adds.
+pub trait Reader: Send {
+    fn tape(&mut self) -> &mut Tape;
+
+    /// Reads some of the bytes, and returns how many.
+    fn read(&mut self, bytes: &[u8]) -> Result<usize, Refused>;
+
+    fn has_stopped(&self) -> bool {
+        false
+    }
+}
+
+/// The bytes of a step.
+pub fn step(bytes: &[u8]) -> &[u8] {
+    &bytes[..bytes.len().min(STEP)]
+}
+
+/// Reads bytes up to a stop. Returns a list of what they add, and how many were read.
+pub fn read<'py>(
+    py: Python<'py>,
+    reader: &mut impl Reader,
+    source: &[u8],
+) -> PyResult<(Bound<'py, PyList>, usize)> {
+    let (made, mut at) = (list(py)?, 0);
+    reader.tape().end_run();
+    loop {
+        let piece = &source[at..source.len().min(at + PIECE)];
+        let (read, is_refused) = run(py, piece.len(), || read_piece(reader, piece));
+        at += read;
+        let ends = is_refused || at == source.len() || reader.has_stopped();
+        make(&made, reader.tape(), at, is_refused, ends)?;
+        if ends {
+            return Ok((made, at));
+        }
+    }
+}
+
+/// Reads a piece. Returns how much was read, and whether memory was refused.
+fn read_piece(reader: &mut impl Reader, piece: &[u8]) -> (usize, bool) {
+    let mut at = 0;
+    while at < piece.len() && reader.tape().count() < MOST && !reader.has_stopped() {
+        match reader.read(&piece[at..]) {
+            Ok(read) => at += read,
+            Err(Refused { read }) => return (at + read, true),
+        }
+    }
+    (at, false)
+}
+
+/// Makes what was recorded. An error of memory, which was refused now or before, has what was made.
+pub fn make(
+    made: &Bound<'_, PyList>,
+    tape: &mut Tape,
+    read: usize,
+    is_refused: bool,
+    ends: bool,
+) -> PyResult<()> {
+    let py = made.py();
+    if tape.has_lost() {
+        return Err(no_memory(py));
+    }
+    let error = match tape.make(made, ends) {
+        Ok(()) if is_refused => no_memory(py),
+        Ok(()) => return Ok(()),
+        Err(error) => error,
+    };
+    if !error.is_instance_of::<PyMemoryError>(py) {
+        return Err(error);
+    }
+    let read = integer(py, read as i64);
+    let values = [read, Ok(made.as_any().clone().unbind())].into_iter();
+    let class = &classes(py)?[Kind::Refused as usize];
+    Err(match class.make(py, 2, values) {
+        Ok(refused) => PyErr::from_value_bound(refused.into_bound(py)),
+        Err(_) => no_memory(py),
+    })
+}

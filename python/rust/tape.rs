@@ -1,0 +1,349 @@
+//! Events and calls as they are recorded, before objects are made of them. This needs no object and
+//! so not the interpreter's lock, and if memory is refused to an object, those that follow are still
+//! there.
+
+use crate::calls::{Kind, NAMES};
+use crate::objects::{bytes, flag, integer, text, tuple, Class};
+use pyo3::prelude::*;
+use pyo3::sync::GILOnceCell;
+use pyo3::types::PyList;
+use std::iter::from_fn;
+
+/// What an object is made of. The content of texts and data is stored beside it, in the same order.
+#[derive(Clone, Copy, PartialEq)]
+pub struct Value(pub Is, pub i64);
+
+/// What the number of a value is.
+#[derive(Clone, Copy, PartialEq)]
+pub enum Is {
+    Nothing,
+    Flag,
+    Number,
+    Letter,
+    /// A count, and as many bytes.
+    Bytes,
+    /// The length of the content.
+    Text,
+    Data,
+    /// How many fields follow.
+    Tuple,
+    /// A class, whose fields follow.
+    Object,
+}
+
+/// What can be in a field of an event or a call.
+pub trait Field {
+    fn record(self, tape: &mut Tape);
+}
+
+/// Says for a type of which fields it is made.
+macro_rules! fields {
+    ($($type:ty: $field:ident => $($value:expr),+;)+) => {
+        $(impl Field for $type {
+            fn record(self, tape: &mut Tape) {
+                let $field = self;
+                tape$(.with($value))+;
+            }
+        })+
+    };
+}
+pub(crate) use fields;
+
+fields! {
+    bool: flag => Value(Is::Flag, flag.into());
+    char: letter => Value(Is::Letter, u32::from(letter).into());
+    // what is a number of the stream, or a place in what was sent
+    usize: number => Value(Is::Number, number as i64);
+}
+
+impl Field for Value {
+    #[inline]
+    fn record(self, tape: &mut Tape) {
+        match tape.values.try_reserve(1) {
+            Ok(()) => tape.values.push(self),
+            Err(_) => tape.is_refused = true,
+        }
+    }
+}
+
+impl Field for &str {
+    fn record(self, tape: &mut Tape) {
+        tape.store(self.as_bytes());
+        tape.with(Value(Is::Text, self.len() as i64));
+    }
+}
+
+impl Field for &[u8] {
+    fn record(self, tape: &mut Tape) {
+        tape.store(self);
+        tape.with(Value(Is::Data, self.len() as i64));
+    }
+}
+
+impl<T: Field> Field for Option<T> {
+    fn record(self, tape: &mut Tape) {
+        match self {
+            Some(field) => field.record(tape),
+            None => Value(Is::Nothing, 0).record(tape),
+        }
+    }
+}
+
+/// Where the values and the content of an object begin.
+type Place = (usize, usize);
+
+/// An object, and its values.
+type Known = (Vec<Value>, PyObject);
+/// How many objects are known at most, by its logarithm.
+const KNOWN: u32 = 9;
+
+/// Objects that are recorded, one after another.
+#[derive(Default)]
+pub struct Tape {
+    places: Vec<Place>,
+    values: Vec<Value>,
+    content: Vec<u8>,
+    // whether the last is a text or data that may go on
+    is_open: bool,
+    // whether memory was refused, so that something is missing
+    is_refused: bool,
+    // objects without content that were made, each in the place that its values give: programs send
+    // few different ones
+    known: Vec<Option<Known>>,
+}
+
+impl Tape {
+    /// The most values or bytes for each byte that is read, and for what was open before. More are
+    /// added by OSC 104 and by REP alone.
+    const PER_BYTE: usize = 3;
+    const BEFORE: usize = 128;
+
+    pub fn count(&self) -> usize {
+        self.places.len()
+    }
+
+    /// How much is recorded.
+    pub fn size(&self) -> usize {
+        self.places.len() + self.content.len()
+    }
+
+    /// Takes memory for what bytes add, and the command that they may end. Returns whether it is
+    /// there.
+    pub fn reserve(&mut self, bytes: usize, command: usize) -> bool {
+        let most = Self::PER_BYTE * bytes + Self::BEFORE;
+        self.places.try_reserve(bytes + Self::BEFORE).is_ok()
+            && self.values.try_reserve(most).is_ok()
+            && self.content.try_reserve(most + command).is_ok()
+    }
+
+    /// Begins an object. Its fields are to follow.
+    #[inline]
+    pub fn begin(&mut self, object: impl Field) -> &mut Self {
+        let place = (self.values.len(), self.content.len());
+        match self.places.try_reserve(1) {
+            Ok(()) => self.places.push(place),
+            Err(_) => self.is_refused = true,
+        }
+        self.is_open = false;
+        self.with(object)
+    }
+
+    /// Adds a field.
+    #[inline]
+    pub fn with(&mut self, field: impl Field) -> &mut Self {
+        field.record(self);
+        self
+    }
+
+    /// Adds a tuple of as many fields.
+    pub fn with_tuple<T: Field>(
+        &mut self,
+        count: usize,
+        fields: impl Iterator<Item = T>,
+    ) -> &mut Self {
+        self.with(Value(Is::Tuple, count as i64));
+        fields.for_each(|field| field.record(self));
+        self
+    }
+
+    /// Adds to the text or data that is open, or begins one.
+    #[inline]
+    pub fn add_run<T: Field + AsRef<[u8]>>(&mut self, kind: Kind, run: T) {
+        match self.values.last_mut() {
+            Some(Value(_, length)) if self.is_open => {
+                *length += run.as_ref().len() as i64;
+                self.store(run.as_ref());
+            }
+            _ => {
+                self.begin(kind).with(run);
+                self.is_open = true;
+            }
+        }
+    }
+
+    /// Ends a text or data.
+    pub fn end_run(&mut self) {
+        self.is_open = false;
+    }
+
+    fn store(&mut self, content: &[u8]) {
+        match self.content.try_reserve(content.len()) {
+            Ok(()) => self.content.extend_from_slice(content),
+            Err(_) => self.is_refused = true,
+        }
+    }
+
+    /// The place of the last value, which can be changed there.
+    pub fn last_value(&self) -> usize {
+        self.values.len() - 1
+    }
+
+    pub fn set(&mut self, place: usize, flag: bool) {
+        self.values[place] = Value(Is::Flag, flag.into());
+    }
+
+    /// Returns whether there was no memory to record something. Then all that is recorded is dropped.
+    pub fn has_lost(&mut self) -> bool {
+        let is_refused = self.is_refused;
+        if is_refused {
+            *self = Tape::default();
+        }
+        is_refused
+    }
+
+    /// Makes the objects, and appends them to a list, but not the last if it may go on. If memory is
+    /// refused, those that aren't made stay.
+    pub fn make(&mut self, list: &Bound<'_, PyList>, ends: bool) -> PyResult<()> {
+        let (py, classes) = (list.py(), classes(list.py())?);
+        let count = self.places.len() - usize::from(self.is_open && !ends);
+        let (mut made, mut start, mut done) = (0, (0, 0), Ok(()));
+        while made < count && done.is_ok() {
+            let end = self.place(made + 1);
+            done = self
+                .object(py, classes, start, end)
+                .and_then(|object| list.append(object.into_bound(py)));
+            if done.is_ok() {
+                (made, start) = (made + 1, end);
+            }
+        }
+        self.places.drain(..made);
+        self.values.drain(..start.0);
+        self.content.drain(..start.1);
+        for place in &mut self.places {
+            *place = (place.0 - start.0, place.1 - start.1);
+        }
+        done
+    }
+
+    /// The place of an object, or the end of all.
+    #[inline]
+    fn place(&self, object: usize) -> Place {
+        let end = (self.values.len(), self.content.len());
+        self.places.get(object).copied().unwrap_or(end)
+    }
+
+    #[inline]
+    fn object(
+        &mut self,
+        py: Python<'_>,
+        classes: &[Class],
+        start: Place,
+        end: Place,
+    ) -> PyResult<PyObject> {
+        let values = &self.values[start.0..end.0];
+        let mut maker = Maker {
+            py,
+            classes,
+            values: values.iter(),
+            content: &self.content[start.1..end.1],
+        };
+        if !maker.content.is_empty() {
+            return maker.next();
+        }
+        let hash = values.iter().fold(0, |hash: u64, Value(_, number)| {
+            (hash.rotate_left(5) ^ *number as u64).wrapping_mul(0x517C_C1B7_2722_0A95)
+        });
+        let place = (hash >> (u64::BITS - KNOWN)) as usize;
+        match self.known.get(place) {
+            Some(Some((known, made))) if known == values => Ok(made.clone_ref(py)),
+            _ => remember(py, &mut self.known, place, values, maker.next()?),
+        }
+    }
+}
+
+/// Remembers an object, if there is memory.
+#[cold]
+fn remember(
+    py: Python<'_>,
+    known: &mut Vec<Option<Known>>,
+    place: usize,
+    values: &[Value],
+    made: PyObject,
+) -> PyResult<PyObject> {
+    let mut key = Vec::new();
+    if known.is_empty() && known.try_reserve_exact(1 << KNOWN).is_ok() {
+        known.resize_with(1 << KNOWN, || None);
+    }
+    if key.try_reserve_exact(values.len()).is_ok() && !known.is_empty() {
+        key.extend_from_slice(values);
+        known[place] = Some((key, made.clone_ref(py)));
+    }
+    Ok(made)
+}
+
+/// The classes of objects, by their kinds.
+pub fn classes(py: Python<'_>) -> PyResult<&'static [Class]> {
+    static CLASSES: GILOnceCell<Vec<Class>> = GILOnceCell::new();
+    let classes = CLASSES.get_or_try_init(py, || {
+        let events = py.import_bound("vte._events")?;
+        let calls = py.import_bound("vte.calls")?;
+        let class = |name: &&str| {
+            let class = events.getattr(*name).or_else(|_| calls.getattr(*name))?;
+            Class::of(class)
+        };
+        NAMES.iter().map(class).collect::<PyResult<_>>()
+    });
+    classes.map(Vec::as_slice)
+}
+
+/// Makes an object of values.
+struct Maker<'a, 'py> {
+    py: Python<'py>,
+    classes: &'a [Class],
+    values: std::slice::Iter<'a, Value>,
+    content: &'a [u8],
+}
+
+impl Maker<'_, '_> {
+    fn next(&mut self) -> PyResult<PyObject> {
+        let py = self.py;
+        let Value(is, number) = *self.values.next().expect("each field has a value");
+        let count = number as usize;
+        match is {
+            Is::Nothing => Ok(py.None()),
+            Is::Flag => Ok(flag(py, number != 0)),
+            Is::Number => integer(py, number),
+            Is::Letter => text(
+                py,
+                char::from(number as u8).encode_utf8(&mut [0; 4]).as_bytes(),
+            ),
+            Is::Bytes => {
+                let [count, all @ ..] = number.to_le_bytes();
+                bytes(py, &all[..usize::from(count)])
+            }
+            Is::Text => text(py, self.content(count)),
+            Is::Data => bytes(py, self.content(count)),
+            Is::Tuple => tuple(py, count, from_fn(|| Some(self.next()))),
+            Is::Object => {
+                let class = &self.classes[count];
+                class.make(py, class.fields, from_fn(|| Some(self.next())))
+            }
+        }
+    }
+
+    fn content(&mut self, length: usize) -> &[u8] {
+        let (own, rest) = self.content.split_at(length);
+        self.content = rest;
+        own
+    }
+}

@@ -1,0 +1,308 @@
+"""Tests of parsers and of their events."""
+import array
+import copy
+import doctest
+import itertools
+import mmap
+import pickle
+import subprocess
+import sys
+import typing
+
+import pytest
+from common import EVENTS, STREAM, cut, feed, joined, parsers, text_of
+
+import vte
+from vte import Csi, Data, Esc, Execute, Hook, Osc, Put, Text, Unhook, calls
+
+both = pytest.mark.parametrize("make", [vte.Parser, lambda: vte.Parser(limit=1024)])
+TITLE = b"\x1b]0;" + b"t" * 1000 + b"\x07"
+MOST = b"a" * 1024
+LOST = b"\x1b]" + b"a;" * 16 + b"b"
+WHOLE, CUT = Osc((b"0", b"c"), True), Osc((b"a",) * 16, False, True)
+
+
+class OwnParser(vte.Parser):
+    """A parser of another type."""
+
+
+class Bytes(bytes):
+    """Bytes of another type."""
+
+
+def test_documentation():
+    assert doctest.testmod(vte).failed == 0
+
+
+@both
+def test_all_kinds(make):
+    assert make().feed(STREAM) == EVENTS
+
+
+@both
+def test_a_text_is_one_event(make):
+    parser = make()
+    assert parser.feed(b"\xf0\x9f\x98") == []
+    # a character of two calls, characters of the input, malformed bytes
+    assert parser.feed(b"\x80xy\xff\xffz\xc3\xbc\n\xe2") == [
+        Text("\U0001f600xy\ufffd\ufffdz\u00fc"), Execute(0x0A)]
+    assert parser.feed(b"a\x1b]0;t\x07b\xff\x1b[1m\xc3") == [
+        Text("\ufffda"), Osc((b"0", b"t"), True), Text("b\ufffd"), Csi(((1,),), b"", False, "m")]
+
+
+@both
+@pytest.mark.parametrize("stream, wanted", [
+    (b"x" * 100_000, [Text("x" * 100_000)]),
+    (b"\xff" * 100_000, [Text("\ufffd" * 100_000)]),
+    (b"\x1b[m" * 20_000 + b"\xc3\xbc", [Csi(((0,),), b"", False, "m")] * 20_000 + [Text("ü")]),
+    (TITLE * 500 + b"a\r", [Osc((b"0", b"t" * 1000), True)] * 500 + [Text("a"), Execute(13)]),
+    (b"\xff" * 6000 + b"\r" * 6000, [Text("\ufffd" * 6000)] + [Execute(13)] * 6000),
+    (b"\xe2\x82\xac\n" * 9000, [Text("\u20ac"), Execute(10)] * 9000),
+    # different sequences, more than a parser knows
+    (b"".join(b"\x1b[%d;%dH" % (it, it // 7) for it in range(5000)) * 2,
+     [Csi(((it,), (it // 7,)), b"", False, "H") for it in range(5000)] * 2),
+    (b"\xc3\xa9" * 600_000 + b"\x1b[1m" * 300_000 + b"end",
+     [Text("é" * 600_000), *[Csi(((1,),), b"", False, "m")] * 300_000, Text("end")]),
+])
+def test_many_events(make, stream, wanted):
+    # what differs in long lists takes minutes to show
+    assert (make().feed(stream) == wanted) is True
+
+
+@pytest.mark.parametrize("end, bell", [(b"\x07", True), (b"\x1b", False)])
+@pytest.mark.parametrize("data, pieces, truncated", [
+    (MOST, [MOST], False), (MOST + b"a", [MOST], True), (MOST + b";;", [MOST], False),
+    (MOST + b";;b", [MOST], True), (MOST[1:] + b";b", [MOST[1:], b"b"], False),
+    (MOST[1:] + b";bc", [MOST[1:], b"b"], True), (b";" + MOST, [b"", MOST], False),
+])
+def test_a_command_around_the_limit(data, pieces, truncated, end, bell):
+    stream, wanted = b"\x1b]" + data + end, Osc(tuple(pieces), bell, truncated)
+    assert vte.Parser(limit=1024).feed(stream + stream) == [wanted, wanted]
+    assert feed(vte.Parser(limit=1024), cut(stream, 1)) == [wanted]
+
+
+@both
+@pytest.mark.parametrize("tail, truncated", [
+    (b"", False), (b";", False), (b";;;", False), (b";x", True), (b";;x", True)])
+def test_pieces_after_the_sixteenth_are_dropped(make, tail, truncated):
+    wanted = [Osc((b"a",) * 15 + (b"b",), True, truncated), WHOLE]
+    assert make().feed(b"\x1b]" + b"a;" * 15 + b"b" + tail + b"\x07\x1b]0;c\x07") == wanted
+
+
+@both
+def test_only_a_command_that_lost_data_says_so(make):
+    # CAN ends a command, and is an event after it
+    parser, stream = make(), b"\x1b]0;c\x07" + LOST + b"\x18\x1b]0;c\x07" + LOST
+    assert parser.feed(stream) == [WHOLE, CUT, Execute(0x18), WHOLE]
+    assert parser.feed(b"\x18b") == [CUT, Execute(0x18), Text("b")]
+    assert not Osc((MOST,), True).truncated
+
+
+@pytest.mark.parametrize("size", [1, 7, 4096, 1 << 20])
+@pytest.mark.parametrize("kinds", [None, {Osc}, {Text}, {Osc, Text}, {Csi}])
+def test_commands_of_any_length(size, kinds):
+    commands = [[b"52", b"c", b"Q" * 100_000], [b"x" * 3000], [b"%d" % it for it in range(16)]]
+    # byte by byte without the longest
+    commands = commands[size == 1:]
+    stream = b"".join(b"a\x1b]" + b";".join(pieces) + b"\x07\xff" for pieces in commands)
+    events = [event for pieces in commands
+              for event in (Text("a"), Osc(tuple(pieces), True, False), Text("\ufffd"))]
+    wanted = [event for event in events if kinds is None or type(event) in kinds]
+    assert joined(feed(vte.Parser(), cut(stream, size), kinds)) == joined(wanted)
+
+
+@both
+@pytest.mark.parametrize("times, size", [(9, 1), (900, 4096), (900, 1 << 20)])
+@pytest.mark.parametrize("kinds", [{Data}, {Hook, Data, Unhook}])
+def test_data_in_runs(make, times, size, kinds):
+    long = bytes(range(0x20, 0x7F)) * times
+    stream = b"a\x1bP1q" + long + b"\n\x1b\\\x1bPqx\x18\x1bPq\x1b\\"
+    found = feed(make(), cut(stream, size), kinds)
+    data = [event.data for event in found if isinstance(event, Data)]
+    assert b"".join(data) == long + b"\nx"
+    assert len(data) <= len(stream) // size + 2 or size == 1
+    assert len(found) - len(data) == (6 if Hook in kinds else 0)
+
+
+@both
+def test_each_string_has_its_own_data(make):
+    parser, strings = make(), b"\x1bPqab\x1b\\\x1bPqc\x18\x1bPqd\x80e\x7f\xfffg"
+    assert parser.feed(strings, {Data}) == [Data(b"ab"), Data(b"c"), Data(b"defg")]
+    assert parser.feed(b"\x18" + strings, {Put}) == [Put(byte) for byte in b"abcdefg"]
+
+
+# ---- types of events and calls
+
+FIELDS = {
+    Text: "text", Execute: "byte", Hook: "groups intermediates ignore final", Put: "byte",
+    Data: "data", Unhook: "", Osc: "pieces bell_terminated truncated",
+    Csi: "groups intermediates ignore final", Esc: "intermediates ignore final",
+}
+
+
+def test_fields():
+    assert {kind: " ".join(kind._fields) for kind in typing.get_args(vte.Event)} == FIELDS
+
+
+@pytest.mark.parametrize("kind", [*typing.get_args(vte.Event), *calls.KINDS])
+def test_equality_and_copies(kind):
+    one, other = kind(*range(len(kind._fields))), (Put if kind is Execute else Execute)(0)
+    assert (one == tuple(one), one != tuple(one), bool(one)) == (False, True, True)
+    assert one != other and not one == other
+    for again in kind(*one), copy.deepcopy(one), pickle.loads(pickle.dumps(one)):
+        assert type(again) is kind and again == one and not again != one
+        assert hash(again) == hash(one)
+
+
+def test_made_events_hash_as_others():
+    assert {*vte.Parser().feed(STREAM)} == {*EVENTS}
+
+
+# ---- what functions take
+
+@pytest.mark.parametrize("make", [
+    bytes, Bytes, bytearray, memoryview, lambda data: array.array("B", data),
+    lambda data: memoryview(data + data)[:len(data)]])
+def test_any_object_with_a_buffer(make):
+    data = make(STREAM)
+    for parser in parsers():
+        assert parser.feed(data) == EVENTS
+    texts = [vte.strip(data), vte.Stripper().strip(data), *vte.strip_lines([data])]
+    assert [(type(text), text) for text in texts] == [(bytes, text_of(EVENTS))] * 3
+    assert vte.Processor().feed(data) == vte.Processor().feed(STREAM)
+
+
+@pytest.mark.parametrize("data, wanted", [
+    (memoryview(b"a-b-c")[::2], [Text("abc")]), (array.array("H", b"abcd"), [Text("abcd")]),
+    (b"", []), (bytearray(), [])])
+def test_buffers_of_other_shapes(data, wanted):
+    for parser in parsers():
+        assert (parser.feed(data), vte.strip(data)) == (wanted, text_of(wanted))
+
+
+def test_a_mapped_file():
+    with mmap.mmap(-1, len(STREAM)) as mapped:
+        mapped[:] = STREAM
+        assert vte.Parser().feed(mapped) == EVENTS
+
+
+@both
+def test_wrong_data(make):
+    with pytest.raises(TypeError, match=r"feed takes bytes, not str: pass text\.encode\(\)"):
+        make().feed("a")
+    for wrong in 1, None, ["a"], [97]:
+        message = f"takes bytes, or another object with a buffer, not {type(wrong).__name__}"
+        for function in make().feed, vte.strip, vte.Stripper().strip:
+            with pytest.raises(TypeError, match=message):
+                function(wrong)
+
+
+@both
+@pytest.mark.parametrize("wrong", [{int}, [Text, None], Text, 5, "Osc", [[]], [Text("a")]])
+def test_wrong_kinds_leave_the_stream(make, wrong):
+    parser = make()
+    parser.feed(b"\x1b[1")
+    message = r"kinds must be types of events \(vte\.Text, .*vte\.Data\), not "
+    with pytest.raises(TypeError, match=message):
+        parser.feed(b"ma", wrong)
+    assert parser.feed(b"ma") == [Csi(((1,),), b"", False, "m"), Text("a")]
+
+
+@pytest.mark.parametrize("limit", [0, 1, 5, 1023, 1025, -1024, False, "1024"])
+def test_wrong_limits(limit):
+    with pytest.raises(ValueError, match=f"limit must be None or 1024, not {limit!r}"):
+        vte.Parser(limit=limit)
+
+
+def test_limits():
+    assert [made.limit for made in (*parsers(), vte.Parser(1024))] == [None, 1024, 1024]
+    assert [*map(repr, parsers())] == ["vte.Parser(limit=None)", "vte.Parser(limit=1024)"]
+
+
+# ---- a stop at an event
+
+@both
+def test_stops(make):
+    parser, end = make(), STREAM.index(b"\x07") + 1
+    assert parser.feed_until(STREAM, {Osc}) == (EVENTS[:-1], end)
+    assert parser.feed_until(STREAM[end:], {Osc}) == (EVENTS[-1:], 5)
+    assert parser.feed_until(STREAM, {Esc, Csi}, {Csi}) == (EVENTS[1:2], STREAM.index(b"m") + 1)
+    stream = b"text\x1b]0;a\x07more\x1b[1m\x1b]0;b\x07end"
+    events, read = make().feed_until(stream, {Osc}, {Osc})
+    assert (events, stream[:read]) == ([Osc((b"0", b"a"), True)], b"text\x1b]0;a\x07")
+    with pytest.raises(ValueError, match="stops can't have vte.Text or vte.Data"):
+        parser.feed_until(b"", {Text})
+
+
+# ---- copies
+
+def test_copies():
+    for at in range(len(STREAM) + 1):
+        parser = vte.Parser(limit=1024)
+        first = parser.feed(STREAM[:at])
+        for made in copy.copy(parser), copy.deepcopy(parser), pickle.loads(pickle.dumps(parser)):
+            assert joined(first + made.feed(STREAM[at:])) == EVENTS
+    copied = pickle.loads(pickle.dumps(OwnParser(limit=1024)))
+    assert (type(copied), copied.limit) == (OwnParser, 1024)
+
+
+@pytest.mark.parametrize("copied", [copy.copy, copy.deepcopy, pickle.dumps])
+def test_others_have_no_copies(copied):
+    with pytest.raises(TypeError, match="only parsers with a limit can be copied"):
+        copied(vte.Parser())
+    with pytest.raises(TypeError, match="cannot pickle '.*Processor' object"):
+        copied(vte.Processor())
+
+
+def test_states_of_other_versions():
+    version, content = vte.Parser(limit=1024).__getstate__()
+    wrong = (0, b""), ("0.0.0", content), (version, content[1:]), None, (version, content, 1)
+    for state, made in itertools.product(wrong, [vte.Parser(limit=1024), vte.Stripper()]):
+        with pytest.raises(ValueError, match="pickled with another version of the package"):
+            made.__setstate__(state)
+    # any content of this length is some parser
+    for byte in range(256):
+        made = vte.Parser(limit=1024)
+        made.__setstate__((version, bytes([byte]) * len(content)))
+        made.feed(STREAM)
+
+
+# ---- memory
+
+# a parser that is refused memory goes on, and more parsers and processors are made than there is
+# memory for
+LITTLE_MEMORY = """
+import resource, vte
+def leave(room):
+    with open("/proc/self/statm") as file:
+        used = int(file.read().split()[0]) * resource.getpagesize()
+    resource.setrlimit(resource.RLIMIT_AS, (used + room, resource.RLIM_INFINITY))
+text, parser = b"Q" * (32 << 20), vte.Parser()
+stream = b"\\x1b]2;t\\x07\\x1b]52;c;" + text + b"\\x07"
+leave(24 << 20)
+try:
+    parser.feed(stream, {vte.Osc})
+    raise SystemExit("it isn't refused")
+except MemoryError as error:
+    read = error.read
+    assert str(error) == f"no memory, after {read} bytes"
+    assert isinstance(error, vte.Refused) and error.events == [vte.Osc((b"2", b"t"), True)]
+leave(1 << 30)
+assert 6 < read < len(stream) and parser.feed(stream[read:]) == [vte.Osc((b"52", b"c", text), True)]
+del parser
+leave(96 << 20)
+for _ in range(64):
+    vte.Processor().feed(b"a")
+    vte.Parser().feed(stream[:4 << 20])
+"""
+
+
+@pytest.mark.skipif(sys.platform != "linux", reason="Linux limits the memory of a process")
+def test_little_memory():
+    done = subprocess.run([sys.executable, "-c", LITTLE_MEMORY], capture_output=True, text=True)
+    assert (done.returncode, done.stderr) == (0, "")
+
+
+def test_refused():
+    refused = pickle.loads(pickle.dumps(vte.Refused(3, [Text("a")])))
+    assert (type(refused), refused.read, refused.events) == (vte.Refused, 3, [Text("a")])

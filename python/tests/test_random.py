@@ -1,0 +1,89 @@
+"""Random streams in random pieces: all ways to read them agree, also with `vtlog`, by $VTLOG."""
+import os
+import re
+import subprocess
+
+import pytest
+from common import feed, joined, parsers
+from test_vectors import call_lines, event_lines
+
+import vte
+from vte import Csi, Data, Esc, Execute, Hook, Osc, Put, Text, Unhook
+
+pytest.importorskip("hypothesis")
+from hypothesis import given, settings, strategies  # noqa: E402
+
+VTLOG = os.environ.get("VTLOG")
+PARTS = [
+    b"\x1b", b"[", b"]", b"P", b"X", b"\\", b"\x07", b"\x18", b";", b":", b"0", b"38", b"99999",
+    b"m", b"H", b"?", b"$", b" ", b"(", b"\n", b"\t", b"\r", b"a", b"text", "ü€😀".encode(),
+    b"\xc3", b"\xe2\x82", b"\xac", b"\xf0\x9f\x98", b"\x85", b"\x9b", b"\x9c", b"\xff",
+    b"\x1b[1;31m", b"\x1b]0;title\x07", b"\x1bP1$qdata\x1b\\", b"\x1b[?2026h", b"\x1b[?2026l",
+    b"\x1b]52;c;", b"x" * 600,
+]
+ENDS = [Execute, Hook, Put, Unhook, Osc, Csi, Esc]
+pieces = strategies.lists(
+    strategies.sampled_from(PARTS) | strategies.binary(max_size=4), max_size=60).map(b"".join)
+streams = strategies.lists(pieces, max_size=5)
+some_kinds = (strategies.none() | strategies.just({Osc})
+              | strategies.sets(strategies.sampled_from([*ENDS, Text, Data])))
+often = settings(deadline=None, max_examples=300)
+
+
+@often
+@given(strategies.lists(strategies.tuples(pieces, some_kinds), max_size=5))
+def test_kinds(stream):
+    for parser, other in zip(parsers(), parsers()):
+        for piece, kinds in stream:
+            found, everything = parser.feed(piece, kinds), other.feed(piece)
+            kinds = {Text, *ENDS} if kinds is None else kinds
+            if Data in kinds:
+                data = bytes(event.byte for event in everything if isinstance(event, Put))
+                runs = [event.data for event in found if isinstance(event, Data)]
+                assert b"".join(runs) == data
+                found, kinds = [it for it in found if not isinstance(it, Data)], kinds - {Put}
+            assert found == [event for event in everything if type(event) in kinds]
+
+
+@often
+@given(streams, strategies.sets(strategies.sampled_from(ENDS), min_size=1))
+def test_pieces_and_stops(stream, stops):
+    for parser, stopped, other in zip(parsers(), parsers(), parsers()):
+        wanted, events = other.feed(b"".join(stream)), []
+        assert joined(feed(parser, stream)) == wanted
+        for piece in stream:
+            while piece:
+                more, read = stopped.feed_until(piece, stops)
+                assert not any(type(event) in stops for event in more[:-2])
+                events, piece = events + more, piece[read:]
+        assert joined(events) == wanted
+    if not any(isinstance(event, Osc) and event.truncated for event in wanted):
+        assert wanted == vte.Parser().feed(b"".join(stream))
+
+
+@often
+@given(streams)
+def test_texts_and_calls(stream):
+    whole = b"".join(stream)
+    plain, text = vte.strip(whole), whole.decode(errors="replace")
+    assert b"".join(map(vte.Stripper().strip, stream)) == plain
+    assert list(vte.strip_lines(stream)) == [vte.strip(piece) for piece in stream]
+    assert vte.strip(text) == vte.strip(text.encode()).decode()
+    # in the place of each U+FFFD it or malformed bytes may stand
+    kept = rb"[\x80-\xff]{1,3}".join(map(re.escape, plain.split("\ufffd".encode())))
+    assert re.fullmatch(kept, vte.strip(whole, errors="surrogateescape"))
+    if b"2026" not in whole:
+        calls = call_lines(feed(vte.Processor(), stream))
+        assert calls == call_lines(vte.Processor().feed(whole))
+
+
+@pytest.mark.skipif(not VTLOG, reason="no $VTLOG")
+@often
+@given(streams)
+def test_as_vtlog(stream):
+    def vtlog(*words):
+        return subprocess.check_output([VTLOG, *words], input=b"".join(stream))
+
+    found = event_lines(feed(vte.Parser(limit=1024), stream))
+    assert found == vtlog().decode().splitlines()
+    assert vte.strip(b"".join(stream)) == vtlog("text")

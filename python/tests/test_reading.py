@@ -1,0 +1,188 @@
+"""Tests of files and terminals."""
+import io
+import os
+import pty
+import subprocess
+import sys
+import threading
+
+import pytest
+from common import EVENTS, EXAMPLES, STREAM, joined
+
+import vte
+from vte import Csi, Esc, Execute, Hook, Osc, Put, Text
+
+
+@pytest.fixture
+def path(tmp_path):
+    path = tmp_path / "stream"
+    path.write_bytes(STREAM)
+    return path
+
+
+@pytest.fixture(params=["str", "path", "entry", "buffered", "unbuffered", "descriptor", "memory"])
+def source(request, path):
+    """A file as `open` takes it."""
+    if request.param == "memory":
+        yield io.BytesIO(STREAM)
+    elif request.param in ("str", "path", "entry"):
+        [entry] = os.scandir(path.parent)
+        yield {"str": str(path), "path": path, "entry": entry}[request.param]
+    else:
+        # a file without a buffer has no `read1`
+        with open(path, "rb", -1 if request.param == "buffered" else 0) as file:
+            yield file.fileno() if request.param == "descriptor" else file
+
+
+@pytest.mark.parametrize("size", [1, 3, 65536])
+def test_files(source, size):
+    with vte.open(source, size) as events:
+        assert joined(events) == EVENTS
+
+
+@pytest.mark.parametrize("kinds", [
+    {Osc}, {Csi, Esc}, [Put], (), {Text, Execute}, [Osc, Text, Osc], {Hook: 1},
+    set(map(type, EVENTS))])
+@pytest.mark.parametrize("given", [lambda kinds: kinds, iter])
+def test_kinds(source, kinds, given):
+    wanted = [event for event in EVENTS if type(event) in set(kinds)]
+    for parser in vte.Parser(), vte.Parser(limit=1024):
+        assert parser.feed(STREAM, given(kinds)) + parser.feed(STREAM, given(kinds)) == wanted * 2
+    with vte.open(source, 5, given(kinds)) as events:
+        assert joined(events) == wanted
+
+
+def test_who_closes_a_file(path):
+    for leave in lambda events: events.__exit__(), lambda events: events.close():
+        with vte.open(path) as events:
+            leave(events)
+            with pytest.raises(ValueError):
+                next(events)
+    # an error isn't kept, and closes the file, too
+    with pytest.raises(KeyError), vte.open(path, 1) as events:
+        assert (type(events), next(events)) == (vte.Reader, Text("a"))
+        raise KeyError
+    with pytest.raises(ValueError):
+        next(events)
+    with open(path, "rb") as file:
+        for given in file, file.fileno():
+            with vte.open(given):
+                pass
+        assert file.read() == STREAM
+
+
+def test_files_that_cannot_be_read(path):
+    with pytest.raises(FileNotFoundError):
+        vte.open(f"{path}.none")
+    with open(path, "rb") as file:
+        descriptor = file.fileno()
+    with pytest.raises(OSError):
+        next(vte.open(descriptor))
+    with pytest.raises(ValueError, match="closed file"):
+        next(vte.open(file))
+    folder = os.open("/", os.O_RDONLY)
+    with pytest.raises(IsADirectoryError):
+        next(vte.open(folder))
+    os.close(folder)
+
+
+@pytest.mark.parametrize("wrong, message", [
+    (lambda: vte.open(None), "open takes a path, a file descriptor or a binary file, not NoneType"),
+    (lambda: vte.open(b"path"), "open takes a path, a file descriptor or a binary file, not bytes"),
+    (lambda: vte.open(io.StringIO("a")), "not a text file: open it in binary mode"),
+    (lambda: vte.open(sys.__stdout__), "not a text file: open it in binary mode"),
+    (lambda: vte.open(io.BytesIO(), kinds={int}), "kinds must be types of events"),
+    *((lambda size=size: vte.open(io.BytesIO(), size), f"size must be at least 1, not {size!r}")
+      for size in (0, -1, 1.5, None, "9")),
+])
+def test_wrong_arguments(wrong, message):
+    with pytest.raises((TypeError, ValueError), match=message):
+        wrong()
+
+
+def test_files_that_have_nothing_yet():
+    reading, writing = os.pipe()
+    os.set_blocking(reading, False)
+    with open(reading, "rb", buffering=0) as file:
+        for source in file, reading:
+            events = vte.open(source)
+            for text in b"a", b"b":
+                with pytest.raises(BlockingIOError):
+                    next(events)
+                os.write(writing, text)
+                assert next(events) == Text(text.decode())
+        os.close(writing)
+        assert list(vte.open(file)) == []
+
+
+def test_standard_input():
+    words = [sys.executable, "-c", "import vte; print([*vte.open(0)])"]
+    done = subprocess.run(words, input=b"a\n", capture_output=True)
+    assert done.stdout == b"[Text(text='a'), Execute(byte=10)]\n", done.stderr
+
+
+def test_a_piece_is_read_when_it_is_wanted():
+    file = io.BytesIO(b"a" * 70_000 + b"b")
+    events = vte.open(file)
+    assert (file.tell(), len(next(events).text), file.tell()) == (0, 65536, 65536)
+    assert len(next(events).text) == 70_001 - 65536
+    assert (file.tell(), next(events, None)) == (70_001, None)
+    assert list(vte.open(io.BytesIO(b"abcdefg"), 3)) == [Text("abc"), Text("def"), Text("g")]
+
+
+def test_a_piece_is_what_is_there(tmp_path):
+    class Live(io.BytesIO):
+        def read(self, size=-1):
+            raise AssertionError("it waits for more")
+
+    assert next(vte.open(Live(b"a"))) == Text("a")
+    path, has_come = tmp_path / "pipe", threading.Event()
+    os.mkfifo(path)
+
+    def write():
+        with open(path, "wb", buffering=0) as pipe:
+            pipe.write(b"a")
+            has_come.wait(60)
+            pipe.write(b"b")
+
+    writer = threading.Thread(target=write, daemon=True)
+    writer.start()
+    with vte.open(path) as events:
+        first = next(events)
+        has_come.set()
+        assert [first, *events] == [Text("a"), Text("b")]
+    writer.join()
+
+
+def test_pty():
+    master, slave = pty.openpty()
+    with subprocess.Popen(["printf", r"a\033[1mb"], stdout=slave):
+        os.close(slave)
+        wanted = [Text("a"), Csi(((1,),), b"", False, "m"), Text("b")]
+        assert joined(vte.open(master)) == wanted
+    os.close(master)
+
+
+@pytest.mark.parametrize("program, said, title, status", [
+    (r"printf '\033]2;a;b\007x'", b"\x1b]2;a;b\x07x", b"title: a;b\n", 0),
+    (r"printf '\033]0;x\033\\\033]1;y\007'; exit 3", b"\x1b]0;x\x1b\\\x1b]1;y\x07",
+     b"title: x\n", 3)])
+def test_title_watcher(program, said, title, status):
+    words = [sys.executable, EXAMPLES / "title_watcher.py", "sh", "-c", program]
+    done = subprocess.run(words, stdin=subprocess.DEVNULL, capture_output=True)
+    assert (done.stdout, done.stderr, done.returncode) == (said, title, status)
+
+
+def test_titles_are_not_late():
+    # the program waits until the first title was seen; a watcher that is late is killed
+    program = r"printf 'a\033]2;hi\007'; read line; printf '\033]0;you\033\\'"
+    words = [sys.executable, EXAMPLES / "title_watcher.py", "sh", "-c", program]
+    with subprocess.Popen(words, stdin=subprocess.PIPE, stdout=subprocess.DEVNULL,
+                          stderr=subprocess.PIPE) as watcher:
+        late = threading.Timer(300, watcher.kill)
+        late.start()
+        assert watcher.stderr.readline() == b"title: hi\n"
+        watcher.stdin.write(b"\n")
+        watcher.stdin.flush()
+        assert watcher.stderr.readline() == b"title: you\n"
+        late.cancel()

@@ -1,0 +1,99 @@
+"""Compares events, texts and calls with the test vectors, which an sdist doesn't have."""
+import json
+import sys
+from pathlib import Path
+
+import pytest
+from call_lines import lines_of, name_of
+from common import EXAMPLES, cut, feed
+
+import vte
+from vte import calls
+
+sys.path.insert(0, str(EXAMPLES))
+from events import line  # noqa: E402
+
+FOLDER = Path(__file__).resolve().parent.parent.parent / "vectors"
+
+
+def vectors(file, kind):
+    rows = json.loads((FOLDER / file).read_text())["vectors"] if FOLDER.is_dir() else []
+    return [row for row in rows if row["kind"] == kind]
+
+
+def each(file, kind):
+    return pytest.mark.parametrize("row", vectors(file, kind), ids=lambda row: row["id"])
+
+
+def cuttings(row):
+    """The pieces, the whole, and single bytes."""
+    pieces = [bytes.fromhex(piece) for piece in row["pieces"]]
+    stream = b"".join(pieces)
+    return pieces, [stream], cut(stream, 1)
+
+
+def event_lines(events):
+    return [part for event in events for part in line(event).split("\n") if part]
+
+
+def call_lines(made):
+    return [part for call in made for part in lines_of(call)]
+
+
+def without_timeouts(lines):
+    return [line for line in lines if not line.startswith(("set_timeout", "clear_timeout"))]
+
+
+@each("events.json", "events")
+def test_events(row):
+    if row["limit"] not in (None, 1024):
+        pytest.skip("no parser has this limit")
+    for pieces in cuttings(row):
+        if row["limit"] is None or len(b"".join(pieces)) <= 1024:
+            assert event_lines(feed(vte.Parser(), pieces)) == row["events"]
+        if row["limit"] == 1024:
+            assert event_lines(feed(vte.Parser(limit=1024), pieces)) == row["events"]
+
+
+@each("calls.json", "text")
+def test_text(row):
+    for pieces in cuttings(row):
+        assert b"".join(map(vte.Stripper().strip, pieces)).hex() == row["text"]
+        assert vte.strip(b"".join(pieces)).hex() == row["text"]
+
+
+@each("calls.json", "calls")
+def test_calls(row):
+    wanted, (_, [stream], _) = without_timeouts(row["calls"]), cuttings(row)
+    if len(stream) > 1024:
+        pytest.skip("a processor has no limit")
+    for pieces in cuttings(row):
+        processor = vte.Processor()
+        found = call_lines(feed(processor, pieces))
+        # what is held comes when the update is stopped
+        found += call_lines(processor.stop_sync()) if processor.sync_timeout is not None else []
+        assert found == wanted or found[:len(wanted)] == wanted and b"2026" in stream
+
+
+@each("calls.json", "updates")
+def test_updates(row):
+    if row["timeout"] not in ("counting", "expiring"):
+        pytest.skip("a processor has one timeout")
+    processor = vte.Processor()
+    for step in row["steps"]:
+        if step.get("act") == "expire":
+            pytest.skip("no clock tells a processor that an update has expired")
+        made = (processor.feed(bytes.fromhex(step["advance"])) if "advance" in step
+                else processor.stop_sync())
+        assert call_lines(made) == without_timeouts(step["calls"])
+        assert processor.sync_bytes_count == step.get("held", processor.sync_bytes_count)
+
+
+@pytest.mark.skipif(not FOLDER.is_dir(), reason="no vectors")
+def test_enough_vectors():
+    counts = [len(vectors(*of)) for of in (
+        ("events.json", "events"), ("calls.json", "calls"), ("calls.json", "updates"))]
+    assert all(count >= least for count, least in zip(counts, (198, 552, 50)))
+    # each call is made by some vector, but for those that no sequence makes
+    made = {text.split()[0] for row in vectors("calls.json", "calls") for text in row["calls"]}
+    assert len(made & set(map(name_of, calls.KINDS))) >= 69

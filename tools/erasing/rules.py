@@ -68,7 +68,7 @@ COUNTS = [
 ]
 
 # The functions that may stop: the others only pass this parameter on.
-ASKING = {"drive", "end_data", "read_device_data", "read_end", "read_ignored_string", "read_run",
+ASKING = {"drive", "end_data", "read_device_data", "read_end", "read_ignored_string", "read_by_state",
           "read_system_command", "read_text", "read_until_terminated"}
 
 

@@ -3,7 +3,7 @@
 //! control sequences, device control strings and operating system commands (ECMA-48, ECMA-35, the
 //! VT500 parser).
 //!
-//! [`Parser`] reads a stream in pieces of any length and calls a [`Perform`] for each of its events. [`LongParser`] is
+//! [`Parser`] reads a stream in chunks of any length and calls a [`Perform`] for each of its events. [`LongParser`] is
 //! a parser without a limit on the text of operating system commands.
 
 mod automaton;

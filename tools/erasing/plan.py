@@ -113,7 +113,8 @@ VTE = Plan(
     conditions={name: 'feature = "ansi"' for name in ("vte_types", "vte_handler", "vte")},
     under={
         "vte_core": {WITH_MEMORY: {"LongParser", "Vec", "long"}, WITH_LIMIT: {"Parser"}},
-        "vte_core/lib": {WITH_MEMORY: {"LongParser", "Refused", "long"}, SAVED: {"Saved"}},
+        "vte_core/lib": {WITH_MEMORY: {"LongParser", "Refused", "long"}, SAVED: {"Saved"},
+                         'feature = "ansi"': {"InRuns", "Singly"}},
         "vte_core/parser/to_run": {WITH_LIMIT: {"Parser", "Perform", "Run", "take_run"}},
         # the module has the condition
         "vte_core/parser/long": None,
@@ -122,7 +123,8 @@ VTE = Plan(
                                          "PerformText", "Singly"},
                             SAVED: {"Saved", "saved"}},
         "vte/ansi": {WITH_LIMIT: {"Processor", "processor"}},
-        "vte/ansi/parsing": {WITH_LIMIT: {"ArrayString", "HandlerText", "Parser", "ProcessorParser", "ProcessorText", "TEXT_ROOM"}},
+        "vte/ansi/parsing": {WITH_LIMIT: {"ArrayString", "HandlerText", "InRuns", "Parser", "ProcessorParser",
+                                          "ProcessorText", "Singly", "TEXT_ROOM"}},
         "vte/ansi/titles": {WITH_LIMIT: {"TEXT_ROOM"}},
         "vte_types": {'feature = "serde"': {"serde"}},
     },

@@ -22,7 +22,7 @@ mod run;
 mod store;
 mod utf8;
 
-pub use looks::{Run, Taken};
+pub use looks::{InRuns, Run, Singly, Taken};
 pub use params::{Params, ParamsIter};
 pub use parser::Parser;
 // for C alone

@@ -19,6 +19,8 @@ mod scan;
 mod store;
 mod utf8;
 
+#[cfg(feature = "ansi")]
+pub use grain::{InRuns, Singly};
 pub use params::{Params, ParamsIter};
 #[cfg(not(feature = "std"))]
 pub use parser::Parser;

@@ -124,13 +124,15 @@ VTE = Plan(
     conditions={name: 'feature = "ansi"' for name in ("vte_types", "vte_handler", "vte")},
     under={
         "vte_core": {WITH_MEMORY: {"LongParser", "Vec", "long"}},
-        "vte_core/lib": {WITH_MEMORY: {"LongParser", "Refused", "long"}, OWN: {"Saved"}},
+        "vte_core/lib": {WITH_MEMORY: {"LongParser", "Refused", "long"}, OWN: {"Saved"},
+                         'feature = "ansi"': {"InRuns", "Singly"}},
         # the module has the condition
         "vte_core/parser/long": None,
         "vte_core/parser": {OWN: {"Saved", "saved"}},
         "vte_handler/lib": {OWN: {"by_call"}},
         "vte/ansi": {WITH_LIMIT: {"Processor", "processor"}},
-        "vte/ansi/parsing": {WITH_LIMIT: {"ArrayString", "HandlerText", "Parser", "ProcessorParser", "ProcessorText", "TEXT_ROOM"}},
+        "vte/ansi/parsing": {WITH_LIMIT: {"ArrayString", "HandlerText", "InRuns", "Parser", "ProcessorParser",
+                                          "ProcessorText", "Singly", "TEXT_ROOM"}},
         "vte/ansi/titles": {WITH_LIMIT: {"TEXT_ROOM"}},
         "vte_types": {'feature = "serde"': {"serde"}},
     },

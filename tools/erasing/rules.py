@@ -41,6 +41,7 @@ def _as_functions(names):
 # run time it is nothing. The input is a slice, a performer that counts is a performer, and a search is a function.
 COUNTS = [
     ("mod looks;", "mod grain;\nmod scan;"),
+    ("pub use looks::{InRuns, Run, Singly, Taken};", "pub use grain::{InRuns, Singly};\npub use scan::{Run, Taken};"),
     ("pub use looks::", "pub use scan::"),
     ("impl<B> Looks<B> { $$$b }", _as_functions),
     ("looks: Looks::$f(),", ""),
@@ -71,7 +72,7 @@ COUNTS = [
 ]
 
 # The functions that may stop: the others only pass this parameter on.
-ASKING = {"drive", "end_data", "read_device_data", "read_end", "read_ignored_string", "read_run",
+ASKING = {"drive", "end_data", "read_device_data", "read_end", "read_ignored_string", "read_by_state",
           "read_system_command", "read_text", "read_until_terminated"}
 
 

@@ -1,4 +1,4 @@
--- Fronts of texts.
+-- The first part of a text ends at its first separator, and a text without one is its own part.
 use Rattle.vte.proofs.Common.{◌≡◌, ◌<◌, ℕ, Bool, List, [], ◌∷◌, ◌+◌, length, Option, None, Some, sym, arith, Bor, take, drop, slice_split_first, slice_split_none}
 use Rattle.vte.proofs.Common.{fails_before_first, position_or_len, slice_split}
 

@@ -1,4 +1,3 @@
-pub mod Added
 pub mod BeginUpdate
 pub mod CallExamples
 pub mod Calls
@@ -8,29 +7,20 @@ pub mod ColorText
 pub mod CommandCalls
 pub mod ControlCalls
 pub mod EscapeCalls
-pub mod Hold
-pub mod HoldFacts
-pub mod Lent
 pub mod LongProcessor
+pub mod machine
 pub mod Maybe
-pub mod Meaning
 pub mod Numbers
 pub mod Parts
-pub mod Performer
-pub mod Plain
 pub mod Processor
 pub mod ProcessorCalls
-pub mod ProcessorTurns
 pub mod RefusedStep
 pub mod Rendition
 pub mod Rooms
-pub mod Run
 pub mod StdSyncHandler
 pub mod Synchronized
 pub mod TextRoom
 pub mod Titles
-pub mod Told
-pub mod Turn
 pub mod UpdateExamples
 pub mod Values
 -- Crates that depend on `vte` find here the definitions that its contracts use from the crates

@@ -3,13 +3,9 @@ use Rattle.std.specs.Prelude.{◌≡◌, ℕ, ◌+◌, Bool, None, List, length,
 use Rattle.vte_core.specs.LongParser.{memory_of}
 use Rattle.vte_core.specs.declared.parser.long.LongParser.{LongParser}
 use Rattle.vte_core.specs.declared.parser.refused.Refused.{Refused}
-use Rattle.vte.specs.Hold.{held_of}
-use Rattle.vte.specs.Meaning.{Meaning}
-use Rattle.vte.specs.Plain.{HaveParsedAll}
-use Rattle.vte.specs.Processor.{AreAt, HaveTaken, Parts, parts}
-use Rattle.vte.specs.ProcessorCalls.{LacksSome, ReadsSome, ReplaysAll, ReservesRoom, StopsUpdate}
+use Rattle.vte.specs.ProcessorCalls.{AreAt, HaveParsedAll, HaveTaken, LacksSome, Parts, ReadsSome, ReplaysAll, ReservesRoom, StopsUpdate, held_of, parts}
+use Rattle.vte.specs.Processor.{Meaning, State}
 use Rattle.vte.specs.Rooms.{HasLongRoom, LacksLongRoom, long_reading}
-use Rattle.vte.specs.Turn.{State}
 use Rattle.vte.specs.declared.ansi.growing_text.GrowingText.{GrowingText}
 use Rattle.vte.specs.declared.ansi.laws.runs.Step.{Step}
 use Rattle.vte.specs.declared.ansi.long_processor.LongProcessor.{LongProcessor}
@@ -23,10 +19,10 @@ timeout_long processor = processor.turns.state.timeout
 abbrev pub unlimited : {A T W : Type 0} → (T → W) → Parts (LongParser A) (GrowingText A) T W
 unlimited timeout_of = parts None long_reading (λ text. text.size) timeout_of
 
--- `Stands`, for a processor without a limit.
-abbrev pub StandsLong : {T A W : Type 0} → (T → W) → LongProcessor T A → List ℕ
+-- `HasParsedAndHolds`, for a processor without a limit.
+abbrev pub HasParsedAndHoldsLong : {T A W : Type 0} → (T → W) → LongProcessor T A → List ℕ
     → List ℕ → W → Type 0
-StandsLong timeout_of processor = HaveTaken (unlimited timeout_of) processor.turns
+HasParsedAndHoldsLong timeout_of processor = HaveTaken (unlimited timeout_of) processor.turns
 
 -- `IsAt`, for a processor without a limit.
 abbrev pub IsAtLong : {T A V W : Type 0} → (T → W) → LongProcessor T A → V → State V W → Type 0

@@ -1,90 +1,262 @@
--- What a processor has parsed and holds, and what a call of it leads to.
-use Rattle.std.specs.Prelude.{◌≡◌, ℕ, ◌<◌, Option, Some, List, ◌++◌, length, take, drop}
-use Rattle.vte_core.specs.declared.parser.Parser.{Parser}
-use Rattle.vte_core.specs.Stream.{events}
-use Rattle.vte.specs.Calls.{last_printed}
-use Rattle.vte.specs.Hold.{held_of}
-use Rattle.vte.specs.HoldFacts.{HoldsWell}
-use Rattle.vte.specs.Meaning.{Meaning}
-use Rattle.vte.specs.Rooms.{Reading, short_reading}
-use Rattle.vte.specs.Turn.{State, TakesAllTurns, TakesSome, all_bytes}
-use Rattle.vte.specs.declared.ansi.performer.ProcessorState.{ProcessorState}
-use Rattle.vte.specs.declared.ansi.processor.Processor.{Processor}
-use Rattle.vte.specs.declared.ansi.titles.TheConstants.{TEXT_ROOM}
-use Rattle.vte.specs.declared.ansi.turns.Turns.{Turns}
+-- What a processor does, from top to bottom: what its parts mean; how it parses bytes, holds them
+-- back and stops updates; the turns of a call; what is true of held bytes; calls one after another,
+-- and what the handler has received of them.
+use Rattle.std.specs.Prelude.{ℕ, zero, suc, Bool, Option, ◌++◌, List, ◌≡◌, ◌-◌, ◌<◌, false, ◌&&◌, ◌||◌, [], ◌∷◌, length, take, drop, if◌then◌else◌, nat_lt, nat_le, ◌⊎◌, ◌≤◌, true, None}
+use Rattle.vte_core.specs.Stream.{events, added}
+use Rattle.vte_handler.specs.Call.{Call}
+use Rattle.vte_handler.specs.Handler.{after}
+use Rattle.vte_handler.specs.Timeout.{TimeoutMeaning, AllowsAlone, IsKept}
+use Rattle.vte.specs.BeginUpdate.{begin_count}
+use Rattle.vte.specs.Calls.{added_calls}
+use Rattle.vte.specs.Synchronized.{begins_among, kept_of, last_part, update_ended, begin_update, begins_with, behind_last_end}
+use Rattle.vte.specs.declared.ansi.laws.runs.Step.{Step}
+use Rattle.vte.specs.declared.ansi.laws.runs.Step.TheVariants.{Advance, StopSync}
 
-abbrev pub held_in : {T A : Type 0} → Processor T A → List ℕ
-held_in processor = held_of processor.turns.hold
-
-abbrev pub timeout_in : {T A : Type 0} → Processor T A → T
-timeout_in processor = processor.turns.state.timeout
-
--- What the parts of a processor mean: its parser, with its limit, its buffer for texts, and its
--- timeout.
-pub record Parts (P J T W : Type 0) : Type 1 where
+-- What a processor's parser, handler and timeout mean.
+pub record Meaning (H W : Type 0) : Type 1 where
+  -- how many data bytes of an operating system command the parser keeps, if there is a limit
   pub limit : Option ℕ
-  pub reading : Reading P
-  pub room_of : J → ℕ
-  pub timeout_of : T → W
+  pub step : H → Call → H
+  pub timeout : TimeoutMeaning W
 
-abbrev pub parts : {P J T W : Type 0} → Option ℕ → Reading P → (J → ℕ) → (T → W) → Parts P J T W
-parts limit reading room_of timeout_of =
-    record { limit = limit; reading = reading; room_of = room_of; timeout_of = timeout_of }
+abbrev pub timeout_meaning : {W : Type 0} → (W → ℕ → W) → (W → W) → (W → Bool → Type 0)
+    → TimeoutMeaning W
+timeout_meaning set clear allows = record { set = set; clear = clear; allows = allows }
 
-abbrev pub limited : {N : ℕ} {J T W : Type 0} → (T → W) → Parts (Parser N) J T W
-limited timeout_of = parts (Some 1024) short_reading (λ text. TEXT_ROOM) timeout_of
+abbrev pub meaning : {H W : Type 0} → Option ℕ → (H → Call → H) → (W → ℕ → W) → (W → W)
+    → (W → Bool → Type 0) → Meaning H W
+meaning limit step set clear allows =
+    record { limit = limit; step = step; timeout = timeout_meaning set clear allows }
 
--- The parser has read the parsed bytes, and the state has the last printed character and the
--- timeout.
-pub record HasParsed {P J T W : Type 0} (w : Parts P J T W) (parser : P) (lent : ProcessorState T J)
-    (parsed : List ℕ) (timeout : W) : Type 0 where
-  pub has_read : w.reading.has_read parser parsed
-  pub last : lent.preceding_char ≡ last_printed (events w.limit parsed)
-  pub timeout_is : w.timeout_of lent.timeout ≡ timeout
+-- The timeout of an update, 150 ms.
+abbrev pub update_nanos : ℕ
+update_nanos = 150_000_000
 
--- The turns have parsed bytes, and hold those that follow, with memory to parse them.
-pub record HaveTaken {P J T A W : Type 0} (w : Parts P J T W) (turns : Turns P J T A)
+-- The value after the timeout is set this many times.
+abbrev pub set_times : {W : Type 0} → TimeoutMeaning W → ℕ → W → W
+set_times m zero value = value
+set_times m (suc n) value = set_times m n (m.set value update_nanos)
+
+-- The calls that more bytes add to those of a stream.
+abbrev pub calls_added : Option ℕ → List ℕ → List ℕ → List Call
+calls_added limit stream more = added_calls (events limit stream) (events limit (stream ++ more))
+
+-- The bytes parsed so far, those held after them, and the values of the timeout and the handler.
+pub record State (H W : Type 0) : Type 0 where
+  pub parsed : List ℕ
+  pub held : List ℕ
+  pub timeout : W
+  pub handler : H
+
+abbrev pub all_bytes : {H W : Type 0} → State H W → List ℕ
+all_bytes s = s.parsed ++ s.held
+
+-- The maximum number of held bytes.
+abbrev pub most_held : ℕ
+most_held = 2097150
+
+-- Bytes are parsed: the handler receives the calls that they add, and each update that they begin
+-- sets the timeout.
+abbrev pub parse : {H W : Type 0} → Meaning H W → State H W → List ℕ → State H W
+parse m s bytes = record {
+  parsed = s.parsed ++ bytes;
+  held = s.held;
+  timeout = set_times m.timeout (begin_count (added m.limit s.parsed bytes)) s.timeout;
+  handler = after m.step s.handler (calls_added m.limit s.parsed bytes);
+}
+
+abbrev pub with_held : {H W : Type 0} → State H W → List ℕ → State H W
+with_held s bytes =
+    record { parsed = s.parsed; held = bytes; timeout = s.timeout; handler = s.handler }
+
+-- A stop: the whole hold is parsed, the handler receives the call that reports the end of an
+-- update, and the timeout is cleared.
+abbrev pub stop : {H W : Type 0} → Meaning H W → State H W → State H W
+stop m s = let p = parse m s s.held in record {
+  parsed = p.parsed;
+  held = [];
+  timeout = m.timeout.clear p.timeout;
+  handler = m.step p.handler update_ended;
+}
+
+-- The result of a turn: a state, and the unread bytes of the call.
+pub record Turn (H W : Type 0) : Type 0 where
+  pub state : State H W
+  pub rest : List ℕ
+
+-- The shortest prefix whose last byte begins an update, or all bytes if there is none.
+abbrev pub begin_front : Option ℕ → List ℕ → List ℕ → List ℕ
+begin_front limit parsed [] = []
+begin_front limit parsed (b ∷ rest) =
+    if nat_lt 0 (begin_count (added limit parsed (b ∷ []))) then b ∷ []
+    else b ∷ begin_front limit (parsed ++ b ∷ []) rest
+
+-- An open turn: bytes are parsed up to the one that begins an update.
+abbrev pub open_turn : {H W : Type 0} → Meaning H W → State H W → List ℕ → Turn H W
+open_turn m s bytes =
+    let front = begin_front m.limit s.parsed bytes in
+    record { state = parse m s front; rest = drop (length front) bytes }
+
+-- The bytes join the hold. Each begin-update that ends among them, and after the last end-update,
+-- sets the timeout.
+abbrev pub extend : {H W : Type 0} → Meaning H W → State H W → List ℕ → State H W
+extend m s bytes = let all = s.held ++ bytes in record {
+  parsed = s.parsed;
+  held = all;
+  timeout = set_times m.timeout (begins_among (length bytes) (last_part all)) s.timeout;
+  handler = s.handler;
+}
+
+-- The held bytes before a place are parsed, and the others stay.
+abbrev pub cut_at : {H W : Type 0} → Meaning H W → State H W → ℕ → State H W
+cut_at m s place = with_held (parse m s (take place s.held)) (drop place s.held)
+
+-- Bytes at the end of the hold are kept, and those before them parsed. If none are kept, the update
+-- is stopped.
+abbrev pub keep : {H W : Type 0} → Meaning H W → State H W → List ℕ → State H W
+keep m s [] = stop m s
+keep m s (b ∷ kept) = cut_at m s (length s.held - length (b ∷ kept))
+
+-- A hold turn. Without an end-update everything stays held; after the last one, what the next
+-- begin-update begins.
+abbrev pub hold_turn : {H W : Type 0} → Meaning H W → State H W → List ℕ → State H W
+hold_turn m s bytes = keep m (extend m s bytes) (kept_of (s.held ++ bytes))
+
+-- While the timeout is pending, the bytes of a turn are held if there is room.
+abbrev pub is_held : {H W : Type 0} → Bool → State H W → List ℕ → Bool
+is_held answer s bytes = answer && nat_le (length (s.held ++ bytes)) most_held
+
+-- Otherwise they are parsed. If the timeout is pending, or bytes are held whose update has expired,
+-- the update is stopped first.
+abbrev pub is_stopped : {H W : Type 0} → Bool → State H W → Bool
+is_stopped answer s = answer || nat_lt 0 (length s.held)
+
+abbrev pub opened : {H W : Type 0} → Meaning H W → Bool → State H W → State H W
+opened m answer s = if is_stopped answer s then stop m s else s
+
+-- A turn, by the timeout's answer.
+abbrev pub turn : {H W : Type 0} → Meaning H W → Bool → State H W → List ℕ → Turn H W
+turn m answer s bytes =
+    if is_held answer s bytes then record { state = hold_turn m s bytes; rest = [] }
+    else open_turn m (opened m answer s) bytes
+
+-- Turns of a call that led to a state and left these bytes, each with an answer that the timeout's
+-- value allows.
+pub data TakesTurns {H W : Type 0} (m : Meaning H W) : State H W → List ℕ → State H W → List ℕ
+    → Type 0 where
+  done : {s : State H W} {bytes : List ℕ} → TakesTurns m s bytes s bytes
+  turns : {s t : State H W} {b : ℕ} {rest left : List ℕ} → (answer : Bool)
+      → m.timeout.allows s.timeout answer
+      → TakesTurns m (turn m answer s (b ∷ rest)).state (turn m answer s (b ∷ rest)).rest t left
+      → TakesTurns m s (b ∷ rest) t left
+
+-- A call of `advance`: turns until all bytes are read.
+abbrev pub TakesAllTurns : {H W : Type 0} → Meaning H W → State H W → List ℕ → State H W → Type 0
+TakesAllTurns m s bytes t = TakesTurns m s bytes t []
+
+-- An open turn that was refused memory: it has parsed a front of its bytes, in which no update
+-- begins, and left some.
+pub record Halts {H W : Type 0} (m : Meaning H W) (s : State H W) (bytes : List ℕ) (t : State H W)
+    (left : List ℕ) : Type 0 where
+  pub front : List ℕ
+  pub bytes_are : front ++ left ≡ bytes
+  pub some_left : 0 < length left
+  pub none_begin : begin_count (added m.limit s.parsed front) ≡ 0
+  pub state_is : t ≡ parse m s front
+
+-- The same of a turn, by the timeout's answer. A turn that holds bytes takes its memory before.
+abbrev pub TurnHalts : {H W : Type 0} → Meaning H W → Bool → State H W → List ℕ → State H W
+    → List ℕ → Type 0
+TurnHalts m answer s bytes t left =
+    (is_held answer s bytes ≡ false) × Halts m (opened m answer s) bytes t left
+
+-- Turns of a call, after which a further one may have been refused memory on the way.
+pub data TakesSome {H W : Type 0} (m : Meaning H W) (s : State H W) (bytes : List ℕ) (t : State H W)
+    (left : List ℕ) : Type 0 where
+  between : TakesTurns m s bytes t left → TakesSome m s bytes t left
+  within : {u : State H W} {rest : List ℕ} → TakesTurns m s bytes u rest → (answer : Bool)
+      → m.timeout.allows u.timeout answer
+      → TurnHalts m answer u rest t left → TakesSome m s bytes t left
+
+-- The last parsed byte began an update.
+pub record EndsInBegin (limit : Option ℕ) (parsed : List ℕ) : Type 0 where
+  pub before : List ℕ
+  pub byte : ℕ
+  pub is : parsed ≡ before ++ byte ∷ []
+  pub begins : 0 < begin_count (added limit before (byte ∷ []))
+
+-- Outside an update nothing is held.
+pub record IsOutsideUpdate {W : Type 0} (m : TimeoutMeaning W) (held : List ℕ)
+    (timeout : W) : Type 0 where
+  pub not_pending : AllowsAlone m timeout false
+  pub none_held : held ≡ []
+
+-- Inside an update the held bytes follow its begin, or start with it.
+pub record IsInsideUpdate {W : Type 0} (limit : Option ℕ) (m : TimeoutMeaning W)
     (parsed held : List ℕ) (timeout : W) : Type 0 where
-  pub has_parsed : HasParsed w turns.parser turns.state parsed timeout
-  pub holds : held_of turns.hold ≡ held
-  pub has_room : 0 < length held
-      → w.reading.has_room turns.parser (w.room_of turns.state.text) parsed (length held)
+  pub pending : AllowsAlone m timeout true
+  pub begun : EndsInBegin limit parsed ⊎ (begins_with begin_update held ≡ true)
 
--- The turns and the handler's value are as the state says.
-pub record AreAt {P J T A V W : Type 0} (w : Parts P J T W) (turns : Turns P J T A) (value : V)
-    (s : State V W) : Type 0 where
-  pub stands : HaveTaken w turns s.parsed s.held s.timeout
-  pub handler_is : value ≡ s.handler
-
--- The processor has parsed bytes, and holds those that follow.
-abbrev pub Stands : {T A W : Type 0} → (T → W) → Processor T A → List ℕ → List ℕ → W → Type 0
-Stands timeout_of processor = HaveTaken (limited timeout_of) processor.turns
-
--- The processor and the handler's value are as the state says.
-abbrev pub IsAt : {T A V W : Type 0} → (T → W) → Processor T A → V → State V W → Type 0
-IsAt timeout_of processor = AreAt (limited timeout_of) processor.turns
+-- The hold contains no end-update, and fits its room. If the timeout is kept, nothing is held
+-- outside an update.
+pub record HoldsWell {W : Type 0} (limit : Option ℕ) (m : TimeoutMeaning W) (parsed held : List ℕ)
+    (timeout : W) : Type 0 where
+  pub no_end : behind_last_end held ≡ None
+  pub fits : length held ≤ most_held
+  pub kept : IsKept m → IsOutsideUpdate m held timeout ⊎ IsInsideUpdate limit m parsed held timeout
 
 -- The facts about the hold at a state.
 abbrev pub HoldsWellAt : {H W : Type 0} → Meaning H W → State H W → Type 0
 HoldsWellAt m s = HoldsWell m.limit m.timeout s.parsed s.held s.timeout
 
--- A call led to a state by turns, and is there. Each given byte is parsed or held, once and in
--- order. The facts about the hold stay true.
-pub record Advanced {V W : Type 0} (m : Meaning V W) (s : State V W) (bytes : List ℕ)
-    (there : State V W → Type 0) : Type 0 where
-  pub next : State V W
-  pub advances : TakesAllTurns m s bytes next
-  pub each_once : all_bytes next ≡ all_bytes s ++ bytes
-  pub holds_well : HoldsWellAt m s → HoldsWellAt m next
-  pub is_at : there next
+-- `Advance` takes turns until all bytes are read; `StopSync` is one stop.
+abbrev pub Run : {H W : Type 0} → Meaning H W → State H W → List Step → State H W → Type 0
+Run m s [] t = s ≡ t
+Run m s (Advance bytes ∷ steps) t =
+    (next : State _ _) × (TakesAllTurns m s bytes.now next × Run m next steps t)
+Run m s (StopSync ∷ steps) t = Run m (stop m s) steps t
 
--- A call has read so many of its bytes, by turns, of which the last may have been refused memory on
--- the way, and is at the state to which they led. Each byte that was read is parsed or held, once
--- and in order. The facts about the hold stay true.
-pub record HasTaken {V W : Type 0} (m : Meaning V W) (s : State V W) (bytes : List ℕ) (read : ℕ)
-    (there : State V W → Type 0) : Type 0 where
-  pub next : State V W
-  pub takes : TakesSome m s bytes next (drop read bytes)
-  pub each_once : all_bytes next ≡ all_bytes s ++ take read bytes
-  pub holds_well : HoldsWellAt m s → HoldsWellAt m next
-  pub is_at : there next
+-- The bytes that the calls pass.
+abbrev pub bytes_of : List Step → List ℕ
+bytes_of [] = []
+bytes_of (Advance bytes ∷ steps) = bytes.now ++ bytes_of steps
+bytes_of (StopSync ∷ steps) = bytes_of steps
+
+-- The calls that more bytes add to those of a stream, if updates are stopped at these places of the
+-- joined bytes: after the calls of the bytes up to a place comes the one that reports the end of an
+-- update.
+abbrev pub calls_with_stops : Option ℕ → List ℕ → List ℕ → List ℕ → List Call
+calls_with_stops limit stream more [] = calls_added limit stream more
+calls_with_stops limit stream more (place ∷ places) = let count = place - length stream in
+    calls_added limit stream (take count more)
+    ++ update_ended ∷ calls_with_stops limit (stream ++ take count more) (drop count more) places
+
+-- A stop parses the whole hold, so this is its place.
+abbrev pub place_of_stop : {H W : Type 0} → State H W → ℕ
+place_of_stop s = length (all_bytes s)
+
+-- A hold turn that keeps nothing is one.
+abbrev pub stops_in_hold : {H W : Type 0} → State H W → List ℕ → List ℕ → List ℕ
+stops_in_hold s bytes [] = length (all_bytes s ++ bytes) ∷ []
+stops_in_hold s bytes (b ∷ kept) = []
+
+-- The stops of a turn, by the timeout's answer: there is at most one.
+abbrev pub stops_of_turn : {H W : Type 0} → Bool → State H W → List ℕ → List ℕ
+stops_of_turn answer s bytes =
+    if is_held answer s bytes then stops_in_hold s bytes (kept_of (s.held ++ bytes))
+    else (if is_stopped answer s then place_of_stop s ∷ [] else [])
+
+-- The stops of a call of `advance`, by the answers of its turns.
+abbrev pub stops_of_advance : {H W : Type 0} (m : Meaning H W) (s t : State H W) (bytes : List ℕ)
+    → TakesAllTurns m s bytes t → List ℕ
+stops_of_advance m s t [] done = []
+stops_of_advance m s t (b ∷ rest) (turns answer allowed more) =
+    stops_of_turn answer s (b ∷ rest) ++ stops_of_advance m _ t _ more
+
+-- The stops of a run. `StopSync` is always one.
+abbrev pub stops_of : {H W : Type 0} (m : Meaning H W) (s t : State H W) (steps : List Step)
+    → Run m s steps t → List ℕ
+stops_of m s t [] run = []
+stops_of m s t (Advance bytes ∷ steps) (next, (advances, run)) =
+    stops_of_advance m s next bytes.now advances ++ stops_of m next t steps run
+stops_of m s t (StopSync ∷ steps) run = place_of_stop s ∷ stops_of m (stop m s) t steps run

@@ -1,9 +1,7 @@
 -- What a list of calls has led to if memory for one of them is refused.
 use Rattle.std.specs.Prelude.{ℕ, ◌-◌, ◌<◌, List, [], ◌∷◌, length, take, drop}
-use Rattle.vte.specs.Meaning.{Meaning}
-use Rattle.vte.specs.Processor.{HasTaken}
-use Rattle.vte.specs.Run.{Replayed}
-use Rattle.vte.specs.Turn.{State}
+use Rattle.vte.specs.Processor.{Meaning, State}
+use Rattle.vte.specs.ProcessorCalls.{HasTaken, Replayed}
 use Rattle.vte.specs.declared.ansi.laws.runs.RefusedStep.{RefusedStep}
 use Rattle.vte.specs.declared.ansi.laws.runs.Step.{Step}
 use Rattle.vte.specs.declared.ansi.laws.runs.Step.TheVariants.{Advance, StopSync}

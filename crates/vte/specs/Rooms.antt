@@ -4,7 +4,7 @@ use Rattle.vte_core.specs.LongParser.{HasReadLong, memory_of, open_size}
 use Rattle.vte_core.specs.Parser.{HasRead}
 use Rattle.vte_core.specs.declared.parser.Parser.{Parser}
 use Rattle.vte_core.specs.declared.parser.long.LongParser.{LongParser}
-use Rattle.vte.specs.Turn.{most_held}
+use Rattle.vte.specs.Processor.{most_held}
 use Rattle.vte.specs.declared.ansi.titles.TheConstants.{SEPARATORS, TEXT_ROOM}
 use Rattle.vte.specs.declared.ansi.turns.TheConstants.{SLICE}
 

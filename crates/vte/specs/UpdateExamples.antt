@@ -8,9 +8,8 @@ use Rattle.vte_types.specs.declared.color.Color.TheVariants as color
 use Rattle.vte_types.specs.declared.color.NamedColor.TheVariants.{Red}
 use Rattle.vte_types.specs.declared.mode.NamedPrivateMode.TheVariants.{ShowCursor, SyncUpdate}
 use Rattle.vte_types.specs.declared.mode.PrivateMode.TheVariants.{Named}
-use Rattle.vte.specs.Meaning.{Meaning}
+use Rattle.vte.specs.Processor.{Meaning, State, stop, turn}
 use Rattle.vte.specs.Synchronized.{begin_update, end_update, update_ended}
-use Rattle.vte.specs.Turn.{State, stop, turn}
 
 -- The handler's value is the list of its calls; the timeout is pending from when it is set until it
 -- is cleared.

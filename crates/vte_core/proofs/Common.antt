@@ -24,7 +24,7 @@ pub use Rattle.vte_core.specs.Body.{body_rest, shape_outcome}
 unfoldable pub use Rattle.vte_core.specs.Body.{body_outcome}
 pub use Rattle.vte_core.specs.Brief.{FitsStore, IsBounded, IsBrief, IsExecuted, IsPrintable, IsShort, IsTiny}
 pub use Rattle.vte_core.specs.Class.{AreOf, Cancel, Class, Colon, Control, Delete, Digit, Final, High, Intermediate, Marker, Semicolon, dispatches_escape, ends_all, ends_escape, ends_head, is_cancel}
-pub use Rattle.vte_core.specs.Class.{is_control, is_data, is_final, is_head, is_intermediate, is_key, is_marker, is_parameter}
+pub use Rattle.vte_core.specs.Class.{is_control, is_data, is_final, is_head, is_intermediate, is_key, is_marker, is_parameter_text}
 unfoldable pub use Rattle.vte_core.specs.Class.{class_of}
 pub use Rattle.vte_core.specs.ControlSequence.{control_sequence_rest}
 unfoldable pub use Rattle.vte_core.specs.ControlSequence.{control_sequence_end, control_sequence_outcome}
@@ -75,9 +75,9 @@ pub use Rattle.vte_core.specs.machine.Place.{events_behind, left_at, open_at, re
 unfoldable pub use Rattle.vte_core.specs.machine.Place.{outcome_behind}
 pub use Rattle.vte_core.specs.machine.Progress.{Advances, CameTo, CameInside, IsRefusedAt, IsSettled, MayGoOn, ReadsUpTo, RefusesAt, StandsAt, StandsInside}
 pub use Rattle.vte_core.specs.machine.Reading.{ReadsHead, part_after}
-pub use Rattle.vte_core.specs.machine.Run.{ArePrinted, AreRun, EndsRun, IsPrinted, IsRun, PrintsRun}
+pub use Rattle.vte_core.specs.machine.TextRun.{ArePrinted, AreRun, EndsRun, IsPrinted, IsRun, PrintsRun}
 pub use Rattle.vte_core.specs.machine.Scans.{IsRange, Scans}
-pub use Rattle.vte_core.specs.machine.Store.{Held, Keeps, PiecesEnd, SameItems, cut_at, cut_pieces, ends_behind, fitting, pieces_behind}
+pub use Rattle.vte_core.specs.machine.Store.{Stored, Keeps, PiecesEnd, SameItems, cut_at, cut_pieces, ends_behind, fitting, pieces_behind}
 pub use Rattle.vte_core.specs.machine.Takes.{Performs, Takes}
 pub use Rattle.vte_core.specs.machine.Unfinished.{Carries, bytes_of, is_open}
 unfoldable pub use Rattle.vte_core.specs.machine.Unfinished.{second_range}

@@ -64,11 +64,11 @@ is_intermediate Intermediate = true
 is_intermediate _ = false
 
 -- 30..3B
-abbrev pub is_parameter : Class → Bool
-is_parameter Digit = true
-is_parameter Colon = true
-is_parameter Semicolon = true
-is_parameter _ = false
+abbrev pub is_parameter_text : Class → Bool
+is_parameter_text Digit = true
+is_parameter_text Colon = true
+is_parameter_text Semicolon = true
+is_parameter_text _ = false
 
 -- 3C..3F
 abbrev pub is_marker : Class → Bool

@@ -2,7 +2,7 @@
 -- 5.4).
 use Rattle.std.specs.Prelude.{ℕ, Bool, ◌||◌, List, [], ◌∷◌, ◌++◌, if◌then◌else◌, not}
 use Rattle.std.specs.List.{filter, list_all}
-use Rattle.vte_core.specs.Class.{class_of, is_head, is_intermediate, is_marker, is_parameter}
+use Rattle.vte_core.specs.Class.{class_of, is_head, is_intermediate, is_marker, is_parameter_text}
 use Rattle.vte_core.specs.Intermediates.{first_two, are_too_many}
 use Rattle.vte_core.specs.Event.{Event}
 use Rattle.vte_core.specs.Parameters.{groups_of, has_too_many_numbers}
@@ -19,8 +19,8 @@ pub record Head : Type 0 where
 abbrev pub behind_marker : List ℕ → List ℕ → Head
 behind_marker marker bytes = record {
   marker = marker;
-  parameters = before (λ b. not (is_parameter (class_of b))) bytes;
-  intermediates = from_first (λ b. not (is_parameter (class_of b))) bytes;
+  parameters = before (λ b. not (is_parameter_text (class_of b))) bytes;
+  intermediates = from_first (λ b. not (is_parameter_text (class_of b))) bytes;
 }
 
 unfoldable pub head_of : List ℕ → Head

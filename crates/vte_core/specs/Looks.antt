@@ -17,11 +17,11 @@ abbrev pub count_step : Trail-F ℕ → ℕ
 count_step Trail-F.Start = 0
 count_step (Trail-F.Then before count) = before.value + count
 
-abbrev pub count_of : Trail → ℕ
-count_of = fold-Trail ℕ count_step
+abbrev pub look_count : Trail → ℕ
+look_count = fold-Trail ℕ count_step
 
 abbrev pub looked : {B : Type 0} → Looks B → ℕ
-looked looks = count_of looks.trail.value
+looked looks = look_count looks.trail.value
 
 -- The count of a parser since it was created.
 abbrev pub looks : {N : ℕ} → Parser N → ℕ

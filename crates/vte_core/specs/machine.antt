@@ -19,5 +19,5 @@ pub mod Takes
 pub mod Tells
 pub mod ToRun
 pub mod Unfinished
-pub mod Run
+pub mod TextRun
 pub mod Words

@@ -4,7 +4,7 @@
 //! in six bits at the place that the state's number gives. So a step is a load and a shift, without
 //! a branch. But the block in which a run ends is read in vain, so only long runs come here.
 ghost use Rattle.std.specs.Prelude.{◌≡◌, ◌+◌, ◌*◌, ◌%◌, ◌<◌, ◌≤◌, IsTrue, false, drop, length};
-ghost use Rattle.vte_core.specs.machine.Automaton.{State, Between, code, begun, next, state_after, HasRead, LastEnd};
+ghost use Rattle.vte_core.specs.machine.Automaton.{AutomatonState, Between, code, begun, next, state_after, HasScanned, LastEnd};
 ghost use Rattle.vte_core.specs.machine.Words.{Each, IsRun, Scans, is_layout, looked};
 
 use crate::looks::{Input, Looks};
@@ -112,7 +112,7 @@ static TABLE: [u64; 256] = [
 /// The state after a byte, in the lowest six bits.
 #[inline(always)]
 fn step(state: u64, byte: u8) -> u64
-    ensures { (s : State) → state % 64 ≡ code s → result % 64 ≡ code (next s byte) }
+    ensures { (s : AutomatonState) → state % 64 ≡ code s → result % 64 ≡ code (next s byte) }
 {
     TABLE[byte as usize] >> (state % 64)
 }
@@ -147,7 +147,7 @@ impl<B> Looks<B> {
     #[inline(always)]
     fn last_end(&mut self, input: Input<'_, B>, from: usize, at: usize, state: u64) -> usize
         requires in_order { from ≤ length input.bytes.now }
-        requires read { HasRead (drop from input.bytes.now) at state }
+        requires read { HasScanned (drop from input.bytes.now) at state }
         ensures last { LastEnd (drop from input.entry.bytes.now) at result }
         ensures count { looked self.new + result ≡ looked self.old + at }
     {
@@ -166,7 +166,7 @@ impl<B> Looks<B> {
 /// and CR.
 #[inline(always)]
 fn state_after_block(state: u64, block: &[u8; 16]) -> u64
-    ensures { (s : State) → state ≡ code s → result ≡ code (state_after s block.now) }
+    ensures { (s : AutomatonState) → state ≡ code s → result ≡ code (state_after s block.now) }
 {
     if state == BETWEEN && is_ascii_block(block) {
         return BETWEEN;

@@ -1,6 +1,6 @@
 //! The buffer for the data bytes of an operating system command.
 ghost use Rattle.std.specs.Prelude.{◌≡◌, ◌+◌, ◌-◌, ◌<◌, ◌≤◌, ◌++◌, ℕ, true, false, List, [], Option, Some, None, not, length, drop, take, vec_capacity};
-ghost use Rattle.vte_core.specs.machine.Words.{HasMemory, IsRange, Reserves, TakesFew, fitting, has_room};
+ghost use Rattle.vte_core.specs.machine.Words.{HasCapacity, IsRange, Reserves, TakesFew, fitting, has_room};
 
 use crate::looks::{Input, Looks};
 use arrayvec::ArrayVec;
@@ -37,7 +37,8 @@ pub(crate) trait Buffer {
     /// Adds the bytes of an input from one place to another, up to the limit.
     fn append<B>(&mut self, looks: &mut Looks<B>, input: Input<'_, B>, from: usize, to: usize)
         requires range { IsRange input.bytes.now from to }
-        requires memory { HasMemory limit (capacity self.old) (length (held self.old)) (to - from) }
+        requires memory { HasCapacity limit (capacity self.old) (length (held self.old))
+            (to - from) }
         ensures appended { held self.new
             ≡ held self.old
             ++ fitting limit (length (held self.old))

@@ -2,7 +2,7 @@
 #![tactic(auto, unfolding(crate::specs::Class::class_of))]
 
 ghost use Rattle.std.specs.Prelude.{◌≡◌, ◌-◌, ◌<◌, ◌≤◌, ◌↔◌, true, false, IsTrue, MatchOption};
-ghost use Rattle.vte_core.specs.machine.Words.{IsCommandData, begins_ignored_string, class_of, dispatches_escape, ends_all, is_control, is_data, is_final, is_head, is_intermediate, is_parameter, is_separator};
+ghost use Rattle.vte_core.specs.machine.Words.{IsCommandData, begins_ignored_string, class_of, dispatches_escape, ends_all, is_control, is_data, is_final, is_head, is_intermediate, is_parameter_text, is_separator};
 
 pub(crate) const ESCAPE: u8 = 0x1b;
 
@@ -50,9 +50,10 @@ pub(crate) fn is_intermediate(byte: u8) -> bool
 
 /// Returns the value of a digit `0`..`9`.
 pub(crate) fn digit_of(byte: u8) -> Option<u32>
-    ensures { MatchOption result (is_separator byte ≡ false → is_parameter (class_of byte) ≡ false)
+    ensures { MatchOption result
+        (is_separator byte ≡ false → is_parameter_text (class_of byte) ≡ false)
         (λ digit. (48 ≤ byte) × (byte < 58) × (digit ≡ byte - 48)
-        × (is_parameter (class_of byte) ≡ true)) }
+        × (is_parameter_text (class_of byte) ≡ true)) }
 {
     let digit = u32::from(byte).wrapping_sub(u32::from(b'0'));
     if digit < 10 { Some(digit) } else { None }
@@ -61,14 +62,14 @@ pub(crate) fn digit_of(byte: u8) -> Option<u32>
 /// Whether a byte is a separator `:` or `;`.
 pub(crate) fn is_separator(byte: u8) -> bool
     ensures value { result ≡ is_separator byte }
-    ensures parameter { result ≡ true → is_parameter (class_of byte) ≡ true }
+    ensures parameter { result ≡ true → is_parameter_text (class_of byte) ≡ true }
 {
     byte == b':' || byte == b';'
 }
 
 /// Whether a byte is a digit or a separator `0`..`;`.
-pub(crate) fn is_parameter(byte: u8) -> bool
-    ensures { result ≡ is_parameter (class_of byte) }
+pub(crate) fn is_parameter_text(byte: u8) -> bool
+    ensures { result ≡ is_parameter_text (class_of byte) }
 {
     byte >= b'0' && byte <= b';'
 }

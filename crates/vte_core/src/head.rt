@@ -1,10 +1,10 @@
 //! What is collected of an escape sequence, and of the head of a control sequence or a device
 //! control string.
 ghost use Rattle.std.specs.Prelude.{◌≡◌, ◌<◌, ◌≤◌, ◌+◌, ◌*◌, ◌-◌, ◌↔◌, ◌⊎◌, min, IsTrue, List, ℕ, true, false, [], ◌∷◌, ◌++◌, length, slice_index, IfSome};
-ghost use Rattle.vte_core.specs.machine.Words.{Counts, Holds, HoldsHead, IsReady, KeepsIntermediates, KeepsNumbers, ReadsHeadUpTo, Settles, StandsInHead, class_of, is_head, is_parameter};
-ghost use Rattle.vte_core.specs.machine.Words.{is_separator, looked, with_number};
+ghost use Rattle.vte_core.specs.machine.Words.{Counts, Holds, HoldsHead, IsReady, KeepsIntermediates, KeepsNumbers, ReadsHeadUpTo, Settles, StandsInHead, class_of, is_head, is_parameter_text};
+ghost use Rattle.vte_core.specs.machine.Words.{is_separator, looked, with_open_number};
 
-use crate::class::{digit_of, is_head, is_intermediate, is_parameter, is_separator};
+use crate::class::{digit_of, is_head, is_intermediate, is_parameter_text, is_separator};
 use crate::looks::{Input, Looks};
 use crate::params::Params;
 use arrayvec::ArrayVec;
@@ -98,7 +98,7 @@ impl Collected {
     /// Moves a number that was read into the parameters, or returns true if there are 32 already.
     #[inline(always)]
     fn settle_number(&mut self, number: u16) -> bool
-        ensures settles { (text : List ℕ) → Counts (with_number self.old number) text
+        ensures settles { (text : List ℕ) → Counts (with_open_number self.old number) text
             → Settles self.new result text }
         ensures keeps { KeepsIntermediates self.old self.new }
     {
@@ -115,7 +115,7 @@ impl Collected {
     fn collect_head_byte(&mut self, part: HeadPart, byte: u8) -> HeadPart
         requires is { is_head (class_of byte) ≡ true }
         requires no_number { (part ≡ HeadPart.Entry) ⊎ (part ≡ HeadPart.Parameters)
-            → is_parameter (class_of byte) ≡ false }
+            → is_parameter_text (class_of byte) ≡ false }
         ensures { (head : List ℕ) → StandsInHead self.old part head
             → StandsInHead self.new result (head ++ byte ∷ []) }
     {
@@ -149,7 +149,7 @@ impl Collected {
         requires may { reached ≡ HeadPart.Entry ⊎ reached ≡ HeadPart.Parameters }
         ensures reads { ReadsHeadUpTo input.entry.bytes.now from reached result self.old self.new }
         ensures further { several ≡ true → from < length input.entry.bytes.now
-            → is_parameter (class_of (slice_index input.entry.bytes.now from)) ≡ true
+            → is_parameter_text (class_of (slice_index input.entry.bytes.now from)) ≡ true
             → (from < result.position) × (result.part ≡ HeadPart.Parameters) }
         ensures count { looked looks.new + from
             ≡ looked looks.old + min (result.position + 1) (length input.entry.bytes.now) }
@@ -214,7 +214,7 @@ impl Collected {
                 next = Some(byte);
                 break;
             }
-            if is_parameter(byte) && part.may_have_parameters() {
+            if is_parameter_text(byte) && part.may_have_parameters() {
                 let numbers = self.read_numbers(looks, part, true, input, position);
                 // As a constant, because the loop over numbers is longer with `numbers.part`.
                 part = HeadPart::Parameters;

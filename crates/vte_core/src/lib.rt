@@ -2,7 +2,7 @@
 //! control sequences, device control strings and operating system commands (ECMA-48, ECMA-35, the
 //! VT500 parser).
 //!
-//! [`Parser`] reads a stream in pieces of any length and hands its events to a [`Perform`], whose
+//! [`Parser`] reads a stream in chunks of any length and hands its events to a [`Perform`], whose
 //! meaning is one function from a value and an event to a value. What the events of a stream are is
 //! defined in specs/, without states; the contract of [`Parser::advance`] says that the performer
 //! takes exactly these. [`LongParser`] is such a parser without a limit on the text of operating
@@ -22,7 +22,7 @@ mod run;
 mod store;
 mod utf8;
 
-pub use looks::{Run, Taken};
+pub use looks::{InRuns, Run, Singly, Taken};
 pub use params::{Params, ParamsIter};
 pub use parser::Parser;
 // for C alone

@@ -60,13 +60,13 @@ pub(crate) enum State {
 
 /// A parser of the bytes that programs send to a terminal.
 ///
-/// It reads a stream in pieces of any length, and calls a [`Perform`](crate::Perform) for each
+/// It reads a stream in chunks of any length, and calls a [`Perform`](crate::Perform) for each
 /// event.
 ///
 /// ```
 /// let mut parser = Parser::new();
 /// parser.advance(&mut performer, b"a\x1b[1");
-/// parser.advance(&mut performer, b"m"); // one `csi_dispatch`, of the two pieces together
+/// parser.advance(&mut performer, b"m"); // one `csi_dispatch`, of the two chunks together
 /// ```
 ///
 /// It keeps up to `OSC_RAW_BUF_SIZE` data bytes of an operating system command, and drops the rest.

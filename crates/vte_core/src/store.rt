@@ -1,7 +1,7 @@
 //! The store of an operating system command.
 ghost use Rattle.std.specs.Prelude.{◌≡◌, ◌≢◌, ◌+◌, ◌-◌, ◌≤◌, ◌<◌, List, ℕ, [], ◌∷◌, ◌++◌, length, drop, map, take, false, ◌↔◌, IsTrue, All};
 ghost use Rattle.std.specs.List.Sorted.{IsNonDecreasing};
-ghost use Rattle.vte_core.specs.machine.Words.{ArePieceEnds, HasMemory, Held, IsRange, Keeps, OscDispatch, Reserves, SameItems, TakesFew, Tells, cut_pieces, most_pieces};
+ghost use Rattle.vte_core.specs.machine.Words.{ArePieceEnds, HasCapacity, Stored, IsRange, Keeps, OscDispatch, Reserves, SameItems, TakesFew, Tells, cut_pieces, most_pieces};
 
 use crate::buffer::Buffer;
 use crate::looks::{CountedPerform, Grain, Input, Looks};
@@ -26,9 +26,9 @@ pub(crate) struct Store<B: Buffer> {
 impl<B: Buffer> Model for Store<B> {
     ghost use Rattle.std.specs.Prelude.{◌≤◌, All, length};
     ghost use Rattle.std.specs.List.Sorted.{IsNonDecreasing};
-    ghost use Rattle.vte_core.specs.machine.Store.{Held};
+    ghost use Rattle.vte_core.specs.machine.Store.{Stored};
 
-    ghost Value = { Held };
+    ghost Value = { Stored };
 
     ghost view = { λ store. record {
       capacity = B.capacity store.bytes;
@@ -115,7 +115,7 @@ impl<B: Buffer> Store<B> {
         requires range { IsRange input.bytes.now from to }
         requires data { All (λ b. b ≢ 0x3b) (take (to - from) (drop from input.bytes.now)) }
         requires memory { length self.old.ends < most_pieces
-            → HasMemory B.limit self.old.capacity (length self.old.bytes) (to - from) }
+            → HasCapacity B.limit self.old.capacity (length self.old.bytes) (to - from) }
         ensures keeps { (items : List ℕ) → Keeps B.limit self.old items
             → Keeps B.limit self.new (items ++ take (to - from) (drop from input.entry.bytes.now)) }
         ensures memory { self.old.capacity ≤ self.new.capacity }

@@ -1,6 +1,6 @@
 //! A parser for terminal escape sequences, and a processor that knows what they mean.
 //!
-//! [`Parser`] reads a stream in pieces of any length and calls a [`Perform`] for each event: a character to print, a control
+//! [`Parser`] reads a stream in chunks of any length and calls a [`Perform`] for each event: a character to print, a control
 //! to execute, a sequence to dispatch. `ansi::Processor`, with the feature `ansi`, knows what the events ask of a terminal, and
 //! calls an `ansi::Handler`.
 //!

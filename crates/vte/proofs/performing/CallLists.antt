@@ -1,4 +1,5 @@
--- Calls of events that follow one another, and those that more bytes add.
+-- The calls of events that follow one another, and those that more bytes add: those of the whole are those of the
+-- parts joined. By induction over the events, with the last printed character carried along.
 use Rattle.vte.proofs.Common.{◌≡◌, ℕ, None, List, [], ◌∷◌, ◌++◌, Option, refl, ap, ◌∙◌, append_assoc, drop-append_seam, Event, added, events, added_both, added-nothing}
 use Rattle.vte.proofs.Common.{events_grow, Call, after, calls_added, added_calls, calls, calls_behind, last_behind, last_printed, last_printed_behind, zero, suc, ◌+◌, zero-add, suc-add, Bool, ◌||◌}
 use Rattle.vte.proofs.Common.{nat_lt, arith, nat_tests, TimeoutMeaning, set_times, update_nanos, Meaning, Lent, first_number, is_update_group, update_groups, with_private_mode, with_private_modes}

@@ -1,4 +1,5 @@
--- What parsed bytes make of a handler and a timeout.
+-- What parsed bytes make of a handler and a timeout. A performer's value steps by events; all events together make the
+-- calls of their rows and set the timeout once per begin of an update. An early stop is the front up to the begin.
 use Rattle.vte.proofs.Common.{◌≡◌, ℕ, ◌+◌, ◌<◌, inl, inr, Bool, false, ◌||◌, nat_lt, All, List, [], ◌∷◌, ◌++◌, length, take, refl, ap, sym, ◌∙◌, arith, or-false}
 use Rattle.vte.proofs.Common.{cases_lt, false≢true, nat_tests, All-head, All-tail, told, stream_at, StopsExactly, Event, added, events, starts-between, stream_at-between, told-between, events_grow}
 use Rattle.vte.proofs.Common.{after, ProcessorState, begin_count, begins_of, calls_of, calls_behind, last_behind, last_printed, last_printed_behind, lent_of, Meaning, set_times, FitsText, Lent}

@@ -1,4 +1,5 @@
--- With room for all bytes, the parser reads them, and the texts of their commands are joined.
+-- With room for all bytes, a parser reads them all, and each command's joined text fits. No command has more data than
+-- was stored and read, nor more separators than 16; so the contracts of both parsers become those of one `Reading`.
 use Rattle.vte.proofs.Common.{◌≡◌, ℕ, ◌+◌, ◌≤◌, true, All, Option, Some, None, List, [], ◌∷◌, ◌++◌, length, Result, Ok, Err, refl, arith, concat, take-append_seam}
 use Rattle.vte.proofs.Common.{false≢true, nat_tests, All-cons, All-drop, All-head, All-nil, All-tail, All-take, Event, OscDispatch}
 use Rattle.vte.proofs.Common.{added, events, LongParser, Refused, added_both, counts_data, events_are_bounded, ParsesLent, StopsLent, FitsText, Lent, HasLongRoom, KeepsRoom, fits_room, short_reading}

@@ -1,4 +1,5 @@
--- What a run of text makes of a performer: the calls of its characters, and its last character.
+-- What a run of text makes of a performer: the calls of its characters, and its last character. By induction over the
+-- characters; the last one is found from the end, because no character begins with a byte that continues one.
 use Rattle.vte.proofs.Common.{◌≡◌, ℕ, ◌≤◌, false, Option, Some, None, List, [], ◌∷◌, ◌++◌, length, get_or, map, refl, ap, sym, ◌∙◌, add-zero, arith, or-false}
 use Rattle.vte.proofs.Common.{drop-append_seam, take-append_seam, nat_tests, append-nil, get_or-append-add, length-append, IsCharBoundary, IsUtf8, chars, Print, Input, after, last_printed_behind}
 use Rattle.vte.proofs.Common.{Call, TimeoutMeaning, Lent, with_event, IsUtf8-drop, IsUtf8-take, chars-append, chars-nil, chars_past_char, option_or}

@@ -1,4 +1,5 @@
--- Each byte that is given is parsed or held, once and in order.
+-- Each given byte is parsed or held, once and in order. Each turn and stop keeps `Grows`: parsed, held and left bytes
+-- together are those of before, and `Grows` composes over the turns of a call and the calls of a run.
 use Rattle.vte.proofs.Common.{◌≡◌, ℕ, ◌-◌, suc, inl, inr, Bool, Option, List, [], ◌∷◌, ◌++◌, length, take, drop, refl, ap, sym, ◌∙◌, append_assoc, arith}
 use Rattle.vte.proofs.Common.{take-append-drop, Step, Advance, StopSync, Meaning, Run, bytes_of, kept_of, State, TakesTurns, all_bytes, begin_front, extend, hold_turn, is_held, is_stopped, keep}
 use Rattle.vte.proofs.Common.{cases_Bool, nat_tests, append-nil, opened, parse, stop, turn, done, turns}

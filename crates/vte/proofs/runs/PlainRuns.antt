@@ -1,13 +1,13 @@
--- Runs in which nothing is ever held: they have no stops.
+-- With a timeout that is never pending nothing is ever held, so a run has no stops and its calls are those of the
+-- whole stream. By induction over turns: each one is open, and ends with nothing held.
 use Rattle.vte.proofs.Common.{◌≡◌, ℕ, true, false, List, [], ◌∷◌, ◌++◌, refl, ap, sym, ◌∙◌, Bor, append-nil, events, after, Step, Advance, StopSync, Turns, calls_added, calls}
 use Rattle.vte.proofs.Common.{Meaning, Advanced, AreAt, Parts, Replayed, Run, bytes_of, IsTold, calls_with_stops, stops_of, stops_of_advance, stops_of_turn, State, TakesAllTurns, done, turns}
 use Rattle.vte_core.proofs.streams.Performing.{events-empty}
-use Rattle.vte.specs.Plain.{AreAdvances, HaveParsedAll, IsNeverPending, ParsesAll}
+use Rattle.vte.specs.ProcessorCalls.{AreAdvances, HaveParsedAll, IsNeverPending, ParsesAll, ReplaysAll}
 use Rattle.vte.proofs.performing.CallLists.{after-append, calls_whole}
 use Rattle.vte.proofs.runs.EachOnce.{opened_none}
 use Rattle.vte.proofs.runs.Runs.{advance_runs}
 use Rattle.vte.proofs.runs.Tellings.{told_run}
-use Rattle.vte.specs.ProcessorCalls.{ReplaysAll}
 
 -- nothing is held, and there was no stop
 record IsPlain {V W : Type 0} (t : State V W) (stops : List ℕ) : Type 0 where

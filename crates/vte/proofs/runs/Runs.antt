@@ -1,4 +1,5 @@
--- From calls to a run.
+-- From calls to a run: a loop over calls makes a `Run`, step by step. A kept timeout allows one answer in each state,
+-- so a run is then a function of the calls.
 use Rattle.vte.proofs.Common.{ℕ, ◌+◌, ◌<◌, List, [], ◌∷◌, ◌++◌, length, take, drop, get_or, refl, Bor, drop_more, take_more, Step, Advance, StopSync, Meaning, Advanced}
 use Rattle.vte.proofs.Common.{HoldsWellAt, Run, Replayed, State, stop, ◌≡◌, ◌-◌, HasTaken, inl, inr, Bool, sym, ◌∙◌, IsKept, TakesAllTurns, done, turns}
 use Rattle.vte.specs.RefusedStep.{IsFirstRefused, left_of_first}

@@ -1,5 +1,6 @@
--- What a handler is told in a run, from a state on: first by what is done there, then by the rest
--- of the run.
+-- What a handler receives in a run, from a state on: first by what is done there, then by the rest of the run. By
+-- induction over the run; the calls before a stop are those of the bytes up to it, and places of later stops only
+-- grow.
 use Rattle.vte.proofs.Common.{◌≡◌, ◌≤◌, ℕ, ◌+◌, ◌-◌, inl, inr, Bool, Option, List, [], ◌∷◌, ◌++◌, length, take, sym, ◌∙◌, arith}
 use Rattle.vte.proofs.Common.{append_assoc, length-append, cases_Bool, append-nil, append_cancel_left, drop-append-add, take-append-add, after, Step, Advance, StopSync, calls_added, Meaning}
 use Rattle.vte.proofs.Common.{Run, Replayed, bytes_of, kept_of, IsTold, calls_with_stops, place_of_stop, stops_in_hold, stops_of}

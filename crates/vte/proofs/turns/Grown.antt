@@ -1,5 +1,5 @@
--- A call adds to what is parsed, and a processor that had memory for all its bytes isn't refused
--- any.
+-- A call adds to what is parsed, and is refused no memory that was there for all its bytes: room for the held and the
+-- given bytes at the start leaves room for what is left, turn by turn.
 use Rattle.vte.proofs.Common.{◌≡◌, ℕ, ◌+◌, ◌-◌, ◌<◌, inl, inr, List, ◌++◌, length, Result, Ok, Err, refl, ap, arith, length-append, Refused, LongParser, counts_data}
 use Rattle.vte.proofs.Common.{Turns, unlimited, Meaning, AreAt, HasTaken, LacksSome, ReadsSome, HasLongRoom, State, drop, length-drop}
 use Rattle.vte.specs.LongProcessor.{AdvancesLong}

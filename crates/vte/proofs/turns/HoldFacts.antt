@@ -1,4 +1,5 @@
--- What a hold is like, kept by turns and stops.
+-- The facts of a hold, `HoldsWell`, are kept by turns and stops: by cases of the timeout's answer and of what a hold
+-- turn keeps, which is all, or starts with a begin-update, or is nothing.
 use Rattle.vte.proofs.Common.{◌≡◌, ℕ, zero, suc, ◌-◌, ◌<◌, ◌≤◌, inl, inr, Bool, true, false, List, [], ◌∷◌, ◌++◌, length, take, refl, sym}
 use Rattle.vte.proofs.Common.{length-drop, arith, cases_Bool, cases_lt, false≢true, nat_tests, added}
 use Rattle.vte.proofs.Common.{TimeoutMeaning, AllowsAlone, IsKept, begin_count, IsOutsideUpdate, IsInsideUpdate, Meaning, set_times}

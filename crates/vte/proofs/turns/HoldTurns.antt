@@ -1,5 +1,5 @@
--- A hold turn by its parts: bytes are added to the hold, the timeout is set, and what the hold
--- releases is parsed.
+-- A hold turn by its parts: bytes join the hold, the timeout is set as often as they begin updates, and what the hold
+-- releases is parsed. Parsing a front of the held bytes and keeping the rest is `keep`.
 use Rattle.vte.proofs.Common.{◌≡◌, ℕ, ◌+◌, ◌-◌, ◌<◌, List, [], ◌∷◌, ◌++◌, length, length-append, length-take, take, refl, sym, ◌∙◌, arith, take_all, Turns, IsAdded}
 use Rattle.vte.proofs.Common.{held_of, released_of, kept_of, Meaning, set_times, AreAt, Parts, AreNextAt, IsParsed, IsParsedOn, IsReady, State, cut_at, extend, hold_turn, keep}
 use Rattle.vte.proofs.Common.{parse, stop}

@@ -1,4 +1,5 @@
--- An open turn by its slices, and turns that are refused memory on the way.
+-- An open turn by its slices, and turns that are refused memory. Slices in which no update begins add up to a longer
+-- front, so the turn ends where the front of the whole does; where one is refused, `Halts` says how far it came.
 use Rattle.vte.proofs.Common.{◌≡◌, ℕ, ◌+◌, ◌-◌, ◌<◌, ◌≤◌, inl, Bool, true, false, nat_lt, List, [], ◌∷◌, ◌++◌, length, take, drop, refl, ap, sym, subst}
 use Rattle.vte.proofs.Common.{◌∙◌, arith, length-append, length-drop, append_assoc, drop-append-add, take-add, nat_tests, append-nil, drop_all, length-take-le}
 use Rattle.vte.proofs.Common.{take-append-drop, take_all, take_at, added, IsKept, begin_count, IsOutsideUpdate, Meaning, HoldsWellAt, Halted, IsAtBegin, IsOpenAt, Opened}

@@ -1,4 +1,5 @@
--- What the search from the end of a hold has seen, and what the hold releases.
+-- What the search from the end of a hold has seen, place by place: how many updates begin, and where what is unread
+-- starts. Only a place with ESC can change it, and the older bytes matter only by their last seven.
 use Rattle.vte.proofs.Common.{◌≡◌, ℕ, zero, suc, ◌+◌, ◌-◌, ◌<◌, ◌≤◌, inl, inr, true, false, eqb, Some, None, List, [], ◌∷◌, length, drop, take, get_or, refl}
 use Rattle.vte.proofs.Common.{ap, ◌∙◌, add-zero, length-drop, arith, cases_Bool, nat_tests, drop_all, drop_more, get_or-drop, get_or-take, length-take-le, take_all, and-false, ◌++◌}
 use Rattle.vte.proofs.Common.{IsEnd, drop-drop, length-append, Adds, begin_update, end_update, begins_among, begins_with, behind_last_end, from_begin}

@@ -1,4 +1,5 @@
--- The sequences of updates in a text, and the parts after them.
+-- The two sequences of updates in a text, and the parts after them. Both have eight bytes and one ESC, so they never
+-- overlap; without an end-update in the older bytes, their last seven decide as all of them would.
 use Rattle.vte.proofs.Common.{◌≡◌, ℕ, zero, suc, ◌+◌, ◌-◌, ◌≤◌, inl, inr, ◌⊎◌, true, false, Option, Some, None, List, [], ◌∷◌, ◌++◌, length, drop, refl, ap}
 use Rattle.vte.proofs.Common.{zero-add, length-append, length-drop, arith, cases_Bool, cases_lt, nat_tests, and-false, drop-drop, begin_update, end_update, begins_with, behind_last_end, from_begin}
 use Rattle.vte.proofs.Common.{begins_among, kept_of, sym, ◌<◌}

@@ -2,7 +2,7 @@
 ghost use Rattle.std.proofs.Props.{props};
 ghost use Rattle.std.specs.Prelude.{◌≡◌, ◌+◌, ◌≤◌, [], None, length, drop, IfOk, vec_capacity};
 ghost use Rattle.vte.specs.Synchronized.{behind_last_end};
-ghost use Rattle.vte.specs.Turn.{most_held};
+ghost use Rattle.vte.specs.Processor.{most_held};
 ghost use Rattle.vte.specs.declared.ansi.hold.TheConstants.{ROOM};
 
 use crate::ansi::release::find_release;
@@ -27,8 +27,8 @@ pub(crate) struct SyncState<A: Allocator> {
 }
 
 impl<A: Allocator> SyncState<A> {
-    ghost use Rattle.vte.specs.Hold.{IsAdded, held_of, released_of};
-    ghost use Rattle.vte.specs.ProcessorCalls.{CountsHeld};
+    ghost use Rattle.vte.specs.machine.Hold.{IsAdded, released_of};
+    ghost use Rattle.vte.specs.ProcessorCalls.{CountsHeld, held_of};
 
     /// Allocates the memory.
     pub(crate) fn new(alloc: A) -> Result<Self, AllocError>

@@ -2,7 +2,7 @@
 ghost use Rattle.std.specs.Prelude.{◌≡◌};
 ghost use Rattle.vte_handler.specs.Call.{Input};
 
-use crate::ansi::parsing::{InRuns, Singly};
+use vte_core::{InRuns, Singly};
 use vte_handler::{Handler, HandlerText};
 
 /// A handler that takes characters in a grain.

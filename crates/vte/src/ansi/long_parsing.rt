@@ -4,12 +4,12 @@ ghost use Rattle.std.specs.Prelude.{◌≡◌, ◌+◌, ◌≤◌, ◌^◌, IfSo
 ghost use Rattle.vte.specs.Rooms.{long_reading};
 ghost use Rattle.vte.specs.declared.ansi.titles.TheConstants.{SEPARATORS};
 
-use crate::ansi::parsing::{EventParser, Grain, InRuns, Singly};
+use crate::ansi::parsing::{EventParser, ParseAs};
 use crate::ansi::performer::Performer;
 use crate::ansi::text_buffer::TextBuffer;
 use crate::ansi::titles::SEPARATORS;
 use std::alloc::Allocator;
-use vte_core::{LongParser, Refused};
+use vte_core::{InRuns, LongParser, Refused, Singly};
 use vte_handler::{Handler, HandlerText, Timeout};
 
 impl<A: Allocator> EventParser for LongParser<A> {
@@ -40,7 +40,7 @@ fn joined_size(stored: usize, more: usize) -> Option<usize>
 }
 
 #[tactic(auto, using(crate::proofs::performing::Rooms::long_parses, crate::proofs::performing::Rooms::long_stops))]
-impl<H: Handler, T: Timeout + Drop, A: Allocator> Grain<H, T, LongParser<A>> for Singly {
+impl<H: Handler, T: Timeout + Drop, A: Allocator> ParseAs<H, T, LongParser<A>> for Singly {
     #[inline(always)]
     fn advance<J: TextBuffer + Drop>(
         parser: &mut LongParser<A>,
@@ -65,7 +65,7 @@ impl<H: Handler, T: Timeout + Drop, A: Allocator> Grain<H, T, LongParser<A>> for
 }
 
 #[tactic(auto, using(crate::proofs::performing::Rooms::long_parses, crate::proofs::performing::Rooms::long_stops, crate::proofs::performing::TextRuns::prints_go_on))]
-impl<H: HandlerText, T: Timeout + Drop, A: Allocator> Grain<H, T, LongParser<A>> for InRuns {
+impl<H: HandlerText, T: Timeout + Drop, A: Allocator> ParseAs<H, T, LongParser<A>> for InRuns {
     #[inline(always)]
     fn advance<J: TextBuffer + Drop>(
         parser: &mut LongParser<A>,

@@ -2,16 +2,14 @@
 ghost use Rattle.std.specs.Prelude.{◌≡◌, ℕ, ◌+◌, false, List, [], length, None, IfOk, MatchResult};
 ghost use Rattle.vte_core.specs.LongParser.{open_size};
 ghost use Rattle.vte_handler.specs.Timeout.{AllowsAlone, IsKept};
-ghost use Rattle.vte.specs.HoldFacts.{HoldsWell};
-ghost use Rattle.vte.specs.LongProcessor.{AdvancesLong, HasNoMemory, HasParsedAllLong, ReservesLong, StandsLong, StopsSyncLong, held_long, timeout_long};
-ghost use Rattle.vte.specs.Meaning.{meaning, timeout_meaning};
+ghost use Rattle.vte.specs.Processor.{HoldsWell, meaning, timeout_meaning};
+ghost use Rattle.vte.specs.LongProcessor.{AdvancesLong, HasNoMemory, HasParsedAllLong, ReservesLong, HasParsedAndHoldsLong, StopsSyncLong, held_long, timeout_long};
 ghost use Rattle.vte.specs.ProcessorCalls.{CountsHeld};
 
 use crate::ansi::growing_text::GrowingText;
-use crate::ansi::parsing::{InRuns, Singly};
 use crate::ansi::turns::Turns;
 use std::alloc::Allocator;
-use vte_core::{LongParser, Refused};
+use vte_core::{InRuns, LongParser, Refused, Singly};
 use vte_handler::{Handler, HandlerText, Timeout};
 
 /// A [`Processor`](crate::ansi::Processor) that keeps commands, titles and links whatever their
@@ -40,7 +38,7 @@ impl<T: Timeout + Drop, A: Allocator + Copy> LongProcessor<T, A> {
     /// Returns the timeout if memory runs out.
     pub fn new(alloc: A, timeout: T) -> Result<Self, T>
         ensures stands { MatchResult result
-            (λ processor. StandsLong T.value_of processor [] [] (T.value_of timeout))
+            (λ processor. HasParsedAndHoldsLong T.value_of processor [] [] (T.value_of timeout))
             (λ back. back ≡ timeout) }
         ensures holds_well { let m = timeout_meaning T.set T.clear T.allows in
             (IsKept m → AllowsAlone m (T.value_of timeout) false)
@@ -82,11 +80,11 @@ impl<T: Timeout + Drop, A: Allocator> LongProcessor<T, A> {
     /// held back. The 2,097,152 bytes for updates stay.
     pub fn shrink(&mut self)
         ensures same { (parsed held : List ℕ) (timeout : T.Value)
-            → StandsLong T.value_of self.old parsed held timeout
-            → StandsLong T.value_of self.new parsed held timeout }
+            → HasParsedAndHoldsLong T.value_of self.old parsed held timeout
+            → HasParsedAndHoldsLong T.value_of self.new parsed held timeout }
         // It keeps none if no command is open.
         ensures frees { (parsed : List ℕ) (timeout : T.Value)
-            → StandsLong T.value_of self.old parsed [] timeout → open_size parsed ≡ 0
+            → HasParsedAndHoldsLong T.value_of self.old parsed [] timeout → open_size parsed ≡ 0
             → HasNoMemory self.new }
     {
         if self.turns.hold.len() == 0 {

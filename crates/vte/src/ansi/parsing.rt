@@ -1,20 +1,19 @@
 //! The parser, together with what a processor lends it. The references are separate parameters, not
 //! fields of one struct, so that the performer can borrow each.
 ghost use Rattle.std.specs.Prelude.{◌≡◌, ◌≤◌, ◌+◌, ◌++◌, ℕ, List, Option, Some, true, false, length};
-ghost use Rattle.vte.specs.Lent.{ParsesLent, StopsLent, lent_of};
-ghost use Rattle.vte.specs.Meaning.{meaning, timeout_meaning};
-ghost use Rattle.vte.specs.Performer.{with_event};
-ghost use Rattle.vte.specs.Processor.{parts};
-ghost use Rattle.vte.specs.ProcessorTurns.{IsAtBegin, IsParsedOn, IsReady};
+ghost use Rattle.vte.specs.machine.Lent.{ParsesLent, StopsLent, lent_of};
+ghost use Rattle.vte.specs.Processor.{State, meaning, parse, timeout_meaning};
+ghost use Rattle.vte.specs.machine.Performer.{with_event};
+ghost use Rattle.vte.specs.ProcessorCalls.{parts};
+ghost use Rattle.vte.specs.machine.Turns.{IsAtBegin, IsParsedOn, IsReady};
 ghost use Rattle.vte.specs.Rooms.{KeepsRoom, Reading, short_reading};
-ghost use Rattle.vte.specs.Turn.{State, parse};
 
 use crate::ansi::performer::{Performer, ProcessorState};
 use crate::ansi::text_buffer::TextBuffer;
 use crate::ansi::titles::TEXT_ROOM;
 use arrayvec::ArrayString;
 use std::marker::PhantomData;
-use vte_core::Parser;
+use vte_core::{InRuns, Parser, Singly};
 use vte_handler::{Handler, HandlerText, Timeout};
 
 /// The parser of a processor.
@@ -54,8 +53,8 @@ impl EventParser for ProcessorParser {
     }
 }
 
-/// How a handler receives text: a character at a time, or in runs.
-pub(crate) trait Grain<H: Handler, T: Timeout + Drop, B: EventParser>: Sized {
+/// Parses for a handler that receives text in a grain: `Singly` or `InRuns`.
+pub(crate) trait ParseAs<H: Handler, T: Timeout + Drop, B: EventParser>: Sized {
     /// Parses all bytes.
     fn advance<J: TextBuffer + Drop>(
         parser: &mut B,
@@ -80,14 +79,8 @@ pub(crate) trait Grain<H: Handler, T: Timeout + Drop, B: EventParser>: Sized {
             bytes.now result };
 }
 
-/// Character by character.
-pub(crate) enum Singly {}
-
-/// In runs.
-pub(crate) enum InRuns {}
-
 #[tactic(auto, using(crate::proofs::performing::Rooms::short_parses))]
-impl<H: Handler, T: Timeout + Drop> Grain<H, T, ProcessorParser> for Singly {
+impl<H: Handler, T: Timeout + Drop> ParseAs<H, T, ProcessorParser> for Singly {
     #[inline(always)]
     fn advance<J: TextBuffer + Drop>(
         parser: &mut ProcessorParser,
@@ -108,7 +101,7 @@ impl<H: Handler, T: Timeout + Drop> Grain<H, T, ProcessorParser> for Singly {
 }
 
 #[tactic(auto, using(crate::proofs::performing::Rooms::short_parses))]
-impl<H: HandlerText, T: Timeout + Drop> Grain<H, T, ProcessorParser> for InRuns {
+impl<H: HandlerText, T: Timeout + Drop> ParseAs<H, T, ProcessorParser> for InRuns {
     #[inline(always)]
     fn advance<J: TextBuffer + Drop>(
         parser: &mut ProcessorParser,
@@ -135,7 +128,7 @@ pub(crate) fn parse_all<
     J: TextBuffer + Drop,
     T: Timeout + Drop,
     B: EventParser,
-    G: Grain<H, T, B>,
+    G: ParseAs<H, T, B>,
 >(parser: &mut B, state: &mut ProcessorState<T, J>, handler: &mut H, bytes: &[u8])
     ensures parsed { (s : State H.Value T.Value) (n : ℕ)
         → IsReady (parts B.limit B.reading J.room T.value_of) parser.old state.old
@@ -165,7 +158,7 @@ pub(crate) fn parse_until_begin<
     J: TextBuffer + Drop,
     T: Timeout + Drop,
     B: EventParser,
-    G: Grain<H, T, B>,
+    G: ParseAs<H, T, B>,
 >(parser: &mut B, state: &mut ProcessorState<T, J>, handler: &mut H, bytes: &[u8]) -> (usize, bool)
     ensures within { result.0 ≤ length bytes.now }
     ensures stops { (s : State H.Value T.Value) (n : ℕ)

@@ -3,8 +3,8 @@ ghost use Rattle.std.specs.Prelude.{◌≡◌, false, map};
 ghost use Rattle.std.specs.Str.{chars};
 ghost use Rattle.vte_core.specs.Event.{Print};
 ghost use Rattle.vte.specs.Calls.{last_printed_behind};
-ghost use Rattle.vte.specs.Lent.{lent_of, with_private_mode, with_private_modes};
-ghost use Rattle.vte.specs.Meaning.{timeout_meaning};
+ghost use Rattle.vte.specs.machine.Lent.{lent_of, with_private_mode, with_private_modes};
+ghost use Rattle.vte.specs.Processor.{timeout_meaning};
 ghost use Rattle.vte.specs.TextRoom.{fits_room};
 
 use crate::ansi::command_calls::perform_system_command;
@@ -12,11 +12,10 @@ use crate::ansi::control_calls::{Change, change_mode, perform_control};
 use crate::ansi::escape_calls::{perform_escape, perform_execute};
 use crate::ansi::input::InputAs;
 use crate::ansi::numbers::first_number;
-use crate::ansi::parsing::InRuns;
 use crate::ansi::text_buffer::TextBuffer;
 use std::marker::PhantomData;
 use std::time::Duration;
-use vte_core::{Params, Perform, PerformText};
+use vte_core::{InRuns, Params, Perform, PerformText};
 use vte_handler::{Handler, HandlerText, Timeout};
 use vte_types::NamedPrivateMode;
 
@@ -43,7 +42,7 @@ pub(crate) struct Performer<'s, 'h, H: Handler, T: Timeout + Drop, J: TextBuffer
 
 impl<'s, 'h, H: InputAs<G>, T: Timeout + Drop, J: TextBuffer + Drop, G> Perform
     for Performer<'s, 'h, H, T, J, G> {
-    ghost use Rattle.vte.specs.Performer.{Lent, with_event};
+    ghost use Rattle.vte.specs.machine.Performer.{Lent, with_event};
 
     ghost Value = { Lent H.Value T.Value };
 

@@ -1,15 +1,13 @@
 //! The processor. A call of `advance` takes turns, and each turn parses bytes or holds them back.
 ghost use Rattle.std.specs.Prelude.{◌≡◌, [], IfOk, MatchResult, Some, false};
 ghost use Rattle.vte_handler.specs.Timeout.{AllowsAlone, IsKept};
-ghost use Rattle.vte.specs.HoldFacts.{HoldsWell};
-ghost use Rattle.vte.specs.Meaning.{meaning, timeout_meaning};
-ghost use Rattle.vte.specs.Plain.{HasParsedAll};
-ghost use Rattle.vte.specs.Processor.{Stands, held_in, timeout_in};
-ghost use Rattle.vte.specs.ProcessorCalls.{CountsHeld, ReadsInTurns, StopsSync};
+ghost use Rattle.vte.specs.Processor.{HoldsWell, meaning, timeout_meaning};
+ghost use Rattle.vte.specs.ProcessorCalls.{CountsHeld, HasParsedAll, HasParsedAndHolds, ReadsInTurns, StopsSync, held_in, timeout_in};
 
-use crate::ansi::parsing::{InRuns, ProcessorParser, ProcessorText, Singly};
+use crate::ansi::parsing::{ProcessorParser, ProcessorText};
 use crate::ansi::turns::Turns;
 use std::alloc::Allocator;
+use vte_core::{InRuns, Singly};
 use vte_handler::{Handler, HandlerText, Timeout};
 
 /// Parses the bytes that programs send to a terminal, and calls a [`Handler`] for what they ask of
@@ -51,7 +49,7 @@ impl<T: Timeout + Drop, A: Allocator> Processor<T, A> {
     /// Returns the timeout if memory runs out.
     pub fn new(alloc: A, timeout: T) -> Result<Self, T>
         ensures stands { MatchResult result
-            (λ processor. Stands T.value_of processor [] [] (T.value_of timeout))
+            (λ processor. HasParsedAndHolds T.value_of processor [] [] (T.value_of timeout))
             (λ back. back ≡ timeout) }
         ensures holds_well { let m = timeout_meaning T.set T.clear T.allows in
             (IsKept m → AllowsAlone m (T.value_of timeout) false)

@@ -1,15 +1,12 @@
 //! Turns: each parses bytes of a call, or holds them back.
 ghost use Rattle.std.specs.Prelude.{◌≡◌, ℕ, ◌+◌, ◌≤◌, [], length, IfErr, IfOk, MatchResult, ◌-◌, ◌<◌, ◌++◌, nat_le};
-ghost use Rattle.vte.specs.Hold.{held_of, released_of};
-ghost use Rattle.vte.specs.Meaning.{meaning, set_times, timeout_meaning};
-ghost use Rattle.vte.specs.Plain.{HaveParsedAll};
-ghost use Rattle.vte.specs.Processor.{HaveTaken, parts};
-ghost use Rattle.vte.specs.ProcessorCalls.{LacksSome, ReadsSome, ReservesRoom, StopsUpdate};
-ghost use Rattle.vte.specs.ProcessorTurns.{AreNextAt, EndsOpen, EndsTurn, IsParsed, IsParsedOn, IsReady, LeadOn};
-ghost use Rattle.vte.specs.Turn.{State, hold_turn, most_held, parse, stop};
+ghost use Rattle.vte.specs.ProcessorCalls.{HaveParsedAll, HaveTaken, LacksSome, ReadsSome, ReservesRoom, StopsUpdate, held_of, parts};
+ghost use Rattle.vte.specs.machine.Hold.{released_of};
+ghost use Rattle.vte.specs.Processor.{State, hold_turn, meaning, most_held, parse, set_times, stop, timeout_meaning};
+ghost use Rattle.vte.specs.machine.Turns.{AreNextAt, EndsOpen, EndsTurn, IsParsed, IsParsedOn, IsReady, LeadOn};
 
 use crate::ansi::hold::{MOST_HELD, SyncState};
-use crate::ansi::parsing::{EventParser, Grain, parse_all, parse_until_begin};
+use crate::ansi::parsing::{EventParser, ParseAs, parse_all, parse_until_begin};
 use crate::ansi::performer::{ProcessorState, UPDATE_TIMEOUT_MILLIS};
 use crate::ansi::text_buffer::TextBuffer;
 use std::alloc::Allocator;
@@ -64,7 +61,7 @@ impl<B: EventParser + Drop, J: TextBuffer + Drop, T: Timeout + Drop, A: Allocato
 
     /// Reads bytes, and parses them or holds them back: all of them, or as many as there is memory
     /// for. The grain decides how the handler receives text.
-    pub(crate) fn read<H: Handler, G: Grain<H, T, B>>(
+    pub(crate) fn read<H: Handler, G: ParseAs<H, T, B>>(
         &mut self,
         handler: &mut H,
         bytes: &[u8],
@@ -91,7 +88,7 @@ impl<B: EventParser + Drop, J: TextBuffer + Drop, T: Timeout + Drop, A: Allocato
     }
 
     /// Stops the update, whatever is held: there is memory to parse it.
-    pub(crate) fn stop<H: Handler, G: Grain<H, T, B>>(&mut self, handler: &mut H)
+    pub(crate) fn stop<H: Handler, G: ParseAs<H, T, B>>(&mut self, handler: &mut H)
         ensures stopped { StopsUpdate (parts B.limit B.reading J.room T.value_of)
             (meaning B.limit H.step T.set T.clear T.allows) self.old self.new
             (H.value_of handler.old) (H.value_of handler.new) }
@@ -103,7 +100,7 @@ impl<B: EventParser + Drop, J: TextBuffer + Drop, T: Timeout + Drop, A: Allocato
 
     /// Parses the released bytes, after which nothing is held, and tells the handler that the
     /// update has ended.
-    fn end_update<H: Handler, G: Grain<H, T, B>>(&mut self, handler: &mut H)
+    fn end_update<H: Handler, G: ParseAs<H, T, B>>(&mut self, handler: &mut H)
         ensures stops { (s : State H.Value T.Value) (n : ℕ)
             → IsParsed (parts B.limit B.reading J.room T.value_of) self.old.parser self.old.state
             (H.value_of handler.old) s →
@@ -121,7 +118,7 @@ impl<B: EventParser + Drop, J: TextBuffer + Drop, T: Timeout + Drop, A: Allocato
     }
 
     /// Parses the released bytes.
-    fn parse_released<H: Handler, G: Grain<H, T, B>>(&mut self, handler: &mut H)
+    fn parse_released<H: Handler, G: ParseAs<H, T, B>>(&mut self, handler: &mut H)
         ensures parsed { (s : State H.Value T.Value) (n : ℕ)
             → IsParsed (parts B.limit B.reading J.room T.value_of) self.old.parser self.old.state
             (H.value_of handler.old) s →
@@ -149,7 +146,7 @@ impl<B: EventParser + Drop, J: TextBuffer + Drop, T: Timeout + Drop, A: Allocato
     /// Takes one turn, and returns how many bytes it read, or how many until memory was refused. It
     /// asks the timeout once: while an update is pending, the bytes are held, or the update is
     /// stopped if there is no room for them.
-    fn turn<H: Handler, G: Grain<H, T, B>>(
+    fn turn<H: Handler, G: ParseAs<H, T, B>>(
         &mut self,
         handler: &mut H,
         bytes: &[u8],
@@ -188,7 +185,7 @@ impl<B: EventParser + Drop, J: TextBuffer + Drop, T: Timeout + Drop, A: Allocato
 
     /// Parses bytes up to the one that begins an update, a slice at a time, and returns how many.
     /// Memory is taken before each slice.
-    fn open<H: Handler, G: Grain<H, T, B>>(
+    fn open<H: Handler, G: ParseAs<H, T, B>>(
         &mut self,
         handler: &mut H,
         bytes: &[u8],
@@ -236,7 +233,7 @@ impl<B: EventParser + Drop, J: TextBuffer + Drop, T: Timeout + Drop, A: Allocato
     }
 
     /// Holds all bytes, and parses those that the end of an update among them releases.
-    fn hold_bytes<H: Handler, G: Grain<H, T, B>>(&mut self, handler: &mut H, bytes: &[u8])
+    fn hold_bytes<H: Handler, G: ParseAs<H, T, B>>(&mut self, handler: &mut H, bytes: &[u8])
         requires some { 0 < length bytes.now }
         requires room { length (held_of self.old.hold) + length bytes.now ≤ most_held }
         ensures { LeadOn (parts B.limit B.reading J.room T.value_of) self.old self.new

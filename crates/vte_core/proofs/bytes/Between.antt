@@ -1,4 +1,5 @@
--- What holds of each byte between two places: of one, of two stretches, of a block.
+-- What holds of each byte between two places: of one byte, of two stretches joined, of a block. By cases of where a
+-- place lies.
 use Rattle.vte_core.proofs.Common.{◌≡◌, ℕ, ◌+◌, ◌-◌, ◌<◌, ◌≤◌, inl, inr, List, length, take, drop, get_or, ap, subst, ◌∙◌, arith, cases_lt, take_rest, slice_index}
 use Rattle.std.proofs.lemmas.List.{length-drop, length-take}
 use Rattle.std.proofs.lemmas.Simd.{get_or-chunk}

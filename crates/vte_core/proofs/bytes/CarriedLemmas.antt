@@ -1,4 +1,5 @@
--- What one more byte makes of an unfinished character, by the ranges of its bytes.
+-- What one more byte makes of an unfinished character, by the ranges of its bytes: a well-formed sequence, a longer
+-- truncated one, or neither. Each is computed from the rows that its first byte leaves.
 use Rattle.vte_core.proofs.Common.{◌≡◌, ℕ, ◌+◌, ◌*◌, ◌%◌, ◌<◌, ◌≤◌, ◌⊎◌, true, false, List, [], ◌∷◌, ◌++◌, refl, sym, ap, subst, ◌∙◌, arith, inl}
 use Rattle.vte_core.proofs.Common.{inr, IsScalar, InScalarRange, and_from, nat_tests, Two, Three, is_in, is_well_formed, is_truncated, scalar_of, utf8_rows, second_range, Carries}
 use Rattle.vte_core.specs.declared.utf8.Carried.{Carried}

@@ -1,4 +1,5 @@
--- Where a run ends: what a well-formed sequence at a place says of the bytes there.
+-- Where a run ends: no sequence that is printed begins at a place. Of a sequence that would begin there, the rows say
+-- the bytes; each test of the search excludes one row.
 use Rattle.vte_core.proofs.Common.{◌≡◌, ℕ, zero, suc, ◌+◌, ◌<◌, ◌≤◌, inl, inr, Bool, utf8_rows, true, false, List, [], ◌∷◌, length, take, drop, refl, sym, ap, subst, ◌∙◌, arith, false≢true, cases_Bool, cases_lt}
 use Rattle.vte_core.proofs.Common.{and_parts, nat_tests, drop_all, drop_more, slice_index, Range, to, is_in, is_layout, is_left_out, is_control_character, is_well_formed, second_range, scalar_of, EndsRun}
 use Rattle.vte_core.proofs.bytes.Scalars.{continuation-bounds, in_range-bounds}
@@ -83,7 +84,8 @@ module _ (keeps : Bool) (bytes : List ℕ) (from a : ℕ) (within : from < lengt
         | inr high ↦ elim (cases_lt a 0xc2) [
           | inl below ↦
               absurd
-              (false≢true (sym (tests_none a (behind_lone a (omega (arith, high)) below) (behind p.m)).is_whole ∙ p.well))
+              (false≢true
+              (sym (tests_none a (behind_lone a (omega (arith, high)) below) (behind p.m)).is_whole ∙ p.well))
           | inr above ↦
               let past : 0xf5 ≤ a = grind (arith, nat_tests) in
               absurd (false≢true (sym (tests_none a (behind_none a past) (behind p.m)).is_whole ∙ p.well))

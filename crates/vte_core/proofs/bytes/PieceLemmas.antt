@@ -1,5 +1,5 @@
 -- Bytes of the same classes, and what these classes are not.
-use Rattle.vte_core.proofs.Common.{◌≡◌, ℕ, Bool, true, false, List, [], ◌∷◌, ◌++◌, refl, Class, Control, Cancel, Digit, Colon, Semicolon, Final, is_control, is_head, is_parameter, ends_head, AreOf}
+use Rattle.vte_core.proofs.Common.{◌≡◌, ℕ, Bool, true, false, List, [], ◌∷◌, ◌++◌, refl, Class, Control, Cancel, Digit, Colon, Semicolon, Final, is_control, is_head, is_parameter_text, ends_head, AreOf}
 
 pub AreOf-append : (has : Class → Bool) (front rest : List ℕ) → AreOf has front → AreOf has rest
     → AreOf has (front ++ rest)
@@ -17,7 +17,7 @@ head_is_no_end Cancel h = cc
 head_is_no_end Final h = cc
 head_is_no_end _ h = refl
 
-pub parameter_is_head : (k : Class) → is_parameter k ≡ true → is_head k ≡ true
+pub parameter_is_head : (k : Class) → is_parameter_text k ≡ true → is_head k ≡ true
 parameter_is_head Digit h = refl
 parameter_is_head Colon h = refl
 parameter_is_head Semicolon h = refl

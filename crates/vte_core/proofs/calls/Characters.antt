@@ -1,4 +1,5 @@
--- A byte of a text, between characters and inside one.
+-- A byte of a text, between characters and inside one: it ends, continues or breaks a character. In each case what the
+-- code does is what `places/TextSteps` says of the place, and the parser is at the next.
 use Rattle.vte_core.proofs.Common.{◌≡◌, ◌≢◌, ℕ, ◌+◌, ◌<◌, ◌≤◌, inl, inr, Bool, true, false, Option, List, [], ◌∷◌, ◌++◌, length, refl, ap, sym, subst, ◌∙◌, arith, cases_lt, nat_tests, slice_index}
 use Rattle.vte_core.proofs.Common.{Machine, Text, Nothing, One, Two, Three, Event, Print, replacement, CameInside, StandsAt, StandsInside, Stands, StandsBy, Performs, Place, InText, IsBetween}
 use Rattle.vte_core.proofs.Common.{bytes_of, is_open, second_range, Carries, escape, character_event, malformed_event, to, is_in, is_truncated, is_well_formed, scalar_of, Unfinished}

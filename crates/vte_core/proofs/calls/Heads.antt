@@ -1,7 +1,8 @@
--- The bytes of a head.
+-- The bytes of a head: a function that reads several of them goes on by each. `ReadsHeadUpTo` says which, without the
+-- performer, which learns of a head only at its end; both shapes share it.
 use Rattle.vte_core.specs.machine.ToRun.{IsQuietIn}
 use Rattle.vte_core.proofs.Common.{◌≡◌, ℕ, zero, suc, ◌+◌, ◌-◌, ◌<◌, ◌≤◌, ◌⊎◌, inr, eqb, Option, List, [], ◌∷◌, ◌++◌, Bool, true, false, length, take, drop, refl, sym, subst, append_assoc, arith}
-use Rattle.vte_core.proofs.Common.{nat_tests, append-nil, drop-drop, drop_more, take-add, slice_index, MatchOption, class_of, is_head, is_parameter, AreOf, Collected, HeadPart, Entry, Parameters}
+use Rattle.vte_core.proofs.Common.{nat_tests, append-nil, drop-drop, drop_more, take-add, slice_index, MatchOption, class_of, is_head, is_parameter_text, AreOf, Collected, HeadPart, Entry, Parameters}
 use Rattle.vte_core.proofs.Common.{Machine, State, ControlSequence, DeviceControl, Event, Leads, Counts, KeepsIntermediates, Stands, StandsBy, StandsInHead, Place, InControlSequence, InDeviceControl}
 use Rattle.vte_core.proofs.Common.{IsBetween, Advances, CameTo, IsSettled, MayGoOn, Performs, Takes, ends_all, part_after, ReadsHead, Some, None}
 use Rattle.vte_core.proofs.bytes.ClassCases.{head_ends_nothing}
@@ -84,7 +85,7 @@ part_after-may reached from to may = by_test (eqb from to) refl
 -- a digit or a separator
 pub reads-parameter : {bytes : List ℕ} {from i b : ℕ} {reached : HeadPart} {first old new : Collected}
     → (reached ≡ Entry) ⊎ (reached ≡ Parameters)
-    → i < length bytes → b ≡ slice_index bytes i → is_parameter (class_of b) ≡ true → KeepsIntermediates old new
+    → i < length bytes → b ≡ slice_index bytes i → is_parameter_text (class_of b) ≡ true → KeepsIntermediates old new
     → ((text : List ℕ) → Counts old text → Counts new (text ++ b ∷ []))
     → ReadsHead bytes from i reached (part_after reached from i) first old
     → ReadsHead bytes from (i + 1) reached (part_after reached from (i + 1)) first new
@@ -200,7 +201,8 @@ module _ {V : Type 0} {asks : Bool} {step : V → Event → V} {is_terminated : 
         settled = λ _. settled-by _ _ state (settled shape part);
         others = λ _ old stream s.
             let k = place_in shape limit reached parser s.place (stands-in begun s.stands) in
-            let here : CameTo false keep never [] (told limit stream bytes i) limit stream bytes i (in_head shape k.head) =
+            let here : CameTo false keep never [] (told limit stream bytes i) limit stream bytes i
+            (in_head shape k.head) =
             subst (CameTo false keep never [] (told limit stream bytes i) limit stream bytes i) k.same
             (came-kept s.has_come) in
             let end : i + (j - i) ≡ j = omega (arith, reads.low) in

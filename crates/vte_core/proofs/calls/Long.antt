@@ -1,4 +1,4 @@
--- What a call without a limit ensures, if memory is refused or not.
+-- What a call without a limit ensures, refused memory or not: the facts that `drive` ensures, put into each contract.
 use Rattle.vte_core.specs.declared.looks.taken.Run.{Run}
 use Rattle.vte_core.specs.declared.looks.taken.RunPlace.{RunPlace}
 use Rattle.vte_core.specs.LongAdvance.{ReadsToRunLong}
@@ -131,6 +131,7 @@ to_run-read {step = step} {is_terminated = is_terminated} {old = old} {new = new
       refuses = passes next.machine (Ok run) tt;
       others = λ stream h. rw starts (others stream h);
       goes_on =
-          goes-on true step is_terminated old new (Ok run) (reads-run run comes starts ends taken) tt costs.memory costs.count
+          goes-on true step is_terminated old new (Ok run) (reads-run run comes starts ends taken) tt
+          costs.memory costs.count
           (rw ends costs.paid) (rw ends costs.least);
     }

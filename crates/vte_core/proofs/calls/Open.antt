@@ -1,4 +1,5 @@
--- Only between characters of a text does a parser go on as a new one.
+-- Only between characters of a text does a parser go on as a new one: after every other place the digit 0 gives
+-- something else than after the empty stream.
 use Rattle.vte_core.proofs.Common.{◌≡◌, ◌≢◌, ℕ, Option, List, [], ◌∷◌, ◌++◌, refl, ap, sym, subst, ◌∙◌, arith, Digit, Machine, State, Text, Stands, StandsBy, IsBehind}
 use Rattle.vte_core.proofs.Common.{Event, Print, replacement, Place, InText, AtEscape, InEscape, InControlSequence, InDeviceControl, InData, InSystemCommand, InIgnoredString, IsAfter, Leads}
 use Rattle.vte_core.proofs.Common.{◌≤◌, ◌<◌, true, false, eqb, Dispatch, Unfinished, class_of, escape, is_truncated, key_of, added, bytes_of, events_behind}

@@ -1,4 +1,5 @@
--- How a call comes from one place to the next, to its end, or to a stop.
+-- How a call comes from one place to the next, to its end, or to a stop. A stretch of bytes that leads to a place adds
+-- its events to those told so far; at starts among them a call that asks may stop.
 use Rattle.vte_core.proofs.Common.{◌≡◌, ℕ, zero, suc, ◌+◌, ◌-◌, ◌<◌, ◌≤◌, inl, inr, Bool, true, false, Option, List, [], ◌∷◌, ◌++◌, length, take, drop, refl, ap, sym, subst, ◌∙◌, append_assoc, arith}
 use Rattle.vte_core.proofs.Common.{slice_index, cases_Bool, cases_lt, append-nil, drop_more, take-add, breaks, breaks_at, IsStart, told, stream_at, Event, Print, replacement, after, added, open_end}
 use Rattle.vte_core.proofs.Common.{CameTo, CameInside, MayGoOn, Reads, Place, InText, InSystemCommand, IsAfter, IsBetween, open_at, ComesTo}

@@ -1,4 +1,5 @@
--- What a run of text does to a call's progress.
+-- What a run of text does to a call's progress: its characters one by one do the same. By induction over the
+-- characters, and for the performer by its contract over the whole run.
 use Rattle.vte_core.proofs.Common.{cases_Bool, inl, inr, Bool, List, Option, [], ap, arith, drop, false, length, map, refl, subst, sym, take, true, ℕ, ◌++◌, ◌+◌, ◌-◌, ◌<◌, ◌∙◌, ◌∷◌, ◌≡◌, ◌≢◌, ◌≤◌}
 use Rattle.vte_core.proofs.Common.{encode, false≢true, append-nil, take-append-drop, All-append, All-head, All-nil, All-tail, All, slice_index, breaks_at, stream_at, told, Event, Print, replacement}
 use Rattle.vte_core.proofs.Common.{after, added, cut_at_escape, escape, with_bodies, events, is_left_out, run_event, character_event, text_outcome, Text, Machine, Nothing, Reads, Stands, InText}
@@ -91,7 +92,8 @@ pub prints-one : {V : Type 0} {keeps : Bool} {step : V → Event → V} {old new
 prints-one {keeps = keeps} {step = step} {old = old} {bytes = bytes} {from = from}
     {b = b} within is printed same e = record {
       run = run-ascii keeps bytes from (from + 1) (each-one IsPrinted bytes from (subst IsPrinted is printed));
-      printed = e ∙ ap (λ x. step old (Print x)) same ∙ ap (λ event. step old event) (sym (printed-event keeps b printed))
+      printed = e ∙ ap (λ x. step old (Print x)) same
+          ∙ ap (λ event. step old event) (sym (printed-event keeps b printed))
           ∙ ap (λ cs. after step old (map (run_event keeps) cs)) (sym (chars-one bytes from b within is printed));
     }
 
@@ -124,7 +126,8 @@ not_stopped-told keeps step is_terminated never value limit stream bytes k goes 
             after-append step value (added limit stream (take k bytes))
                 (Print replacement ∷ []),
           )
-          (rw (replacement-event keeps) at (never (after step value (added limit stream (take k bytes))) replacement goes))
+          (rw (replacement-event keeps) at
+          (never (after step value (added limit stream (take k bytes))) replacement goes))
       | inr whole ↦ rw (told-between limit stream bytes k whole) goes
     ]
 

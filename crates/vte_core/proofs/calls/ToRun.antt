@@ -1,4 +1,5 @@
--- Runs that a caller takes from its own input.
+-- Runs that a caller takes from its own input: bytes that lead from the parser's place back to it, so the parser
+-- needn't change, and that no further printed character or data byte follows.
 use Rattle.vte_core.proofs.Common.{◌≡◌, ℕ, zero, suc, ◌+◌, ◌-◌, ◌<◌, ◌≤◌, false, true, Bool, Option, List, [], ◌∷◌, ◌++◌, drop, length, length-take, length-drop, map, take, refl, ap, sym}
 use Rattle.vte_core.proofs.Common.{subst, ◌∙◌, arith, append-nil, drop_more, slice_index, Machine, DeviceData, Text, State, Nothing, class_of}
 use Rattle.vte_core.proofs.Common.{stream_at, Event, Print, Put, Reads, Stands, StandsBy, IsBehind, Place, InData, InText, IsAfter, IsSettled, StandsAt, added, EndsRun, IsRun}

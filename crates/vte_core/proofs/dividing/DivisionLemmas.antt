@@ -1,4 +1,5 @@
--- The division of a text is Unicode's: the longest piece at each place, and nothing lost.
+-- The division of a text is Unicode's: the longest piece at each place, and nothing lost. Where the rows still allow a
+-- byte, a longer piece exists; where they don't, no longer one does.
 use Rattle.vte_core.proofs.Common.{◌≡◌, ℕ, zero, suc, ◌<◌, ◌≤◌, Bool, true, false, List, [], ◌∷◌, length, take, drop, refl, sym, ap, ◌∙◌, arith, inl, inr, length-take-le}
 use Rattle.vte_core.proofs.Common.{concat, take-append-drop, false≢true, cases_lt, Range, utf8_rows, wanted_behind, wanted, is_well_formed, is_truncated, allowed, further, segments_behind}
 use Rattle.vte_core.specs.Division.{IsPiece, IsDividedRight, IsAllDivided}

@@ -1,4 +1,5 @@
--- The pieces of a text are the right ones, each where it stands.
+-- The pieces of a text are the right ones, each where it stands, and no other division has only right ones: of two
+-- right pieces before one text neither is longer. By induction over the pieces.
 use Rattle.vte_core.proofs.Common.{◌≡◌, ℕ, zero, suc, ◌<◌, ◌≤◌, true, List, [], ◌∷◌, ◌++◌, length, take, drop, refl, sym, ap, ◌∙◌, inl, inr, arith, length-append}
 use Rattle.vte_core.proofs.Common.{length-drop, concat, false≢true, take-append-drop, take-append_seam, drop-append_seam, is_well_formed, is_truncated, further, segments_behind, segments}
 use Rattle.std.proofs.lemmas.List.{length-take}

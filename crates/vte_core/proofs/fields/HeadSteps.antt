@@ -1,6 +1,6 @@
--- What one byte makes of the head that is held.
+-- What one byte makes of the head that is held: by the part of the head that was reached and the byte's class.
 use Rattle.vte_core.proofs.Common.{◌≡◌, ℕ, ◌⊎◌, inl, inr, Bool, true, false, ◌||◌, List, [], ◌∷◌, ◌++◌, length, refl, ap, ◌∙◌, append_assoc, arith, length-append, append-nil, Class}
-use Rattle.vte_core.proofs.Common.{Intermediate, Marker, class_of, is_head, is_intermediate, is_marker, is_parameter, Collected, HeadPart, Entry, Parameters, Intermediates, IllShaped, Event}
+use Rattle.vte_core.proofs.Common.{Intermediate, Marker, class_of, is_head, is_intermediate, is_marker, is_parameter_text, Collected, HeadPart, Entry, Parameters, Intermediates, IllShaped, Event}
 use Rattle.vte_core.proofs.Common.{head_of, is_well_shaped, dispatched, Holds, Counts, Settles, HoldsHead, KeepsNumbers, KeepsIntermediates, StandsInHead, StaysIllShaped}
 use Rattle.vte_core.specs.machine.Ready.{IsReady}
 use Rattle.vte_core.proofs.shapes.HeadLemmas.{begins-intermediates, head_of-parts, held-parts, held-well_shaped, list_all-not}
@@ -64,7 +64,7 @@ holds-marker old new head b h e k more =
 -- a byte of the parameters, after nothing, a marker or a parameter
 holds_parameter : (old new : Collected) (part : HeadPart) (head : List ℕ) (b : ℕ) (h : HoldsHead old part head)
     → h.intermediates ≡ []
-    → is_parameter (class_of b) ≡ true → KeepsIntermediates old new
+    → is_parameter_text (class_of b) ≡ true → KeepsIntermediates old new
     → ((text : List ℕ) → Counts old text → Counts new (text ++ b ∷ [])) → HoldsHead new Parameters (head ++ b ∷ [])
 holds_parameter old new part head b h none is k more =
     let kept : Holds old (h.marker ++ []) = rw none at h.holds in
@@ -74,7 +74,7 @@ holds_parameter old new part head b h none is k more =
       intermediates = [];
       shape = rw (h.shape, none) (simp (append-nil, append_assoc));
       is_marker = h.is_marker;
-      are_parameters = AreOf-append is_parameter h.parameters (b ∷ []) h.are_parameters (is, tt);
+      are_parameters = AreOf-append is_parameter_text h.parameters (b ∷ []) h.are_parameters (is, tt);
       are_intermediates = tt;
       reaches = (omega (arith, length-append {A = ℕ}), refl);
       holds = Holds-kept old new (h.marker ++ []) k kept;
@@ -83,7 +83,7 @@ holds_parameter old new part head b h none is k more =
 
 pub holds-parameter : (old new : Collected) (part : HeadPart) (head : List ℕ) (b : ℕ)
     → (part ≡ Entry) ⊎ (part ≡ Parameters) → StandsInHead old part head
-    → is_parameter (class_of b) ≡ true → KeepsIntermediates old new
+    → is_parameter_text (class_of b) ≡ true → KeepsIntermediates old new
     → ((text : List ℕ) → Counts old text → Counts new (text ++ b ∷ [])) → HoldsHead new Parameters (head ++ b ∷ [])
 holds-parameter old new part head b (inl e) s is k more =
     let h : HoldsHead old Entry head = rw e at s in holds_parameter old new Entry head b h h.reaches.2 is k more
@@ -118,7 +118,7 @@ ill_shaped-behind old head b h is = record {
       (λ none. absurd (omega (arith, ap length none, h.reaches))) in
       let p =
       head_of-parts h.marker h.parameters (h.intermediates ++ b ∷ more) h.is_marker h.are_parameters
-      (begins is_parameter refl) (λ _. begins is_marker refl) in
+      (begins is_parameter_text refl) (λ _. begins is_marker refl) in
       rw (e, p) (list_all-not h.intermediates b more is);
 }
 
@@ -160,14 +160,16 @@ holds-nothing new holds counts = record {
 }
 
 -- what is left of the bytes of a head
-pub left_is_marker : (k : Class) → is_head k ≡ true → is_parameter k ≡ false → is_intermediate k ≡ false → k ≡ Marker
+pub left_is_marker : (k : Class) → is_head k ≡ true → is_parameter_text k ≡ false
+    → is_intermediate k ≡ false → k ≡ Marker
 left_is_marker Marker h p i = refl
 left_is_marker _ h p i = cc
 
 -- a marker that does not come first, or a digit or a separator that may not come next
 pub ill_shaped-late : (old : Collected) (part : HeadPart) (head : List ℕ) (b : ℕ) → StandsInHead old part head
     → is_head (class_of b) ≡ true
-    → is_intermediate (class_of b) ≡ false → ((part ≡ Entry) ⊎ (part ≡ Parameters) → is_parameter (class_of b) ≡ false)
+    → is_intermediate (class_of b) ≡ false
+    → ((part ≡ Entry) ⊎ (part ≡ Parameters) → is_parameter_text (class_of b) ≡ false)
     → (part ≡ Entry → ⊥) → StaysIllShaped (head ++ b ∷ [])
 ill_shaped-late old Entry head b s h i p n = absurd (n refl)
 ill_shaped-late old Parameters head b s h i p n = ill_shaped-marker old head b s (left_is_marker _ h (p (inr refl)) i)

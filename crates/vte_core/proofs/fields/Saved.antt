@@ -1,4 +1,4 @@
--- A machine that is made of what was saved of another stands where that one stood.
+-- A machine that is made of what was saved of another is at the place where that one was: by cases of the state.
 use Rattle.vte_core.proofs.Common.{◌≡◌, ℕ, Option, Some, List, arith, refl, subst, ◌∙◌, Machine, State, Text, Escape, EscapeIntermediate, ControlSequence}
 use Rattle.vte_core.proofs.Common.{DeviceControl, DeviceData, SystemCommand, IgnoredString, Holds, IsBehind, StandsBy, StandsInHead, Place, InText, AtEscape}
 use Rattle.vte_core.proofs.Common.{InEscape, InControlSequence, InDeviceControl, InData, InSystemCommand, InIgnoredString, SameItems}

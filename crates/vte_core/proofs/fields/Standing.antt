@@ -1,7 +1,7 @@
--- What is known of a parser that stands at a place.
+-- What is known of a parser that is at a place: by cases of its state, to each of which belongs one kind of place.
 use Rattle.vte_core.proofs.Common.{◌≡◌, ℕ, true, Option, List, [], ◌∷◌, ◌++◌, refl, ap, sym, subst, ◌∙◌, append-nil, Machine, State, Text, Escape}
 use Rattle.vte_core.proofs.Common.{SystemCommand, body_outcome, data_outcome, executed, leaves, unfinished, Holds, StandsBy, Stands, Place, InText, AtEscape, InSystemCommand, open_at, left_at}
-use Rattle.vte_core.proofs.Common.{rest_outcome, outcome_behind, events_behind, IsBetween, Held, Keeps, SameItems, text_outcome, is_truncated, Nothing, is_open}
+use Rattle.vte_core.proofs.Common.{rest_outcome, outcome_behind, events_behind, IsBetween, Stored, Keeps, SameItems, text_outcome, is_truncated, Nothing, is_open}
 use Rattle.vte_core.specs.IgnoredString.{ignored_string_outcome}
 use Rattle.vte_core.specs.machine.Place.{control_sequence_behind, device_control_behind, escape_behind, system_command_behind}
 use Rattle.vte_core.proofs.shapes.TextLemmas.{text_end, text_nothing}
@@ -99,7 +99,7 @@ pub stands-text_begun : {B : Type 0} {limit : Option ℕ} (parser : Machine B) �
     → Stands limit parser (InText [])
 stands-text_begun parser e = stands-by e (refl, refl)
 
-pub keeps-same : (limit : Option ℕ) (old new : Held) (items : List ℕ) → SameItems old new → Keeps limit old items
+pub keeps-same : (limit : Option ℕ) (old new : Stored) (items : List ℕ) → SameItems old new → Keeps limit old items
     → Keeps limit new items
 keeps-same limit old new items same keeps = record {
   goes_on = rw (same.bytes, same.ends) keeps.goes_on;

@@ -1,7 +1,8 @@
--- What a store holds: how many bytes, and which pieces.
+-- What a store holds: how many bytes, and which pieces. The invariant `Keeps` says what more items give, and each byte
+-- either joins the last piece, ends it, or is dropped.
 use Rattle.vte_core.proofs.Common.{◌≡◌, ◌≢◌, ℕ, ◌+◌, ◌-◌, ◌≤◌, ◌<◌, zero, suc, true, false, List, [], ◌∷◌, ◌++◌, length, take, drop, Option, Some, None, refl}
 use Rattle.vte_core.proofs.Common.{sym, ap, ◌∙◌, arith, append_assoc, length-append, length-drop, length-take, inl, inr, All, concat, filter, slice_range, drop-append-le, take-append-le}
-use Rattle.vte_core.proofs.Common.{All-head, All-tail, take-nil, cases_Bool, ltb-false, ltb-true, ne_eqb, semicolon, Held, Keeps, PiecesEnd, cut_at, cut_pieces, ends_behind, fitting, pieces_behind}
+use Rattle.vte_core.proofs.Common.{All-head, All-tail, take-nil, cases_Bool, ltb-false, ltb-true, ne_eqb, semicolon, Stored, Keeps, PiecesEnd, cut_at, cut_pieces, ends_behind, fitting, pieces_behind}
 use Rattle.vte_core.proofs.Common.{Bool, drops_data, has_room, is_data_byte, nat_tests, kept_after, kept_items, most_pieces, pieces_of}
 use Rattle.std.proofs.Common.{append-nil}
 use Rattle.std.specs.Prelude.{◌||◌, nat_lt}
@@ -159,7 +160,7 @@ length-fitting (Some limit) count run = omega (arith, length-take (limit - count
 
 -- ---- a store
 
-pub keeps-nothing : (limit : Option ℕ) (held : Held) → held.bytes ≡ [] → held.ends ≡ [] → held.dropped ≡ false
+pub keeps-nothing : (limit : Option ℕ) (held : Stored) → held.bytes ≡ [] → held.ends ≡ [] → held.dropped ≡ false
     → Keeps limit held []
 unfolding pieces_of kept_items
 keeps-nothing limit held no_bytes no_ends none_dropped = record {
@@ -170,24 +171,24 @@ keeps-nothing limit held no_bytes no_ends none_dropped = record {
 }
 
 -- no item more counts
-abbrev pub IsDone : Option ℕ → Held → Type 0
+abbrev pub IsDone : Option ℕ → Stored → Type 0
 IsDone limit held = (more : List ℕ) → pieces_behind limit held.bytes held.ends more ≡ cut_pieces held.bytes held.ends
 
 -- after 16 ends
-pub done-complete : (limit : Option ℕ) (held : Held) (items : List ℕ) → length held.ends ≡ most_pieces
+pub done-complete : (limit : Option ℕ) (held : Stored) (items : List ℕ) → length held.ends ≡ most_pieces
     → Keeps limit held items → IsDone limit held
 done-complete limit held items complete keeps more =
     let kept = kept_after limit (length held.bytes) more in
     rw complete at (ends-complete 0 held.bytes held.ends (filter is_data_byte kept)
     (ends_behind (length held.bytes) kept) (rw complete keeps.end))
 
-none-counts : (limit : Option ℕ) (held : Held) (items more : List ℕ) → IsDone limit held → Keeps limit held items
+none-counts : (limit : Option ℕ) (held : Stored) (items more : List ℕ) → IsDone limit held → Keeps limit held items
     → (later : List ℕ) → pieces_of limit ((items ++ more) ++ later) ≡ pieces_behind limit held.bytes held.ends later
 none-counts limit held items more done keeps later =
     rw (append_assoc items more later) (keeps.goes_on (more ++ later) ∙ done (more ++ later) ∙ sym (done later))
 
 -- then data bytes are dropped
-pub keeps-later : (limit : Option ℕ) (old new : Held) (items run : List ℕ) → length old.ends ≡ most_pieces
+pub keeps-later : (limit : Option ℕ) (old new : Stored) (items run : List ℕ) → length old.ends ≡ most_pieces
     → All (λ b. b ≢ semicolon) run
     → new.bytes ≡ old.bytes → new.ends ≡ old.ends
     → new.dropped ≡ (old.dropped || nat_lt (length new.bytes - length old.bytes) (length run))
@@ -205,7 +206,7 @@ keeps-later limit old new items run complete none bytes ends dropped keeps = rec
 }
 
 -- .. and so is a `;`
-pub keeps-done : (limit : Option ℕ) (held : Held) (items : List ℕ) → IsDone limit held → Keeps limit held items
+pub keeps-done : (limit : Option ℕ) (held : Stored) (items : List ℕ) → IsDone limit held → Keeps limit held items
     → Keeps limit held (items ++ semicolon ∷ [])
 keeps-done limit held items done keeps = record {
   goes_on = none-counts limit held items (semicolon ∷ []) done keeps;
@@ -215,7 +216,7 @@ keeps-done limit held items done keeps = record {
 }
 
 -- data bytes more
-pub keeps-run : (limit : Option ℕ) (old new : Held) (items run : List ℕ) → length old.ends < most_pieces
+pub keeps-run : (limit : Option ℕ) (old new : Stored) (items run : List ℕ) → length old.ends < most_pieces
     → All (λ b. b ≢ semicolon) run
     → new.bytes ≡ old.bytes ++ fitting limit (length old.bytes) run → new.ends ≡ old.ends
     → new.dropped ≡ (old.dropped || nat_lt (length new.bytes - length old.bytes) (length run)) → Keeps limit old items
@@ -239,7 +240,7 @@ keeps-run limit old new items run few none bytes ends dropped keeps =
     }
 
 -- a `;` more
-pub keeps-end : (limit : Option ℕ) (old new : Held) (items : List ℕ) → length old.ends < most_pieces
+pub keeps-end : (limit : Option ℕ) (old new : Stored) (items : List ℕ) → length old.ends < most_pieces
     → has_room limit (length old.bytes) ≡ true
     → new.bytes ≡ old.bytes → new.ends ≡ old.ends ++ length old.bytes ∷ [] → new.dropped ≡ old.dropped
     → Keeps limit old items
@@ -255,18 +256,18 @@ keeps-end limit old new items few room bytes ends dropped keeps = record {
 }
 
 -- the pieces, by what a store holds
-pub pieces_held : (limit : Option ℕ) (held : Held) (items : List ℕ) → Keeps limit held items
+pub pieces_held : (limit : Option ℕ) (held : Stored) (items : List ℕ) → Keeps limit held items
     → pieces_of limit items ≡ cut_pieces held.bytes held.ends
 pieces_held limit held items keeps = rw append-nil at (keeps.goes_on [] ∙ behind_nothing limit held.bytes held.ends)
 
 -- all bytes are in them
-pub pieces_stored : (limit : Option ℕ) (held : Held) (items : List ℕ) → Keeps limit held items
+pub pieces_stored : (limit : Option ℕ) (held : Stored) (items : List ℕ) → Keeps limit held items
     → length held.bytes ≡ length (concat (pieces_of limit items))
 pieces_stored limit held items keeps =
     rw (pieces_held limit held items keeps) (omega (arith, ends-stored most_pieces 0 held.bytes held.ends keeps.end))
 
 -- .. and whether others were dropped
-pub drops_held : (limit : Option ℕ) (held : Held) (items : List ℕ) → Keeps limit held items
+pub drops_held : (limit : Option ℕ) (held : Stored) (items : List ℕ) → Keeps limit held items
     → drops_data limit items ≡ held.dropped
 unfolding drops_data
 drops_held limit held items keeps = rw (pieces_stored limit held items keeps) at (sym keeps.dropped)

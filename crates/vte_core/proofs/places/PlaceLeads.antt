@@ -1,4 +1,5 @@
--- What one byte tells after each place, and where it leads.
+-- What one byte reports after each place, and where it leads: one lemma for each kind of place and of byte, by the
+-- definition of that shape alone.
 use Rattle.vte_core.proofs.Common.{◌≡◌, ℕ, ◌≤◌, true, false, eqb, Option, List, [], ◌∷◌, ◌++◌, ap, sym, append_assoc, append-nil, arith, nat_tests, Class, Control, Intermediate, Delete, Digit, Colon}
 use Rattle.vte_core.proofs.Common.{Semicolon, Marker, Final, High, dispatches_escape, class_of, is_cancel, is_data, is_head, Dispatch, key_of, body_outcome, control_sequence_end}
 use Rattle.vte_core.proofs.Common.{control_sequence_outcome, data_outcome, device_control_end, ends_command, ends_data, device_control_outcome, escape_outcome, executed, first_two, are_too_many}

@@ -1,4 +1,5 @@
--- What one byte tells after each place, whatever the byte is.
+-- After every place every byte reports at most two small events and leads to a place (`steps`): by cases of the place
+-- and of the byte's class, each by a lemma of `PlaceLeads`.
 use Rattle.vte_core.proofs.Common.{◌≡◌, ℕ, inl, inr, false, eqb, Option, List, refl, arith, cases_Bool, nat_tests, Class, Control, Cancel, Intermediate, Final, Delete, High, class_of, ends_all, Key}
 use Rattle.vte_core.proofs.Common.{Dispatch, key_of, IsBrief, Event, head_of, is_well_shaped, Leads, Place, InText, AtEscape, InEscape, InControlSequence, InDeviceControl, InData, InSystemCommand}
 use Rattle.vte_core.proofs.Common.{InIgnoredString, closing_at, escape, bell, pieces_of, kept_items, data_left, left_at, breaks, open_at, sym, false≢true, ◌∙◌, [], ◌∷◌, ◌++◌}

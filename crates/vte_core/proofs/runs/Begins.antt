@@ -1,11 +1,11 @@
--- What a first byte begins.
+-- What a first byte begins: nothing, or a character with these ranges to come, as the rows of UTF-8 say.
 use Rattle.vte_core.proofs.Common.{List, [], arith, inl, inr, nat_le, refl, subst, sym, true, ℕ, ◌∙◌, ◌∷◌, ◌≡◌, ◌≢◌, ◌≤◌, and_parts, cases_Bool, cases_eq, cases_lt, false≢true, leb-true, nat_tests}
 use Rattle.vte_core.proofs.Common.{Range, is_in, to, wanted_behind, utf8_rows, second_range, IsPrinted, AreRun, is_layout}
 use Rattle.vte_core.proofs.bytes.Between.{each-one}
 use Rattle.vte_core.proofs.bytes.FirstBytes.{fits, tests_row, tests_two}
 use Rattle.vte_core.proofs.bytes.Printable.{run-ascii, run-layout}
 use Rattle.vte_core.proofs.dividing.PrintableCharacters.{printable}
-use Rattle.vte_core.specs.machine.Automaton.{State, Between, One, Two, Three, AfterE0, AfterED, AfterF0, AfterF4, AfterC2, Failed, begun}
+use Rattle.vte_core.specs.machine.Automaton.{AutomatonState, Between, One, Two, Three, AfterE0, AfterED, AfterF0, AfterF4, AfterC2, Failed, begun}
 use Rattle.vte_core.proofs.runs.Steps.{still}
 
 -- Bytes in these ranges end the character.
@@ -23,9 +23,9 @@ row b ranges low same u fit =
 pub data Begins (b : ℕ) : Type 0 where
   prints : AreRun true (b ∷ []) → begun b ≡ Between → Begins b
   fails : begun b ≡ Failed → Begins b
-  opens : (t : State) → begun b ≡ t → t ≢ Between → t ≢ Failed → 0xc0 ≤ b → Completes b (still t) → Begins b
+  opens : (t : AutomatonState) → begun b ≡ t → t ≢ Between → t ≢ Failed → 0xc0 ≤ b → Completes b (still t) → Begins b
 
-opened : (b : ℕ) (t : State) → begun b ≡ t → t ≢ Between → t ≢ Failed → 0xc3 ≤ b
+opened : (b : ℕ) (t : AutomatonState) → begun b ≡ t → t ≢ Between → t ≢ Failed → 0xc3 ≤ b
     → wanted_behind b utf8_rows ≡ still t ∷ [] → Begins b
 opened b t is not fine low same = opens t is not fine (omega (arith, low)) (row b (still t) low same)
 
@@ -49,7 +49,8 @@ begins b =
           | inr other ↦ fails (grind (arith, nat_tests))
         ]
         | inr printed ↦
-            prints (run-ascii true (b ∷ []) 0 1 (each-one IsPrinted (b ∷ []) 0 (printed, ascii))) (grind (arith, nat_tests))
+            prints (run-ascii true (b ∷ []) 0 1 (each-one IsPrinted (b ∷ []) 0 (printed, ascii)))
+            (grind (arith, nat_tests))
       ]
       | inr from_80 ↦ elim (cases_lt b 0xc2) [
         | inl lone ↦ fails (grind (arith, nat_tests))

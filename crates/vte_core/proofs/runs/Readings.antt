@@ -4,24 +4,25 @@ use Rattle.vte_core.proofs.Common.{◌≤◌, take-add, encodes, encode, cases_l
 use Rattle.std.proofs.lemmas.List.{get_or-take, get_or-append-add}
 use Rattle.std.proofs.lemmas.Str.{encode_ascii, encodes-chars}
 use Rattle.vte_core.specs.machine.Between.{Each}
-use Rattle.vte_core.specs.machine.Automaton.{State, Between, Failed, code, state_after, HasRead, LastEnd}
+use Rattle.vte_core.specs.machine.Automaton.{AutomatonState, Between, Failed, code, state_after, HasScanned, LastEnd}
 use Rattle.vte_core.proofs.runs.Standing.{IsBegun, Standing, standing}
 use Rattle.vte_core.proofs.runs.Steps.{still, state_after-append, between, gone, waiting, turn}
 
 -- ---- codes
 
 -- the code of the state between two characters is its alone
-pub is_between : (s : State) → code s ≡ 0 → s ≡ Between
+pub is_between : (s : AutomatonState) → code s ≡ 0 → s ≡ Between
 is_between Between e = refl
 is_between _ e = absurd (omega (arith, e))
 
 -- ---- readings
 
-pub has_read-more : (text more : List ℕ) (at n state after : ℕ) → HasRead text at state → at + n ≤ length text
+pub has_read-more : (text more : List ℕ) (at n state after : ℕ) → HasScanned text at state → at + n ≤ length text
     → more ≡ take n (drop at text)
-    → ((s : State) → state ≡ code s → after ≡ code (state_after s more)) → after ≢ 54 → HasRead text (at + n) after
+    → ((s : AutomatonState) → state ≡ code s → after ≡ code (state_after s more)) → after ≢ 54
+    → HasScanned text (at + n) after
 has_read-more text more at n state after read within is steps fine =
-    let here : State = state_after Between (take at text) in
+    let here : AutomatonState = state_after Between (take at text) in
     let joined : state_after Between (take (at + n) text) ≡ state_after here more =
     ap (state_after Between) (take-add at n text ∙ ap (λ x. take at text ++ x) (sym is))
     ∙ state_after-append Between (take at text) more in
@@ -40,7 +41,7 @@ last_end-here text at within is =
       run = subst (λ n. AreRun true (take n text)) (s.settled is) s.printable;
     }
 
-still-some : (s : State) → s ≢ Between → s ≢ Failed → 1 ≤ length (still s)
+still-some : (s : AutomatonState) → s ≢ Between → s ≢ Failed → 1 ≤ length (still s)
 still-some s not going = elim (turn s) [
   | between same ↦ absurd (not same)
   | gone same ↦ absurd (going same)
@@ -48,12 +49,12 @@ still-some s not going = elim (turn s) [
 ]
 
 -- a character that has not ended
-pub unended : (text : List ℕ) (at state : ℕ) → HasRead text at state → state ≢ 0
+pub unended : (text : List ℕ) (at state : ℕ) → HasScanned text at state → state ≢ 0
     → (s : Standing text at (state_after Between (take at text))) → IsBegun text s.end at
 unended text at state read inside s = s.begun (λ e. inside (read.is ∙ ap code e))
 
 -- the place of its first byte is the last end
-pub last_end-first : (text : List ℕ) (at state end : ℕ) → HasRead text at state → state ≢ 0
+pub last_end-first : (text : List ℕ) (at state end : ℕ) → HasScanned text at state → state ≢ 0
     → (s : Standing text at (state_after Between (take at text)))
     → s.end ≤ end → end < at → 0xc0 ≤ slice_index text end → LastEnd text at end
 last_end-first text at state end read inside s from before high =

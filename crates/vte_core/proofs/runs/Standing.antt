@@ -1,12 +1,12 @@
--- What the automaton's state says of the text that it has read: characters that are printed, and
--- then what has begun.
+-- What the automaton's state says of the text that it has read: characters that are printed, and then the bytes of one
+-- that has begun. Each step of the automaton keeps that.
 use Rattle.vte_core.proofs.Common.{List, [], add-one, ap, append_assoc, arith, cond, drop, inl, inr, length, length-drop, nat_le, refl, subst, suc, sym, take, true, zero, ℕ, ◌&&◌, ◌++◌, ◌+◌, ◌-◌, ◌<◌}
 use Rattle.vte_core.proofs.Common.{◌∙◌, ◌∷◌, ◌≡◌, ◌≢◌, ◌≤◌, take-add, and_parts, cases_Bool, false≢true, leb-true, append-nil, get_or-drop, take_more, slice_index, Range, is_in, AreRun}
 use Rattle.vte_core.specs.machine.Between.{Each}
 use Rattle.vte_core.proofs.bytes.Between.{each-next}
 use Rattle.vte_core.proofs.bytes.FirstBytes.{fits}
 use Rattle.vte_core.proofs.bytes.Printable.{printable-nil, printable-append}
-use Rattle.vte_core.specs.machine.Automaton.{State, Between, Failed, begun, over, next, state_after}
+use Rattle.vte_core.specs.machine.Automaton.{AutomatonState, Between, Failed, begun, over, next, state_after}
 use Rattle.vte_core.proofs.runs.Steps.{still, state_after-append, failed, between, gone, waiting, turn}
 use Rattle.vte_core.proofs.runs.Begins.{prints, fails, opens, begins}
 
@@ -17,7 +17,7 @@ pub record IsBegun (text : List ℕ) (end at : ℕ) : Type 0 where
   pub later : Each (λ b. b < 0xc0) text (end + 1) at
 
 -- Up to `end` stand characters; the bytes from there up to `at` are those of one that has begun.
-pub record Standing (text : List ℕ) (at : ℕ) (s : State) : Type 0 where
+pub record Standing (text : List ℕ) (at : ℕ) (s : AutomatonState) : Type 0 where
   pub end : ℕ
   pub before : end ≤ at
   pub printable : AreRun true (take end text)
@@ -26,7 +26,7 @@ pub record Standing (text : List ℕ) (at : ℕ) (s : State) : Type 0 where
   pub begun : s ≢ Between → IsBegun text end at
   pub short : at + length (still s) ≤ end + 4
 
-still-short : (s : State) → length (still s) ≤ 3
+still-short : (s : AutomatonState) → length (still s) ≤ 3
 still-short Between = omega arith
 still-short _ = omega arith
 
@@ -56,7 +56,7 @@ all_printed text at printed = record {
   short = omega arith;
 }
 
-module _ (text : List ℕ) (at : ℕ) (within : at < length text) (s : State) (old : Standing text at s) where
+module _ (text : List ℕ) (at : ℕ) (within : at < length text) (s : AutomatonState) (old : Standing text at s) where
   abbrev b : ℕ
   b = slice_index text at
 
@@ -83,7 +83,7 @@ module _ (text : List ℕ) (at : ℕ) (within : at < length text) (s : State) (o
       (printable-append true (take old.end text) (taken ++ b ∷ []) old.printable whole))
 
   -- A character begins or goes on.
-  goes_on : (t : State) → t ≢ Between → IsBegun text old.end (at + 1) → at + 1 + length (still t) ≤ old.end + 4
+  goes_on : (t : AutomatonState) → t ≢ Between → IsBegun text old.end (at + 1) → at + 1 + length (still t) ≤ old.end + 4
       → ((u : List ℕ) → fits (still t) u ≡ true → AreRun true ((taken ++ b ∷ []) ++ u)) → Standing text (at + 1) t
   goes_on t not shape short completes = record {
     end = old.end;
@@ -119,7 +119,7 @@ module _ (text : List ℕ) (at : ℕ) (within : at < length text) (s : State) (o
       ]
 
   -- a further one
-  later : (t : State) (range : Range) → s ≢ Between → range.last ≤ 0xbf → still s ≡ range ∷ still t
+  later : (t : AutomatonState) (range : Range) → s ≢ Between → range.last ≤ 0xbf → still s ≡ range ∷ still t
       → next s b ≡ over range t b → next s b ≢ Failed → Standing text (at + 1) (next s b)
   later t range not last is steps ok = elim (cases_Bool (is_in range b)) [
     | inr misfits ↦ absurd (ok (steps ∙ ap (λ v. cond v t Failed) misfits))

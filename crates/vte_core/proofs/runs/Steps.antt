@@ -1,12 +1,12 @@
 -- The automaton over bytes one after another, and what it still wants at a state.
 use Rattle.vte_core.proofs.Common.{List, [], ap, arith, get_or, length, refl, suc, ℕ, ◌++◌, ◌<◌, ◌∙◌, ◌∷◌, ◌≡◌, ◌≢◌, ◌≤◌, Range, to}
-use Rattle.vte_core.specs.machine.Automaton.{State, Between, One, Two, Three, AfterE0, AfterED, AfterF0, AfterF4, AfterC2, Failed, over, begun, next, state_after}
+use Rattle.vte_core.specs.machine.Automaton.{AutomatonState, Between, One, Two, Three, AfterE0, AfterED, AfterF0, AfterF4, AfterC2, Failed, over, begun, next, state_after}
 
 abbrev pub further : Range
 further = to 0x80 0xbf
 
 -- The ranges of the bytes that end the character.
-abbrev pub still : State → List Range
+abbrev pub still : AutomatonState → List Range
 still Between = []
 still One = further ∷ []
 still Two = further ∷ further ∷ []
@@ -18,7 +18,8 @@ still AfterF4 = to 0x80 0x8f ∷ further ∷ further ∷ []
 still AfterC2 = to 0xa0 0xbf ∷ []
 still Failed = []
 
-pub state_after-append : (s : State) (xs ys : List ℕ) → state_after s (xs ++ ys) ≡ state_after (state_after s xs) ys
+pub state_after-append : (s : AutomatonState) (xs ys : List ℕ)
+    → state_after s (xs ++ ys) ≡ state_after (state_after s xs) ys
 state_after-append s [] ys = refl
 state_after-append s (b ∷ xs) ys = state_after-append (next s b) xs ys
 
@@ -37,13 +38,13 @@ stays_between (b ∷ bytes) all =
 
 -- ---- what one more byte makes of a state
 
-pub data Turn (s : State) : Type 0 where
+pub data Turn (s : AutomatonState) : Type 0 where
   between : s ≡ Between → Turn s
   gone : s ≡ Failed → Turn s
-  waiting : (t : State) (range : Range) → s ≢ Between → range.last ≤ 0xbf → still s ≡ range ∷ still t
+  waiting : (t : AutomatonState) (range : Range) → s ≢ Between → range.last ≤ 0xbf → still s ≡ range ∷ still t
       → ((b : ℕ) → next s b ≡ over range t b) → Turn s
 
-pub turn : (s : State) → Turn s
+pub turn : (s : AutomatonState) → Turn s
 unfolding next
 turn Between = between refl
 turn One = waiting Between further (λ e. cc) (omega arith) refl (λ b. refl)

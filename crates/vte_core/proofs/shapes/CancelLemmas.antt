@@ -1,4 +1,4 @@
--- CAN and SUB, which close what stands before them and are executed.
+-- CAN and SUB, which end what is open and are executed: what is closed comes first. By cases of the place.
 use Rattle.vte_core.proofs.Common.{◌≡◌, ℕ, ◌<◌, true, false, eqb, Option, List, [], ◌∷◌, ◌++◌, refl, ap, ◌∙◌, arith, nat_tests, Cancel, class_of, IsBrief, Print, Execute}
 use Rattle.vte_core.proofs.Common.{replacement, Leads, tell, Place, InText, InData, InSystemCommand, closing_at, left_at, bell}
 use Rattle.vte_core.proofs.Common.{text_outcome, character_event, is_control_character, append-nil, body_outcome, control_sequence_end, data_outcome, device_control_end, executed}

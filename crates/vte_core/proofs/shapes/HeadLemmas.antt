@@ -1,6 +1,7 @@
--- The head of a control sequence and of a device control string, byte by byte.
+-- The head of a control sequence and of a device control string, byte by byte: its parts are cut off its front, so a
+-- byte more changes only the last part that was reached.
 use Rattle.vte_core.proofs.Common.{◌≡◌, ℕ, true, false, List, [], ◌∷◌, ◌++◌, refl, arith, nat_tests, list_all, Class, Intermediate, Marker, class_of}
-use Rattle.vte_core.proofs.Common.{Bool, ap, append-nil, is_intermediate, is_marker, is_parameter, AreOf, head_of, behind_marker, is_well_shaped, IsMarker}
+use Rattle.vte_core.proofs.Common.{Bool, ap, append-nil, is_intermediate, is_marker, is_parameter_text, AreOf, head_of, behind_marker, is_well_shaped, IsMarker}
 use Rattle.vte_core.proofs.bytes.ClassCases.{intermediate}
 
 -- the bytes don't begin with one of these classes
@@ -8,12 +9,12 @@ abbrev pub BeginsWithout : (Class → Bool) → List ℕ → Type 0
 BeginsWithout has [] = Unit {0}
 BeginsWithout has (b ∷ rest) = has (class_of b) ≡ false
 
-parameter_is_no_marker : (k : Class) → is_parameter k ≡ true → is_marker k ≡ false
+parameter_is_no_marker : (k : Class) → is_parameter_text k ≡ true → is_marker k ≡ false
 parameter_is_no_marker Marker h = cc
 parameter_is_no_marker _ h = refl
 
-behind_marker-parts : (marker parameters rest : List ℕ) → AreOf is_parameter parameters
-    → BeginsWithout is_parameter rest
+behind_marker-parts : (marker parameters rest : List ℕ) → AreOf is_parameter_text parameters
+    → BeginsWithout is_parameter_text rest
     → behind_marker marker (parameters ++ rest)
     ≡ record { marker = marker; parameters = parameters; intermediates = rest }
 behind_marker-parts marker [] [] are none = refl
@@ -28,8 +29,8 @@ behind_marker-parts marker (p ∷ parameters) rest are none =
     }) more)
 
 -- the parts of a head
-pub head_of-parts : (marker parameters rest : List ℕ) → IsMarker marker → AreOf is_parameter parameters
-    → BeginsWithout is_parameter rest
+pub head_of-parts : (marker parameters rest : List ℕ) → IsMarker marker → AreOf is_parameter_text parameters
+    → BeginsWithout is_parameter_text rest
     → (marker ++ parameters ≡ [] → BeginsWithout is_marker rest)
     → head_of (marker ++ (parameters ++ rest))
     ≡ record { marker = marker; parameters = parameters; intermediates = rest }
@@ -58,16 +59,16 @@ list_all-not [] b more h = rw h refl
 list_all-not (a ∷ bytes) b more h = grind (arith, nat_tests, list_all-not bytes b more h)
 
 -- the parts of a head that is well shaped so far
-pub held-parts : (marker parameters intermediates : List ℕ) → IsMarker marker → AreOf is_parameter parameters
+pub held-parts : (marker parameters intermediates : List ℕ) → IsMarker marker → AreOf is_parameter_text parameters
     → AreOf is_intermediate intermediates
     → head_of (marker ++ (parameters ++ intermediates))
     ≡ record { marker = marker; parameters = parameters; intermediates = intermediates }
 held-parts marker parameters intermediates is are these =
-    let none = begins-intermediates is_parameter refl intermediates [] these (λ _. tt) in
+    let none = begins-intermediates is_parameter_text refl intermediates [] these (λ _. tt) in
     let no_marker = begins-intermediates is_marker refl intermediates [] these (λ _. tt) in
     head_of-parts marker parameters intermediates is are (rw append-nil at none) (λ _. rw append-nil at no_marker)
 
-pub held-well_shaped : (marker parameters intermediates : List ℕ) → IsMarker marker → AreOf is_parameter parameters
+pub held-well_shaped : (marker parameters intermediates : List ℕ) → IsMarker marker → AreOf is_parameter_text parameters
     → AreOf is_intermediate intermediates → is_well_shaped (head_of (marker ++ (parameters ++ intermediates))) ≡ true
 unfolding is_well_shaped
 held-well_shaped marker parameters intermediates is are these =

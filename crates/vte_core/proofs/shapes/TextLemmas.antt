@@ -1,4 +1,5 @@
--- The division of a text, and what it gives, from the front.
+-- The division of a text, and what it gives, from the front: a well-formed sequence, a maximal subpart or a byte comes
+-- off, and the rest is divided as a text of its own.
 use Rattle.vte_core.proofs.Common.{◌≡◌, ℕ, ◌≤◌, true, false, List, [], ◌∷◌, ◌++◌, length, refl, sym, ap, subst, ◌∙◌, arith, take-append_seam, false≢true}
 use Rattle.vte_core.proofs.Common.{nat_tests, Event, Print, replacement, NothingOpen, OpenCharacter, leaves, tell, utf8_rows, wanted_behind, wanted, is_well_formed, is_truncated, further}
 use Rattle.vte_core.proofs.Common.{segments_behind, segments, scalar_of, is_control_character, character_event, malformed_event, segment_event, pieces_outcome, text_outcome}

@@ -1,5 +1,5 @@
 -- The text of groups, sent in a control sequence.
-use Rattle.vte_core.proofs.Common.{◌≡◌, ℕ, true, Option, List, [], ◌∷◌, ◌++◌, refl, ◌∙◌, append_assoc, append-nil, class_of, is_parameter, AreOf, CsiDispatch}
+use Rattle.vte_core.proofs.Common.{◌≡◌, ℕ, true, Option, List, [], ◌∷◌, ◌++◌, refl, ◌∙◌, append_assoc, append-nil, class_of, is_parameter_text, AreOf, CsiDispatch}
 use Rattle.vte_core.proofs.Common.{dispatched, head_of, is_well_shaped, key_of, AreParameters, DispatchesShown, shown, Reads, AtEscape, InControlSequence, InText, escape}
 use Rattle.vte_core.proofs.bytes.ClassCases.{head_ends_nothing}
 use Rattle.vte_core.proofs.bytes.PieceLemmas.{parameter_is_head}
@@ -9,7 +9,7 @@ use Rattle.vte_core.proofs.showing.ShownGroups.{groups_of-shown, has_too_many_nu
 use Rattle.vte_core.proofs.streams.StreamLemmas.{no_escape, reads-append, reads-byte, reads-escape, reads-nothing}
 use Rattle.vte_core.proofs.streams.StreamSteps.{told_by_stream}
 
-reads-head : (limit : Option ℕ) (head bytes : List ℕ) → AreOf is_parameter bytes
+reads-head : (limit : Option ℕ) (head bytes : List ℕ) → AreOf is_parameter_text bytes
     → Reads limit (InControlSequence head) bytes [] (InControlSequence (head ++ bytes))
 reads-head limit head [] are = rw append-nil (reads-nothing limit (InControlSequence head))
 reads-head limit head (b ∷ bytes) are =
@@ -21,7 +21,7 @@ reads-head limit head (b ∷ bytes) are =
     rw append_assoc at (reads-append limit (InControlSequence head) _ _ (b ∷ []) bytes [] [] one rest)
 
 -- ESC, `[`, the bytes and `m`
-reads-shown : (limit : Option ℕ) (bytes : List ℕ) → AreOf is_parameter bytes
+reads-shown : (limit : Option ℕ) (bytes : List ℕ) → AreOf is_parameter_text bytes
     → Reads limit (InText []) (0x1b ∷ 0x5b ∷ (bytes ++ 0x6d ∷ []))
     (dispatched CsiDispatch (head_of bytes) 0x6d ∷ []) (InText [])
 unfolding class_of key_of

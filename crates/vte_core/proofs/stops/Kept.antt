@@ -1,4 +1,4 @@
--- What is kept from start to start holds wherever a call stops.
+-- What is kept from start to start holds wherever a call stops: by induction over the places, a unit at a time.
 use Rattle.vte_core.proofs.Common.{ℕ, zero, suc, ◌+◌, ◌<◌, ◌≤◌, inl, inr, Option, List, [], ◌++◌, length, sym, subst, arith, IsBrief, IsStart, told, Event}
 use Rattle.vte_core.specs.Stops.{TellsUnit, TellsUnits}
 

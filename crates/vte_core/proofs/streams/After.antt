@@ -1,4 +1,5 @@
--- What is known of a place after a stream.
+-- What is known of a place after a stream: further bytes give after both the same (`IsAfter`). `after-reads`: so they
+-- do after the bytes that lead from the place to another, whose events are added.
 use Rattle.vte_core.proofs.Common.{◌≡◌, ℕ, Option, List, [], ◌++◌, length, drop, refl, ap, sym, ◌∙◌, append_assoc, append-nil, arith, drop_all, drop-append_seam, Machine, Stands, IsBehind, Event}
 use Rattle.vte_core.proofs.Common.{tell, unfinished, added, events, outcome, open_end, Place, InText, IsAfter, open_at, left_at, outcome_behind, events_behind, Reads}
 use Rattle.vte_core.proofs.fields.Standing.{IsPlace, outcome_behind-nothing, events_behind-nothing, unfinished-at}

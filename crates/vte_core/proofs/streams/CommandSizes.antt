@@ -1,4 +1,4 @@
--- How much data a command has that bytes dispatch, or leave open, where there is no limit.
+-- How much data a command has that bytes dispatch or leave open, without a limit: by induction over the bytes.
 use Rattle.vte_core.proofs.Common.{ℕ, ◌+◌, ◌≤◌, Some, None, List, [], ◌∷◌, ◌++◌, length, refl, ap, arith, All, All-append, All-nil, IsBounded, Event, CountsData}
 use Rattle.vte_core.proofs.Common.{data_left, Open, OpenCommand, Reads, Place, left_at}
 use Rattle.vte_core.proofs.fields.Standing.{IsPlace}

@@ -1,4 +1,4 @@
--- What a stream goes on with behind a character that the next byte breaks.
+-- What a stream goes on with after a character that the next byte breaks: as a stream that begins with that byte.
 use Rattle.vte_core.proofs.Common.{◌≡◌, ℕ, true, Option, List, [], ◌∷◌, ◌++◌, length, drop, ap, sym, ◌∙◌, append_assoc, and_parts, false≢true, not-true, drop-append_seam}
 use Rattle.vte_core.proofs.Common.{append-nil, breaks, Event, Print, replacement, tell, added, events, outcome, open_end, Place, InText, IsAfter, open_at, outcome_behind}
 use Rattle.vte_core.proofs.fields.Standing.{IsPlace}

@@ -1,24 +1,24 @@
 -- The automaton that reads text which may hold HT, LF and CR, byte by byte.
 use Rattle.std.specs.Prelude.{◌≡◌, ◌≢◌, ℕ, ◌+◌, ◌≤◌, true, List, [], ◌∷◌, length, take, ◌==◌, if◌then◌else◌}
-use Rattle.vte_core.specs.machine.Run.{AreRun}
+use Rattle.vte_core.specs.machine.TextRun.{AreRun}
 use Rattle.vte_core.specs.Text.{is_layout}
 use Rattle.vte_core.specs.Utf8.{Range, to, is_in}
 
 -- Between two characters; before one, two or three more bytes 80..BF; after a first byte whose
 -- second is bound more closely; and after a byte that fits nowhere, for good.
-pub data State : Type 0 where
-  Between : State
-  One : State
-  Two : State
-  Three : State
-  AfterE0 : State
-  AfterED : State
-  AfterF0 : State
-  AfterF4 : State
-  AfterC2 : State
-  Failed : State
+pub data AutomatonState : Type 0 where
+  Between : AutomatonState
+  One : AutomatonState
+  Two : AutomatonState
+  Three : AutomatonState
+  AfterE0 : AutomatonState
+  AfterED : AutomatonState
+  AfterF0 : AutomatonState
+  AfterF4 : AutomatonState
+  AfterC2 : AutomatonState
+  Failed : AutomatonState
 
-abbrev pub code : State → ℕ
+abbrev pub code : AutomatonState → ℕ
 code Between = 0
 code One = 6
 code Two = 12
@@ -30,10 +30,10 @@ code AfterF4 = 42
 code AfterC2 = 48
 code Failed = 54
 
-abbrev pub over : Range → State → ℕ → State
+abbrev pub over : Range → AutomatonState → ℕ → AutomatonState
 over range next b = if is_in range b then next else Failed
 
-abbrev pub begun : ℕ → State
+abbrev pub begun : ℕ → AutomatonState
 begun b =
     if is_layout b then Between
     else if is_in (to 0x20 0x7f) b then Between
@@ -47,7 +47,7 @@ begun b =
     else if b == 0xf4 then AfterF4
     else Failed
 
-unfoldable pub next : State → ℕ → State
+unfoldable pub next : AutomatonState → ℕ → AutomatonState
 next Between b = begun b
 next One b = over (to 0x80 0xbf) Between b
 next Two b = over (to 0x80 0xbf) One b
@@ -59,12 +59,12 @@ next AfterF4 b = over (to 0x80 0x8f) Two b
 next AfterC2 b = over (to 0xa0 0xbf) Between b
 next Failed b = Failed
 
-abbrev pub state_after : State → List ℕ → State
+abbrev pub state_after : AutomatonState → List ℕ → AutomatonState
 state_after state [] = state
 state_after state (b ∷ bytes) = state_after (next state b) bytes
 
 -- It has read the bytes before `at`, which led to the state with this code, and may go on.
-pub record HasRead (text : List ℕ) (at state : ℕ) : Type 0 where
+pub record HasScanned (text : List ℕ) (at state : ℕ) : Type 0 where
   pub within : at ≤ length text
   pub is : state ≡ code (state_after Between (take at text))
   pub going : state_after Between (take at text) ≢ Failed

@@ -6,7 +6,7 @@ use Rattle.vte_core.specs.declared.head.HeadPart.TheVariants.{Entry, Parameters,
 use Rattle.vte_core.specs.declared.parser.machine.Machine.{Machine}
 use Rattle.vte_core.specs.declared.parser.State.{State}
 use Rattle.vte_core.specs.declared.parser.State.TheVariants.{Text, Escape, EscapeIntermediate, ControlSequence, DeviceControl, DeviceData, SystemCommand, IgnoredString}
-use Rattle.vte_core.specs.Class.{is_intermediate, is_marker, is_parameter, AreOf}
+use Rattle.vte_core.specs.Class.{is_intermediate, is_marker, is_parameter_text, AreOf}
 use Rattle.vte_core.specs.Intermediates.{first_two, are_too_many}
 use Rattle.vte_core.specs.Head.{head_of, is_well_shaped}
 use Rattle.vte_core.specs.Parameters.{Number, is_colon, is_separator, number_of, numbers, grouped, groups_of, has_too_many_numbers, most_numbers}
@@ -75,7 +75,7 @@ pub record HoldsHead (collected : Collected) (part : HeadPart) (head : List ℕ)
   pub intermediates : List ℕ
   pub shape : head ≡ marker ++ (parameters ++ intermediates)
   pub is_marker : IsMarker marker
-  pub are_parameters : AreOf is_parameter parameters
+  pub are_parameters : AreOf is_parameter_text parameters
   pub are_intermediates : AreOf is_intermediate intermediates
   pub reaches : Reaches part marker parameters intermediates
   pub holds : Holds collected (marker ++ intermediates)

@@ -104,4 +104,5 @@ events_behind limit place more = (outcome_behind limit place more).told
 -- What follows the stream gives what it gives after the place.
 pub record IsAfter (limit : Option ℕ) (stream : List ℕ) (place : Place) : Type 0 where
   pub goes_on : (more : List ℕ)
-      → outcome limit (stream ++ more) ≡ tell (events limit stream) (outcome_behind limit place more)
+      → outcome limit (stream ++ more)
+      ≡ tell (events limit stream) (outcome_behind limit place more)

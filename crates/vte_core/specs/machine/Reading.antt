@@ -8,8 +8,8 @@ use Rattle.vte_core.specs.declared.head.HeadPart.TheVariants.{Parameters}
 use Rattle.vte_core.specs.machine.Parser.{StandsInHead}
 
 -- What is collected, with this number in its field. While its digits are read, it is in a local.
-abbrev pub with_number : Collected → ℕ → Collected
-with_number collected number = record {
+abbrev pub with_open_number : Collected → ℕ → Collected
+with_open_number collected number = record {
   intermediates = collected.intermediates;
   too_many = collected.too_many;
   params = collected.params;

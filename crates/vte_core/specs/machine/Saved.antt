@@ -64,7 +64,8 @@ pub record IsRestored {B : Type 0} (saved : Saved) (machine : Machine B) : Type 
       ≡ take saved.intermediate_count saved.intermediates
   pub too_many : machine.collected.too_many ≡ flag_of saved.too_many
   pub params : IsInHead machine.state → (groups : List (List ℕ))
-      → AreParts (take saved.group_count saved.lengths) (take saved.number_count saved.numbers) groups
+      → AreParts (take saved.group_count saved.lengths)
+      (take saved.number_count saved.numbers) groups
       → machine.collected.params ≡ groups
   pub number : machine.collected.number ≡ saved.number
   pub joined : machine.collected.joined ≡ flag_of saved.joined

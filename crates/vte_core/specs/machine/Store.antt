@@ -14,7 +14,7 @@ ends_behind count (item ∷ items) =
 
 -- The capacity for data bytes, the data bytes, where the first 16 pieces end, and whether data
 -- bytes were dropped.
-pub record Held : Type 0 where
+pub record Stored : Type 0 where
   pub capacity : ℕ
   pub bytes : List ℕ
   pub ends : List ℕ
@@ -26,15 +26,15 @@ fitting None count run = run
 fitting (Some limit) count run = take (limit - count) run
 
 -- Memory can be lacking only if there is no limit.
-abbrev pub HasMemory : Option ℕ → ℕ → ℕ → ℕ → Type 0
-HasMemory None capacity count more = count + more ≤ capacity
-HasMemory (Some limit) capacity count more = Unit {0}
+abbrev pub HasCapacity : Option ℕ → ℕ → ℕ → ℕ → Type 0
+HasCapacity None capacity count more = count + more ≤ capacity
+HasCapacity (Some limit) capacity count more = Unit {0}
 
 -- The answer of what takes memory for more bytes after `count` of them, if there had been so much
 -- memory, and now is.
 pub record Reserves (limit : Option ℕ) (count more had has : ℕ) (answer : Bool) : Type 0 where
   pub grows : had ≤ has
-  pub suffices : answer ≡ true → HasMemory limit has count more
+  pub suffices : answer ≡ true → HasCapacity limit has count more
   pub unlimited : answer ≡ false → limit ≡ None
   pub some : answer ≡ false → 0 < more
   pub lacks : answer ≡ false → has < count + more
@@ -63,7 +63,7 @@ PiecesEnd (suc left) start (end ∷ ends) count = (start ≤ end) × PiecesEnd l
 
 -- The store continues as one that has taken the items: whatever follows, the pieces are the same.
 -- Each byte is in one of the first 16.
-pub record Keeps (limit : Option ℕ) (held : Held) (items : List ℕ) : Type 0 where
+pub record Keeps (limit : Option ℕ) (held : Stored) (items : List ℕ) : Type 0 where
   pub goes_on : (more : List ℕ)
       → pieces_of limit (items ++ more) ≡ pieces_behind limit held.bytes held.ends more
   pub end : PiecesEnd most_pieces 0 held.ends (length held.bytes)
@@ -71,14 +71,14 @@ pub record Keeps (limit : Option ℕ) (held : Held) (items : List ℕ) : Type 0 
   pub dropped : held.dropped ≡ nat_lt (length held.bytes) (length (filter is_data_byte items))
 
 -- The memory doesn't suffice for the data bytes at `from`.
-pub record LacksMemoryAt (held : Held) (bytes : List ℕ) (from : ℕ) : Type 0 where
+pub record LacksMemoryAt (held : Stored) (bytes : List ℕ) (from : ℕ) : Type 0 where
   pub to : ℕ
   pub within : to ≤ length bytes
   pub are_data : (k : ℕ) → from ≤ k → k < to → IsCommandData (slice_index bytes k)
   pub lacks : held.capacity < length held.bytes + (to - from)
 
 -- The stores differ at most in their capacity.
-pub record SameItems (old new : Held) : Type 0 where
+pub record SameItems (old new : Stored) : Type 0 where
   pub bytes : new.bytes ≡ old.bytes
   pub ends : new.ends ≡ old.ends
   pub dropped : new.dropped ≡ old.dropped

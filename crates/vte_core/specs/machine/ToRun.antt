@@ -15,7 +15,7 @@ use Rattle.vte_core.specs.Event.{Event, Print, Put}
 use Rattle.vte_core.specs.machine.Data.{IsPut}
 use Rattle.vte_core.specs.machine.Parser.{IsBehind}
 use Rattle.vte_core.specs.machine.Progress.{StandsAt}
-use Rattle.vte_core.specs.machine.Run.{AreRun, EndsRun}
+use Rattle.vte_core.specs.machine.TextRun.{AreRun, EndsRun}
 use Rattle.vte_core.specs.machine.Scans.{IsRange}
 use Rattle.vte_core.specs.Stream.{added}
 

@@ -1,5 +1,5 @@
 -- The words that contracts of the parser's functions share.
-pub use Rattle.vte_core.specs.Class.{class_of, dispatches_escape, ends_all, is_control, is_data, is_final, is_head, is_intermediate, is_parameter}
+pub use Rattle.vte_core.specs.Class.{class_of, dispatches_escape, ends_all, is_control, is_data, is_final, is_head, is_intermediate, is_parameter_text}
 pub use Rattle.vte_core.specs.EarlyStop.{NoCharacterStops}
 pub use Rattle.vte_core.specs.Event.{CsiDispatch, EscDispatch, Event, Execute, Hook, OscDispatch, Print, Put, Unhook}
 pub use Rattle.vte_core.specs.Key.{begins_ignored_string}
@@ -26,11 +26,11 @@ pub use Rattle.vte_core.specs.machine.Moves.{Costs, Handles, Moves, Refuses, Spe
 pub use Rattle.vte_core.specs.machine.Parser.{Counts, Holds, HoldsHead, IsBehind, KeepsIntermediates, KeepsNumbers, Settles, Stands, StandsInHead}
 pub use Rattle.vte_core.specs.machine.Place.{AtEscape, InControlSequence, InDeviceControl, IsBetween, Place, closing_at}
 pub use Rattle.vte_core.specs.machine.Progress.{Advances, IsSettled, MayGoOn, ReadsUpTo, RefusesAt, StandsAt, StandsInside}
-pub use Rattle.vte_core.specs.machine.Reading.{ReadsHeadUpTo, with_number}
+pub use Rattle.vte_core.specs.machine.Reading.{ReadsHeadUpTo, with_open_number}
 pub use Rattle.vte_core.specs.machine.Ready.{IsReady}
-pub use Rattle.vte_core.specs.machine.Run.{ArePrinted, EndsRun, IsPrinted, IsRun, IsTextRun, PrintsRun}
+pub use Rattle.vte_core.specs.machine.TextRun.{ArePrinted, EndsRun, IsPrinted, IsRun, IsTextRun, PrintsRun}
 pub use Rattle.vte_core.specs.machine.Scans.{FindsEnd, IsRange, Scans, TakesFew}
-pub use Rattle.vte_core.specs.machine.Store.{ArePieceEnds, HasMemory, Held, Keeps, Reserves, SameItems, cut_pieces, fitting}
+pub use Rattle.vte_core.specs.machine.Store.{ArePieceEnds, HasCapacity, Stored, Keeps, Reserves, SameItems, cut_pieces, fitting}
 pub use Rattle.vte_core.specs.machine.Takes.{Dispatches, Performs, Takes}
 pub use Rattle.vte_core.specs.machine.Tells.{Tells, TellsAll}
 pub use Rattle.vte_core.specs.machine.ToRun.{AreOfKind, ComesToRun, IsOutside, IsQuietIn, IsTaken, place_count, start_count}

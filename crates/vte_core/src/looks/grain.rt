@@ -14,10 +14,10 @@ pub(crate) trait Grain {
 }
 
 /// Character by character.
-pub(crate) enum Singly {}
+pub enum Singly {}
 
 /// By the run.
-pub(crate) enum InRuns {}
+pub enum InRuns {}
 
 impl Grain for Singly {
     ghost IN_RUNS = { false };

@@ -34,7 +34,7 @@ impl<B: Buffer> Machine<B> {
             if ASKS && performer.terminated() {
                 return Ok(position);
             }
-            position = self.read_run::<P, G, ASKS>(looks, performer, input, position)?;
+            position = self.read_by_state::<P, G, ASKS>(looks, performer, input, position)?;
         }
         Ok(position)
     }
@@ -70,7 +70,7 @@ impl<B: Buffer> Machine<B> {
     /// Reads at least one byte, before which the performer was asked, or none if memory is refused
     /// for it.
     #[inline]
-    pub(crate) fn read_run<P: CountedPerform<B, G>, G: Grain, const ASKS: bool>(
+    pub(crate) fn read_by_state<P: CountedPerform<B, G>, G: Grain, const ASKS: bool>(
         &mut self,
         looks: &mut Looks<B>,
         performer: &mut P,

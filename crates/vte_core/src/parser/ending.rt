@@ -24,7 +24,7 @@ impl<B: Buffer> Machine<B> {
         ensures handles { Handles 2 P.step (P.value_of performer.old)
             (P.value_of performer.new) self.old self.new looks.old looks.new }
     {
-        self.close(looks, performer);
+        self.report_end(looks, performer);
         if byte == ESCAPE {
             self.collected.begin_escape();
             self.state = State::Escape;
@@ -61,7 +61,7 @@ impl<B: Buffer> Machine<B> {
     }
 
     /// Reports the end of a string: `unhook`, or the operating system command.
-    fn close<P: CountedPerform<B, G>, G: Grain>(&self, looks: &mut Looks<B>, performer: &mut P)
+    fn report_end<P: CountedPerform<B, G>, G: Grain>(&self, looks: &mut Looks<B>, performer: &mut P)
         ensures told { (place : Place) → Stands B.limit self.now place → IsBetween place
             → P.value_of performer.new
             ≡ after P.step (P.value_of performer.old) (closing_at B.limit place) }

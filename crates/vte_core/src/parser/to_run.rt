@@ -90,7 +90,7 @@ impl<B: Buffer> Machine<B> {
                     let byte = looks.at(input, position);
                     self.end_data::<P, Singly, true>(looks, performer, input, position, byte)
                 }
-                _ => self.read_run::<P, Singly, true>(looks, performer, input, position)?,
+                _ => self.read_by_state::<P, Singly, true>(looks, performer, input, position)?,
             };
         }
         Ok(RunPlace::empty(position))

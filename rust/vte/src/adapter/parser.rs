@@ -4,7 +4,7 @@ use crate::proved::vte_core::{LongParser, Perform, PerformText, Refused, Run};
 
 /// A parser of the bytes that programs send to a terminal.
 ///
-/// It reads a stream in pieces of any length, and calls a [`Perform`] for each event.
+/// It reads a stream in chunks of any length, and calls a [`Perform`] for each event.
 ///
 /// ```
 /// # use vte::{Parser, Perform};
@@ -13,7 +13,7 @@ use crate::proved::vte_core::{LongParser, Perform, PerformText, Refused, Run};
 /// # let mut performer = Performer;
 /// let mut parser = Parser::new();
 /// parser.advance(&mut performer, b"a\x1b[1");
-/// parser.advance(&mut performer, b"m"); // one `csi_dispatch`, of the two pieces together
+/// parser.advance(&mut performer, b"m"); // one `csi_dispatch`, of the two chunks together
 /// ```
 ///
 /// With the feature `std` it keeps all data bytes of an operating system command, and

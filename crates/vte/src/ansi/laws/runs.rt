@@ -1,10 +1,9 @@
 //! Whole runs of processors.
 ghost use Rattle.std.specs.Prelude.{Some, None, IfOk, IfErr};
 ghost use Rattle.vte.specs.LongProcessor.{IsAtLong, LacksMemoryFor, ReplaysLong};
-ghost use Rattle.vte.specs.Meaning.{meaning};
+ghost use Rattle.vte.specs.Processor.{State, meaning};
 ghost use Rattle.vte.specs.ProcessorCalls.{Replays};
 ghost use Rattle.vte.specs.RefusedStep.{ReplayedUntil, left_by};
-ghost use Rattle.vte.specs.Turn.{State};
 
 use crate::ansi::long_processor::LongProcessor;
 use crate::ansi::processor::Processor;

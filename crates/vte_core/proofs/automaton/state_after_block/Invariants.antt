@@ -1,6 +1,7 @@
 use Rattle.std.proofs.Common.{◌≡◌, ◌%◌, take}
-use Rattle.vte_core.specs.machine.Automaton.{State, code, state_after}
+use Rattle.vte_core.specs.machine.Automaton.{AutomatonState, code, state_after}
 use Rattle.vte_core.proofs.automaton.state_after_block.Given as goal
 
 abbrev pub invariant-loop-byte : goal.invariant-loop-byte
-invariant-loop-byte l = (s : State) → l.state ≡ code s → l.next % 64 ≡ code (state_after s (take l.byte-index l.block))
+invariant-loop-byte l = (s : AutomatonState) → l.state ≡ code s
+    → l.next % 64 ≡ code (state_after s (take l.byte-index l.block))

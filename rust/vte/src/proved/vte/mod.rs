@@ -1,7 +1,7 @@
 // Written by tools/erase from crates/vte/src/lib.rt. Don't edit this file: edit that one, and run the tool.
 //! A parser and a processor for the bytes that programs send to a terminal.
 //!
-//! A [`Parser`] reads a stream in pieces of any length and reports its events to a [`Perform`]:
+//! A [`Parser`] reads a stream in chunks of any length and reports its events to a [`Perform`]:
 //! characters, control bytes, and sequences with their parameters. A [`LongParser`] does the same
 //! without a limit on the text of an operating system command. A [`Processor`](ansi::Processor)
 //! interprets the events, and calls a method of an [`ansi::Handler`] for each thing that a program

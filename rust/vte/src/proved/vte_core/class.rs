@@ -44,7 +44,7 @@ pub(crate) fn is_separator(byte: u8) -> bool {
 }
 
 /// Whether a byte is a digit or a separator `0`..`;`.
-pub(crate) fn is_parameter(byte: u8) -> bool {
+pub(crate) fn is_parameter_text(byte: u8) -> bool {
     matches!(byte, b'0'..=b';')
 }
 

@@ -11,10 +11,10 @@ pub(crate) trait Grain {
 }
 
 /// Character by character.
-pub(crate) enum Singly {}
+pub enum Singly {}
 
 /// By the run.
-pub(crate) enum InRuns {}
+pub enum InRuns {}
 
 impl Grain for Singly {
     const IN_RUNS: bool = false;

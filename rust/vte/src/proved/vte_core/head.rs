@@ -4,7 +4,7 @@
 
 use crate::adapter::array_vec::ArrayVec;
 use crate::proved::vte_core::class::{
-    digit_of, is_head, is_intermediate, is_parameter, is_separator,
+    digit_of, is_head, is_intermediate, is_parameter_text, is_separator,
 };
 use crate::proved::vte_core::params::Params;
 
@@ -166,7 +166,7 @@ impl Collected {
                 next = Some(byte);
                 break;
             }
-            if is_parameter(byte) && part.may_have_parameters() {
+            if is_parameter_text(byte) && part.may_have_parameters() {
                 let numbers = self.read_numbers(part, true, input, position);
                 // As a constant, because the loop over numbers is longer with `numbers.part`.
                 part = HeadPart::Parameters;

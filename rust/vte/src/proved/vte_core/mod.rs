@@ -3,7 +3,7 @@
 //! control sequences, device control strings and operating system commands (ECMA-48, ECMA-35, the
 //! VT500 parser).
 //!
-//! [`Parser`] reads a stream in pieces of any length and calls a [`Perform`] for each of its events. [`LongParser`] is
+//! [`Parser`] reads a stream in chunks of any length and calls a [`Perform`] for each of its events. [`LongParser`] is
 //! a parser without a limit on the text of operating system commands.
 
 mod automaton;
@@ -19,6 +19,8 @@ mod scan;
 mod store;
 mod utf8;
 
+#[cfg(feature = "ansi")]
+pub use grain::{InRuns, Singly};
 pub use params::{Params, ParamsIter};
 pub use parser::Parser;
 pub use scan::{Run, Taken};

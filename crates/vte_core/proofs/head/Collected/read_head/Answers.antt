@@ -12,7 +12,7 @@ loop-position-preserved-then-may_have_parameters g c =
     let numbers = c.read_numbers-numbers.ensures in
     let further =
     numbers.further refl (omega arith)
-    (rw (← c.at-byte.ensures.value) (sym c.is_parameter.ensures ∙ c.if-is_parameter.true)) in
+    (rw (← c.at-byte.ensures.value) (sym c.is_parameter_text.ensures ∙ c.if-is_parameter_text.true)) in
     let more = further.0 in
     record {
       reads = reads-then v.reads (rw further.1 at numbers.reads.head);

@@ -1,5 +1,5 @@
 use Rattle.vte_core.proofs.Common.{refl, sym, ◌∙◌, arith, rules}
-use Rattle.vte_core.specs.machine.Reading.{with_number}
+use Rattle.vte_core.specs.machine.Reading.{with_open_number}
 use Rattle.vte_core.proofs.calls.Heads.{part_after-more, part_after-none, reads-nothing, reads-parameter}
 use Rattle.vte_core.proofs.fields.NumberSteps.{counts-digit, counts-separator}
 use Rattle.vte_core.proofs.head.Collected.read_numbers.Goals.{else-loop-position-test, then-loop-position-test+in_default+else-several}
@@ -28,8 +28,8 @@ loop-position-preserved g c =
             (reads-parameter c.requires.may (omega arith) c.at-byte.ensures.value is.3
             (record { intermediates = refl; too_many = refl })
             (λ text k.
-            counts-digit (with_number held c.loop-position.number)
-            (with_number held w.min-number.result) text c.at-byte.result k is.0 is.1 refl refl
+            counts-digit (with_open_number held c.loop-position.number)
+            (with_open_number held w.min-number.result) text c.at-byte.result k is.0 is.1 refl refl
             (omega (arith, w.min-number.ensures, is.2))) v.reads)
         | in_default+then-several+then-is_separator w ↦
             let settled = w.settle_number-self.ensures in

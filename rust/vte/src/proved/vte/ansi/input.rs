@@ -1,7 +1,7 @@
 // Written by tools/erase from crates/vte/src/ansi/input.rt. Don't edit this file: edit that one, and run the tool.
 //! How handlers take characters.
 
-use crate::proved::vte::ansi::parsing::{InRuns, Singly};
+use crate::proved::vte_core::{InRuns, Singly};
 use crate::proved::vte_handler::{Handler, HandlerText};
 
 /// A handler that takes characters in a grain.

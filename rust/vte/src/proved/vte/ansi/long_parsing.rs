@@ -2,11 +2,11 @@
 //! The parser of a processor without a limit. It takes memory before it reads, so that none is
 //! refused on the way.
 
-use crate::proved::vte::ansi::parsing::{EventParser, Grain, InRuns, Singly};
+use crate::proved::vte::ansi::parsing::{EventParser, ParseAs};
 use crate::proved::vte::ansi::performer::Performer;
 use crate::proved::vte::ansi::text_buffer::TextBuffer;
 use crate::proved::vte::ansi::titles::SEPARATORS;
-use crate::proved::vte_core::{LongParser, Refused};
+use crate::proved::vte_core::{InRuns, LongParser, Refused, Singly};
 use crate::proved::vte_handler::{Handler, HandlerText, Timeout};
 
 impl EventParser for LongParser {
@@ -30,7 +30,7 @@ fn joined_size(stored: usize, more: usize) -> Option<usize> {
     stored.checked_add(more)?.checked_add(SEPARATORS)
 }
 
-impl<H: Handler, T: Timeout> Grain<H, T, LongParser> for Singly {
+impl<H: Handler, T: Timeout> ParseAs<H, T, LongParser> for Singly {
     #[inline(always)]
     fn advance<J: TextBuffer>(
         parser: &mut LongParser,
@@ -54,7 +54,7 @@ impl<H: Handler, T: Timeout> Grain<H, T, LongParser> for Singly {
     }
 }
 
-impl<H: HandlerText, T: Timeout> Grain<H, T, LongParser> for InRuns {
+impl<H: HandlerText, T: Timeout> ParseAs<H, T, LongParser> for InRuns {
     #[inline(always)]
     fn advance<J: TextBuffer>(
         parser: &mut LongParser,

@@ -2,9 +2,8 @@
 //! The processor without a limit.
 
 use crate::proved::vte::ansi::growing_text::GrowingText;
-use crate::proved::vte::ansi::parsing::{InRuns, Singly};
 use crate::proved::vte::ansi::turns::Turns;
-use crate::proved::vte_core::{LongParser, Refused};
+use crate::proved::vte_core::{InRuns, LongParser, Refused, Singly};
 use crate::proved::vte_handler::{Handler, HandlerText, Timeout};
 
 /// A processor whose calls return an error if they are refused memory.

@@ -9,7 +9,7 @@ use crate::proved::vte::ansi::text_buffer::TextBuffer;
 #[cfg(not(feature = "std"))]
 use crate::proved::vte::ansi::titles::TEXT_ROOM;
 #[cfg(not(feature = "std"))]
-use crate::proved::vte_core::Parser;
+use crate::proved::vte_core::{InRuns, Parser, Singly};
 #[cfg(not(feature = "std"))]
 use crate::proved::vte_handler::HandlerText;
 use crate::proved::vte_handler::{Handler, Timeout};
@@ -37,8 +37,8 @@ impl EventParser for ProcessorParser {
     }
 }
 
-/// How a handler receives text: a character at a time, or in runs.
-pub(crate) trait Grain<H: Handler, T: Timeout, B: EventParser>: Sized {
+/// Parses for a handler that receives text in a grain: `Singly` or `InRuns`.
+pub(crate) trait ParseAs<H: Handler, T: Timeout, B: EventParser>: Sized {
     /// Parses all bytes.
     fn advance<J: TextBuffer>(
         parser: &mut B,
@@ -54,14 +54,8 @@ pub(crate) trait Grain<H: Handler, T: Timeout, B: EventParser>: Sized {
     ) -> usize;
 }
 
-/// Character by character.
-pub(crate) enum Singly {}
-
-/// In runs.
-pub(crate) enum InRuns {}
-
 #[cfg(not(feature = "std"))]
-impl<H: Handler, T: Timeout> Grain<H, T, ProcessorParser> for Singly {
+impl<H: Handler, T: Timeout> ParseAs<H, T, ProcessorParser> for Singly {
     #[inline(always)]
     fn advance<J: TextBuffer>(
         parser: &mut ProcessorParser,
@@ -82,7 +76,7 @@ impl<H: Handler, T: Timeout> Grain<H, T, ProcessorParser> for Singly {
 }
 
 #[cfg(not(feature = "std"))]
-impl<H: HandlerText, T: Timeout> Grain<H, T, ProcessorParser> for InRuns {
+impl<H: HandlerText, T: Timeout> ParseAs<H, T, ProcessorParser> for InRuns {
     #[inline(always)]
     fn advance<J: TextBuffer>(
         parser: &mut ProcessorParser,
@@ -108,7 +102,7 @@ pub(crate) fn parse_all<
     J: TextBuffer,
     T: Timeout,
     B: EventParser,
-    G: Grain<H, T, B>,
+    G: ParseAs<H, T, B>,
 >(
     parser: &mut B,
     state: &mut ProcessorState<T, J>,
@@ -131,7 +125,7 @@ pub(crate) fn parse_until_begin<
     J: TextBuffer,
     T: Timeout,
     B: EventParser,
-    G: Grain<H, T, B>,
+    G: ParseAs<H, T, B>,
 >(
     parser: &mut B,
     state: &mut ProcessorState<T, J>,

@@ -6,9 +6,8 @@ use crate::proved::vte::ansi::control_calls::{change_mode, perform_control, Chan
 use crate::proved::vte::ansi::escape_calls::{perform_escape, perform_execute};
 use crate::proved::vte::ansi::input::InputAs;
 use crate::proved::vte::ansi::numbers::first_number;
-use crate::proved::vte::ansi::parsing::InRuns;
 use crate::proved::vte::ansi::text_buffer::TextBuffer;
-use crate::proved::vte_core::{Params, Perform, PerformText};
+use crate::proved::vte_core::{InRuns, Params, Perform, PerformText};
 use crate::proved::vte_handler::{Handler, HandlerText, Timeout};
 use crate::proved::vte_types::NamedPrivateMode;
 use core::marker::PhantomData;

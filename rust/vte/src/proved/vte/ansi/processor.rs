@@ -1,8 +1,9 @@
 // Written by tools/erase from crates/vte/src/ansi/processor.rt. Don't edit this file: edit that one, and run the tool.
 //! The processor. A call of `advance` takes turns, and each turn parses bytes or holds them back.
 
-use crate::proved::vte::ansi::parsing::{InRuns, ProcessorParser, ProcessorText, Singly};
+use crate::proved::vte::ansi::parsing::{ProcessorParser, ProcessorText};
 use crate::proved::vte::ansi::turns::Turns;
+use crate::proved::vte_core::{InRuns, Singly};
 use crate::proved::vte_handler::{Handler, HandlerText, Timeout};
 
 /// Parses the bytes that programs send to a terminal, and calls a [`Handler`] for what they ask of

@@ -2,7 +2,7 @@
 //! Turns: each parses bytes of a call, or holds them back.
 
 use crate::proved::vte::ansi::hold::{SyncState, MOST_HELD};
-use crate::proved::vte::ansi::parsing::{parse_all, parse_until_begin, EventParser, Grain};
+use crate::proved::vte::ansi::parsing::{parse_all, parse_until_begin, EventParser, ParseAs};
 use crate::proved::vte::ansi::performer::{ProcessorState, UPDATE_TIMEOUT_MILLIS};
 use crate::proved::vte::ansi::text_buffer::TextBuffer;
 use crate::proved::vte_core::Refused;
@@ -43,7 +43,7 @@ impl<B: EventParser, J: TextBuffer, T: Timeout> Turns<B, J, T> {
     /// Reads bytes, and parses them or holds them back: all of them, or as many as there is memory
     /// for. The grain decides how the handler receives text.
     #[inline]
-    pub(crate) fn read<H: Handler, G: Grain<H, T, B>>(
+    pub(crate) fn read<H: Handler, G: ParseAs<H, T, B>>(
         &mut self,
         handler: &mut H,
         bytes: &[u8],
@@ -67,21 +67,21 @@ impl<B: EventParser, J: TextBuffer, T: Timeout> Turns<B, J, T> {
 
     /// Stops the update, whatever is held: there is memory to parse it.
     #[inline(never)]
-    pub(crate) fn stop<H: Handler, G: Grain<H, T, B>>(&mut self, handler: &mut H) {
+    pub(crate) fn stop<H: Handler, G: ParseAs<H, T, B>>(&mut self, handler: &mut H) {
         self.hold.release_all();
         self.end_update::<H, G>(handler);
     }
 
     /// Parses the released bytes, after which nothing is held, and tells the handler that the
     /// update has ended.
-    fn end_update<H: Handler, G: Grain<H, T, B>>(&mut self, handler: &mut H) {
+    fn end_update<H: Handler, G: ParseAs<H, T, B>>(&mut self, handler: &mut H) {
         self.parse_released::<H, G>(handler);
         handler.unset_private_mode(PrivateMode::Named(NamedPrivateMode::SyncUpdate));
         self.state.timeout.clear_timeout();
     }
 
     /// Parses the released bytes.
-    fn parse_released<H: Handler, G: Grain<H, T, B>>(&mut self, handler: &mut H) {
+    fn parse_released<H: Handler, G: ParseAs<H, T, B>>(&mut self, handler: &mut H) {
         let released = self.hold.released();
         if released.is_empty() {
             return;
@@ -93,7 +93,7 @@ impl<B: EventParser, J: TextBuffer, T: Timeout> Turns<B, J, T> {
     /// asks the timeout once: while an update is pending, the bytes are held, or the update is
     /// stopped if there is no room for them.
     #[inline]
-    fn turn<H: Handler, G: Grain<H, T, B>>(
+    fn turn<H: Handler, G: ParseAs<H, T, B>>(
         &mut self,
         handler: &mut H,
         bytes: &[u8],
@@ -120,7 +120,7 @@ impl<B: EventParser, J: TextBuffer, T: Timeout> Turns<B, J, T> {
 
     /// Parses bytes up to the one that begins an update, a slice at a time, and returns how many.
     /// Memory is taken before each slice.
-    fn open<H: Handler, G: Grain<H, T, B>>(
+    fn open<H: Handler, G: ParseAs<H, T, B>>(
         &mut self,
         handler: &mut H,
         bytes: &[u8],
@@ -155,7 +155,7 @@ impl<B: EventParser, J: TextBuffer, T: Timeout> Turns<B, J, T> {
 
     /// Holds all bytes, and parses those that the end of an update among them releases.
     #[inline]
-    fn hold_bytes<H: Handler, G: Grain<H, T, B>>(&mut self, handler: &mut H, bytes: &[u8]) {
+    fn hold_bytes<H: Handler, G: ParseAs<H, T, B>>(&mut self, handler: &mut H, bytes: &[u8]) {
         let begins = self.hold.add(bytes);
         set_timeout(&mut self.state.timeout, begins);
         if self.hold.len() == 0 {

@@ -19,7 +19,7 @@ impl<B: Buffer> Machine<B> {
             if ASKS && performer.terminated() {
                 return Ok(position);
             }
-            position = self.read_run::<P, G, ASKS>(performer, input, position)?;
+            position = self.read_by_state::<P, G, ASKS>(performer, input, position)?;
         }
         Ok(position)
     }
@@ -44,7 +44,7 @@ impl<B: Buffer> Machine<B> {
     /// Reads at least one byte, before which the performer was asked, or none if memory is refused
     /// for it.
     #[inline]
-    pub(crate) fn read_run<P: PerformAs<G>, G: Grain, const ASKS: bool>(
+    pub(crate) fn read_by_state<P: PerformAs<G>, G: Grain, const ASKS: bool>(
         &mut self,
         performer: &mut P,
         input: &[u8],

@@ -10,7 +10,7 @@ impl<B: Buffer> Machine<B> {
     /// Closes what is open, and then begins an escape sequence, or executes CAN or SUB.
     #[inline(never)]
     pub(crate) fn end_body<P: PerformAs<G>, G: Grain>(&mut self, performer: &mut P, byte: u8) {
-        self.close(performer);
+        self.report_end(performer);
         if byte == ESCAPE {
             self.collected.begin_escape();
             self.state = State::Escape;
@@ -36,7 +36,7 @@ impl<B: Buffer> Machine<B> {
     }
 
     /// Reports the end of a string: `unhook`, or the operating system command.
-    fn close<P: PerformAs<G>, G: Grain>(&self, performer: &mut P) {
+    fn report_end<P: PerformAs<G>, G: Grain>(&self, performer: &mut P) {
         match self.state {
             State::DeviceData => performer.unhook(),
             State::SystemCommand => self.command.dispatch(performer, false),

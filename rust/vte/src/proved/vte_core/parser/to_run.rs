@@ -82,7 +82,7 @@ impl<B: Buffer> Machine<B> {
                     let byte = input[position];
                     self.end_data::<P, Singly, true>(performer, input, position, byte)
                 }
-                _ => self.read_run::<P, Singly, true>(performer, input, position)?,
+                _ => self.read_by_state::<P, Singly, true>(performer, input, position)?,
             };
         }
         Ok(RunPlace::empty(position))

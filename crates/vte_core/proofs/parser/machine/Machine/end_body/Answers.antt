@@ -9,7 +9,7 @@ use Rattle.vte_core.proofs.parser.machine.Machine.end_body.Goals as goal
 
 pub returns-then-byte-eq-ESCAPE-clause-performs : goal.returns-then-byte-eq-ESCAPE-clause-performs
 returns-then-byte-eq-ESCAPE-clause-performs g c = λ place s b.
-    performs-escape c.if-byte-eq-ESCAPE.true refl c.begin_escape.ensures place s (c.close.ensures.told place s b)
+    performs-escape c.if-byte-eq-ESCAPE.true refl c.begin_escape.ensures place s (c.report_end.ensures.told place s b)
 
 pub returns-clause-performs : goal.returns-clause-performs
 returns-clause-performs g c = λ place s b.
@@ -18,7 +18,7 @@ returns-clause-performs g c = λ place s b.
     let e = ends_by_cancel c.args.byte c.requires c.if-byte-eq-ESCAPE.false in
     takes-performs _ _ _ limit place _ _ (cancel_is_no_escape c.args.byte e)
     (taken (closing_at limit place ++ Execute c.args.byte ∷ []) (InText [])
-    (c.execute_control.ensures.value ∙ ap (λ v. step v (Execute c.args.byte)) (c.close.ensures.told place s b)
+    (c.execute_control.ensures.value ∙ ap (λ v. step v (Execute c.args.byte)) (c.report_end.ensures.told place s b)
     ∙ sym
     (after-append step (g.P.CountedPerform.value_of c.args.performer.now) (closing_at limit place)
     (Execute c.args.byte ∷ [])))

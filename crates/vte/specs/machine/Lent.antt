@@ -4,9 +4,9 @@ use Rattle.std.specs.Prelude.{length, nat_lt}
 use Rattle.std.specs.List.{All}
 use Rattle.vte.specs.BeginUpdate.{update_groups, update_mode}
 use Rattle.vte.specs.Change.{change_call, changes}
-use Rattle.vte.specs.Meaning.{set_times}
+use Rattle.vte.specs.Processor.{set_times}
 use Rattle.vte.specs.Numbers.{first_numbers}
-use Rattle.vte.specs.Performer.{FitsText, Lent}
+use Rattle.vte.specs.machine.Performer.{FitsText, Lent}
 use Rattle.vte.specs.Rooms.{KeepsRoom, Reading}
 use Rattle.vte.specs.declared.ansi.control_calls.Change.TheVariants.{SetPrivate}
 use Rattle.vte.specs.declared.ansi.performer.Performer.{Performer}

@@ -5,7 +5,7 @@ use Rattle.std.specs.Borrow.{GName}
 use Rattle.vte.specs.BeginUpdate.{begins_of}
 use Rattle.vte.specs.Calls.{calls_of, last_behind}
 use Rattle.vte.specs.CommandCalls.{system_command_calls}
-use Rattle.vte.specs.Meaning.{set_times}
+use Rattle.vte.specs.Processor.{set_times}
 use Rattle.vte.specs.TextRoom.{fits_room}
 use Rattle.vte_core.specs.Event.{Event, OscDispatch}
 use Rattle.vte_handler.specs.Call.{Call}

@@ -1,5 +1,5 @@
 use Rattle.vte.proofs.performing.Rooms.{long_stops}
-use Rattle.vte.proofs.ansi.long_parsing.InRunsGrainLongParser.advance_until_begin.Goals as goal
+use Rattle.vte.proofs.ansi.long_parsing.InRunsParseAsLongParser.advance_until_begin.Goals as goal
 
 pub returns-in-Ok : goal.returns-in-Ok
 returns-in-Ok g c = long_stops _ c.in-Ok.ensures

@@ -1,7 +1,7 @@
 use Rattle.vte_core.proofs.Common.{sym, ap, ◌∙◌, after, closing_at}
 use Rattle.vte_core.proofs.fields.Standing.{in_command}
 use Rattle.vte_core.proofs.fields.StoreLemmas.{pieces_held}
-use Rattle.vte_core.proofs.parser.machine.Machine.close.Goals as goal
+use Rattle.vte_core.proofs.parser.machine.Machine.report_end.Goals as goal
 
 pub returns-in-SystemCommand-clause-told : goal.returns-in-SystemCommand-clause-told
 returns-in-SystemCommand-clause-told g c = λ place s b.

@@ -1,5 +1,5 @@
 use Rattle.vte.proofs.performing.Rooms.{short_stops}
-use Rattle.vte.proofs.ansi.parsing.SinglyGrainProcessorParser.advance_until_begin.Goals as goal
+use Rattle.vte.proofs.ansi.parsing.SinglyParseAsProcessorParser.advance_until_begin.Goals as goal
 
 pub returns : goal.returns
 returns g c = short_stops c.advance_until_terminated.ensures

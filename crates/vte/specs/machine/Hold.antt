@@ -1,13 +1,11 @@
 -- The bytes of a hold.
 use Rattle.std.specs.Prelude.{◌≡◌, ℕ, ◌-◌, List, ◌++◌, length, take, drop}
+use Rattle.vte.specs.ProcessorCalls.{held_of}
 use Rattle.vte.specs.Synchronized.{begins_among, kept_of, last_part}
 use Rattle.vte.specs.declared.ansi.hold.SyncState.{SyncState}
 use Rattle.vte.specs.declared.ansi.release.Added.{Added}
 
--- The held bytes; those before them were released by the last turn.
-abbrev pub held_of : {A : Type 0} → SyncState A → List ℕ
-held_of hold = drop hold.released hold.bytes.items
-
+-- The bytes before the held ones, which the last turn released.
 abbrev pub released_of : {A : Type 0} → SyncState A → List ℕ
 released_of hold = take hold.released hold.bytes.items
 

@@ -3,11 +3,9 @@ use Rattle.std.specs.Prelude.{◌≡◌, ℕ, ◌<◌, Bool, List, length, nat_l
 use Rattle.vte_core.specs.declared.parser.refused.Refused.{Refused}
 use Rattle.vte_core.specs.Stream.{added}
 use Rattle.vte.specs.BeginUpdate.{begin_count}
-use Rattle.vte.specs.Meaning.{Meaning}
-use Rattle.vte.specs.Processor.{AreAt, HasParsed, Parts}
-use Rattle.vte.specs.ProcessorCalls.{KeepsMemory}
+use Rattle.vte.specs.Processor.{Meaning, State, TakesSome, begin_front, open_turn, parse, turn}
+use Rattle.vte.specs.ProcessorCalls.{AreAt, HasParsed, KeepsMemory, Parts}
 use Rattle.vte.specs.Rooms.{KeepsRoom}
-use Rattle.vte.specs.Turn.{State, TakesSome, begin_front, open_turn, parse, turn}
 use Rattle.vte.specs.declared.ansi.performer.ProcessorState.{ProcessorState}
 use Rattle.vte.specs.declared.ansi.turns.Turns.{Turns}
 

@@ -1,0 +1,5 @@
+-- What private functions of a processor promise each other. Callers need none of it.
+pub mod Hold
+pub mod Lent
+pub mod Performer
+pub mod Turns

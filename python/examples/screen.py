@@ -1,6 +1,6 @@
 """A screen of 80 by 24 cells, kept from the calls of a processor. Shows the one that standard input leaves: screen.py [PIECE]
 
-It knows what crates/example_screen knows: text, the cursor, erasing, and how cells look.
+It knows what crates/examples knows: text, the cursor, erasing, and how cells look.
 """
 from __future__ import annotations
 

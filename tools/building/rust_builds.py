@@ -33,7 +33,7 @@ STAND_INS = {"bitflags": "bitflags", "log": "log", "cursor_icon": "cursor-icon"}
 # what else strips a stream of sequences, and the fastest check of UTF-8
 STRIPPERS = ["console", "simdutf8", "strip-ansi-escapes"]
 # what tools/peer shares with crates/race: the files of each crate
-SHARED = {"test_lines": ["variant", "visitor"], "example_screen": ["cell", "handler", "performer", "screen"],
+SHARED = {"test_lines": ["variant", "visitor"], "examples": ["cell", "handler", "performer", "screen"],
           "race": ["call_checksum", "checksum", "screens", "until_cleared"], "vte_handler": ["by_call", "hyperlink"]}
 # the files of the crate `vte`; a folder may have them under other names (file_of)
 FILES = ["lib", "params", "ansi"]

@@ -1,6 +1,6 @@
 """A screen of 80 by 24 cells, kept from the calls of a processor.
 
-screen.py [PIECE] shows the one that its standard input leaves. It knows what crates/example_screen
+screen.py [PIECE] shows the one that its standard input leaves. It knows what crates/examples
 knows: text, the cursor, erasing, and how cells look.
 """
 from __future__ import annotations

@@ -33,7 +33,7 @@ CRATES = ["arrayvec", "bitflags", "cursor-icon", "log", "memchr", "serde", "serd
 # what tools/peer shares with crates/race: the files of each crate
 SHARED = {
     "test_lines": ["variant", "visitor"],
-    "example_screen": ["cell", "handler", "performer", "screen"],
+    "examples": ["cell", "handler", "performer", "screen"],
     "race": ["call_checksum", "checksum", "screens", "until_cleared"],
     "vte_handler": ["by_call", "hyperlink"],
 }

@@ -379,16 +379,16 @@ PLANS = (VTE, VTLOG, VTE_C)
 # The screen and the checksums of the benchmark, over the crate `vte` or over ours: tools/building erases these files when it builds.
 RACE = Plan(
     out="",
-    modules=dict.fromkeys(("test_lines", "example_screen", "race", "vte_handler"), "crate"),
+    modules=dict.fromkeys(("test_lines", "examples", "race", "vte_handler"), "crate"),
     outside={"vte_core": "vte", "vte_types": "vte::ansi"},
-    under={"example_screen/performer": {"runs": {"PerformText"}}, "vte_handler/by_call": {"runs": {"HandlerText"}}},
+    under={"examples/performer": {"runs": {"PerformText"}}, "vte_handler/by_call": {"runs": {"HandlerText"}}},
     # the parser and the processor are those of tools/peer
     dropped={
         "race/screens": [f"{front}{racer}" for racer in ("ScreenRacer", "TerminalRacer") for front in (
             "struct ", "impl<const IN_RUNS: bool> ", "impl<const IN_RUNS: bool> Racer for ")],
     },
     imports={"": {
-        **{f"example_screen::{name}": f"crate::{module}::{name}" for module, name in (("cell", "Cell"), ("screen", "ROWS"), ("screen", "Screen"))},
+        **{f"examples::{name}": f"crate::{module}::{name}" for module, name in (("cell", "Cell"), ("screen", "ROWS"), ("screen", "Screen"))},
         **{f"test_lines::{name}": f"crate::{module}::{name}" for module, name in (
             ("variant", "Variant"), ("visitor", "CallVisitor"), ("visitor", "visit_call"))},
         # the crate takes calls by a handler alone, whose texts are owned
@@ -398,7 +398,7 @@ RACE = Plan(
     }},
     rules={
         # places need no test
-        "example_screen/screen": [("for (place, byte) in bytes.iter().enumerate() { cells[place] = Cell $c; }",
+        "examples/screen": [("for (place, byte) in bytes.iter().enumerate() { cells[place] = Cell $c; }",
                                    "for (cell, byte) in cells.iter_mut().zip(bytes) { *cell = Cell $c; }")],
         "race/screens": [("fn shown", "pub(crate) fn shown")],
         "vte_handler/by_call": [

@@ -3,15 +3,15 @@
 //! The first line of a block is its kind and its name: `stream`, `stops`, `order` or `run`. The
 //! other lines are acts on one processor, each followed by its results:
 //!
-//! | line | meaning |
-//! |---|---|
-//! | `timeout WORD` | how the timeout of a run answers: `counting`, `always`, `never`, `alternating` or `expiring` |
-//! | `advance HEX`, `advances N HEX` | a call of `advance` with these bytes, or with N copies of them |
-//! | `stop_sync`, `expire` | a call of `stop_sync`; the timeout expires |
-//! | `call LINE`, `calls N LINE` | a handler call, or N of them; in an `order`, also a call of the timeout |
-//! | `held N` | N bytes are held |
-//! | `count N` | the timeout was set N times since it was last cleared |
-//! | `sets N`, `clears N` | the act has set, or cleared, the timeout N times |
+//! - `timeout WORD`: how the timeout of a run answers: `counting`, `always`, `never`,
+//!   `alternating` or `expiring`
+//! - `advance HEX`, `advances N HEX`: a call of `advance` with these bytes, or N copies of them
+//! - `stop_sync`, `expire`: a call of `stop_sync`; the timeout expires
+//! - `call LINE`, `calls N LINE`: a handler call, or N of them; in an `order`, also a call of the
+//!   timeout
+//! - `held N`: N bytes are held
+//! - `count N`: the timeout was set N times since it was last cleared
+//! - `sets N`, `clears N`: the act has set, or cleared, the timeout N times
 
 use std::alloc::Global;
 use std::fmt::Write;

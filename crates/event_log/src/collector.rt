@@ -32,6 +32,6 @@ pub(crate) trait Collector {
         ensures { result.now ≡ (record_of self.now).bytes };
 
     /// Clears the text, and forgets that any was lost.
-    fn empty(&mut self)
+    fn clear(&mut self)
         ensures { record_of self.new ≡ empty_record };
 }

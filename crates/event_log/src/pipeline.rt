@@ -19,7 +19,7 @@ const PIECE: usize = 4096;
 
 /// Reads to the end, and writes one line per event.
 ///
-/// The reader is read in pieces of up to 4,096 bytes, and the lines of each piece are written and
+/// The reader is read in chunks of up to 4,096 bytes, and the lines of each chunk are written and
 /// flushed before the next read. A sequence that is unfinished at the end gives no line.
 ///
 /// # Errors
@@ -75,19 +75,19 @@ fn run_with<C: Collector, R: Source, W: Sink>(
         if count == 0 {
             return Ok(());
         }
-        if write_piece(&mut parser, collector, writer, &room[..count]).is_err() {
+        if write_chunk(&mut parser, collector, writer, &room[..count]).is_err() {
             return Err(Fault::Write);
         }
     }
     Err(Fault::Read)
 }
 
-/// Parses a piece, and writes and flushes what the collector collects.
-fn write_piece<C: Collector, W: Sink>(
+/// Parses a chunk, and writes and flushes what the collector collects.
+fn write_chunk<C: Collector, W: Sink>(
     parser: &mut RunParser,
     collector: &mut C,
     writer: &mut W,
-    piece: &[u8],
+    chunk: &[u8],
 ) -> Result<(), ()>
     requires parsed { HasReadSome parser.old }
     requires empty { C.record_of collector.old ≡ empty_record }
@@ -96,11 +96,11 @@ fn write_piece<C: Collector, W: Sink>(
     ensures writes { (whole : List ℕ → List ℕ)
         → HasWritten C.text_of whole (W.taken writer.old) parser.old [] →
         OnOk result
-        (HasWritten C.text_of (λ more. whole (piece.now ++ more))
+        (HasWritten C.text_of (λ more. whole (chunk.now ++ more))
         (W.taken writer.new) parser.new []) }
     ensures fails { is_err result ≡ true → W.has_failed writer.new ≡ true }
 {
-    let mut unread = piece;
+    let mut unread = chunk;
     while !unread.is_empty() {
         unread = write_some(parser, collector, writer, unread)?;
     }
@@ -139,6 +139,6 @@ fn write_out<C: Collector, W: Sink>(collector: &mut C, writer: &mut W) -> Result
     ensures fails { is_err result ≡ W.has_failed writer.new }
 {
     writer.write_all(collector.texts())?;
-    collector.empty();
+    collector.clear();
     Ok(())
 }

@@ -155,7 +155,7 @@ impl Collector for Recorder {
         self.bytes()
     }
 
-    fn empty(&mut self) {
+    fn clear(&mut self) {
         self.clear();
     }
 }

@@ -54,7 +54,7 @@ impl Perform for Bell {
 }
 
 /// Whether a stream rings the bell. What stands behind the first bell isn't read.
-pub(crate) fn rings(stream: &[u8]) -> bool
+pub fn rings(stream: &[u8]) -> bool
     ensures { result ≡ after rung_after false (events (Some 1024) stream.now) }
 {
     laws::empty_stream();

@@ -60,7 +60,7 @@ impl Perform for TextLength {
 /// # Errors
 ///
 /// `Refused` where there is no memory for it.
-pub(crate) fn last_text_length<A: Allocator>(alloc: A, stream: &[u8]) -> Result<usize, Refused>
+pub fn last_text_length<A: Allocator>(alloc: A, stream: &[u8]) -> Result<usize, Refused>
     ensures { IfOk result (λ length. length ≡ after length_after 0 (events None stream.now)) }
 {
     laws::empty_stream();

@@ -53,14 +53,14 @@ impl Perform for LastPrinted {
 
 /// Watches a stream that comes in calls of [`Watcher::read`].
 #[derive(Drop)]
-pub(crate) struct Watcher {
+pub struct Watcher {
     parser: Parser<1024>,
     last: LastPrinted,
 }
 
 impl Watcher {
     /// A watcher of a stream that has not begun.
-    pub(crate) fn new() -> Self
+    pub fn new() -> Self
         ensures { Watches result [] }
     {
         laws::empty_stream();
@@ -71,7 +71,7 @@ impl Watcher {
     }
 
     /// Reads more of the stream.
-    pub(crate) fn read(&mut self, bytes: &[u8])
+    pub fn read(&mut self, bytes: &[u8])
         ensures { (stream : List ℕ) → Watches self.old stream
             → Watches self.new (stream ++ bytes.now) }
     {
@@ -80,7 +80,7 @@ impl Watcher {
     }
 
     /// The character that the stream printed last.
-    pub(crate) fn last(&self) -> Option<char>
+    pub fn last(&self) -> Option<char>
         ensures { (stream : List ℕ) → Watches self.now stream →
             result ≡ after last_after None (events (Some 1024) stream) }
     {

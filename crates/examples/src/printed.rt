@@ -53,7 +53,7 @@ impl Perform for Printed {
 }
 
 /// Whether a stream, which comes in pieces, prints a character.
-pub(crate) fn prints(pieces: &[&[u8]]) -> bool
+pub fn prints(pieces: &[&[u8]]) -> bool
     ensures { result
         ≡ after seen_after false (events (Some 1024) (flat_map (λ piece. piece.now) pieces.now)) }
 {

@@ -117,7 +117,8 @@ fn types_are_shown_by_their_names(rt: HostRuntime) -> Result<(), Fail> {
     )?;
     assert_eq!(rt;
         shown.as_str(),
-        "Right Saved All G3 Ascii UnderlineColor(None) Unknown(9) CursorStyle { shape: Beam, blinking: true } Hyperlink { id: None, uri: \"u\" }"
+        "Right Saved All G3 Ascii UnderlineColor(None) Unknown(9) \
+         CursorStyle { shape: Beam, blinking: true } Hyperlink { id: None, uri: \"u\" }"
     );
     Ok(())
 }

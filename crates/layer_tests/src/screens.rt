@@ -2,7 +2,7 @@
 //! processor. Runs of text must show the same as characters, in each cell.
 ghost use Rattle.std.specs.Prelude.{◌<◌};
 
-use example_screen::{Cell, ROWS, Screen};
+use examples::{Cell, ROWS, Screen};
 use std::alloc::Global;
 use test_lines::{Answers, TestTimeout};
 use vte::ansi::{ByCall, Color, NamedColor, Processor, Rgb};
@@ -171,10 +171,10 @@ fn wraps(rt: HostRuntime) {
     let wrapped = "\x1b[79Ga\u{4e2d}\u{6587}\u{5b57}b";
     assert!(rt; both_show(rt.alloc(), wrapped.as_bytes(), 1, "\u{6587}\u{5b57}b"));
     // 80 characters, and three more
-    let line =
-        "\u{e4}1234567890123456789\u{e4}1234567890123456789\u{e4}1234567890123456789\u{e4}1234567890123456789";
-    let long =
-        "\u{e4}1234567890123456789\u{e4}1234567890123456789\u{e4}1234567890123456789\u{e4}1234567890123456789\u{e4}bc";
+    let line = "\u{e4}1234567890123456789\u{e4}1234567890123456789\
+         \u{e4}1234567890123456789\u{e4}1234567890123456789";
+    let long = "\u{e4}1234567890123456789\u{e4}1234567890123456789\
+         \u{e4}1234567890123456789\u{e4}1234567890123456789\u{e4}bc";
     assert!(rt; both_show(rt.alloc(), long.as_bytes(), 0, line));
     assert!(rt; both_show(rt.alloc(), long.as_bytes(), 1, "\u{e4}bc"));
     // a malformed byte among letters

@@ -69,7 +69,8 @@ fn processor_takes_no_memory_behind_its_hold(rt: HostRuntime) -> Result<(), Fail
     assert_eq!(rt;
         handler.0.text().unwrap_or("refused"),
         "set_private_mode Named(SyncUpdate)\n\
-         terminal_attribute Foreground(Named(Red))\ninput 0061\ninput 0062\nset_title Some(\"title\")\n\
+         terminal_attribute Foreground(Named(Red))\ninput 0061\ninput 0062\n\
+         set_title Some(\"title\")\n\
          unset_private_mode Named(SyncUpdate)\nunset_private_mode Named(SyncUpdate)\n"
     );
     Ok(())
@@ -91,7 +92,8 @@ fn a_turn_reuses_an_older_answer(rt: HostRuntime) {
     }
     assert_eq!(rt;
         handler.0.text().unwrap_or("refused"),
-        "set_private_mode Named(SyncUpdate)\ninput 0078\nunset_private_mode Named(SyncUpdate)\ninput 0079\n"
+        "set_private_mode Named(SyncUpdate)\ninput 0078\n\
+         unset_private_mode Named(SyncUpdate)\ninput 0079\n"
     );
     let mut handler = ByCall(CallLines::new(rt.alloc()));
     match Processor::new(rt.alloc(), TestTimeout::new(Answers::Alternating)) {

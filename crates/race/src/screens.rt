@@ -5,7 +5,7 @@
 use crate::Racer;
 use crate::checksum::Checksum;
 use crate::until_cleared::UntilCleared;
-use example_screen::{Cell, ROWS, Screen};
+use examples::{Cell, ROWS, Screen};
 use std::alloc::Global;
 use std::io;
 use vte::Parser;

@@ -28,16 +28,16 @@ returns-then-count-eq0-clause-texts g c = λ input held e f.
 pub loop-preserved : goal.loop-preserved
 loop-preserved g c =
     let works = sym c.is_err.ensures.value ∙ c.if-is_err.false in
-    let piece = c.write_piece in
+    let chunk = c.write_chunk in
     record {
-      reads = at_ok piece.result works piece.ensures.reads;
-      empty = at_ok piece.result works piece.ensures.empties;
+      reads = at_ok chunk.result works chunk.ensures.reads;
+      empty = at_ok chunk.result works chunk.ensures.empties;
       come = λ input held e f.
           let count = c.in-Ok.count in
           let some : 0 < length (take count c.read.new.room) =
           omega (arith, length-take-le count c.read.new.room c.in-Ok.ensures.bound) in
           come_more (take count c.read.new.room) (c.loop.invariant.come input held e f) c.in-Ok.ensures.moves some
-          (λ whole h. at_ok piece.result works (piece.ensures.writes whole h));
+          (λ whole h. at_ok chunk.result works (chunk.ensures.writes whole h));
     }
 
 pub returns-clause-texts : goal.returns-clause-texts

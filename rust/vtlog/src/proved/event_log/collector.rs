@@ -16,5 +16,5 @@ pub(crate) trait Collector {
     fn texts(&self) -> &[u8];
 
     /// Clears the text, and forgets that any was lost.
-    fn empty(&mut self);
+    fn clear(&mut self);
 }

@@ -114,7 +114,7 @@ impl Collector for Plain {
         self.bytes()
     }
 
-    fn empty(&mut self) {
+    fn clear(&mut self) {
         self.clear();
     }
 }

@@ -111,7 +111,7 @@ impl Collector for Recorder {
         self.bytes()
     }
 
-    fn empty(&mut self) {
+    fn clear(&mut self) {
         self.clear();
     }
 }

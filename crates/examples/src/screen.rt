@@ -1,6 +1,6 @@
 //! The grid and the cursor.
 ghost use Rattle.std.specs.Prelude.{◌≡◌, ◌<◌, ◌≤◌, length};
-ghost use Rattle.example_screen.specs.declared.screen.TheConstants.{COLUMNS, ROWS};
+ghost use Rattle.examples.specs.declared.screen.TheConstants.{COLUMNS, ROWS};
 
 use crate::cell::{Cell, Style};
 use std::cmp::Ordering;

@@ -1,25 +1,21 @@
-//! A handler of a few calls: writes the text of standard input and its titles, and whether it
-//! rings.
-#![tactic(auto)]
-
-ghost use Rattle.example_handler.specs.Page.{rung_after};
+//! A handler of a few calls: keeps the text of a stream and its titles, and whether it rings.
+ghost use Rattle.examples.specs.Page.{rung_after};
 ghost use Rattle.std.specs.Prelude.{◌≡◌, IfOk, Some, false};
 ghost use Rattle.vte.specs.Calls.{calls};
 ghost use Rattle.vte.specs.Handler.{after};
 ghost use Rattle.vte.specs.Stream.{events};
 
 use std::alloc::{AllocError, Allocator, Global};
-use std::io::{self, ErrorKind, Read};
 use std::time::Duration;
 use vte::ansi::{ByCall, HandlerCall, Processor, TakeCall, Timeout};
 use vte::laws;
 
 /// The text so far, whether there was memory for all of it, and whether the terminal was to ring.
 #[derive(Drop)]
-struct Page {
-    text: String,
-    whole: bool,
-    rung: bool,
+pub struct Page {
+    pub text: String,
+    pub whole: bool,
+    pub rung: bool,
 }
 
 impl Page {
@@ -34,7 +30,7 @@ impl Page {
 
 impl TakeCall for Page {
     ghost use Rattle.std.specs.Prelude.{Bool};
-    ghost use Rattle.example_handler.specs.Page.{rung_after};
+    ghost use Rattle.examples.specs.Page.{rung_after};
 
     ghost Value = { Bool };
 
@@ -125,7 +121,7 @@ impl Timeout for NeverPending {
 /// # Errors
 ///
 /// `AllocError` if there is no memory for the processor.
-fn rings(alloc: Global, stream: &[u8]) -> Result<bool, AllocError>
+pub fn rings(alloc: Global, stream: &[u8]) -> Result<bool, AllocError>
     ensures { IfOk result
         (λ rung. rung ≡ after rung_after false (calls (events (Some 1024) stream.now))) }
 {
@@ -142,24 +138,21 @@ fn rings(alloc: Global, stream: &[u8]) -> Result<bool, AllocError>
     Ok(page.0.rung)
 }
 
-fn main(rt: HostRuntime) -> io::Result<()> {
-    let mut input = Vec::new(rt.alloc());
-    rt.stdin().read_to_end(&mut input)?;
+/// The page of a stream, with an update that isn't ended when the stream is.
+///
+/// # Errors
+///
+/// `AllocError` if there is no memory for the processor.
+pub fn page_of(alloc: Global, stream: &[u8]) -> Result<Page, AllocError> {
     let mut handler = ByCall(Page {
-        text: String::new(rt.alloc()),
+        text: String::new(alloc),
         whole: true,
         rung: false,
     });
-    let Ok(mut processor) = Processor::new(rt.alloc(), UntilEnded { pending: false }) else {
-        return Err(io::Error::from(ErrorKind::OutOfMemory));
+    let Ok(mut processor) = Processor::new(alloc, UntilEnded { pending: false }) else {
+        return Err(AllocError);
     };
-    processor.advance(&mut handler, input.as_slice());
-    // An update that isn't ended when the input is.
+    processor.advance(&mut handler, stream);
     processor.stop_sync(&mut handler);
-    let Page { text, whole, rung } = handler.0;
-    println!(rt; "{text}\nwhole: {whole}, rung: {rung}")?;
-    let rings = rings(rt.alloc(), input.as_slice()).map_err(|_| io::Error::from(
-        ErrorKind::OutOfMemory,
-    ))?;
-    println!(rt; "rings: {rings}")
+    Ok(handler.0)
 }

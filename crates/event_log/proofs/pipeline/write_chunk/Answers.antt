@@ -1,13 +1,13 @@
 use Rattle.event_log.proofs.Common.{rules, nil_from_length}
 use Rattle.std.proofs.lemmas.Result.{on_ok_weaker}
 use Rattle.event_log.proofs.Progress.{written_before, written_kept}
-use Rattle.event_log.proofs.pipeline.write_piece.Goals as goal
+use Rattle.event_log.proofs.pipeline.write_chunk.Goals as goal
 
 pub loop-unread-init : goal.loop-unread-init
 loop-unread-init g c = record {
   reads = c.requires.parsed;
   empty = c.requires.empty;
-  written = λ whole h. written_before c.args.piece.now h;
+  written = λ whole h. written_before c.args.chunk.now h;
 }
 
 pub returns-clause-writes : goal.returns-clause-writes

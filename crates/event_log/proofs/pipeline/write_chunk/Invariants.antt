@@ -1,5 +1,5 @@
 use Rattle.event_log.proofs.Common.{◌≡◌, ◌++◌, ℕ, List, [], length, HasReadSome, HasWritten, empty_record}
-use Rattle.event_log.proofs.pipeline.write_piece.Given as goal
+use Rattle.event_log.proofs.pipeline.write_chunk.Given as goal
 
 abbrev pub invariant-loop-unread : goal.invariant-loop-unread
 invariant-loop-unread g l = record {
@@ -7,7 +7,7 @@ invariant-loop-unread g l = record {
   empty : g.C.Collector.record_of l.collector ≡ empty_record;
   written : (whole : List ℕ → List ℕ)
       → HasWritten g.C.Collector.text_of whole (g.W.Sink.taken l.fn.writer) l.fn.parser [] →
-      HasWritten g.C.Collector.text_of (λ more. whole (l.fn.piece ++ more)) (g.W.Sink.taken l.writer) l.parser l.unread;
+      HasWritten g.C.Collector.text_of (λ more. whole (l.fn.chunk ++ more)) (g.W.Sink.taken l.writer) l.parser l.unread;
 }
 
 abbrev pub decreases-loop-unread : goal.decreases-loop-unread

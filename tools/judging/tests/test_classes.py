@@ -73,6 +73,7 @@ def test_a_breach_of_a_house_rule_has_its_rule(breach, rules):
     own = house.house_of([breach])
     result = judged(lambda pieces, _: definition.lines_of(b"".join(pieces), own))
     assert names(result) == set(rules.split())
+    assert len(result.findings) == len(rules.split()), "a rule has one class"
     assert (result.unexplained, result.status()) == (0, 1)
 
 

@@ -35,7 +35,8 @@ class Side:
         return answers
 
 
-CASES = [case for case in cases.all_cases(("vectors", "random"), "1", 100)
+# there are enough to find several differences in a row, which are no class of their own
+CASES = [case for case in cases.all_cases(("vectors", "random"), "1", 240)
          if sum(map(len, case.pieces)) < 3000]
 
 

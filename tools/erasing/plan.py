@@ -81,10 +81,12 @@ WITHOUT_COUNTS = {
         ("self.add($$$x);", ""),
         ("Input { bytes: $$x, buffer: PhantomData, }", "$x"),
         ("$a.bytes", "input"),
+        # as a value, the answer would take two instructions more per byte
+        ("is_command_data($$x)", "$x >= 0x20 && $x != b';'"),
         ("input[from..].first_chunk::<$n>()", "first_chunk::<$n>(&input[from..])"),
         ("fn up_to(self, to: usize) -> Self", "fn up_to(input: &[u8], to: usize) -> &[u8]"),
-        ("fn text(self, from: usize, to: usize) -> &'a str", "fn text(input: &[u8], from: usize, to: usize) -> &str"),
-        ("fn data(self, from: usize, to: usize) -> &'a [u8]", "fn data(input: &[u8], from: usize, to: usize) -> &[u8]"),
+        ("fn text(self, from: usize, to: usize) -> &'a str", "pub(crate) fn text(input: &[u8], from: usize, to: usize) -> &str"),
+        ("fn data(self, from: usize, to: usize) -> &'a [u8]", "pub(crate) fn data(input: &[u8], from: usize, to: usize) -> &[u8]"),
         ("fn take_run(self, place: RunPlace) -> Run<'a>", "fn take_run(input: &[u8], place: RunPlace) -> Run<'_>"),
         ("self.text(", "text(input, "),
         ("self.data(", "data(input, "),
@@ -106,8 +108,8 @@ VTE = Plan(
             "crate::proved::vte_core::automaton": "skip_run_blocks",
             "crate::proved::vte_core::utf8": "tell_character tell_single",
             "crate::proved::vte_core::run": "begins_ascii find_ascii_run_end find_longer_run_end find_rest_end",
-            "crate::proved::vte_core::scan": "Run RunKind RunPlace data find_data_end find_escape find_put_end get get_block take_run tell_data "
-                                             "tell_text text up_to",
+            "crate::proved::vte_core::scan": "Run RunKind RunPlace data find_data_end find_escape find_put_end get get_block take_run "
+                                             "text up_to",
         },
     },
     conditions={name: 'feature = "ansi"' for name in ("vte_types", "vte_handler", "vte")},
@@ -138,7 +140,10 @@ VTE = Plan(
         "vte_core/looks": (
             "mod grain", "use grain", "enum Trail", "struct Looks", "struct Input", "impl<B> Clone for Input",
             "impl<B> Copy for Input", "impl<const N: usize> Looks", "impl<A: Allocator> Looks", "fn new", "fn len", "fn none", "fn add", "fn at",
-            "fn copy_to_array", "fn copy_to_vec"),
+            "fn copy_to_array", "fn copy_to_vec", "fn tell_data", "fn tell_text"),
+        # their expressions stand where they are called
+        "vte_core/class": ("fn is_command_data",),
+        "vte/ansi/performer": ("fn last_char",),
         # the macro `bitflags!` writes them in the adapter
         "vte_types/keyboard": (
             "struct KeyboardModes", "impl KeyboardModes", "static FLAGS", "impl Flags for KeyboardModes", "use bitflags"),
@@ -186,6 +191,8 @@ VTE = Plan(
              f"{OF_THREE}unsafe {{ char::from_u32_unchecked(number_of_three($a)) }}"),
             ("unsafe { char::from_u32_unchecked(number_of_four($$a)) }",
              f"{OF_FOUR}unsafe {{ char::from_u32_unchecked(number_of_four($a)) }}")],
+        # as a function it would be called for each U+FFFD, unless a program has link-time optimization
+        "vte/ansi/performer": [("last_char(text, $$before)", "text.chars().next_back().or($before)")],
         "vte_handler/timeout": [("trait Timeout", "trait Timeout: Default")],
     },
     has_idioms=True,
@@ -206,13 +213,16 @@ VTE = Plan(
         },
         "vte_core/perform": {'#[doc = include_str!("../../docs/perform.md")]': ["pub trait Perform {"],
                              '#[doc = include_str!("../../docs/perform_text.md")]': ["pub trait PerformText: Perform {"]},
-        "vte_core/looks": {"#[allow(unsafe_code)]": ["fn text"]},
+        "vte_core/looks": {"#[allow(unsafe_code)]": ["pub(crate) fn text"]},
         "vte_core/utf8": {"#[allow(unsafe_code)]": [f"pub(crate) fn character_of_{count}" for count in ("three", "four")]},
         # the loops over bytes: rustc compiles modules apart, and so would keep them from the performer that they call
         # the search stays out of the loop over bytes, which it would make longer
         "vte_core/parser/text": {INLINE: ["pub(crate) fn read_text"], "#[inline(never)]": ["fn search_text"]},
         # as a part of a program's own function, its loops would keep their places on the stack
         "vte_core/parser/drive": {"#[inline(never)]": ["pub(crate) fn drive<"]},
+        # .. and so would these, which are rare, if they were parts of it
+        **{f"vte_core/parser/{name}": {"#[inline(never)]": [f"pub(crate) fn read_{name}<"]}
+           for name in ("device_control", "system_command")},
         "vte_core/parser/long": {'#[must_use = "the memory may be refused"]': ["pub fn reserve"]},
         # what a processor does per event, between those loops and the handler
         "vte/ansi/performer": {INLINE: ["fn print", "fn execute", "fn csi_dispatch", "fn terminated", "fn print_text"]},

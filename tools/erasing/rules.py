@@ -49,6 +49,9 @@ COUNTS = [
     ("looks.at($i, $$k)", "$i[$k]"),
     ("looks.copy_to_array($i, $$a, $$b, $v)", "$v.try_extend_from_slice(&$i[$a..$b])"),
     ("looks.copy_to_vec($i, $$a, $$b, $v)", "$v.extend_from_slice(&$i[$a..$b])"),
+    # inlined by rustc before LLVM sees its caller, each would move a branch of the loop over text
+    ("looks.tell_text(performer, input, $$p)", "performer.print_text(text(input, $p))"),
+    ("looks.tell_data(performer, input, $$p)", "performer.put_slice(data(input, $p))"),
     ("looks.$f(", "$f("),
     ("looks.$f::<$n>(", "$f::<$n>("),
     ("&mut self.looks,", ""),

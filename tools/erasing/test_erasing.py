@@ -390,6 +390,10 @@ COUNTS = [
     (r"looks \. at \( (\w+) , ([^()]*) \)", r"\1 [ \2 ]"),
     (r"looks \. copy_to_array \( (\w+) , (\w+) , ([^,]*) , (\w+) \)", r"\4 . try_extend_from_slice ( & \1 [ \2 . . \3 ] )"),
     (r"looks \. copy_to_vec \( (\w+) , (\w+) , (\w+) , (\w+) \)", r"\4 . extend_from_slice ( & \1 [ \2 . . \3 ] )"),
+    (r"looks \. tell_text \( performer , input , (\w+) , (\w+) \)",
+     r"performer . print_text ( text ( input , \1 , \2 ) )"),
+    (r"looks \. tell_data \( performer , input , (\w+) , (\w+) \)",
+     r"performer . put_slice ( data ( input , \1 , \2 ) )"),
     (r"looks \. (\w+(?: : : < \w+ >)?) \(", r"\1 ("),
     (r"(?:& mut (?:self \. )?)?\blooks , ", ""),
     (r"\( looks \)", "( )"),
@@ -404,6 +408,9 @@ COUNTS = [
     (r"esc_dispatch \( & (self \. collected) , byte \)", r"esc_dispatch ( \1 . intermediates . as_slice ( ) , \1 . too_many , byte )"),
     # the vectors of the adapter
     (r"\* self = Params : : new \( \)", "self . numbers . clear ( ) ; self . lengths . clear ( )"),
+    # functions of one expression, which stands in their place
+    (r"is_command_data \( (.*?) \)", r"\1 >= 0x20 && \1 != b';'"),
+    (r"last_char \( text , ([\w. ]+) \)", r"text . chars ( ) . next_back ( ) . or ( \1 )"),
     # the allocator
     (r"\( alloc \)", "( )"),
     (r"\( alloc , ", "( "),

@@ -23,11 +23,6 @@ pub(crate) fn is_data(byte: u8) -> bool {
     matches!(byte, 0x20..=0x7e) || is_control(byte)
 }
 
-/// Whether a byte is one of the data of an operating system command: 20 and up, but `;`.
-pub(crate) fn is_command_data(byte: u8) -> bool {
-    byte >= 0x20 && byte != b';'
-}
-
 /// Whether a byte is an intermediate 20..2F.
 pub(crate) fn is_intermediate(byte: u8) -> bool {
     matches!(byte, 0x20..=0x2f)

@@ -4,8 +4,7 @@
 mod taken;
 
 use crate::prelude::{first_chunk, memchr};
-use crate::proved::vte_core::class::{is_command_data, is_data, ESCAPE};
-use crate::proved::vte_core::grain::PerformAs;
+use crate::proved::vte_core::class::{is_data, ESCAPE};
 use core::str;
 pub use taken::{Run, Taken};
 pub(crate) use taken::{RunKind, RunPlace};
@@ -19,7 +18,7 @@ pub(crate) fn up_to(input: &[u8], to: usize) -> &[u8] {
 /// Returns the text from one place to another, which is one or more whole characters.
 #[inline(always)]
 #[allow(unsafe_code)]
-fn text(input: &[u8], from: usize, to: usize) -> &str {
+pub(crate) fn text(input: &[u8], from: usize, to: usize) -> &str {
     let bytes = &input[from..to];
     // SAFETY: `to` is where a search found the end of a run that begins at `from`. Searches pass one
     // whole character at a time: a byte of ASCII, or a lead byte with all its continuation bytes, the
@@ -31,7 +30,7 @@ fn text(input: &[u8], from: usize, to: usize) -> &str {
 
 /// Returns the data from one place to another.
 #[inline(always)]
-fn data(input: &[u8], from: usize, to: usize) -> &[u8] {
+pub(crate) fn data(input: &[u8], from: usize, to: usize) -> &[u8] {
     &input[from..to]
 }
 
@@ -53,7 +52,7 @@ pub(crate) fn take_run(input: &[u8], place: RunPlace) -> Run<'_> {
 /// or with the input.
 pub(crate) fn find_data_end(input: &[u8], from: usize) -> usize {
     let mut end = from;
-    while end < input.len() && is_command_data(input[end]) {
+    while end < input.len() && input[end] >= 0x20 && input[end] != b';' {
         end += 1;
     }
     end
@@ -88,26 +87,4 @@ pub(crate) fn get(input: &[u8], index: usize) -> Option<u8> {
 #[inline(always)]
 pub(crate) fn get_block<const N: usize>(input: &[u8], from: usize) -> Option<[u8; N]> {
     first_chunk::<N>(&input[from..]).copied()
-}
-
-/// Tells the run of text that stands from one place to another, which counts its bytes.
-#[inline(always)]
-pub(crate) fn tell_text<P: PerformAs<G>, G>(
-    performer: &mut P,
-    input: &[u8],
-    from: usize,
-    to: usize,
-) {
-    performer.print_text(text(input, from, to));
-}
-
-/// Tells the data that stand from one place to another, which counts them.
-#[inline(always)]
-pub(crate) fn tell_data<P: PerformAs<G>, G>(
-    performer: &mut P,
-    input: &[u8],
-    from: usize,
-    to: usize,
-) {
-    performer.put_slice(data(input, from, to));
 }

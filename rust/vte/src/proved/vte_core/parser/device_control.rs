@@ -6,7 +6,7 @@ use crate::proved::vte_core::class::{ends_all, is_data, is_final};
 use crate::proved::vte_core::grain::{Grain, PerformAs};
 use crate::proved::vte_core::head::HeadPart;
 use crate::proved::vte_core::parser::{Machine, State, Unfinished};
-use crate::proved::vte_core::scan::{find_put_end, tell_data};
+use crate::proved::vte_core::scan::{data, find_put_end};
 
 /// The one 8-bit control that is read: ST, the end of the data.
 const STRING_TERMINATOR: u8 = 0x9c;
@@ -14,6 +14,7 @@ const STRING_TERMINATOR: u8 = 0x9c;
 impl<B: Buffer> Machine<B> {
     /// Reads the head of a device control string, which has come so far, and its final byte.
     /// Controls in it are dropped.
+    #[inline(never)]
     pub(crate) fn read_device_control<P: PerformAs<G>, G: Grain>(
         &mut self,
         performer: &mut P,
@@ -66,7 +67,7 @@ impl<B: Buffer> Machine<B> {
             }
             if G::IN_RUNS && !ASKS {
                 let end = find_put_end(input, position + 1);
-                tell_data(performer, input, position, end);
+                performer.put_slice(data(input, position, end));
                 return end;
             }
             performer.put_byte(byte);

@@ -6,7 +6,7 @@ use crate::proved::vte_core::class::ESCAPE;
 use crate::proved::vte_core::grain::{Grain, PerformAs};
 use crate::proved::vte_core::parser::{Machine, State};
 use crate::proved::vte_core::run::{begins_ascii, find_ascii_run_end, find_longer_run_end};
-use crate::proved::vte_core::scan::{find_escape, get, tell_text, up_to};
+use crate::proved::vte_core::scan::{find_escape, get, text, up_to};
 use crate::proved::vte_core::utf8::{
     is_lead, is_printed_ascii, tell_character, tell_single, Carried, Unfinished,
 };
@@ -48,7 +48,7 @@ fn print_ascii<P: PerformAs<G>, G: Grain>(
     let next = get(input, from + 1);
     if begins_ascii(input, from, next) {
         let end = find_ascii_run_end(performer, input, from);
-        tell_text(performer, input, from, end);
+        performer.print_text(text(input, from, end));
         return AsciiRun { end, next: None };
     }
     performer.print_char(char::from(first));
@@ -132,7 +132,7 @@ impl<B: Buffer> Machine<B> {
         if G::IN_RUNS {
             let end = find_longer_run_end(performer, input, from, first);
             if end > from {
-                tell_text(performer, input, from, end);
+                performer.print_text(text(input, from, end));
                 return end;
             }
         }

@@ -221,7 +221,9 @@ def test_installation(library, report):
             said = holds("an old program over the shared library", "./old_program")
             report.holds("installation, an old program", said.encode() == OLD_CALLS, said)
             if shutil.which("c++"):
-                holds("vte.hpp by pkg-config", "c++", "-std=c++17", EXAMPLES / "cpp/outline.cpp", *flags, "-o", "outline")
+                outline = ["c++", EXAMPLES / "cpp/outline.cpp", *flags, "-o", "outline"]
+                holds("vte.hpp by pkg-config", *outline, "-std=c++17")
+                holds("vte.hpp in C++14", *outline, "-std=c++14", status=1, says="vte.hpp needs C++17")
     else:
         report.missing("pkg-config", "the installed library was not looked for by it")
     if shutil.which("cmake"):

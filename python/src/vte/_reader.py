@@ -54,9 +54,9 @@ def open(source: Source, size: int = 65536, kinds: Kinds = None) -> Reader:
     """Returns an iterator over the events of a path, a file descriptor or a binary file.
 
     With `kinds`, a set of types of events, it has these alone. The file is read in pieces of at
-    most `size` bytes, each when its events are requested, with what is there by then. If a nonblocking
-    file has nothing yet, `BlockingIOError` is raised, and the iterator goes on later. A pty, given
-    by its descriptor, ends when no program has it open any more.
+    most `size` bytes, each when its events are requested, with what is there by then. If a
+    nonblocking file has nothing yet, `BlockingIOError` is raised, and the iterator goes on later. A
+    pty, given by its descriptor, ends when no program has it open any more.
     """
     if not isinstance(size, int) or size < 1:
         raise ValueError(f"size must be at least 1, not {size!r}")

@@ -1,4 +1,5 @@
-"""What pyproject.toml can't say: an sdist also has the crate and the licence, which stand beside this folder in the repository."""
+"""What pyproject.toml can't say: an sdist also has the crate and the licence, which stand beside
+this folder in the repository."""
 import shutil
 from pathlib import Path
 

@@ -1,4 +1,7 @@
-"""Writes the events of its standard input, one line each, as vtlog does: events.py [strip|long] [PIECE]"""
+"""Writes the events of its standard input, one line each, as vtlog does.
+
+events.py [strip|long] [PIECE]
+"""
 import sys
 
 import vte
@@ -24,10 +27,11 @@ def line(event):
     if isinstance(event, vte.Unhook):
         return "unhook"
     if isinstance(event, vte.Osc):
-        return f"osc {truth(event.bell_terminated)} {len(event.pieces)}" + "".join(map(hex_field, event.pieces))
+        pieces = "".join(map(hex_field, event.pieces))
+        return f"osc {truth(event.bell_terminated)} {len(event.pieces)}{pieces}"
     groups = "" if isinstance(event, vte.Esc) else " " + shown(event.groups)
-    name = type(event).__name__.lower()
-    return f"{name}{groups}{hex_field(event.intermediates)} {truth(event.ignore)} {ord(event.final):02x}"
+    head = type(event).__name__.lower() + groups + hex_field(event.intermediates)
+    return f"{head} {truth(event.ignore)} {ord(event.final):02x}"
 
 
 def main(words):
@@ -39,7 +43,8 @@ def main(words):
         if strips:
             sys.stdout.buffer.write(parser.strip(data))
         else:
-            sys.stdout.buffer.write("".join(line(event) + "\n" for event in parser.feed(data)).encode())
+            lines = "".join(line(event) + "\n" for event in parser.feed(data))
+            sys.stdout.buffer.write(lines.encode())
         sys.stdout.buffer.flush()
 
 

@@ -1,4 +1,7 @@
-"""Runs a program in a pty, passes its output on, and reports each title that it sets: title_watcher.py PROGRAM ARGUMENT.."""
+"""Runs a program in a pty, passes its output on, and reports each title that it sets.
+
+title_watcher.py PROGRAM ARGUMENT..
+"""
 import os
 import pty
 import sys

@@ -171,8 +171,8 @@ pub fn tuple(
     unsafe { filled(made(py, ffi::PyTuple_New(size(count)))?, count, values) }
 }
 
-/// Sets the places of a new tuple. Those whose values can't be made stay null, which nothing but the
-/// deallocator sees.
+/// Sets the places of a new tuple. Those whose values can't be made stay null, which nothing but
+/// the deallocator sees.
 ///
 /// # Safety
 ///

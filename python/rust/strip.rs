@@ -148,7 +148,7 @@ fn without_surrogates<'py>(data: &Bound<'py, PyString>) -> PyResult<Bound<'py, P
     }
 }
 
-/// The text of a `str` or bytes by a function of bytes. If it is all of them, it is the same object.
+/// The text of a `str` or bytes by a function of bytes. If it is all of them, it is their object.
 fn strip_by<F>(data: &Bound<'_, PyAny>, read: F) -> PyResult<PyObject>
 where
     F: for<'a> FnOnce(&'a [u8]) -> Result<Cow<'a, [u8]>, Refused> + Send,

@@ -1,6 +1,6 @@
 //! Events and calls as they are recorded, before objects are made of them. This needs no object and
-//! so not the interpreter's lock, and if memory is refused to an object, those that follow are still
-//! there.
+//! so not the interpreter's lock, and if memory is refused to an object, those that follow are
+//! still there.
 
 use crate::calls::{Kind, NAMES};
 use crate::objects::{bytes, flag, integer, text, tuple, Class};
@@ -202,7 +202,8 @@ impl Tape {
         self.values[place] = Value(Is::Flag, flag.into());
     }
 
-    /// Returns whether there was no memory to record something. Then all that is recorded is dropped.
+    /// Returns whether there was no memory to record something. Then all that is recorded is
+    /// dropped.
     pub fn has_lost(&mut self) -> bool {
         let is_refused = self.is_refused;
         if is_refused {
@@ -211,8 +212,8 @@ impl Tape {
         is_refused
     }
 
-    /// Makes the objects, and appends them to a list, but not the last if it may go on. If memory is
-    /// refused, those that aren't made stay.
+    /// Makes the objects, and appends them to a list, but not the last if it may go on. If memory
+    /// is refused, those that aren't made stay.
     pub fn make(&mut self, list: &Bound<'_, PyList>, ends: bool) -> PyResult<()> {
         let (py, classes) = (list.py(), classes(list.py())?);
         let count = self.places.len() - usize::from(self.is_open && !ends);

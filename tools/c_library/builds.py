@@ -117,6 +117,8 @@ def test_any_parser(library, report):
     if library.is_whole:
         old = library.program(OLD_PROGRAM, *words)
         report.same("an old program", b"", output_of([old]), OLD_CALLS)
+        second_parser = library.program(TOOLS / "c_library/second_parser.c", *words)
+        report.same("what a processor doesn't pass on", b"", output_of([second_parser]), b"")
     library.program(CRATE / "examples/time_calls.c", "-std=c99", "-pedantic-errors")
 
 

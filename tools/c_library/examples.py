@@ -35,14 +35,18 @@ OF_LIBRARY = {f"include/{name}" for name in HEADERS} | {f"lib/{name}" for name i
 
 
 def test_examples(library, report):
-    tests = {"stripper": test_stripper, "title_watcher": test_title_watcher, "pty_events": test_pty_events}
+    tests = {"stripper": test_stripper, "title_watcher": test_title_watcher,
+             "pty_events": test_pty_events}
     for language, (compiler, sources, examples) in LANGUAGES.items():
         if shutil.which(compiler) is None:
             report.missing(compiler, f"the examples in {language} were not built")
             continue
         for example in examples:
             source = EXAMPLES / sources.format(example)
-            program = go_program(library, source) if compiler == "go" else library.program(source, OF_PTY, compiler=compiler)
+            if language == "Go":
+                program = go_program(library, source)
+            else:
+                program = library.program(source, OF_PTY, compiler=compiler)
             tests[example](f"example in {language}, {example}", program, report)
     if library.is_whole:
         test_whole(library, report)
@@ -84,9 +88,11 @@ def test_whole(library, report):
 
 def go_program(library, source):
     program = library.folder / f"{source.parent.name}_go"
-    environment = {**os.environ, "CGO_ENABLED": "1", "CGO_CFLAGS": f"-I{CRATE / 'include'}", "CGO_LDFLAGS": f"{library.archive} {OF_PTY}",
-                   "GOFLAGS": "-mod=mod", "GO111MODULE": "off"}
-    done = subprocess.run(["go", "build", "-o", program, source], env=environment, capture_output=True, text=True)
+    environment = {**os.environ, "CGO_ENABLED": "1", "CGO_CFLAGS": f"-I{CRATE / 'include'}",
+                   "CGO_LDFLAGS": f"{library.archive} {OF_PTY}", "GO111MODULE": "off",
+                   "GOFLAGS": "-mod=mod"}
+    done = subprocess.run(["go", "build", "-o", program, source], env=environment,
+                          capture_output=True, text=True)
     if done.returncode != 0:
         sys.exit(f"test_c_library: go build of {source}\n{done.stderr}")
     return program
@@ -221,7 +227,10 @@ def test_installation(library, report):
             said = holds("an old program over the shared library", "./old_program")
             report.holds("installation, an old program", said.encode() == OLD_CALLS, said)
             if shutil.which("c++"):
-                holds("vte.hpp by pkg-config", "c++", "-std=c++17", EXAMPLES / "cpp/outline.cpp", *flags, "-o", "outline")
+                outline = ["c++", EXAMPLES / "cpp/outline.cpp", *flags, "-o", "outline"]
+                holds("vte.hpp by pkg-config", *outline, "-std=c++17")
+                holds("vte.hpp in C++14", *outline, "-std=c++14", status=1,
+                      says="vte.hpp needs C++17")
     else:
         report.missing("pkg-config", "the installed library was not looked for by it")
     if shutil.which("cmake"):

@@ -8,9 +8,9 @@ from erasing.rules import GENERAL, OLDER, apply, use_idioms
 from erasing.source import Source
 from rattle_text.tokens import Refused
 
-MARK = "// Written by tools/erase from {origin}. Don't edit this file: edit that one, and run the tool.\n"
+MARK = "// Written by tools/erase from {origin}: edit that one.\n"
 
-ROOT = """// Written by tools/erase from crates/. Don't edit this file: edit those, and run the tool.
+ROOT = """// Written by tools/erase from crates/: edit those.
 //! The proved text.
 {allowed}
 """

@@ -60,13 +60,13 @@ class Plan:
 
 
 # Why `unsafe` is right, said where it stands; tests run with the assertions.
-OF_TEXT = """// SAFETY: `to` is where a search found the end of a run that begins at `from`. Searches pass one
-// whole character at a time: a byte of ASCII, or a lead byte with all its continuation bytes, the
-// first of which `may_begin_three` and `may_begin_four` test. The automaton, which passes blocks,
-// goes back to where no character is open.
+OF_TEXT = """// SAFETY: `to` is where a search found the end of a run that begins at `from`. Searches pass
+// one whole character at a time: a byte of ASCII, or a lead byte with all its continuation
+// bytes, the first of which `may_begin_three` and `may_begin_four` test. The automaton, which
+// passes blocks, goes back to where no character is open.
 """
-OF_THREE = """// SAFETY: the masks leave at most FFFF. Callers have tested `may_begin_three`, by which the number
-// is no surrogate's, D800 to DFFF.
+OF_THREE = """// SAFETY: the masks leave at most FFFF. Callers have tested `may_begin_three`, by which the
+// number is no surrogate's, D800 to DFFF.
 debug_assert!(may_begin_three(first, second) && is_continuation(third));
 """
 OF_FOUR = """// SAFETY: callers have tested `may_begin_four`, by which the front of the number is 10000 to
@@ -317,7 +317,9 @@ VTE = Plan(
         "vte/ansi/processor": None,
         "vte/ansi/long_processor": (
             "use vte::{Refused, ansi::{Timeout, lent::{Handler, LongProcessor}}};", "struct Screen;", "impl Handler for Screen {}",
-            "fn read<T: Timeout>(processor: &mut LongProcessor<T>, mut handler: Screen, bytes: &[u8]) -> Result<(), Refused> {",
+            "fn read<T: Timeout>(",
+            "    processor: &mut LongProcessor<T>, mut handler: Screen, bytes: &[u8],",
+            ") -> Result<(), Refused> {",
             "..",
             "Ok(())", "}"),
         "vte_types/color": ("use vte::ansi::Rgb;",),

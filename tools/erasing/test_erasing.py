@@ -274,7 +274,8 @@ class Erasing(unittest.TestCase):
             ("    // One. Two\n    // goes. Three.\n    f();\n", {"Two goes.": "Too."}, "    // One. Too. Three.\n    f();\n"),
             ("//! One. Two goes.\n//! Three, too.\n", {"Two ..": "Four"}, "//! One. Four\n"),
             ("/// One: two.\nfn f() {}\n", {": two.": ".\n\nTwo"}, "/// One.\n///\n/// Two\nfn f() {}\n"),
-            ("/// Far.\n", {"Far.": "word " * 40}, "/// " + ("word " * 23).strip() + "\n/// " + ("word " * 17).strip() + "\n"),
+            ("/// Far.\n", {"Far.": "word " * 20},
+             "/// " + ("word " * 18).strip() + "\n/// word word\n"),
         ]:
             self.assertEqual(wording.reword(text, changes), wanted)
         for text in "/// One.\nfn f() {}\n", "/// Two.\nfn f() {}\n/// Two.\nfn g() {}\n":

@@ -6,7 +6,7 @@ from pathlib import Path
 
 from rattle_text.tokens import Refused
 
-WIDTH = 120
+WIDTH = 96
 # lines of a comment that follow each other
 PARAGRAPH = re.compile(r"^( *)(//[/!]?) +(\S.*(?:\n\1\2 +\S.*)*)", re.M)
 
@@ -30,7 +30,8 @@ def reword(text, changes):
             start = start - len(f"{front}\n") if text[:start].endswith(f"\n{front}\n") else start
             text = text[:start] + text[end + 1 :]
             continue
-        paragraphs = [textwrap.wrap(one, WIDTH - len(front) - 1, break_long_words=False, break_on_hyphens=False) for one in made.split("\n\n")]
+        paragraphs = [textwrap.wrap(one, WIDTH - len(front) - 1, break_long_words=False,
+                                    break_on_hyphens=False) for one in made.split("\n\n")]
         lines = [line for paragraph in paragraphs for line in ["", *paragraph]][1:]
         text = text[:start] + "\n".join(f"{front} {line}".rstrip() for line in lines) + text[end:]
     return text

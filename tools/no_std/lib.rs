@@ -1,5 +1,6 @@
-//! A library that uses `vte` without `std`, and has no allocator. It isn't built if `vte`, or a crate that it needs, brings std, which
-//! has a panic handler of its own. As a `staticlib`, without `ansi`, it isn't built either if `vte` needs an allocator.
+//! A library that uses `vte` without `std`, and has no allocator. It isn't built if `vte`, or a
+//! crate that it needs, brings std, which has a panic handler of its own. As a `staticlib`, without
+//! `ansi`, it isn't built either if `vte` needs an allocator.
 #![no_std]
 
 struct Count(u32);

@@ -1,7 +1,8 @@
 r"""A parser of the bytes that programs send to a terminal.
 
-**Events.** A `Parser` reads a stream in pieces of any length, and reports text, controls and sequences. The events are those of the whole
-stream, in order, however you split it; only a `Text` and a `Data` end where a call of `feed` does.
+**Events.** A `Parser` reads a stream in pieces of any length, and reports text, controls and
+sequences. The events are those of the whole stream, in order, however you split it; only a `Text`
+and a `Data` end where a call of `feed` does.
 
 >>> import vte
 >>> parser = vte.Parser()
@@ -10,7 +11,7 @@ stream, in order, however you split it; only a `Text` and a `Data` end where a c
 >>> parser.feed(b"1mhi")
 [Csi(groups=((1,), (31,)), intermediates=b'', ignore=False, final='m'), Text(text='hi')]
 
-If memory is refused, `feed` raises `Refused`. `kinds` selects what is returned, and the rest costs little:
+If memory is refused, `feed` raises `Refused`. `kinds` selects what is returned:
 
 >>> parser.feed(b"text \x1b]2;a title\x07 more text", kinds={vte.Osc})
 [Osc(pieces=(b'2', b'a title'), bell_terminated=True, truncated=False)]
@@ -20,7 +21,8 @@ If memory is refused, `feed` raises `Refused`. `kinds` selects what is returned,
 >>> parser.feed_until(b"one\ntwo\n", {vte.Execute})
 ([Text(text='one'), Execute(byte=10)], 4)
 
-**Files and terminals.** `open` reads a path, a file descriptor or a binary file, and is an iterator over events:
+**Files and terminals.** `open` returns an iterator over the events of a path, a file descriptor or
+a binary file:
 
 >>> import tempfile
 >>> with tempfile.NamedTemporaryFile() as file:
@@ -33,14 +35,16 @@ Osc(pieces=(b'2', b'a title'), bell_terminated=False, truncated=False)
 Execute(byte=13)
 Execute(byte=10)
 
-**Plain text.** `strip` returns the text of a whole stream, a `Stripper` that of a stream in pieces, and `strip_lines` that of each line:
+**Plain text.** `strip` returns the text of a whole stream, a `Stripper` that of a stream in pieces,
+and `strip_lines` that of each line:
 
 >>> vte.strip(b"a\x1b[1mb"), vte.strip("\x1b]0;title\x07ü")
 (b'ab', 'ü')
 >>> list(vte.strip_lines(["a\x1b[1mb", "c"]))
 ['ab', 'c']
 
-**Calls.** A `Processor` returns what a stream asks of a terminal, as calls of `vte.calls`, and holds synchronized updates back:
+**Calls.** A `Processor` returns what a stream asks of a terminal, as calls of `vte.calls`, and
+holds synchronized updates back:
 
 >>> vte.Processor().feed(b"\x1b[5H\x1b[1mhi")
 [Goto(line=4, col=0), TerminalAttribute(attribute=Bold, color=None), Input(text='hi')]
@@ -52,7 +56,7 @@ A parser with a limit, and a stripper, can be copied and pickled:
 >>> parser.feed(b"\xe2\x82"), copy.copy(parser).feed(b"\xac"), parser.feed(b"\xac")
 ([], [Text(text='€')], [Text(text='€')])
 
-Parsers, processors and strippers can be shared: a call raises a `RuntimeError` while another thread's call runs.
+A call of what another thread uses raises a `RuntimeError`.
 """
 from ._events import Csi, Data, Esc, Event, Execute, Hook, Osc, Put, Refused, Text, Unhook
 from . import calls
@@ -60,6 +64,6 @@ from ._vte import Parser, Processor, Stripper, __version__, strip
 from ._reader import Reader, open, strip_lines
 
 __all__ = [
-    "Parser", "Stripper", "strip", "strip_lines", "Reader", "open", "Processor", "calls", "Event", "Text",
-    "Execute", "Hook", "Put", "Data", "Unhook", "Osc", "Csi", "Esc", "Refused",
+    "Parser", "Stripper", "strip", "strip_lines", "Reader", "open", "Processor", "calls", "Event",
+    "Text", "Execute", "Hook", "Put", "Data", "Unhook", "Osc", "Csi", "Esc", "Refused",
 ]

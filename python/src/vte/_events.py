@@ -1,4 +1,4 @@
-"""The events of a stream. An event equals another if both are of the same type and have the same values."""
+"""The events of a stream. An event equals another of the same type with the same values."""
 import array
 import mmap
 from collections.abc import Iterable
@@ -6,7 +6,7 @@ from typing import Any, Literal, NamedTuple, Union, get_args
 
 
 def _distinct(kind: type) -> None:
-    """Makes events of different types differ, as named tuples with the same values don't, and each event true, as an empty tuple isn't."""
+    """Makes objects of different types differ, and each true, as named tuples don't and aren't."""
 
     def equal(self: tuple[Any, ...], other: object) -> bool:
         return type(self) is type(other) and tuple.__eq__(self, other)
@@ -56,8 +56,8 @@ class Unhook(NamedTuple):
 class Osc(NamedTuple):
     """An operating system command, in the pieces that `;` separates.
 
-    There are at most 16 pieces, whatever the limit; later ones are dropped. `bell_terminated` says whether BEL ended it, and `truncated`
-    whether data were dropped: those of later pieces, and those past the limit of a parser that has one.
+    There are at most 16 pieces, whatever the limit. `bell_terminated` says whether BEL ended it,
+    and `truncated` whether data were dropped: later pieces, and those past the limit of a parser.
     """
     pieces: tuple[bytes, ...]
     bell_terminated: bool
@@ -67,8 +67,8 @@ class Osc(NamedTuple):
 class Csi(NamedTuple):
     """A control sequence.
 
-    The numbers of a group were joined by `:`. `intermediates` has at most two bytes, a private marker among them. `ignore` says
-    whether numbers or intermediates were left out because there were too many.
+    The numbers of a group were joined by `:`. `intermediates` has at most two bytes, a private
+    marker among them. `ignore` says whether there were too many of them, or of the numbers.
     """
     groups: tuple[tuple[int, ...], ...]
     intermediates: bytes
@@ -92,9 +92,9 @@ Errors = Literal["replace", "surrogateescape"]
 
 
 class Refused(MemoryError):
-    """Memory was refused.
+    """Memory was refused, after `read` bytes of the call, which add `events`.
 
-    `read` says how many bytes of the call were read, and `events` has what they add. Feed the rest once there is memory.
+    Feed the rest once there is memory.
     """
 
     def __init__(self, read: int, events: list[Any]) -> None:

@@ -51,11 +51,12 @@ class Reader(Iterator[Event]):
 
 
 def open(source: Source, size: int = 65536, kinds: Kinds = None) -> Reader:
-    """Returns an iterator over the events of a path, a file descriptor or a binary file, read in pieces of at most `size` bytes.
+    """Returns an iterator over the events of a path, a file descriptor or a binary file.
 
-    With `kinds`, a set of types of events, it has these alone. A piece is read when its events are requested, and has what is there by
-    then; if a nonblocking file has nothing yet, `BlockingIOError` is raised, and the iterator goes on later. A pty, given by its
-    descriptor, ends when no program has it open any more.
+    With `kinds`, a set of types of events, it has these alone. The file is read in pieces of at
+    most `size` bytes, each when its events are requested, with what is there by then. If a
+    nonblocking file has nothing yet, `BlockingIOError` is raised, and the iterator goes on later. A
+    pty, given by its descriptor, ends when no program has it open any more.
     """
     if not isinstance(size, int) or size < 1:
         raise ValueError(f"size must be at least 1, not {size!r}")
@@ -94,12 +95,13 @@ def strip_lines(lines: Iterable[Buffer], errors: Errors = ...) -> Iterator[bytes
 
 
 def strip_lines(lines: Iterable[Any], errors: Errors = "replace") -> Iterator[Any]:
-    """Returns an iterator over the lines without their sequences: each line is stripped for itself, as by `strip`.
+    """Returns an iterator over the texts of lines, each stripped for itself, as by `strip`.
 
     Each line is taken when its text is requested, so that none of a file is late.
     """
     if isinstance(lines, (str, bytes, bytearray)):
         kind = type(lines).__name__
-        raise TypeError(f"strip_lines takes an iterable over lines, not {kind}: pass a list, or call strip")
+        wrong = f"strip_lines takes an iterable over lines, not {kind}: pass a list, or call strip"
+        raise TypeError(wrong)
     function: Any = strip if errors == "replace" else partial(strip, errors=errors)
     return map(function, lines)

@@ -40,10 +40,11 @@ fn text_of(stream: &[u8]) -> String {
     text.0
 }
 
-/// Divides a stream into so many parts, or fewer. An ESC is the end of one and the start of the next.
+/// Divides a stream into so many parts, or fewer. An ESC is the end of one and the start of the
+/// next.
 ///
-/// From each ESC on, bytes mean what they mean as a stream of their own, and an ESC ends what is open
-/// before it, such as a truncated character. So the texts of the parts are that of the stream.
+/// From each ESC on, bytes mean what they mean as a stream of their own, and an ESC ends what is
+/// open before it, such as a truncated character. So the texts of the parts are that of the stream.
 fn parts(stream: &[u8], count: usize) -> Vec<&[u8]> {
     let (mut parts, mut start) = (Vec::new(), 0);
     for part in 1..count {

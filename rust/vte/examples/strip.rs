@@ -1,4 +1,5 @@
-//! Writes what it reads without escape sequences and controls: `ls --color=always | cargo run --example strip`
+//! Writes what it reads without escape sequences and controls: `ls --color=always | cargo run
+//! --example strip`
 
 use std::io::{self, Read, Write};
 

@@ -1,4 +1,5 @@
-//! Prints the sequences of standard input that make no call of a handler: `vte` logs them, and this crate logs nothing.
+//! Prints the sequences of standard input that make no call of a handler: `vte` logs them, and this
+//! crate logs nothing.
 //!
 //! `printf 'a\033[5i\033[1m' | cargo run --example unknown --features ansi`
 

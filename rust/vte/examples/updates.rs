@@ -1,4 +1,5 @@
-//! Counts what synchronized updates do: the calls that each update makes come together, when it ends.
+//! Counts what synchronized updates do: the calls that each update makes come together, when it
+//! ends.
 //!
 //! `printf 'a\033[?2026hbc\033[?2026l' | cargo run --example updates --features ansi`
 
@@ -27,7 +28,8 @@ impl Handler for Updates {
     }
 
     fn unset_private_mode(&mut self, mode: PrivateMode) {
-        // The end of an update is called once for its sequence, and once when its bytes have been parsed.
+        // The end of an update is called once for its sequence, and once when its bytes have been
+        // parsed.
         if mode == PrivateMode::Named(NamedPrivateMode::SyncUpdate) && self.is_open {
             self.is_open = false;
             self.updates.push(self.characters);

@@ -1,11 +1,11 @@
 //! A parser for terminal escape sequences, and a processor that knows what they mean.
 //!
-//! [`Parser`] reads a stream in chunks of any length and calls a [`Perform`] for each event: a character to print, a control
-//! to execute, a sequence to dispatch. `ansi::Processor`, with the feature `ansi`, knows what the events ask of a terminal, and
-//! calls an `ansi::Handler`.
+//! [`Parser`] reads a stream in chunks of any length and calls a [`Perform`] for each event: a
+//! character to print, a control to execute, a sequence to dispatch. `ansi::Processor`, with the
+//! feature `ansi`, knows what the events ask of a terminal, and calls an `ansi::Handler`.
 //!
-//! Both have the interface of the crate `vte` 0.15, and are made from code that is proved correct; `docs/RUST.md` of the
-//! repository says what the proof covers.
+//! Both have the interface of the crate `vte` 0.15, and are made from code that is proved correct;
+//! `docs/RUST.md` of the repository says what the proof covers.
 //!
 //! ```
 //! use vte::{Parser, Perform};
@@ -51,8 +51,9 @@
 //!
 //! # Performers that panic
 //!
-//! A parser whose [`Perform`] panics is safe to use and to drop, but it is unknown how many bytes of the call it has read, and
-//! whether the sequence that it was reporting has ended for it. Create a new one.
+//! A parser whose [`Perform`] panics is safe to use and to drop, but it is unknown how many bytes
+//! of the call it has read, and whether the sequence that it was reporting has ended for it. Create
+//! a new one.
 #![cfg_attr(not(feature = "std"), no_std)]
 #![cfg_attr(docsrs, feature(doc_cfg))]
 #![deny(unsafe_code, unconditional_recursion)]
@@ -106,7 +107,8 @@ pub mod ansi {
     #[doc(inline)]
     pub use cursor_icon;
 
-    /// Handlers that take texts without owning them, so that they aren't copied, and a processor that returns errors.
+    /// Handlers that take texts without owning them, so that they aren't copied, and a processor
+    /// that returns errors.
     pub mod lent {
         pub use crate::proved::vte::ansi::LongProcessor;
         #[cfg(feature = "__own")]

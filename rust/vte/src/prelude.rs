@@ -1,5 +1,5 @@
-//! What stable Rust lacks: vectors and texts whose methods return an error if memory is refused. What the oldest rustc lacks:
-//! `first_chunk`. What the crate `memchr` has, without that crate.
+//! What stable Rust lacks: vectors and texts whose methods return an error if memory is refused.
+//! What the oldest rustc lacks: `first_chunk`. What the crate `memchr` has, without that crate.
 #[cfg(feature = "ansi")]
 pub(crate) use memchr::memchr;
 #[cfg(any(feature = "std", feature = "ansi"))]
@@ -38,7 +38,8 @@ mod memory {
 
     /// A vector whose methods return an error if memory is refused.
     ///
-    /// It has no `Deref`: a method that is missing here must be an error, and not the method of a trait that has its name.
+    /// It has no `Deref`: a method that is missing here must be an error, and not the method of a
+    /// trait that has its name.
     pub(crate) struct Vec<T>(alloc::vec::Vec<T>);
 
     /// A copy has as much memory, and the program ends if there is none.

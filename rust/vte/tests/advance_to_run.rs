@@ -2,15 +2,22 @@
 use std::str;
 use vte::{Params, Parser, Perform, Run, Taken};
 
-/// Each kind of event, with characters of each length, controls of two bytes and malformed bytes among them.
-const MIXED: &[u8] = b"some text \xc3\xa9\xc3\xa8 \xe4\xbd\xa0\xe5\xa5\xbd, \xf0\x9f\x99\x82 a line\r\nand \x1b[1;31mred\x1b[m \
-      text \x1b]0;a title\x07\x1b(Bmore \xc2\x85 of \xff\xe2\x82 it\x1bP1$qm\x1b\\\xd0\xb4\x1b]8;;\x18 the \x1bXs\x1b\\ end \x1b[2";
-const MALFORMED: &[u8] = b"a\xe0\x80\x80b\xed\xa0\x80c\xf4\x90\x80\x80d\xf0\x9f\x99e\xc3\x1b[mf\xe4\xbd\xff\xc2\xc2\xa0g";
-const PLAIN: &[u8] = b"a line of sixteen, of some more than thirty-two, and \xc3\xa9 and \xe4\xbd\xa0 and a line again";
+/// Each kind of event, with characters of each length, controls of two bytes and malformed bytes
+/// among them.
+const MIXED: &[u8] = b"some text \xc3\xa9\xc3\xa8 \xe4\xbd\xa0\xe5\xa5\xbd, \
+      \xf0\x9f\x99\x82 a line\r\nand \x1b[1;31mred\x1b[m \
+      text \x1b]0;a title\x07\x1b(Bmore \xc2\x85 of \xff\xe2\x82 it\x1bP1$qm\x1b\\\xd0\xb4\
+      \x1b]8;;\x18 the \x1bXs\x1b\\ end \x1b[2";
+const MALFORMED: &[u8] =
+    b"a\xe0\x80\x80b\xed\xa0\x80c\xf4\x90\x80\x80d\xf0\x9f\x99e\xc3\x1b[mf\xe4\xbd\xff\xc2\xc2\xa0g";
+const PLAIN: &[u8] =
+    b"a line of sixteen, of some more than thirty-two, and \xc3\xa9 and \xe4\xbd\xa0 and a line \
+      again";
 const DATA: &[u8] =
     b"a\x1bP1qxyz\n\x7fb\x80\xffcd\x1b\\e\x1bPq\x18\x1bPqf\x9cg\x1bP1:zh\x1b\\\x07\x07i";
 
-/// The events, with one for all text and one for all data between two others. Those that are performed and that runs have differ.
+/// The events, with one for all text and one for all data between two others. Those that are
+/// performed and that runs have differ.
 #[derive(Debug, Default)]
 struct Events {
     all: Vec<String>,

@@ -1,4 +1,5 @@
-//! What the adapter adds to the proved processor: owned texts, defaults, and what other crates define.
+//! What the adapter adds to the proved processor: owned texts, defaults, and what other crates
+//! define.
 #![cfg(feature = "ansi")]
 
 mod support;
@@ -152,7 +153,8 @@ fn titles_have_what_is_left_of_1024_bytes() {
     );
 }
 
-/// The most that is kept of a command: 16 pieces, of 1,024 bytes in all. The semicolons between them don't count.
+/// The most that is kept of a command: 16 pieces, of 1,024 bytes in all. The semicolons between
+/// them don't count.
 #[cfg(not(feature = "std"))]
 #[test]
 fn semicolons_take_no_room_in_titles() {

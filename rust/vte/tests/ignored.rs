@@ -1,4 +1,5 @@
-//! Ignored strings are read by blocks: what ends one ends it at each place of a block, and nothing else does.
+//! Ignored strings are read by blocks: what ends one ends it at each place of a block, and nothing
+//! else does.
 use vte::{Parser, Perform};
 
 /// What is told of text, controls and escape sequences.

@@ -47,7 +47,8 @@ impl HandlerText for Counter {
     }
 }
 
-/// Two updates that fill the hold. Returns how many characters were shown, and the memory that each took.
+/// Two updates that fill the hold. Returns how many characters were shown, and the memory that each
+/// took.
 fn two_full_updates(processor: &mut Processor<Pending>) -> (usize, [usize; 2]) {
     let (mut counter, text) = (Counter::default(), vec![b'a'; MOST_HELD]);
     let taken = [(); 2].map(|()| {
@@ -91,7 +92,8 @@ fn a_processor_takes_its_hold_and_memory_for_commands() {
     let (count, taken) = two_full_updates(&mut processor.ok().unwrap());
     assert_eq!((count, taken[1]), (2 * (MOST_HELD + 1), 0));
     if cfg!(feature = "std") {
-        // For a command as long as what it may parse, and for a text that is joined from it. Some was taken for the first call.
+        // For a command as long as what it may parse, and for a text that is joined from it. Some
+        // was taken for the first call.
         assert!(
             (2 * MOST_HELD..2 * MOST_HELD + 200).contains(&taken[0]),
             "{taken:?}"
@@ -585,7 +587,8 @@ fn a_long_parser_stops_without_memory() {
         Ok(2)
     );
     assert_eq!(commands.all, [b"2"]);
-    // it is terminated still, so the next byte isn't read, and in a command no memory is taken for it
+    // it is terminated still, so the next byte isn't read, and in a command no memory is taken for
+    // it
     let answer = refused(|| parser.advance_until_terminated(&mut commands, &stream[5..]));
     assert_eq!(answer, Ok(0));
     parser.advance(&mut commands, &stream[5..7]).unwrap();

@@ -1,4 +1,5 @@
-//! What the adapter adds to the proved parser: defaults, copies, and operating system commands without a limit.
+//! What the adapter adds to the proved parser: defaults, copies, and operating system commands
+//! without a limit.
 use vte::{BoundedParser, Params, Parser, Perform, PerformText};
 
 /// Collects what is dispatched.
@@ -235,7 +236,8 @@ fn runs_of(pieces: &[&[u8]]) -> Vec<String> {
 
 #[test]
 fn runs_hold_the_printed_characters_in_order() {
-    // U+0085 is executed, U+00A0 and DEL are printed, F0 9F is malformed, and E2 82 is completed by the AC of the next piece
+    // U+0085 is executed, U+00A0 and DEL are printed, F0 9F is malformed, and E2 82 is completed by
+    // the AC of the next piece
     let stream = b"a line \x7f \xc3\xa9\n\xc2\x85\xc2\xa0\x1b[1mbold\x1b[m \xf0\x9ftext \xe2\x82";
     let want = "a line \u{7f} \u{e9}||\u{a0}bold \u{fffd}text \u{20ac}";
     for at in 0..=stream.len() {

@@ -1,4 +1,5 @@
-//! Text in runs and device data in slices, from each type that passes them, and texts that are joined one after another.
+//! Text in runs and device data in slices, from each type that passes them, and texts that are
+//! joined one after another.
 #![cfg(feature = "ansi")]
 
 mod support;
@@ -10,7 +11,8 @@ use vte::{LongParser, Parser, Perform, PerformText};
 /// Text before an update, and in one that doesn't end.
 const STREAM: &[u8] = b"before it\x1b[?2026hinside it";
 
-/// Device data with a control, which is one of them, and with DEL and a byte of UTF-8, which are dropped.
+/// Device data with a control, which is one of them, and with DEL and a byte of UTF-8, which are
+/// dropped.
 const IMAGE: &[u8] = b"\x1bPq#0~\r~\x7f\xe9~~\x9c";
 
 /// The runs, the characters that came alone, the slices, the bytes that came alone, and the titles.

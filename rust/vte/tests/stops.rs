@@ -3,15 +3,18 @@
 
 use vte::{BoundedParser, LongParser, Own, Params, Parser, Perform, PerformText};
 
-/// Each kind of event, with runs of one byte, two and three bytes per character, and malformed bytes among them.
+/// Each kind of event, with runs of one byte, two and three bytes per character, and malformed
+/// bytes among them.
 const STREAM: &[u8] =
     b"some text \xc3\xa9\xc3\xa8 \xe4\xbd\xa0\xe5\xa5\xbd, a line\r\nand \x1b[1;31mred\x1b[m text \
-      \x1b]0;a title\x07\x1b(Bmore \xc2\x85 of \xff\xe2\x82 it\x1bP1$qm\x1b\\\xd0\xb4\xd0\xb0\x1b]8;;\x18 the end \x1b[2";
+      \x1b]0;a title\x07\x1b(Bmore \xc2\x85 of \xff\xe2\x82 it\x1bP1$qm\x1b\\\xd0\xb4\xd0\xb0\
+      \x1b]8;;\x18 the end \x1b[2";
 
 /// What is read after the stream: the end of its last sequence.
 const REST: &[u8] = b"Jafter";
 
-/// The events, with one for all text between two others. Is terminated once there have been `stop` others.
+/// The events, with one for all text between two others. Is terminated once there have been `stop`
+/// others.
 #[derive(Default)]
 struct Events {
     all: Vec<String>,
@@ -117,7 +120,8 @@ fn a_stop_between_runs_loses_nothing() {
     for stop in 0..whole.others {
         let (mut events, mut parser) = (Events::until(stop), BoundedParser::new());
         let read = parser.advance_text_until_terminated(&mut events, STREAM);
-        // the events so far are those of the bytes read, of which the last told the event of the stop
+        // the events so far are those of the bytes read, of which the last told the event of the
+        // stop
         assert!(events.terminated(), "stop after {stop} events");
         assert_eq!(events.told(), events_of(&STREAM[..read]).told());
         assert!(stop == 0 || events_of(&STREAM[..read - 1]).others < stop);

@@ -1,4 +1,5 @@
-//! Traits of public types that no `impl` names, so that a field could take them away, the error as one of `std`, and panics.
+//! Traits of public types that no `impl` names, so that a field could take them away, the error as
+//! one of `std`, and panics.
 #[cfg(feature = "ansi")]
 mod support;
 

@@ -1,9 +1,10 @@
-//! The functions of vte.h. C passes pointers, and the parser takes references, which needs `unsafe`.
+//! The functions of vte.h. C passes pointers, and the parser takes references, which needs
+//! `unsafe`.
 //!
 //! The callers' rules of vte.h are what makes it sound. No pointer is null, unless its length is 0,
 //! and each points to as many elements as its length says, or to one. What is written overlaps
-//! nothing else that is passed, and no other thread uses it during the call. All types here are plain
-//! numbers without padding that is read, so any bytes are values of them.
+//! nothing else that is passed, and no other thread uses it during the call. All types here are
+//! plain numbers without padding that is read, so any bytes are values of them.
 #![allow(unsafe_code)]
 #![allow(clippy::missing_safety_doc, clippy::too_many_arguments)]
 
@@ -59,7 +60,8 @@ pub unsafe extern "C" fn vte_feed(
     }
 }
 
-/// Reads bytes, and writes the text that is left without the sequences. Returns how many bytes were read.
+/// Reads bytes, and writes the text that is left without the sequences. Returns how many bytes were
+/// read.
 #[no_mangle]
 pub unsafe extern "C" fn vte_strip(
     parser: *mut Saved,
@@ -106,7 +108,8 @@ export! {
     vte_least_text: usize;
 }
 
-/// Ends the program. rustc checks each index; that all are within bounds is proved, so nothing gets here.
+/// Ends the program. rustc checks each index; that all are within bounds is proved, so nothing gets
+/// here.
 #[cfg(not(any(test, feature = "std")))]
 #[panic_handler]
 fn panic(_: &core::panic::PanicInfo<'_>) -> ! {

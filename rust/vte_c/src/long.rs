@@ -40,8 +40,8 @@ fn reserve(data: &mut Vec<u8>, size: usize) -> Result<(), Refused> {
 }
 
 /// Returns how many bytes at the beginning can be skipped, if nothing is open and only commands are
-/// wanted: those before an ESC that may begin one, or else before the last ESC. A command begins with
-/// ESC, controls if any, and `]`, and each ESC ends what is open.
+/// wanted: those before an ESC that may begin one, or else before the last ESC. A command begins
+/// with ESC, controls if any, and `]`, and each ESC ends what is open.
 fn skipped(bytes: &[u8]) -> usize {
     // without an ESC, all but an unfinished character
     let (mut from, mut last) = (0, bytes.len().saturating_sub(3));
@@ -77,8 +77,8 @@ fn read_more(
     Ok(run.end)
 }
 
-/// Reads bytes until they end, the room is full, a stop comes or memory is refused. Returns how many
-/// were read, and whether memory was refused.
+/// Reads bytes until they end, the room is full, a stop comes or memory is refused. Returns how
+/// many were read, and whether memory was refused.
 fn read_all(
     parser: &mut LongParser,
     bytes: &[u8],

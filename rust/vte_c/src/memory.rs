@@ -33,8 +33,8 @@ mod heap {
     #[global_allocator]
     static HEAP: Heap = Heap;
 
-    // SAFETY: these are C's functions, which keep the rules of `GlobalAlloc`. They align memory for every type of C, and what needs
-    // more is refused.
+    // SAFETY: these are C's functions, which keep the rules of `GlobalAlloc`. They align memory for
+    // every type of C, and what needs more is refused.
     unsafe impl GlobalAlloc for Heap {
         unsafe fn alloc(&self, layout: Layout) -> *mut u8 {
             if layout.align() > 2 * size_of::<usize>() {

@@ -1,8 +1,9 @@
-//! Processors for C, whose handlers are tables of functions. Written by hand: proved code can't call functions of C.
+//! Processors for C, whose handlers are tables of functions. Written by hand: proved code can't
+//! call functions of C.
 //!
 //! The callers' rules of vte_handler.h make it sound: a processor is one that `vte_processor_new`
-//! returned and that isn't freed, and a function of the table may be called with what the header says,
-//! in the thread that calls the processor, and returns.
+//! returned and that isn't freed, and a function of the table may be called with what the header
+//! says, in the thread that calls the processor, and returns.
 #![allow(unsafe_code)]
 #![allow(clippy::missing_safety_doc)]
 
@@ -26,8 +27,8 @@ const OK: i32 = 0;
 const NO_MEMORY: i32 = 1;
 const BUSY: i32 = 2;
 
-/// Writes the table of functions, and the handler that calls them: of each method its name and parameters, and behind `=>` what is
-/// passed to C.
+/// Writes the table of functions, and the handler that calls them: of each method its name and
+/// parameters, and behind `=>` what is passed to C.
 macro_rules! calls {
     ($($name:ident($($argument:ident: $given:ty),*) $(=> $($sent:ty = $value:expr),+)?;)*) => {
         /// A function for each call of a handler, or null.
@@ -75,7 +76,8 @@ calls! {
     reverse_index();
     scroll_up(count: usize) => usize = count;
     scroll_down(count: usize) => usize = count;
-    set_scrolling_region(top: usize, bottom: Option<usize>) => usize = top, usize = bottom.unwrap_or(0);
+    set_scrolling_region(top: usize, bottom: Option<usize>)
+        => usize = top, usize = bottom.unwrap_or(0);
     set_horizontal_tabstop();
     clear_tabs(which: TabulationClearMode) => u8 = which as u8;
     set_tabs(interval: u16) => u16 = interval;
@@ -89,20 +91,27 @@ calls! {
     clear_line(part: LineClearMode) => u8 = part as u8;
     clear_screen(part: ClearMode) => u8 = part as u8;
     decaln();
-    terminal_attribute(attribute: Attr) => u8 = attribute_number(attribute), VteColor = color_of(attribute);
+    terminal_attribute(attribute: Attr)
+        => u8 = attribute_number(attribute), VteColor = color_of(attribute);
     set_color(index: usize, color: Rgb) => usize = index, VteColor = VteColor::of_rgb(color);
     reset_color(index: usize) => usize = index;
     dynamic_color_sequence(prefix: &str, index: usize, terminator: &str)
-        => *const u8 = prefix.as_ptr(), usize = prefix.len(), usize = index, *const u8 = terminator.as_ptr(), usize = terminator.len();
+        => *const u8 = prefix.as_ptr(), usize = prefix.len(), usize = index,
+           *const u8 = terminator.as_ptr(), usize = terminator.len();
     set_hyperlink(link: Option<Hyperlink<'_>>)
-        => *const u8 = place_of(link.and_then(|link| link.id)), usize = length_of(link.and_then(|link| link.id)),
-           *const u8 = place_of(link.map(|link| link.uri)), usize = length_of(link.map(|link| link.uri));
+        => *const u8 = place_of(link.and_then(|link| link.id)),
+           usize = length_of(link.and_then(|link| link.id)),
+           *const u8 = place_of(link.map(|link| link.uri)),
+           usize = length_of(link.map(|link| link.uri));
     set_cursor_style(style: Option<CursorStyle>)
-        => i32 = style.map_or(-1, |style| style.shape as i32), u8 = style.map_or(0, |style| u8::from(style.blinking));
+        => i32 = style.map_or(-1, |style| style.shape as i32),
+           u8 = style.map_or(0, |style| u8::from(style.blinking));
     set_cursor_shape(shape: CursorShape) => i32 = shape as i32;
-    set_mouse_cursor_icon(icon: CursorIcon) => *const u8 = icon.name().as_ptr(), usize = icon.name().len();
+    set_mouse_cursor_icon(icon: CursorIcon)
+        => *const u8 = icon.name().as_ptr(), usize = icon.name().len();
     set_active_charset(index: CharsetIndex) => u8 = index as u8;
-    configure_charset(index: CharsetIndex, charset: StandardCharset) => u8 = index as u8, u8 = charset as u8;
+    configure_charset(index: CharsetIndex, charset: StandardCharset)
+        => u8 = index as u8, u8 = charset as u8;
     set_scp(path: ScpCharPath, update: ScpUpdateMode) => u8 = path as u8, u8 = update as u8;
     set_mode(mode: Mode) => u16 = mode.raw();
     unset_mode(mode: Mode) => u16 = mode.raw();
@@ -115,15 +124,18 @@ calls! {
     unset_keypad_application_mode();
     push_keyboard_mode(modes: KeyboardModes) => u8 = modes.bits();
     pop_keyboard_modes(count: u16) => u16 = count;
-    set_keyboard_mode(modes: KeyboardModes, behavior: KeyboardModesApplyBehavior) => u8 = modes.bits(), u8 = behavior as u8;
+    set_keyboard_mode(modes: KeyboardModes, behavior: KeyboardModesApplyBehavior)
+        => u8 = modes.bits(), u8 = behavior as u8;
     report_keyboard_mode();
     set_modify_other_keys(keys: ModifyOtherKeys) => u8 = keys as u8;
     report_modify_other_keys();
     set_title(title: Option<&str>) => *const u8 = place_of(title), usize = length_of(title);
     push_title();
     pop_title();
-    clipboard_store(clipboard: u8, bytes: &[u8]) => u8 = clipboard, *const u8 = bytes.as_ptr(), usize = bytes.len();
-    clipboard_load(clipboard: u8, terminator: &str) => u8 = clipboard, *const u8 = terminator.as_ptr(), usize = terminator.len();
+    clipboard_store(clipboard: u8, bytes: &[u8])
+        => u8 = clipboard, *const u8 = bytes.as_ptr(), usize = bytes.len();
+    clipboard_load(clipboard: u8, terminator: &str)
+        => u8 = clipboard, *const u8 = terminator.as_ptr(), usize = terminator.len();
     device_status(kind: usize) => usize = kind;
     identify_terminal(intermediate: Option<char>) => u8 = intermediate.map_or(0, |c| c as u8);
     text_area_size_pixels();
@@ -255,7 +267,8 @@ fn now() -> u64 {
         fn clock_gettime(clock: i32, time: *mut [i64; 2]) -> i32;
     }
     let mut time = [0; 2];
-    // SAFETY: a `timespec` has 64 bits of seconds and 64 of nanoseconds on the machines that are supported
+    // SAFETY: a `timespec` has 64 bits of seconds and 64 of nanoseconds on the machines that are
+    // supported
     unsafe { clock_gettime(1, &mut time) };
     time[0] as u64 * 1_000_000_000 + time[1] as u64
 }
@@ -275,13 +288,14 @@ pub struct VteSync {
     deadline: u64,
 }
 
-/// Runs a call of a processor, unless one is under way, in this thread or another. Only `is_busy` is
-/// looked at before: a call under way has the rest.
+/// Runs a call of a processor, unless one is under way, in this thread or another. Only `is_busy`
+/// is looked at before: a call under way has the rest.
 unsafe fn enter(
     processor: *mut VteProcessor,
     call: impl FnOnce(&mut LongProcessor<Deadline>, &mut Calls) -> i32,
 ) -> i32 {
-    // SAFETY: the callers' rules above; references are to fields of which no call under way has others
+    // SAFETY: the callers' rules above; references are to fields of which no call under way has
+    // others
     unsafe {
         if (*processor).is_busy.swap(true, Ordering::Acquire) {
             return BUSY;

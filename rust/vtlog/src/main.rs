@@ -1,4 +1,5 @@
-//! `vtlog` reads what is sent to a terminal and prints one line per event, or with the argument `text` the text alone.
+//! `vtlog` reads what is sent to a terminal and prints one line per event, or with the argument
+//! `text` the text alone.
 #![forbid(unsafe_code)]
 
 #[path = "../../vte/src/adapter/array_vec.rs"]

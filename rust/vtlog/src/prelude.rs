@@ -1,4 +1,5 @@
-//! The program's surroundings, which the proved code takes as a value, and lists that may be refused memory.
+//! The program's surroundings, which the proved code takes as a value, and lists that may be
+//! refused memory.
 use std::io;
 use std::ops::Deref;
 
@@ -75,7 +76,10 @@ impl HostRuntime {
 macro_rules! print_error {
     ($runtime:expr; $($text:tt)*) => {{
         let _ = $runtime;
-        std::io::Write::write_fmt(&mut std::io::stderr(), format_args!("{}\n", format_args!($($text)*)))
+        std::io::Write::write_fmt(
+            &mut std::io::stderr(),
+            format_args!("{}\n", format_args!($($text)*)),
+        )
     }};
 }
 

@@ -1,4 +1,5 @@
-//! The lists of the program if memory is refused: a list without an argument would ask for something else.
+//! The lists of the program if memory is refused: a list without an argument would ask for
+//! something else.
 
 #[allow(dead_code)]
 #[path = "../../vte/tests/support/memory.rs"]

@@ -1,6 +1,7 @@
 //! The program: its arguments, statuses and messages, and the rows of events.
 //!
-//! It is the one that cargo builds, or the one that the variable `VTLOG` names, such as the proved program.
+//! It is the one that cargo builds, or the one that the variable `VTLOG` names, such as the proved
+//! program.
 
 use std::ffi::OsString;
 use std::fs::File;
@@ -139,7 +140,8 @@ fn standard_input_may_fail() {
     }
 }
 
-/// Rust's std opens /dev/null for a standard stream that is closed from the start, so the program that cargo builds can't tell.
+/// Rust's std opens /dev/null for a standard stream that is closed from the start, so the program
+/// that cargo builds can't tell.
 #[cfg(unix)]
 #[test]
 fn standard_streams_may_be_closed() {

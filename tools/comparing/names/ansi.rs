@@ -1,5 +1,5 @@
-// What the tests of the crate's src/ansi.rs know by names that only the crate itself has. Private functions are told by what a
-// stream makes of their argument.
+// What the tests of the crate's src/ansi.rs know by names that only the crate itself has. Private
+// functions are told by what a stream makes of their argument.
 
 #[allow(unused_imports)]
 use std::time::Duration;

@@ -1,4 +1,5 @@
-//! The crate `vte` without `std`, so that it keeps 1,024 bytes of a command: 0.15, or with `--cfg per_byte` 0.10.
+//! The crate `vte` without `std`, so that it keeps 1,024 bytes of a command: 0.15, or with `--cfg
+//! per_byte` 0.10.
 use std::io::{Read, Write};
 
 use event_lines::EventLines;

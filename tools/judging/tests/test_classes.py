@@ -35,7 +35,8 @@ class Side:
         return answers
 
 
-CASES = [case for case in cases.all_cases(("vectors", "random"), "1", 100)
+# there are enough to find several differences in a row, which are no class of their own
+CASES = [case for case in cases.all_cases(("vectors", "random"), "1", 240)
          if sum(map(len, case.pieces)) < 3000]
 
 
@@ -73,6 +74,7 @@ def test_a_breach_of_a_house_rule_has_its_rule(breach, rules):
     own = house.house_of([breach])
     result = judged(lambda pieces, _: definition.lines_of(b"".join(pieces), own))
     assert names(result) == set(rules.split())
+    assert len(result.findings) == len(rules.split()), "a rule has one class"
     assert (result.unexplained, result.status()) == (0, 1)
 
 

@@ -1,8 +1,8 @@
 //! The line of each handler call of `Processor`, as in rust/vte/tests/rows/call_lines.rs.
 //!
-//! After each piece and each `stop_sync` stands `held N`: `sync_bytes_count`. The timeout is never pending or, with
-//! `--expiring`, until it is cleared or expires. `--stop-at` and `--expire-at` give offsets of cuts: there `stop_sync` is
-//! called, and the timeout expires.
+//! After each piece and each `stop_sync` stands `held N`: `sync_bytes_count`. The timeout is never
+//! pending or, with `--expiring`, until it is cleared or expires. `--stop-at` and `--expire-at`
+//! give offsets of cuts: there `stop_sync` is called, and the timeout expires.
 
 use std::cell::Cell;
 use std::fmt::Write;
@@ -11,7 +11,7 @@ use std::time::Duration;
 use vte::ansi::{Processor, Timeout};
 
 use crate::call_lines::CallLines;
-use crate::{Options, pieces, read_stream, write_out};
+use crate::{pieces, read_stream, write_out, Options};
 
 /// A timeout that is pending until it is cleared or expires, or never.
 #[derive(Default)]
@@ -42,7 +42,11 @@ fn run<const NEVER: bool>(options: &Options) {
     };
     let mut place = 0;
     // before the first piece there may be stops, too
-    for (index, piece) in [&stream[..0]].into_iter().chain(pieces(&stream, &options.cuts)).enumerate() {
+    for (index, piece) in [&stream[..0]]
+        .into_iter()
+        .chain(pieces(&stream, &options.cuts))
+        .enumerate()
+    {
         if index > 0 {
             processor.advance(&mut log, piece);
             report(&log, processor.sync_bytes_count());
@@ -61,5 +65,9 @@ fn run<const NEVER: bool>(options: &Options) {
 
 pub fn main(words: &[String]) {
     let options = Options::new(words);
-    if options.expiring { run::<false>(&options) } else { run::<true>(&options) }
+    if options.expiring {
+        run::<false>(&options)
+    } else {
+        run::<true>(&options)
+    }
 }

@@ -16,12 +16,22 @@ impl EventLines {
 
 /// Two digits for each byte, or `-` where there are none.
 fn hex(bytes: &[u8]) -> String {
-    if bytes.is_empty() { "-".into() } else { bytes.iter().map(|byte| format!("{byte:02x}")).collect() }
+    if bytes.is_empty() {
+        "-".into()
+    } else {
+        bytes.iter().map(|byte| format!("{byte:02x}")).collect()
+    }
 }
 
 /// The groups of parameters, joined by `;`, their numbers joined by `:`.
 fn groups(params: &Params) -> String {
-    let group = |numbers: &[u16]| numbers.iter().map(u16::to_string).collect::<Vec<_>>().join(":");
+    let group = |numbers: &[u16]| {
+        numbers
+            .iter()
+            .map(u16::to_string)
+            .collect::<Vec<_>>()
+            .join(":")
+    };
     // that of 0.10 can be endless
     let groups: Vec<_> = params.iter().take(33).map(group).collect();
     assert!(groups.len() < 33, "the iterator gives more than 32 groups");
@@ -38,7 +48,12 @@ impl Perform for EventLines {
     }
 
     fn hook(&mut self, params: &Params, intermediates: &[u8], ignore: bool, action: char) {
-        self.push(format_args!("hook [{}] {} {ignore} {:02x}", groups(params), hex(intermediates), action as u8));
+        self.push(format_args!(
+            "hook [{}] {} {ignore} {:02x}",
+            groups(params),
+            hex(intermediates),
+            action as u8
+        ));
     }
 
     fn put(&mut self, byte: u8) {
@@ -50,15 +65,29 @@ impl Perform for EventLines {
     }
 
     fn osc_dispatch(&mut self, params: &[&[u8]], bell_terminated: bool) {
-        let pieces: String = params.iter().map(|piece| format!(" {}", hex(piece))).collect();
-        self.push(format_args!("osc {bell_terminated} {}{pieces}", params.len()));
+        let pieces: String = params
+            .iter()
+            .map(|piece| format!(" {}", hex(piece)))
+            .collect();
+        self.push(format_args!(
+            "osc {bell_terminated} {}{pieces}",
+            params.len()
+        ));
     }
 
     fn csi_dispatch(&mut self, params: &Params, intermediates: &[u8], ignore: bool, action: char) {
-        self.push(format_args!("csi [{}] {} {ignore} {:02x}", groups(params), hex(intermediates), action as u8));
+        self.push(format_args!(
+            "csi [{}] {} {ignore} {:02x}",
+            groups(params),
+            hex(intermediates),
+            action as u8
+        ));
     }
 
     fn esc_dispatch(&mut self, intermediates: &[u8], ignore: bool, byte: u8) {
-        self.push(format_args!("esc {} {ignore} {byte:02x}", hex(intermediates)));
+        self.push(format_args!(
+            "esc {} {ignore} {byte:02x}",
+            hex(intermediates)
+        ));
     }
 }

@@ -3,13 +3,15 @@
 use vte::Parser;
 
 use crate::event_lines::EventLines;
-use crate::{Options, pieces, read_stream, write_out};
+use crate::{pieces, read_stream, write_out, Options};
 
 /// Writes the lines of the characters of each run, which must be what a run is.
 #[cfg(runs)]
 impl vte::PerformText for EventLines {
     fn print_text(&mut self, text: &str) {
-        let has_control = text.chars().any(|c| matches!(c, '\0'..='\u{1f}' | '\u{80}'..='\u{9f}'));
+        let has_control = text
+            .chars()
+            .any(|c| matches!(c, '\0'..='\u{1f}' | '\u{80}'..='\u{9f}'));
         if text.is_empty() || has_control || std::str::from_utf8(text.as_bytes()).is_err() {
             self.push(format_args!("a bad run"));
         }

@@ -6,9 +6,10 @@
 //! peer race KIND PIECE PASSES                 a checksum, and the time of the fastest pass (src/race.rs)
 //! ```
 //!
-//! Each reads standard input to its end. `--cuts` gives the offsets where the stream is cut, in rising order; after `@` stands the
-//! name of a file that has them. Without it the crate gets the stream in one call. With `--runs` text comes in runs, which only a
-//! program over rust/vte can (`--cfg runs`). Status 2 for words that aren't understood.
+//! Each reads standard input to its end. `--cuts` gives the offsets where the stream is cut, in
+//! rising order; after `@` stands the name of a file that has them. Without it the crate gets the
+//! stream in one call. With `--runs` text comes in runs, which only a program over rust/vte can
+//! (`--cfg runs`). Status 2 for words that aren't understood.
 
 mod calls;
 mod event_lines;
@@ -42,12 +43,18 @@ fn usage(message: &str) -> ! {
 
 fn read_stream() -> Vec<u8> {
     let mut stream = Vec::new();
-    std::io::stdin().lock().read_to_end(&mut stream).expect("the read failed");
+    std::io::stdin()
+        .lock()
+        .read_to_end(&mut stream)
+        .expect("the read failed");
     stream
 }
 
 fn write_out(lines: &str) {
-    std::io::stdout().lock().write_all(lines.as_bytes()).expect("the write failed");
+    std::io::stdout()
+        .lock()
+        .write_all(lines.as_bytes())
+        .expect("the write failed");
 }
 
 /// The options of `lines` and `calls`.
@@ -81,24 +88,39 @@ impl Options {
 /// Offsets in rising order, joined by commas, or the name of a file that has them.
 fn offsets(word: Option<&String>) -> Vec<usize> {
     let word = word.map_or("", String::as_str);
-    let text = word.strip_prefix('@').map_or(Ok(word.to_owned()), std::fs::read_to_string);
+    let text = word
+        .strip_prefix('@')
+        .map_or(Ok(word.to_owned()), std::fs::read_to_string);
     let text = text.unwrap_or_else(|error| usage(&format!("{word}: {error}")));
-    match text.split(',').map(str::parse).collect::<Result<Vec<usize>, _>>() {
+    match text
+        .split(',')
+        .map(str::parse)
+        .collect::<Result<Vec<usize>, _>>()
+    {
         Ok(offsets) if offsets.is_sorted() => offsets,
-        _ => usage(&format!("rising numbers joined by commas are wanted, not {word}")),
+        _ => usage(&format!(
+            "rising numbers joined by commas are wanted, not {word}"
+        )),
     }
 }
 
 /// A number from 1 on.
 fn positive(word: &str) -> usize {
-    word.parse().ok().filter(|number| *number > 0).unwrap_or_else(|| usage(&format!("a number from 1 on is wanted, not {word}")))
+    word.parse()
+        .ok()
+        .filter(|number| *number > 0)
+        .unwrap_or_else(|| usage(&format!("a number from 1 on is wanted, not {word}")))
 }
 
 /// The pieces of a stream, cut at these offsets. One that stands twice makes an empty piece.
 fn pieces<'a>(stream: &'a [u8], cuts: &[usize]) -> Vec<&'a [u8]> {
     let starts = [0].into_iter().chain(cuts.iter().copied());
     let ends = cuts.iter().copied().chain([stream.len()]);
-    let piece = |(start, end)| stream.get(start..end).unwrap_or_else(|| usage("a cut stands after the end of the stream"));
+    let piece = |(start, end)| {
+        stream
+            .get(start..end)
+            .unwrap_or_else(|| usage("a cut stands after the end of the stream"))
+    };
     starts.zip(ends).map(piece).collect()
 }
 

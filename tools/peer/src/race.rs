@@ -1,8 +1,10 @@
-//! Times the crate's parser or processor alone, as crates/race does ours: standard output gets the checksum, standard
-//! error the nanoseconds of the fastest pass. The kinds are `parser` and `processor`, with a performer or handler that folds
-//! all into a checksum, `screen` and `terminal`, with a screen as the parser's performer or the processor's handler, and `strip` and
-//! `filter`, which put text into memory. Over rust/vte the last four are there with `_runs` too, and get text in runs. With
-//! `--cfg strippers` there are also what else strips, a copy, and a check of UTF-8.
+//! Times the crate's parser or processor alone, as crates/race does ours: standard output gets the
+//! checksum, standard error the nanoseconds of the fastest pass. The kinds are `parser` and
+//! `processor`, with a performer or handler that folds all into a checksum, `screen` and
+//! `terminal`, with a screen as the parser's performer or the processor's handler, and `strip` and
+//! `filter`, which put text into memory. Over rust/vte the last four are there with `_runs` too,
+//! and get text in runs. With `--cfg strippers` there are also what else strips, a copy, and a
+//! check of UTF-8.
 
 use std::hint::black_box;
 use std::time::{Duration, Instant};
@@ -10,8 +12,8 @@ use std::time::{Duration, Instant};
 #[cfg(strippers)]
 use {console::strip_ansi_codes, simdutf8::basic::from_utf8};
 
-use vte::Parser;
 use vte::ansi::Processor;
+use vte::Parser;
 
 use crate::by_call::ByCall;
 use crate::call_checksum::CallChecksum;
@@ -22,8 +24,9 @@ use crate::text::Text;
 use crate::until_cleared::UntilCleared;
 use crate::{positive, read_stream, usage};
 
-/// Writes the function of each kind: what reads a stream, who receives it, by which call, the checksum of that, and what begins a pass.
-/// Its time is that of the fastest pass. `race_of` chooses one.
+/// Writes the function of each kind: what reads a stream, who receives it, by which call, the
+/// checksum of that, and what begins a pass. Its time is that of the fastest pass. `race_of`
+/// chooses one.
 macro_rules! races {
     ($($(#[$runs:meta])? $kind:ident: $reader:expr, $receiver:expr, $advance:expr, $checksum:expr $(, $begin:expr)?;)*) => {
         $(
@@ -78,7 +81,9 @@ races! {
 }
 
 pub fn main(words: &[String]) {
-    let [kind, piece, passes] = words else { usage("race wants KIND, PIECE and PASSES") };
+    let [kind, piece, passes] = words else {
+        usage("race wants KIND, PIECE and PASSES")
+    };
     let (race, piece, passes) = (race_of(kind), positive(piece), positive(passes));
     let (checksum, time) = race(&read_stream(), piece, passes);
     println!("{checksum}");

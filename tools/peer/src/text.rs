@@ -1,4 +1,5 @@
-//! What strips a stream of sequences into memory, as a parser's performer and as a processor's handler.
+//! What strips a stream of sequences into memory, as a parser's performer and as a processor's
+//! handler.
 
 use vte::Perform;
 
@@ -29,7 +30,8 @@ impl Text {
 impl Perform for Text {
     #[inline]
     fn print(&mut self, c: char) {
-        self.0.extend_from_slice(c.encode_utf8(&mut [0; 4]).as_bytes());
+        self.0
+            .extend_from_slice(c.encode_utf8(&mut [0; 4]).as_bytes());
     }
 
     #[inline]

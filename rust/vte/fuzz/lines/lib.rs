@@ -1,4 +1,5 @@
-//! The lines of a stream's events and calls, over ours or over the crate `vte` (see the two manifests beside this file).
+//! The lines of a stream's events and calls, over ours or over the crate `vte` (see the two
+//! manifests beside this file).
 
 #[allow(dead_code)]
 #[path = "../../tests/rows/call_lines.rs"]

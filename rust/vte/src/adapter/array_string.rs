@@ -1,4 +1,5 @@
-//! A text with room for a fixed number of bytes. It has the name and methods of the crate `arrayvec`, and no call of it panics.
+//! A text with room for a fixed number of bytes. It has the name and methods of the crate
+//! `arrayvec`, and no call of it panics.
 use crate::adapter::array_vec::ArrayVec;
 
 /// Room for N bytes of text. A part that doesn't fit is left out.

@@ -1,7 +1,7 @@
 //! Handlers whose texts are owned, as those of the crate `vte` are.
 
-/// Writes two traits of one list of methods: `Handler`, and `owned::Handler`, which receives copies of some arguments. Whatever
-/// implements the second also implements the first.
+/// Writes two traits of one list of methods: `Handler`, and `owned::Handler`, which receives copies
+/// of some arguments. Whatever implements the second also implements the first.
 macro_rules! handlers {
     (
         $(#[$about:meta])*
@@ -26,7 +26,9 @@ macro_rules! handlers {
             $(
                 #[inline]
                 fn $method(&mut self $(, $argument: $type)*) {
-                    owned::Handler::$method(self $(, $crate::adapter::handlers::last!($argument $($copy)?))*);
+                    owned::Handler::$method(
+                        self $(, $crate::adapter::handlers::last!($argument $($copy)?))*
+                    );
                 }
             )*
         }
@@ -72,7 +74,10 @@ macro_rules! handlers {
             pub trait Handler {
                 $(
                     $(#[$doc])*
-                    fn $method(&mut self $(, $argument: $crate::adapter::handlers::last!($type $($owned)?))*) {}
+                    fn $method(
+                        &mut self
+                        $(, $argument: $crate::adapter::handlers::last!($type $($owned)?))*
+                    ) {}
                 )*
             }
 

@@ -6,8 +6,8 @@ use crate::proved::vte_handler::Hyperlink as LentHyperlink;
 
 /// A link of the characters that follow (OSC 8).
 ///
-/// Characters with the same URI and the same id are one link, wherever they are on the screen. A link without an id is a link of
-/// its own.
+/// Characters with the same URI and the same id are one link, wherever they are on the screen. A
+/// link without an id is a link of its own.
 #[derive(Clone, Debug, PartialEq, Eq, Hash)]
 pub struct Hyperlink {
     /// Distinguishes links with the same URI.

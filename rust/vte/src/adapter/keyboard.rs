@@ -2,12 +2,14 @@
 use bitflags::bitflags;
 
 bitflags! {
-    /// What a program asks the keyboard to report: the flags of the kitty keyboard protocol, one bit per flag.
+    /// What a program asks the keyboard to report: the flags of the kitty keyboard protocol, one
+    /// bit per flag.
     #[derive(Debug, Clone, Copy, Default, PartialEq, Eq, Hash)]
     pub struct KeyboardModes: u8 {
         /// No flag.
         const NO_MODE = 0;
-        /// Keys that would send a control or something like an escape sequence send an unambiguous sequence.
+        /// Keys that would send a control or something like an escape sequence send an unambiguous
+        /// sequence.
         const DISAMBIGUATE_ESC_CODES = 1;
         /// Key repeats and releases are reported too.
         const REPORT_EVENT_TYPES = 1 << 1;

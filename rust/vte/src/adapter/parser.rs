@@ -1,4 +1,5 @@
-//! The parser of the feature `std`: one without a limit, that ends the program if memory is refused.
+//! The parser of the feature `std`: one without a limit, that ends the program if memory is
+//! refused.
 use crate::adapter::memory::end_without;
 use crate::proved::vte_core::{LongParser, Perform, PerformText, Refused, Run};
 
@@ -40,16 +41,17 @@ impl<const OSC_RAW_BUF_SIZE: usize> Default for Parser<OSC_RAW_BUF_SIZE> {
 impl<const OSC_RAW_BUF_SIZE: usize> Parser<OSC_RAW_BUF_SIZE> {
     /// Reads the next bytes of the stream, and performs the events that they add to it.
     ///
-    /// However calls split the stream, the events are the same. An unfinished character or sequence at the end waits for more
-    /// bytes.
+    /// However calls split the stream, the events are the same. An unfinished character or sequence
+    /// at the end waits for more bytes.
     pub fn advance<P: Perform>(&mut self, performer: &mut P, bytes: &[u8]) {
         if let Err(Refused { read }) = self.0.advance(performer, bytes) {
             end_without(bytes.len() - read);
         }
     }
 
-    /// Reads the next bytes of the stream as [`advance`](Self::advance) does, and passes characters to print in
-    /// [runs](PerformText), and the data of device control strings in [slices](PerformText::put_slice).
+    /// Reads the next bytes of the stream as [`advance`](Self::advance) does, and passes characters
+    /// to print in [runs](PerformText), and the data of device control strings in
+    /// [slices](PerformText::put_slice).
     pub fn advance_text<P: PerformText>(&mut self, performer: &mut P, bytes: &[u8]) {
         if let Err(Refused { read }) = self.0.advance_text(performer, bytes) {
             end_without(bytes.len() - read);
@@ -58,9 +60,10 @@ impl<const OSC_RAW_BUF_SIZE: usize> Parser<OSC_RAW_BUF_SIZE> {
 
     /// Reads bytes until the performer is terminated, and returns how many were read.
     ///
-    /// The performer is asked at the start of the call, and again after each character, malformed sequence or byte that was
-    /// reported. It isn't asked before each byte: where nothing is reported, many are read between two questions. A
-    /// character that an earlier call began is finished first. An unfinished one at the end of the bytes counts as read.
+    /// The performer is asked at the start of the call, and again after each character, malformed
+    /// sequence or byte that was reported. It isn't asked before each byte: where nothing is
+    /// reported, many are read between two questions. A character that an earlier call began is
+    /// finished first. An unfinished one at the end of the bytes counts as read.
     #[must_use = "the bytes after the stop are still to be read"]
     pub fn advance_until_terminated<P: Perform>(
         &mut self,
@@ -73,13 +76,14 @@ impl<const OSC_RAW_BUF_SIZE: usize> Parser<OSC_RAW_BUF_SIZE> {
         }
     }
 
-    /// Gives back the memory that an open operating system command doesn't need, for instance after a giant one.
+    /// Gives back the memory that an open operating system command doesn't need, for instance after
+    /// a giant one.
     pub fn shrink(&mut self) {
         self.0.shrink();
     }
 
-    /// Reads bytes up to a run of text, or of data of a device control string, and the run itself, which it returns instead of
-    /// performing it.
+    /// Reads bytes up to a run of text, or of data of a device control string, and the run itself,
+    /// which it returns instead of performing it.
     ///
     /// A caller can take text from its own input in this way, with its place and without a copy:
     ///
@@ -95,10 +99,11 @@ impl<const OSC_RAW_BUF_SIZE: usize> Parser<OSC_RAW_BUF_SIZE> {
     /// parser.advance(&mut performer, &bytes[run.end..]); // performs CR and LF
     /// ```
     ///
-    /// A run begins where nothing is open and a character stands in the bytes that is printed as it is, or at a data byte that is
-    /// put. It ends before the first control, malformed sequence, unfinished character or byte that isn't put. What an earlier call
-    /// began is performed. Without a run the call ends with the bytes, or if the performer is terminated, which is asked as by
-    /// [`advance_until_terminated`](Self::advance_until_terminated).
+    /// A run begins where nothing is open and a character stands in the bytes that is printed as it
+    /// is, or at a data byte that is put. It ends before the first control, malformed sequence,
+    /// unfinished character or byte that isn't put. What an earlier call began is performed.
+    /// Without a run the call ends with the bytes, or if the performer is terminated, which is
+    /// asked as by [`advance_until_terminated`](Self::advance_until_terminated).
     #[must_use = "the bytes after the run are still to be read"]
     pub fn advance_to_run<'a, P: Perform>(
         &mut self,

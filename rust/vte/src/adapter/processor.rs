@@ -12,14 +12,16 @@ use crate::{
     proved::{vte::ansi::LongProcessor as Proved, vte_core::Refused},
 };
 
-/// A processor of the bytes that programs send to a terminal, which calls a handler for what they ask of it.
+/// A processor of the bytes that programs send to a terminal, which calls a handler for what they
+/// ask of it.
 ///
-/// The handler is an [`ansi::Handler`](crate::ansi::Handler), or an [`ansi::lent::Handler`](Handler), which receives texts without
-/// owning them.
+/// The handler is an [`ansi::Handler`](crate::ansi::Handler), or an
+/// [`ansi::lent::Handler`](Handler), which receives texts without owning them.
 ///
-/// Without the feature `std` a processor keeps 1,024 data bytes of an operating system command, and takes no memory after it was
-/// created. With `std` it keeps all of them: it takes memory for the next 65,536 bytes before it parses them, and the program ends if
-/// there is none, as for any `Vec`. [`LongProcessor`](crate::ansi::lent::LongProcessor) returns an error instead.
+/// Without the feature `std` a processor keeps 1,024 data bytes of an operating system command, and
+/// takes no memory after it was created. With `std` it keeps all of them: it takes memory for the
+/// next 65,536 bytes before it parses them, and the program ends if there is none, as for any
+/// `Vec`. [`LongProcessor`](crate::ansi::lent::LongProcessor) returns an error instead.
 ///
 /// ```
 /// use vte::ansi::{Attr, Color, Handler, NamedColor, Processor};
@@ -54,9 +56,11 @@ use crate::{
 #[derive(Clone)]
 pub struct Processor<T: Timeout = StdSyncHandler>(Proved<T>);
 
-/// A processor of the bytes that programs send to a terminal, which calls a handler for what they ask of it.
+/// A processor of the bytes that programs send to a terminal, which calls a handler for what they
+/// ask of it.
 ///
-/// It keeps 1,024 data bytes of an operating system command, and takes no memory after it was created.
+/// It keeps 1,024 data bytes of an operating system command, and takes no memory after it was
+/// created.
 #[cfg(not(feature = "std"))]
 #[derive(Clone)]
 pub struct Processor<T: Timeout>(Proved<T>);
@@ -77,7 +81,8 @@ fn end_if_refused(_outcome: (), _count: usize) {}
 
 #[cfg_attr(not(feature = "std"), allow(clippy::unit_arg))]
 impl<T: Timeout> Processor<T> {
-    /// Creates a processor that has read nothing, and allocates 2 MiB for updates that are held back.
+    /// Creates a processor that has read nothing, and allocates 2 MiB for updates that are held
+    /// back.
     ///
     /// The program ends if memory runs out, as for any `Vec`.
     #[inline]
@@ -85,8 +90,8 @@ impl<T: Timeout> Processor<T> {
         Self::default()
     }
 
-    /// Creates a processor that has read nothing, with a timeout that decides when an update whose end doesn't come is stopped, and
-    /// allocates 2 MiB for updates that are held back.
+    /// Creates a processor that has read nothing, with a timeout that decides when an update whose
+    /// end doesn't come is stopped, and allocates 2 MiB for updates that are held back.
     ///
     /// # Errors
     ///
@@ -134,10 +139,11 @@ impl<T: Timeout> Processor<T> {
         self.0.sync_timeout()
     }
 
-    /// Reads the next bytes of the stream, and parses them, or holds them back while an update is pending.
+    /// Reads the next bytes of the stream, and parses them, or holds them back while an update is
+    /// pending.
     ///
-    /// `handler` receives the calls of the bytes that are parsed. The bytes of an update are parsed when it ends. An unfinished
-    /// character or sequence at the end waits for more bytes.
+    /// `handler` receives the calls of the bytes that are parsed. The bytes of an update are parsed
+    /// when it ends. An unfinished character or sequence at the end waits for more bytes.
     #[inline]
     pub fn advance<H>(&mut self, handler: &mut H, bytes: &[u8])
     where
@@ -155,9 +161,11 @@ impl<T: Timeout> Processor<T> {
         end_if_refused(self.0.advance_text(handler, bytes), bytes.len());
     }
 
-    /// Stops an update: parses the bytes that are held back, calls `unset_private_mode` for its end, and clears the timeout.
+    /// Stops an update: parses the bytes that are held back, calls `unset_private_mode` for its
+    /// end, and clears the timeout.
     ///
-    /// Call it when the update has expired: `sync_timeout` of a `StdSyncHandler` returns when that is.
+    /// Call it when the update has expired: `sync_timeout` of a `StdSyncHandler` returns when that
+    /// is.
     pub fn stop_sync<H>(&mut self, handler: &mut H)
     where
         H: Handler,
@@ -173,8 +181,8 @@ impl<T: Timeout> Processor<T> {
         self.0.stop_sync_text(handler);
     }
 
-    /// Gives back the memory that an open operating system command doesn't need, for instance after a giant one, unless bytes are held
-    /// back. The 2 MiB for updates stay.
+    /// Gives back the memory that an open operating system command doesn't need, for instance after
+    /// a giant one, unless bytes are held back. The 2 MiB for updates stay.
     #[cfg(feature = "std")]
     pub fn shrink(&mut self) {
         self.0.shrink();

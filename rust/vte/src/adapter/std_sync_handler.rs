@@ -6,8 +6,8 @@ use crate::proved::vte_handler::Timeout;
 
 /// A timeout that remembers when an update expires.
 ///
-/// It is pending until it is cleared, and never expires by itself: wait for the moment that [`sync_timeout`](Self::sync_timeout)
-/// returns, and then call `stop_sync` of the processor.
+/// It is pending until it is cleared, and never expires by itself: wait for the moment that
+/// [`sync_timeout`](Self::sync_timeout) returns, and then call `stop_sync` of the processor.
 ///
 /// ```
 /// use vte::ansi::{Handler, Processor};

@@ -118,7 +118,8 @@ fn calls_of(pieces: &[&[u8]]) -> Vec<Calls> {
     all
 }
 
-/// The offsets at which a stream is cut: nowhere; after each byte, or each 4,096; around 1,024 data bytes and among the last bytes.
+/// The offsets at which a stream is cut: nowhere; after each byte, or each 4,096; around 1,024 data
+/// bytes and among the last bytes.
 fn cuttings(stream: &[u8]) -> Vec<Vec<usize>> {
     let is_short = stream.len() < 10_000;
     let step = if is_short { 1 } else { 4096 };

@@ -1,7 +1,8 @@
-//! Operating system commands around the limit of a crate without `std`, and of a million bytes: titles, links, clipboards, colours.
+//! Operating system commands around the limit of a crate without `std`, and of a million bytes:
+//! titles, links, clipboards, colours.
 //!
-//! Their calls are worked out from docs/EVENTS.md and docs/CALLS.md. The data bytes of a command are all but its `;`. Each row says
-//! what follows ESC `]` and which calls it makes.
+//! Their calls are worked out from docs/EVENTS.md and docs/CALLS.md. The data bytes of a command
+//! are all but its `;`. Each row says what follows ESC `]` and which calls it makes.
 #![cfg(feature = "ansi")]
 
 mod calls;

@@ -39,8 +39,8 @@ pub fn check_counts(rows: impl Fn(usize, bool) -> Vec<Row>) {
     }
 }
 
-/// Checks each row, ended by BEL, ST and CAN, between two characters and before a short command. The longest, which take a debug build
-/// seconds, end by ST alone.
+/// Checks each row, ended by BEL, ST and CAN, between two characters and before a short command.
+/// The longest, which take a debug build seconds, end by ST alone.
 pub fn check_rows(rows: impl Fn(bool) -> Vec<Row>) {
     for end in ["\x07", "\x1b\\", "\x18"] {
         for Row { command, calls } in rows(end == "\x07") {

@@ -1,4 +1,5 @@
-//! Rows of acts on one processor: `advance`, `stop_sync` and `expire`. The lines after an act say what it does:
+//! Rows of acts on one processor: `advance`, `stop_sync` and `expire`. The lines after an act say
+//! what it does:
 //!
 //! | line | meaning |
 //! |---|---|

@@ -1,15 +1,17 @@
 //! Blocks of lines, separated by empty lines.
 //!
-//! The first line of a block is its kind and its name. Each other line is a word and what belongs to it:
+//! The first line of a block is its kind and its name. Each other line is a word and what belongs
+//! to it:
 //!
 //! | line | meaning |
 //! |---|---|
-//! | `advance HEX`, `advances N HEX` | a call of `advance` with these bytes, or with N copies of them |
-//! | `event LINE`, `events N LINE` | an event, or N of them; `\|` divides lines that are repeated together |
+//! | `advance HEX`, `advances N HEX` | a call of `advance` with these bytes, or N copies |
+//! | `event LINE`, `events N LINE` | an event, or N; `\|` divides what is repeated together |
 //! | `call LINE`, `calls N LINE` | a handler call, or N of them |
 //! | `size N` | how many data bytes of an operating system command are kept, or `unlimited` |
 //! | `stop WORD`, `before HEX`, `until HEX`, `answer N` | see `events.rs` |
-//! | `timeout WORD`, `stop_sync`, `expire`, `held N`, `count N`, `sets N`, `clears N` | see `acts.rs` |
+//! | `timeout WORD`, `stop_sync`, `expire`, `held N`, `count N` | see `acts.rs` |
+//! | `sets N`, `clears N` | see `acts.rs` |
 //!
 //! In `events.txt`, `{UNIT*N}` in bytes and lines stands for N copies of UNIT.
 

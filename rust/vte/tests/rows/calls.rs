@@ -1,7 +1,9 @@
-//! Rows of handler calls, by handlers of owned and of lent texts, and by one that takes calls as values.
+//! Rows of handler calls, by handlers of owned and of lent texts, and by one that takes calls as
+//! values.
 //!
-//! However the bytes of a `stream` are cut, they make its calls. The bytes of a `stops` make its prints and attributes, with a
-//! stop at each place. An `order` has the calls of the handler and the timeout, in pieces of every length.
+//! However the bytes of a `stream` are cut, they make its calls. The bytes of a `stops` make its
+//! prints and attributes, with a stop at each place. An `order` has the calls of the handler and
+//! the timeout, in pieces of every length.
 
 use crate::acts::check_acts;
 use crate::block::{blocks, cuttings, Block};

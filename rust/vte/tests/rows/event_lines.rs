@@ -25,7 +25,8 @@ impl Stop {
     }
 }
 
-/// Writes a line for each event, and is terminated as `stop` says. With `KEEPS` its runs may hold HT, LF and CR.
+/// Writes a line for each event, and is terminated as `stop` says. With `KEEPS` its runs may hold
+/// HT, LF and CR.
 pub struct EventLines<const KEEPS: bool = false> {
     pub text: String,
     stop: Stop,
@@ -151,7 +152,8 @@ impl<const KEEPS: bool> PerformText for EventLines<KEEPS> {
     }
 }
 
-/// Whether `execute` receives the character, by rows 00 to 1F and 80 to 9F of Unicode. DEL is printed.
+/// Whether `execute` receives the character, by rows 00 to 1F and 80 to 9F of Unicode. DEL is
+/// printed.
 fn is_control_character(c: char) -> bool {
     matches!(c, '\0'..='\u{1f}' | '\u{80}'..='\u{9f}')
 }

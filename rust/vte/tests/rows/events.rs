@@ -1,7 +1,7 @@
 //! Rows of events: `lines` are streams, `until` are calls that stop early.
 //!
-//! In an `until`, `stop` says when the performer is terminated, `before` has bytes that were read before, and `answer` is what
-//! `advance_until_terminated` returns.
+//! In an `until`, `stop` says when the performer is terminated, `before` has bytes that were read
+//! before, and `answer` is what `advance_until_terminated` returns.
 
 use vte::{BoundedParser, Parser, PerformText};
 

@@ -53,7 +53,8 @@ pub fn refused<T>(answer: impl FnOnce() -> T) -> T {
     answer
 }
 
-/// Runs the test with this name alone, in a program of its own, which does this. Returns what it said, or `None` in that program.
+/// Runs the test with this name alone, in a program of its own, which does this. Returns what it
+/// said, or `None` in that program.
 fn alone(test: &str, call: impl FnOnce()) -> Option<Output> {
     const WHICH: &str = "VTE_TEST_ALONE";
     if std::env::var_os(WHICH).is_some() {
@@ -88,8 +89,9 @@ pub fn status(name: &str) -> usize {
     kilobytes.parse::<usize>().unwrap() * 1024
 }
 
-/// Checks that a call ends the program if it is refused memory, with this number of bytes in the message. The program that ends is
-/// another one: that of the test with this name, run for it alone.
+/// Checks that a call ends the program if it is refused memory, with this number of bytes in the
+/// message. The program that ends is another one: that of the test with this name, run for it
+/// alone.
 pub fn ends_without(count: usize, test: &str, call: impl FnOnce()) {
     let output = match alone(test, || refused(call)) {
         Some(output) => output,

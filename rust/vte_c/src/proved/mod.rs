@@ -1,4 +1,4 @@
-// Written by tools/erase from crates/. Don't edit this file: edit those, and run the tool.
+// Written by tools/erase from crates/: edit those.
 //! The proved text.
 
 pub(crate) mod vte_c;

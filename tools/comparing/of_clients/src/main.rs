@@ -6,7 +6,8 @@
 //! clients grid CUTS       the grid, the modes and the events of a terminal of the crate alacritty_terminal
 //! ```
 //!
-//! CUTS are the offsets at which the stream is cut, with commas between them. `strip` takes the whole.
+//! CUTS are the offsets at which the stream is cut, with commas between them. `strip` takes the
+//! whole.
 
 use std::cell::RefCell;
 use std::io::{self, Read, Write};
@@ -44,19 +45,32 @@ fn screens(pieces: &[&[u8]], output: &mut impl Write) -> io::Result<()> {
     let mut terminal = vt100::Parser::new(24, 80, 100);
     for piece in pieces {
         terminal.process(piece);
-        writeln!(output, "{}", terminal.screen().state_formatted().escape_ascii())?;
+        writeln!(
+            output,
+            "{}",
+            terminal.screen().state_formatted().escape_ascii()
+        )?;
     }
     writeln!(output, "{:#?}", terminal.screen())
 }
 
 fn grid(pieces: &[&[u8]], output: &mut impl Write) -> io::Result<()> {
     let events = Events::default();
-    let config = Config { scrolling_history: 500, kitty_keyboard: true, ..Config::default() };
+    let config = Config {
+        scrolling_history: 500,
+        kitty_keyboard: true,
+        ..Config::default()
+    };
     let mut terminal = Term::new(config, &TermSize::new(80, 24), events.clone());
     let mut processor: Processor = Processor::new();
     for piece in pieces {
         processor.advance(&mut terminal, piece);
-        writeln!(output, "{:?} {:?}", terminal.grid().cursor.point, terminal.mode())?;
+        writeln!(
+            output,
+            "{:?} {:?}",
+            terminal.grid().cursor.point,
+            terminal.mode()
+        )?;
     }
     processor.stop_sync(&mut terminal);
     let grid = terminal.grid();
@@ -84,7 +98,12 @@ fn main() -> io::Result<()> {
         ["strip", _] => output.write_all(&strip_ansi_escapes::strip(&stream))?,
         ["screens", cuts] => screens(&pieces(&stream, cuts), &mut output)?,
         ["grid", cuts] => grid(&pieces(&stream, cuts), &mut output)?,
-        _ => return Err(io::Error::new(io::ErrorKind::InvalidInput, "strip, screens or grid is expected, and cuts")),
+        _ => {
+            return Err(io::Error::new(
+                io::ErrorKind::InvalidInput,
+                "strip, screens or grid is expected, and cuts",
+            ))
+        }
     }
     output.flush()
 }

@@ -1,4 +1,5 @@
-//! Stands in for the crate `memchr` in the C library: the searches of the C library that it is linked with.
+//! Stands in for the crate `memchr` in the C library: the searches of the C library that it is
+//! linked with.
 #![no_std]
 
 use core::ffi::c_void;
@@ -13,13 +14,19 @@ extern "C" {
 /// Returns where a byte first stands.
 pub fn memchr(byte: u8, bytes: &[u8]) -> Option<usize> {
     // SAFETY: the bytes are a slice's
-    place(unsafe { first(bytes.as_ptr().cast(), i32::from(byte), bytes.len()) }, bytes)
+    place(
+        unsafe { first(bytes.as_ptr().cast(), i32::from(byte), bytes.len()) },
+        bytes,
+    )
 }
 
 /// Returns where a byte last stands.
 pub fn memrchr(byte: u8, bytes: &[u8]) -> Option<usize> {
     // SAFETY: the bytes are a slice's
-    place(unsafe { last(bytes.as_ptr().cast(), i32::from(byte), bytes.len()) }, bytes)
+    place(
+        unsafe { last(bytes.as_ptr().cast(), i32::from(byte), bytes.len()) },
+        bytes,
+    )
 }
 
 fn place(found: *const c_void, bytes: &[u8]) -> Option<usize> {

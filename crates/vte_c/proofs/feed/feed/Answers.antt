@@ -17,10 +17,12 @@ returns c =
     let count : read_count read.result ≡ read.result =
     counted read.result (omega (arith, within, length-take m bytes, c.min-end.ensures)) in
     let feeds =
-    λ (told : List Event) (stream rest : List ℕ) (h : HasTold c.args.kinds c.args.parser.now told stream (bytes ++ rest)).
+    λ (told : List Event) (stream rest : List ℕ)
+    (h : HasTold c.args.kinds c.args.parser.now told stream (bytes ++ rest)).
     read.ensures.feeds told stream (drop m bytes ++ rest) (rw (kinds, ← append_assoc (take m bytes), whole) h) in
     let are =
-    λ (told : List Event) (stream rest : List ℕ) (h : HasTold c.args.kinds c.args.parser.now told stream (bytes ++ rest)).
+    λ (told : List Event) (stream rest : List ℕ)
+    (h : HasTold c.args.kinds c.args.parser.now told stream (bytes ++ rest)).
     let fed = feeds told stream rest h in
     counts_are room c.min.result c.min-2.result (fed.encodes [])
     (c.events-1.given.1.1 (sym (fed.events_name ∙ c.new-room.ensures.same_events)))

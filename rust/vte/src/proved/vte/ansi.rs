@@ -1,4 +1,4 @@
-// Written by tools/erase from crates/vte/src/ansi.rt. Don't edit this file: edit that one, and run the tool.
+// Written by tools/erase from crates/vte/src/ansi.rt: edit that one.
 //! The processor, which interprets the events of a stream, and the handler whose methods it calls.
 
 mod color_reader;

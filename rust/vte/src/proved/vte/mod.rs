@@ -1,4 +1,4 @@
-// Written by tools/erase from crates/vte/src/lib.rt. Don't edit this file: edit that one, and run the tool.
+// Written by tools/erase from crates/vte/src/lib.rt: edit that one.
 //! A parser and a processor for the bytes that programs send to a terminal.
 //!
 //! A [`Parser`] reads a stream in chunks of any length and reports its events to a [`Perform`]:

@@ -1,4 +1,4 @@
-// Written by tools/erase from crates/vte_core/src/automaton.rt. Don't edit this file: edit that one, and run the tool.
+// Written by tools/erase from crates/vte_core/src/automaton.rt: edit that one.
 //! The automaton of text in runs.
 //!
 //! It is based on shifts: a byte's row in the table holds for each state the one that comes next,

@@ -1,4 +1,4 @@
-// Written by tools/erase from crates/vte_core/src/buffer.rt. Don't edit this file: edit that one, and run the tool.
+// Written by tools/erase from crates/vte_core/src/buffer.rt: edit that one.
 //! The buffer for the data bytes of an operating system command.
 
 use crate::adapter::array_vec::ArrayVec;

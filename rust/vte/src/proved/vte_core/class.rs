@@ -1,4 +1,4 @@
-// Written by tools/erase from crates/vte_core/src/class.rt. Don't edit this file: edit that one, and run the tool.
+// Written by tools/erase from crates/vte_core/src/class.rt: edit that one.
 //! The classes of bytes.
 
 pub(crate) const ESCAPE: u8 = 0x1b;

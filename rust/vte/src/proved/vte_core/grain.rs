@@ -1,4 +1,4 @@
-// Written by tools/erase from crates/vte_core/src/looks/grain.rt. Don't edit this file: edit that one, and run the tool.
+// Written by tools/erase from crates/vte_core/src/looks/grain.rt: edit that one.
 //! How performers take text.
 
 use crate::proved::vte_core::automaton::is_layout;

@@ -1,4 +1,4 @@
-// Written by tools/erase from crates/vte_core/src/head.rt. Don't edit this file: edit that one, and run the tool.
+// Written by tools/erase from crates/vte_core/src/head.rt: edit that one.
 //! What is collected of an escape sequence, and of the head of a control sequence or a device
 //! control string.
 

@@ -1,10 +1,10 @@
-// Written by tools/erase from crates/vte_core/src/lib.rt. Don't edit this file: edit that one, and run the tool.
+// Written by tools/erase from crates/vte_core/src/lib.rt: edit that one.
 //! The parser of the bytes that programs send to a terminal: text in UTF-8, controls, escape and
 //! control sequences, device control strings and operating system commands (ECMA-48, ECMA-35, the
 //! VT500 parser).
 //!
-//! [`Parser`] reads a stream in chunks of any length and calls a [`Perform`] for each of its events. [`LongParser`] is
-//! a parser without a limit on the text of operating system commands.
+//! [`Parser`] reads a stream in chunks of any length and calls a [`Perform`] for each of its
+//! events. [`LongParser`] is a parser without a limit on the text of operating system commands.
 
 mod automaton;
 mod buffer;

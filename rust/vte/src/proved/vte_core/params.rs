@@ -1,4 +1,4 @@
-// Written by tools/erase from crates/vte_core/src/params.rt. Don't edit this file: edit that one, and run the tool.
+// Written by tools/erase from crates/vte_core/src/params.rt: edit that one.
 //! The parameters of a control sequence.
 
 use crate::adapter::array_vec::ArrayVec;

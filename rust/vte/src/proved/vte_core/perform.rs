@@ -1,4 +1,4 @@
-// Written by tools/erase from crates/vte_core/src/perform.rt. Don't edit this file: edit that one, and run the tool.
+// Written by tools/erase from crates/vte_core/src/perform.rt: edit that one.
 //! The events of a stream, and what receives them.
 
 use crate::proved::vte_core::params::Params;
@@ -39,8 +39,9 @@ pub trait Perform {
     /// says that there were more.
     fn esc_dispatch(&mut self, intermediates: &[u8], ignore: bool, byte: u8) {}
 
-    /// Returns whether `advance_until_terminated` stops. It is asked after events, and not before each byte: the answer
-    /// should depend on the events alone, and on no clock or flag that changes between them.
+    /// Returns whether `advance_until_terminated` stops. It is asked after events, and not
+    /// before each byte: the answer should depend on the events alone, and on no clock or flag
+    /// that changes between them.
     fn terminated(&self) -> bool {
         false
     }

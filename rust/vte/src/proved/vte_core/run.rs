@@ -1,7 +1,8 @@
-// Written by tools/erase from crates/vte_core/src/run.rt. Don't edit this file: edit that one, and run the tool.
+// Written by tools/erase from crates/vte_core/src/run.rt: edit that one.
 //! Where a run of printed text ends.
 //!
-//! A word is eight bytes. None is tried before a run has begun with single bytes, so that no byte is read often.
+//! A word is eight bytes. None is tried before a run has begun with single bytes, so that no
+//! byte is read often.
 
 use crate::proved::vte_core::automaton::{is_layout, skip_run_blocks};
 use crate::proved::vte_core::grain::{Grain, PerformAs};

@@ -1,4 +1,4 @@
-// Written by tools/erase from crates/vte_core/src/looks.rt. Don't edit this file: edit that one, and run the tool.
+// Written by tools/erase from crates/vte_core/src/looks.rt: edit that one.
 //! Searches of the input.
 
 mod taken;
@@ -20,10 +20,10 @@ pub(crate) fn up_to(input: &[u8], to: usize) -> &[u8] {
 #[allow(unsafe_code)]
 pub(crate) fn text(input: &[u8], from: usize, to: usize) -> &str {
     let bytes = &input[from..to];
-    // SAFETY: `to` is where a search found the end of a run that begins at `from`. Searches pass one
-    // whole character at a time: a byte of ASCII, or a lead byte with all its continuation bytes, the
-    // first of which `may_begin_three` and `may_begin_four` test. The automaton, which passes blocks,
-    // goes back to where no character is open.
+    // SAFETY: `to` is where a search found the end of a run that begins at `from`. Searches pass
+    // one whole character at a time: a byte of ASCII, or a lead byte with all its continuation
+    // bytes, the first of which `may_begin_three` and `may_begin_four` test. The automaton, which
+    // passes blocks, goes back to where no character is open.
     debug_assert!(str::from_utf8(bytes).is_ok());
     unsafe { str::from_utf8_unchecked(bytes) }
 }
@@ -48,8 +48,8 @@ pub(crate) fn take_run(input: &[u8], place: RunPlace) -> Run<'_> {
     }
 }
 
-/// Returns where the data bytes of an operating system command that start at a place end: before `;` or a control,
-/// or with the input.
+/// Returns where the data bytes of an operating system command that start at a place end:
+/// before `;` or a control, or with the input.
 pub(crate) fn find_data_end(input: &[u8], from: usize) -> usize {
     let mut end = from;
     while end < input.len() && input[end] >= 0x20 && input[end] != b';' {
@@ -58,8 +58,8 @@ pub(crate) fn find_data_end(input: &[u8], from: usize) -> usize {
     end
 }
 
-/// Returns where the data of a device control string that start at a place end: before a byte that isn't put, or
-/// with the input.
+/// Returns where the data of a device control string that start at a place end: before a
+/// byte that isn't put, or with the input.
 pub(crate) fn find_put_end(input: &[u8], from: usize) -> usize {
     let mut end = from;
     while end < input.len() && is_data(input[end]) {

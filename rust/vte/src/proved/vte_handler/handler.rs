@@ -1,4 +1,4 @@
-// Written by tools/erase from crates/vte_handler/src/handler.rt. Don't edit this file: edit that one, and run the tool.
+// Written by tools/erase from crates/vte_handler/src/handler.rt: edit that one.
 //! What a processor asks of a terminal, one method per request.
 
 use crate::adapter::handlers::handlers;
@@ -258,8 +258,9 @@ handlers! {
 
     // ---- Titles, clipboards and reports
 
-    /// OSC 0 and 2: the window's title (xterm). It may be empty. Without the feature `std` it has at most 1,023 bytes.
-    /// White space at both ends is trimmed. `None`, the terminal's own title, never arrives.
+    /// OSC 0 and 2: the window's title (xterm). It may be empty. Without the feature `std` it
+    /// has at most 1,023 bytes. White space at both ends is trimmed. `None`, the terminal's own
+    /// title, never arrives.
     fn set_title(&mut self, title: Option<&str> as Option<String> = title.map(Into::into)) {}
 
     /// XTWINOPS 22, `CSI 22 t`: push the title onto a stack (xterm).
@@ -268,9 +269,9 @@ handlers! {
     /// XTWINOPS 23, `CSI 23 t`: pop the title off the stack (xterm).
     fn pop_title(&mut self) {}
 
-    /// OSC 52: store data in a clipboard (xterm). Its letter is the first byte of the selection, or `c` if that is
-    /// empty. The data are passed on as they came: they should be base64, and may be anything. Without the feature
-    /// `std` they have at most 1,022 bytes.
+    /// OSC 52: store data in a clipboard (xterm). Its letter is the first byte of the
+    /// selection, or `c` if that is empty. The data are passed on as they came: they should be
+    /// base64, and may be anything. Without the feature `std` they have at most 1,022 bytes.
     fn clipboard_store(&mut self, clipboard: u8, bytes: &[u8]) {}
 
     /// OSC 52 with `?`: report what a clipboard holds, by its letter as in `clipboard_store`

@@ -1,10 +1,10 @@
-// Written by tools/erase from crates/vte_handler/src/hyperlink.rt. Don't edit this file: edit that one, and run the tool.
+// Written by tools/erase from crates/vte_handler/src/hyperlink.rt: edit that one.
 //! Links.
 
 /// A link of the characters that follow (OSC 8).
 ///
-/// Characters with the same URI and the same id belong to one link, wherever they are. Without an id, each link is
-/// separate.
+/// Characters with the same URI and the same id belong to one link, wherever they are. Without
+/// an id, each link is separate.
 #[derive(Debug, Eq, PartialEq, Hash, Clone, Copy)]
 pub struct Hyperlink<'a> {
     /// Distinguishes links with the same URI.

@@ -1,8 +1,9 @@
-// Written by tools/erase from crates/vte_handler/src/lib.rt. Don't edit this file: edit that one, and run the tool.
+// Written by tools/erase from crates/vte_handler/src/lib.rt: edit that one.
 //! Handlers: what a program can ask of a terminal, one method per request.
 //!
-//! A [`Handler`] has one method per call. Texts and bytes are borrowed for the duration of the call. If only a few
-//! calls matter to you, [`ByCall`] passes each on as a [`HandlerCall`], and one `match` picks those.
+//! A [`Handler`] has one method per call. Texts and bytes are borrowed for the duration of the
+//! call. If only a few calls matter to you, [`ByCall`] passes each on as a [`HandlerCall`], and
+//! one `match` picks those.
 
 pub(crate) use handler::owned;
 #[cfg(feature = "__own")]

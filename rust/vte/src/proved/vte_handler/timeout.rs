@@ -1,4 +1,4 @@
-// Written by tools/erase from crates/vte_handler/src/timeout.rt. Don't edit this file: edit that one, and run the tool.
+// Written by tools/erase from crates/vte_handler/src/timeout.rt: edit that one.
 //! Timeouts of synchronized updates.
 
 use core::time::Duration;

@@ -1,4 +1,4 @@
-// Written by tools/erase from crates/vte_types/src/C0.rt. Don't edit this file: edit that one, and run the tool.
+// Written by tools/erase from crates/vte_types/src/C0.rt: edit that one.
 //! The controls of the set C0, one byte each (ECMA-48, section 8.2; ISO 646), by the names of
 //! ASCII; and DEL.
 

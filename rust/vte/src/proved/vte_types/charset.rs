@@ -1,4 +1,4 @@
-// Written by tools/erase from crates/vte_types/src/charset.rt. Don't edit this file: edit that one, and run the tool.
+// Written by tools/erase from crates/vte_types/src/charset.rt: edit that one.
 //! Character sets (ECMA-35).
 
 /// One of the four character sets that a terminal keeps ready (ECMA-35). `ESC (` to `ESC +`

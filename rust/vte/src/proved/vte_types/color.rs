@@ -1,4 +1,4 @@
-// Written by tools/erase from crates/vte_types/src/color.rt. Don't edit this file: edit that one, and run the tool.
+// Written by tools/erase from crates/vte_types/src/color.rt: edit that one.
 //! Colours and attributes of characters (ECMA-48, SGR; xterm).
 
 mod text;

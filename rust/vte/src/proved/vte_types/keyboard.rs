@@ -1,4 +1,4 @@
-// Written by tools/erase from crates/vte_types/src/keyboard.rt. Don't edit this file: edit that one, and run the tool.
+// Written by tools/erase from crates/vte_types/src/keyboard.rt: edit that one.
 //! Modes of the keyboard (the kitty keyboard protocol; xterm's modifyOtherKeys).
 
 pub use crate::adapter::keyboard::KeyboardModes;

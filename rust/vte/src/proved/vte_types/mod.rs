@@ -1,4 +1,4 @@
-// Written by tools/erase from crates/vte_types/src/lib.rt. Don't edit this file: edit that one, and run the tool.
+// Written by tools/erase from crates/vte_types/src/lib.rt: edit that one.
 //! The types in a handler's calls, and their tables: colours, modes, character sets and cursors.
 
 pub use ::cursor_icon;

@@ -1,4 +1,4 @@
-// Written by tools/erase from crates/vte_types/src/mode.rt. Don't edit this file: edit that one, and run the tool.
+// Written by tools/erase from crates/vte_types/src/mode.rt: edit that one.
 //! Modes, which are set and reset by number (ECMA-48, SM and RM; DEC, DECSET and DECRST).
 
 /// A mode of ECMA-48.

@@ -1,4 +1,4 @@
-// Written by tools/erase from crates/vte_types/src/screen.rt. Don't edit this file: edit that one, and run the tool.
+// Written by tools/erase from crates/vte_types/src/screen.rt: edit that one.
 //! Parts of the screen, the look of the cursor, and the direction of text.
 
 /// Which part of the cursor's line is cleared (ECMA-48, EL).

@@ -1,4 +1,4 @@
-// Written by tools/erase from crates/vte_c/src/event.rt. Don't edit this file: edit that one, and run the tool.
+// Written by tools/erase from crates/vte_c/src/event.rt: edit that one.
 //! Events as records of a fixed size.
 
 /// The kinds of events, by the numbers of `vte.h`.

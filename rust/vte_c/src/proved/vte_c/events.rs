@@ -1,4 +1,4 @@
-// Written by tools/erase from crates/vte_c/src/events.rt. Don't edit this file: edit that one, and run the tool.
+// Written by tools/erase from crates/vte_c/src/events.rt: edit that one.
 //! The performer that writes events into the caller's buffers.
 
 use crate::proved::vte_c::event::{self, count_byte, has, VteEvent};

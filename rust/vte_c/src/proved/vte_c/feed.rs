@@ -1,4 +1,4 @@
-// Written by tools/erase from crates/vte_c/src/feed.rt. Don't edit this file: edit that one, and run the tool.
+// Written by tools/erase from crates/vte_c/src/feed.rt: edit that one.
 //! From bytes to events.
 
 use crate::proved::vte_c::event::VteEvent;

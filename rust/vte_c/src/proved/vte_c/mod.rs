@@ -1,4 +1,4 @@
-// Written by tools/erase from crates/vte_c/src/lib.rt. Don't edit this file: edit that one, and run the tool.
+// Written by tools/erase from crates/vte_c/src/lib.rt: edit that one.
 //! The parser as a library for C, and for whatever links C.
 //!
 //! A parser is plain data that the caller owns, and so are the buffers for what it tells. The

@@ -1,4 +1,4 @@
-// Written by tools/erase from crates/vte_c/src/text.rt. Don't edit this file: edit that one, and run the tool.
+// Written by tools/erase from crates/vte_c/src/text.rt: edit that one.
 //! From bytes to the text that is left without the sequences.
 
 use crate::proved::vte_c::feed::NO_ROOM;

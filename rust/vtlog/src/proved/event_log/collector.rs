@@ -1,4 +1,4 @@
-// Written by tools/erase from crates/event_log/src/collector.rt. Don't edit this file: edit that one, and run the tool.
+// Written by tools/erase from crates/event_log/src/collector.rt: edit that one.
 //! Performers that collect text until it is written.
 
 use vte::Parser;

@@ -1,4 +1,4 @@
-// Written by tools/erase from crates/event_log/src/device.rt. Don't edit this file: edit that one, and run the tool.
+// Written by tools/erase from crates/event_log/src/device.rt: edit that one.
 //! Readers and writers.
 
 use std::io::{Read, Write};

@@ -1,4 +1,4 @@
-// Written by tools/erase from crates/event_log/src/fault.rt. Don't edit this file: edit that one, and run the tool.
+// Written by tools/erase from crates/event_log/src/fault.rt: edit that one.
 //! Reasons why a run ends early.
 
 /// The device that ended a run.

@@ -1,4 +1,4 @@
-// Written by tools/erase from crates/event_log/src/lines.rt. Don't edit this file: edit that one, and run the tool.
+// Written by tools/erase from crates/event_log/src/lines.rt: edit that one.
 //! Lines of text, each appended whole or not at all.
 
 mod fields;

@@ -1,8 +1,8 @@
-// Written by tools/erase from crates/event_log/src/lib.rt. Don't edit this file: edit that one, and run the tool.
+// Written by tools/erase from crates/event_log/src/lib.rt: edit that one.
 //! Writes the events of a stream: as one line per event, or as plain text without the sequences.
 //!
-//! [`run`] and [`run_text`] read a [`Source`] to its end and write to a [`Sink`]; [`Device`] makes a source or a sink
-//! of any `Read` or `Write` of std.
+//! [`run`] and [`run_text`] read a [`Source`] to its end and write to a [`Sink`]; [`Device`]
+//! makes a source or a sink of any `Read` or `Write` of std.
 
 mod collector;
 mod device;

@@ -1,4 +1,4 @@
-// Written by tools/erase from crates/event_log/src/pipeline.rt. Don't edit this file: edit that one, and run the tool.
+// Written by tools/erase from crates/event_log/src/pipeline.rt: edit that one.
 //! Runs from a reader to a writer.
 
 use crate::proved::event_log::collector::{Collector, RunParser};

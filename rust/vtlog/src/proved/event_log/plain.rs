@@ -1,4 +1,4 @@
-// Written by tools/erase from crates/event_log/src/plain.rt. Don't edit this file: edit that one, and run the tool.
+// Written by tools/erase from crates/event_log/src/plain.rt: edit that one.
 //! The performer that keeps only text.
 
 use crate::proved::event_log::collector::{Collector, RunParser};
@@ -10,8 +10,8 @@ const MOST_TEXT: usize = 8;
 
 /// Collects the text of a stream, without its sequences, in a buffer of 8,192 bytes.
 ///
-/// Characters are kept as UTF-8, and HT, LF and CR as they are. A character that doesn't fit is dropped. `Plain` is
-/// terminated when it holds more than 4,096 bytes.
+/// Characters are kept as UTF-8, and HT, LF and CR as they are. A character that doesn't fit is
+/// dropped. `Plain` is terminated when it holds more than 4,096 bytes.
 pub struct Plain {
     texts: Lines,
 }

@@ -1,4 +1,4 @@
-// Written by tools/erase from crates/event_log/src/recorder.rt. Don't edit this file: edit that one, and run the tool.
+// Written by tools/erase from crates/event_log/src/recorder.rt: edit that one.
 //! The performer that writes lines.
 
 use crate::proved::event_log::collector::{Collector, RunParser};
@@ -7,7 +7,8 @@ use vte::{Params, Perform};
 
 /// Collects one line per event in a buffer of 8,192 bytes.
 ///
-/// A line that doesn't fit is dropped. The recorder is terminated when it holds more than 4,096 bytes.
+/// A line that doesn't fit is dropped. The recorder is terminated when it holds more than 4,096
+/// bytes.
 pub struct Recorder {
     lines: Lines,
 }

@@ -1,4 +1,4 @@
-// Written by tools/erase from crates/vtlog/src/main.rt. Don't edit this file: edit that one, and run the tool.
+// Written by tools/erase from crates/vtlog/src/main.rt: edit that one.
 //! `vtlog` reads what is sent to a terminal, and prints one line per event, or with the argument
 //! `text` only the text.
 

@@ -1,4 +1,4 @@
-// Written by tools/erase from crates/vtlog/src/output.rt. Don't edit this file: edit that one, and run the tool.
+// Written by tools/erase from crates/vtlog/src/output.rt: edit that one.
 //! The output.
 
 use crate::proved::event_log::Sink;

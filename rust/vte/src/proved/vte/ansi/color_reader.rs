@@ -1,4 +1,4 @@
-// Written by tools/erase from crates/vte/src/ansi/color_reader.rt. Don't edit this file: edit that one, and run the tool.
+// Written by tools/erase from crates/vte/src/ansi/color_reader.rt: edit that one.
 //! Colours of numbers, read from any iterator of them.
 
 use crate::proved::vte::ansi::numbers::NumberIterator;

@@ -1,4 +1,4 @@
-// Written by tools/erase from crates/vte/src/ansi/color_text.rt. Don't edit this file: edit that one, and run the tool.
+// Written by tools/erase from crates/vte/src/ansi/color_text.rt: edit that one.
 //! Colours as texts.
 
 use crate::proved::vte::ansi::parts::{behind, cut};

@@ -1,4 +1,4 @@
-// Written by tools/erase from crates/vte/src/ansi/command_calls.rt. Don't edit this file: edit that one, and run the tool.
+// Written by tools/erase from crates/vte/src/ansi/command_calls.rt: edit that one.
 //! The calls of operating system commands.
 
 use crate::adapter::array_string::ArrayString;

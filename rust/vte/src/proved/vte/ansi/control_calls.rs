@@ -1,4 +1,4 @@
-// Written by tools/erase from crates/vte/src/ansi/control_calls.rt. Don't edit this file: edit that one, and run the tool.
+// Written by tools/erase from crates/vte/src/ansi/control_calls.rt: edit that one.
 //! The calls of control sequences.
 
 use crate::proved::vte::ansi::input::InputAs;

@@ -1,4 +1,4 @@
-// Written by tools/erase from crates/vte/src/ansi/growing_text.rt. Don't edit this file: edit that one, and run the tool.
+// Written by tools/erase from crates/vte/src/ansi/growing_text.rt: edit that one.
 //! A text that grows when room is asked for.
 
 use crate::prelude::String;

@@ -1,4 +1,4 @@
-// Written by tools/erase from crates/vte/src/ansi/hold.rt. Don't edit this file: edit that one, and run the tool.
+// Written by tools/erase from crates/vte/src/ansi/hold.rt: edit that one.
 //! The bytes of an update that are held back, in memory that is allocated once.
 
 use crate::prelude::{AllocError, Vec};

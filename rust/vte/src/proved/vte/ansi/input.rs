@@ -1,4 +1,4 @@
-// Written by tools/erase from crates/vte/src/ansi/input.rt. Don't edit this file: edit that one, and run the tool.
+// Written by tools/erase from crates/vte/src/ansi/input.rt: edit that one.
 //! How handlers take characters.
 
 use crate::proved::vte_core::{InRuns, Singly};

@@ -1,4 +1,4 @@
-// Written by tools/erase from crates/vte/src/ansi/long_parsing.rt. Don't edit this file: edit that one, and run the tool.
+// Written by tools/erase from crates/vte/src/ansi/long_parsing.rt: edit that one.
 //! The parser of a processor without a limit. It takes memory before it reads, so that none is
 //! refused on the way.
 

@@ -1,4 +1,4 @@
-// Written by tools/erase from crates/vte/src/ansi/long_processor.rt. Don't edit this file: edit that one, and run the tool.
+// Written by tools/erase from crates/vte/src/ansi/long_processor.rt: edit that one.
 //! The processor without a limit.
 
 use crate::proved::vte::ansi::growing_text::GrowingText;
@@ -8,8 +8,8 @@ use crate::proved::vte_handler::{Handler, HandlerText, Timeout};
 
 /// A processor whose calls return an error if they are refused memory.
 ///
-/// It keeps commands, titles and links whatever their length, as [`Processor`](crate::ansi::Processor) does with the
-/// feature `std`.
+/// It keeps commands, titles and links whatever their length, as
+/// [`Processor`](crate::ansi::Processor) does with the feature `std`.
 ///
 /// A call takes memory before it parses each 65,536 bytes: for them and an open command, and for a
 /// text that is joined from these. Bytes that are held back take theirs whole. If memory is
@@ -20,7 +20,9 @@ use crate::proved::vte_handler::{Handler, HandlerText, Timeout};
 /// # use vte::{Refused, ansi::{Timeout, lent::{Handler, LongProcessor}}};
 /// # struct Screen;
 /// # impl Handler for Screen {}
-/// # fn read<T: Timeout>(processor: &mut LongProcessor<T>, mut handler: Screen, bytes: &[u8]) -> Result<(), Refused> {
+/// # fn read<T: Timeout>(
+/// #     processor: &mut LongProcessor<T>, mut handler: Screen, bytes: &[u8],
+/// # ) -> Result<(), Refused> {
 /// if let Err(refused) = processor.advance(&mut handler, bytes) {
 ///     // Free some memory, and go on.
 ///     processor.advance(&mut handler, &bytes[refused.read..])?;

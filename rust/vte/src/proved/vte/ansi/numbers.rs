@@ -1,4 +1,4 @@
-// Written by tools/erase from crates/vte/src/ansi/numbers.rt. Don't edit this file: edit that one, and run the tool.
+// Written by tools/erase from crates/vte/src/ansi/numbers.rt: edit that one.
 //! The numbers of a control sequence.
 
 use crate::proved::vte_core::ParamsIter;

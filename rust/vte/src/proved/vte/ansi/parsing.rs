@@ -1,4 +1,4 @@
-// Written by tools/erase from crates/vte/src/ansi/parsing.rt. Don't edit this file: edit that one, and run the tool.
+// Written by tools/erase from crates/vte/src/ansi/parsing.rt: edit that one.
 //! The parser, together with what a processor lends it. The references are separate parameters, not
 //! fields of one struct, so that the performer can borrow each.
 

@@ -1,4 +1,4 @@
-// Written by tools/erase from crates/vte/src/ansi/performer.rt. Don't edit this file: edit that one, and run the tool.
+// Written by tools/erase from crates/vte/src/ansi/performer.rt: edit that one.
 //! The performer that calls a handler.
 
 use crate::proved::vte::ansi::command_calls::perform_system_command;

@@ -1,4 +1,4 @@
-// Written by tools/erase from crates/vte/src/ansi/processor.rt. Don't edit this file: edit that one, and run the tool.
+// Written by tools/erase from crates/vte/src/ansi/processor.rt: edit that one.
 //! The processor. A call of `advance` takes turns, and each turn parses bytes or holds them back.
 
 use crate::proved::vte::ansi::parsing::{ProcessorParser, ProcessorText};

@@ -1,4 +1,4 @@
-// Written by tools/erase from crates/vte/src/ansi/release.rt. Don't edit this file: edit that one, and run the tool.
+// Written by tools/erase from crates/vte/src/ansi/release.rt: edit that one.
 //! What a hold releases when bytes are added to it.
 
 use memchr::memrchr;

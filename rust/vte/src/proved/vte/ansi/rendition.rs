@@ -1,4 +1,4 @@
-// Written by tools/erase from crates/vte/src/ansi/rendition.rt. Don't edit this file: edit that one, and run the tool.
+// Written by tools/erase from crates/vte/src/ansi/rendition.rt: edit that one.
 //! Select graphic rendition (SGR).
 
 use crate::proved::vte::ansi::color_reader::{read_color, read_joined};

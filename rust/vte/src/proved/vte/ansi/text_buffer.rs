@@ -1,4 +1,4 @@
-// Written by tools/erase from crates/vte/src/ansi/text_buffer.rt. Don't edit this file: edit that one, and run the tool.
+// Written by tools/erase from crates/vte/src/ansi/text_buffer.rt: edit that one.
 //! The buffer for a text that is joined from pieces.
 
 use crate::adapter::array_string::ArrayString;

@@ -1,4 +1,4 @@
-// Written by tools/erase from crates/vte/src/ansi/titles.rt. Don't edit this file: edit that one, and run the tool.
+// Written by tools/erase from crates/vte/src/ansi/titles.rt: edit that one.
 //! Texts that are joined from pieces, and numbers in commands.
 
 use crate::proved::vte::ansi::text_buffer::TextBuffer;

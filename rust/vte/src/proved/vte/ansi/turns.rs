@@ -1,4 +1,4 @@
-// Written by tools/erase from crates/vte/src/ansi/turns.rt. Don't edit this file: edit that one, and run the tool.
+// Written by tools/erase from crates/vte/src/ansi/turns.rt: edit that one.
 //! Turns: each parses bytes of a call, or holds them back.
 
 use crate::proved::vte::ansi::hold::{SyncState, MOST_HELD};

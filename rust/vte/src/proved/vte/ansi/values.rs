@@ -1,4 +1,4 @@
-// Written by tools/erase from crates/vte/src/ansi/values.rt. Don't edit this file: edit that one, and run the tool.
+// Written by tools/erase from crates/vte/src/ansi/values.rt: edit that one.
 //! What the numbers of control sequences select.
 
 use crate::proved::vte_types::{

@@ -1,4 +1,4 @@
-// Written by tools/erase from crates/vte_core/src/parser/character.rt. Don't edit this file: edit that one, and run the tool.
+// Written by tools/erase from crates/vte_core/src/parser/character.rt: edit that one.
 //! The bytes of a character after the first.
 
 use crate::proved::vte_core::buffer::Buffer;

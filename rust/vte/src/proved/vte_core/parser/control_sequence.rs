@@ -1,4 +1,4 @@
-// Written by tools/erase from crates/vte_core/src/parser/control_sequence.rt. Don't edit this file: edit that one, and run the tool.
+// Written by tools/erase from crates/vte_core/src/parser/control_sequence.rt: edit that one.
 //! Control sequences.
 
 use crate::proved::vte_core::buffer::Buffer;

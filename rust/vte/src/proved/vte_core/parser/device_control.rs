@@ -1,4 +1,4 @@
-// Written by tools/erase from crates/vte_core/src/parser/device_control.rt. Don't edit this file: edit that one, and run the tool.
+// Written by tools/erase from crates/vte_core/src/parser/device_control.rt: edit that one.
 //! Device control strings.
 
 use crate::proved::vte_core::buffer::Buffer;

@@ -1,4 +1,4 @@
-// Written by tools/erase from crates/vte_core/src/parser/drive.rt. Don't edit this file: edit that one, and run the tool.
+// Written by tools/erase from crates/vte_core/src/parser/drive.rt: edit that one.
 //! The loop over the bytes of a call.
 
 use crate::proved::vte_core::buffer::Buffer;

@@ -1,4 +1,4 @@
-// Written by tools/erase from crates/vte_core/src/parser/ending.rt. Don't edit this file: edit that one, and run the tool.
+// Written by tools/erase from crates/vte_core/src/parser/ending.rt: edit that one.
 //! ESC, CAN and SUB, which end whatever is open, in all states alike.
 
 use crate::proved::vte_core::buffer::Buffer;

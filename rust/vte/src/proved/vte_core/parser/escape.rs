@@ -1,4 +1,4 @@
-// Written by tools/erase from crates/vte_core/src/parser/escape.rt. Don't edit this file: edit that one, and run the tool.
+// Written by tools/erase from crates/vte_core/src/parser/escape.rt: edit that one.
 //! Escape sequences, and what ESC begins.
 
 use crate::proved::vte_core::buffer::Buffer;

@@ -1,7 +1,8 @@
-// Written by tools/erase from crates/vte_core/src/parser/ignored_string.rt. Don't edit this file: edit that one, and run the tool.
+// Written by tools/erase from crates/vte_core/src/parser/ignored_string.rt: edit that one.
 //! Ignored strings: SOS, PM, APC, and device control strings with a malformed head.
 //!
-//! They may hold megabytes, so blocks are taken. Most strings are short: the first bytes are read one by one.
+//! They may hold megabytes, so blocks are taken. Most strings are short: the first bytes are
+//! read one by one.
 
 use crate::proved::vte_core::buffer::Buffer;
 use crate::proved::vte_core::class::{cannot_end, ends_all};

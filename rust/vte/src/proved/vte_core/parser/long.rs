@@ -1,4 +1,4 @@
-// Written by tools/erase from crates/vte_core/src/parser/long.rt. Don't edit this file: edit that one, and run the tool.
+// Written by tools/erase from crates/vte_core/src/parser/long.rt: edit that one.
 //! The parser that keeps operating system commands of any length.
 
 use crate::prelude::Vec;
@@ -9,9 +9,11 @@ use crate::proved::vte_core::scan::{take_run, Run};
 
 /// A parser whose calls return an error if they are refused memory.
 ///
-/// It keeps operating system commands of any length, as [`Parser`](crate::Parser) does with the feature `std`.
+/// It keeps operating system commands of any length, as [`Parser`](crate::Parser) does with the
+/// feature `std`.
 ///
-/// If memory for it is refused, the call stops before the byte that needs it, and the rest can be passed in again:
+/// If memory for it is refused, the call stops before the byte that needs it, and the rest can
+/// be passed in again:
 ///
 /// ```
 /// # use vte::{LongParser, Perform, Refused};

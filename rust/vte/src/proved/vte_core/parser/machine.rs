@@ -1,4 +1,4 @@
-// Written by tools/erase from crates/vte_core/src/parser/machine.rt. Don't edit this file: edit that one, and run the tool.
+// Written by tools/erase from crates/vte_core/src/parser/machine.rt: edit that one.
 //! The state of a parser, and what it has collected.
 
 use crate::proved::vte_core::buffer::Buffer;

@@ -1,4 +1,4 @@
-// Written by tools/erase from crates/vte_core/src/parser/refused.rt. Don't edit this file: edit that one, and run the tool.
+// Written by tools/erase from crates/vte_core/src/parser/refused.rt: edit that one.
 //! The error of what keeps the text of operating system commands, whatever its length.
 
 /// Memory for the text of an operating system command was refused.

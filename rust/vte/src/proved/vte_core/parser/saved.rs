@@ -1,4 +1,4 @@
-// Written by tools/erase from crates/vte_core/src/parser/saved.rt. Don't edit this file: edit that one, and run the tool.
+// Written by tools/erase from crates/vte_core/src/parser/saved.rt: edit that one.
 //! A parser as plain data, for callers that can hold nothing else.
 
 use crate::adapter::array_vec::ArrayVec;

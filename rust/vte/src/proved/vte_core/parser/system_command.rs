@@ -1,4 +1,4 @@
-// Written by tools/erase from crates/vte_core/src/parser/system_command.rt. Don't edit this file: edit that one, and run the tool.
+// Written by tools/erase from crates/vte_core/src/parser/system_command.rt: edit that one.
 //! Operating system commands.
 
 use crate::proved::vte_core::buffer::Buffer;

@@ -1,4 +1,4 @@
-// Written by tools/erase from crates/vte_core/src/parser/text.rt. Don't edit this file: edit that one, and run the tool.
+// Written by tools/erase from crates/vte_core/src/parser/text.rt: edit that one.
 //! Text: characters, runs of them, and malformed sequences.
 
 use crate::proved::vte_core::buffer::Buffer;

@@ -1,4 +1,4 @@
-// Written by tools/erase from crates/vte_core/src/parser/to_run.rt. Don't edit this file: edit that one, and run the tool.
+// Written by tools/erase from crates/vte_core/src/parser/to_run.rt: edit that one.
 //! Runs of text and data in the input, for callers that take them from there.
 
 use crate::proved::vte_core::buffer::Buffer;

@@ -1,4 +1,4 @@
-// Written by tools/erase from crates/vte_core/src/looks/taken.rt. Don't edit this file: edit that one, and run the tool.
+// Written by tools/erase from crates/vte_core/src/looks/taken.rt: edit that one.
 //! Runs of text and data, which a caller takes from its own input.
 
 /// What a call of [`advance_to_run`](crate::Parser::advance_to_run) read: bytes whose events it

@@ -1,4 +1,4 @@
-// Written by tools/erase from crates/vte_types/src/color/text.rt. Don't edit this file: edit that one, and run the tool.
+// Written by tools/erase from crates/vte_types/src/color/text.rt: edit that one.
 //! Colours as hex digits.
 
 use super::Rgb;

@@ -1,4 +1,4 @@
-// Written by tools/erase from crates/event_log/src/lines/fields.rt. Don't edit this file: edit that one, and run the tool.
+// Written by tools/erase from crates/event_log/src/lines/fields.rt: edit that one.
 //! Fields of lines.
 
 use super::short::{hex_length, hex_pair, six_hex_digits};

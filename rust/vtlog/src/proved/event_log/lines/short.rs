@@ -1,4 +1,4 @@
-// Written by tools/erase from crates/event_log/src/lines/short.rt. Don't edit this file: edit that one, and run the tool.
+// Written by tools/erase from crates/event_log/src/lines/short.rt: edit that one.
 //! Lines of characters and single bytes, and hex digits.
 
 use super::Lines;

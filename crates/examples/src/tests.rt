@@ -23,7 +23,7 @@ fn performers_answer(rt: HostRuntime) -> Result<(), Fail> {
     }
     let want = b"csi [1] - false 6d\nprint 007a\nprint 00e9\nosc true 2 30 74\n";
     match lines(rt.alloc(), STREAM) {
-        Some(lines) => assert!(rt; lines.as_slice() == want),
+        Some(lines) => assert!(rt; lines.as_slice() == want.as_slice()),
         None => assert!(rt; false, "there is memory"),
     }
     Ok(())

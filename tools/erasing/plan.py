@@ -268,7 +268,8 @@ VTE = Plan(
             # a guard would read the numbers
             "#[allow(clippy::collapsible_match)]": ["pub(crate) fn perform_control"],
         },
-        "vte/ansi/rendition": {INLINE: ["pub(crate) fn perform_attributes", "fn attribute"]},
+        # called from two loops if a program takes text by characters and in runs
+        "vte/ansi/rendition": {"#[inline(always)]": ["pub(crate) fn perform_attributes"], INLINE: ["fn attribute"]},
         "vte/ansi/numbers": {INLINE: ["fn next_or", "pub(crate) fn first_number"]},
         # what a processor does per call, which matters if a call has few bytes
         "vte/ansi/turns": {

@@ -8,7 +8,7 @@ use crate::proved::vte_handler::Handler;
 use crate::proved::vte_types::{Attr, Color, NamedColor};
 
 /// Calls the handler for each attribute of the groups.
-#[inline]
+#[inline(always)]
 pub(crate) fn perform_attributes<H: Handler>(handler: &mut H, params: &Params) {
     let mut groups = params.iter();
     while let Some(group) = groups.next() {

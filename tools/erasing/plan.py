@@ -269,7 +269,10 @@ VTE = Plan(
             "#[allow(clippy::collapsible_match)]": ["pub(crate) fn perform_control"],
         },
         # called from two loops if a program takes text by characters and in runs
-        "vte/ansi/rendition": {"#[inline(always)]": ["pub(crate) fn perform_attributes"], INLINE: ["fn attribute"]},
+        "vte/ansi/rendition": {
+            "#[inline(always)]": ["pub(crate) fn perform_attributes"],
+            INLINE: ["fn attribute"],
+        },
         "vte/ansi/numbers": {INLINE: ["fn next_or", "pub(crate) fn first_number"]},
         # what a processor does per call, which matters if a call has few bytes
         "vte/ansi/turns": {

@@ -98,6 +98,33 @@ def test_one_fault_has_one_class(pattern, text, found):
     assert set(result.findings) == set(found.split())
 
 
+# for streams in a row, what is replaced in the lines, and the streams that each class counts
+@pytest.mark.parametrize("faults, streams, found", [
+    # what isn't shrunk any more counts for the class to which such a case was shrunk last
+    ({"execute 0f": "execute 1f", "execute 0e\nexecute 10": "print 0010", "execute 0e\n": ""},
+     [b"\x0f", b"\x0e", *[b"\x0e\x10"] * 4], {"control/character": 1, "control/missing": 5}),
+    # a kind that only shows beside another rule is looked for so often, till it shows alone
+    *(({"execute 0e\n": "", "esc - false 41": "execute 41", "execute 0f": "execute 1f"},
+       [b"\x0e", b"\x1bA", *[b"\x0e\x1bA"] * times, b"\x0f"],
+       {"control/missing": missing, "escape-sequence/other": 1, **others})
+      for times, missing, others in ((29, 30, {"control/character": 1}), (30, 32, {}))),
+    # another event where two differences meet is no class
+    ({"execute 0[ef]\n": "", "(?=execute 1[01])": "unhook\n"}, [b"\x0e", b"\x10", b"\x0f\x11"],
+     {"control/missing": 2, "control/extra": 1}),
+    # what is found again and again is shrunk only so often, `protocol` but once
+    ({r"\Z": "unhook\n"}, [b"a"] * 25, {"text/extra": 21}),
+    ({"execute 0e": "(protocol: x)"}, [b"\x0e"] * 25, {"protocol": 25})])
+def test_what_is_counted(faults, streams, found):
+    def wrong(pieces, _):
+        text = "".join(f"{line}\n" for line in definition.lines_of(b"".join(pieces)))
+        for pattern, other in faults.items():
+            text = re.sub(pattern, other, text)
+        return text.splitlines()
+    result = judged(wrong, [cases.Case("", [stream]) for stream in streams])
+    assert {name: it.streams for name, it in result.findings.items()} == found
+    assert result.unexplained == len(streams) - sum(found.values())
+
+
 # each class, and what binds a parser there
 @pytest.mark.parametrize("name, level", [
     ("text/missing", "must"), ("malformed/character", "must"), ("malformed/replacement", "should"),

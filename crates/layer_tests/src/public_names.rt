@@ -1,4 +1,4 @@
-//! Names each public item, and uses each derive, each default and each law.
+//! Uses public items as users do: names, derives, defaults and laws.
 
 use std::fmt::Debug;
 use std::hash::{DefaultHasher, Hash, Hasher};

@@ -158,6 +158,8 @@ VTE = Plan(
         # derived, so that constants can be patterns
         "vte_types/color": (
             "impl PartialEq for NamedColor", "impl Eq for NamedColor", "impl Ord for NamedColor", "impl PartialOrd for NamedColor"),
+        # rustc derives it, with the same copies of the fields
+        "vte_core/parser": ("impl<const OSC_RAW_BUF_SIZE: usize> Clone for Parser",),
         # nobody asks
         "vte_core/parser/long": ("fn memory",),
         "vte_core/store": ("fn capacity",),
@@ -214,7 +216,6 @@ VTE = Plan(
     },
     has_idioms=True,
     lines={
-        "vte_core/head": {CLONE: ["pub(crate) struct Collected"]},
         "vte_core/parser/machine": {CLONE: ["pub(crate) struct Machine"]},
         "vte_core/parser": {
             CLONE: ["pub struct Parser"],
@@ -226,7 +227,7 @@ VTE = Plan(
         "vte_core/parser/to_run": {'#[must_use = "the bytes after the run are still to be read"]': ["pub fn advance_to_run"]},
         "vte_core/params": {
             '#[doc = include_str!("../../docs/params.md")]': ["pub struct Params {"],
-            CLONE: ["pub struct Params"], "#[derive(Clone, Debug)]": ["pub struct ParamsIter"],
+            "#[derive(Clone, Debug)]": ["pub struct ParamsIter"],
             INLINE: ["pub(crate) fn is_full", "fn take_joined", "pub fn iter", "fn into_iter", "fn next"],
             f"#[cfg({OWN})]": ["pub(crate) fn parts", "pub(crate) fn from_parts", "fn are_lengths"],
         },

@@ -1,10 +1,10 @@
 //! The parser of a stream, as its callers see it.
-ghost use Rattle.std.specs.Prelude.{◌≡◌, true, false, ℕ, List, [], Some};
+ghost use Rattle.std.specs.Prelude.{◌≡◌, true, false, ℕ, List, [], Some, ⊤};
 ghost use Rattle.vte_core.specs.Advance.{ReadsBytes};
 ghost use Rattle.vte_core.specs.AdvanceUntilTerminated.{ReadsUntilTerminated};
 ghost use Rattle.vte_core.specs.EarlyStop.{NoCharacterStops};
 ghost use Rattle.vte_core.specs.Outcome.{IsLoss};
-ghost use Rattle.vte_core.specs.Parser.{HasRead, HoldsCommand};
+ghost use Rattle.vte_core.specs.Parser.{HasRead, HoldsCommand, IsCopyOf};
 ghost use Rattle.vte_core.specs.Stream.{IsFinished, IsUnfinished, outcome};
 ghost use Rattle.vte_core.specs.SystemCommand.{drops_data};
 
@@ -32,6 +32,7 @@ pub use long::LongParser;
 use machine::Machine;
 pub use refused::Refused;
 pub use saved::Saved;
+use std::alloc::AllocError;
 
 /// How many data bytes of an operating system command are kept, unless a parser is given another
 /// number.
@@ -92,6 +93,23 @@ impl<const OSC_RAW_BUF_SIZE: usize> Default for Parser<OSC_RAW_BUF_SIZE> {
 
     fn default() -> Self {
         Self::new_with_size()
+    }
+}
+
+/// A clone goes on as the parser would.
+impl<const OSC_RAW_BUF_SIZE: usize> Clone for Parser<OSC_RAW_BUF_SIZE> {
+    ghost is_clone = { λ parser clone. IsCopyOf parser clone };
+
+    // It takes no memory.
+    ghost is_infallible = { λ _. ⊤ };
+
+    fn clone(&self) -> Result<Self, AllocError> {
+        let mut clone = Self::new_with_size();
+        clone.machine.state = self.machine.state;
+        clone.machine.collected = self.machine.collected.clone()?;
+        let (bytes, ends, dropped) = self.machine.command.parts();
+        clone.machine.command.restore(bytes, ends, dropped);
+        Ok(clone)
     }
 }
 

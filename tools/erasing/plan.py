@@ -151,13 +151,16 @@ VTE = Plan(
             "fn copy_to_array", "fn copy_to_vec", "fn tell_data", "fn tell_text"),
         # their expressions stand where they are called
         "vte_core/class": ("fn is_command_data",),
-        "vte/ansi/performer": ("fn last_char",),
+        "vte/ansi/performer": (
+            "fn last_char", "impl<'s, 'h, H: HandlerText, T: Timeout + Drop, J: TextBuffer + Drop> PerformThroughText"),
         # the macro `bitflags!` writes them in the adapter
         "vte_types/keyboard": (
             "struct KeyboardModes", "impl KeyboardModes", "static FLAGS", "impl Flags for KeyboardModes", "use bitflags"),
         # derived, so that constants can be patterns
         "vte_types/color": (
             "impl PartialEq for NamedColor", "impl Eq for NamedColor", "impl Ord for NamedColor", "impl PartialOrd for NamedColor"),
+        # only proofs use it
+        "vte_core/perform": ("trait PerformThroughText",),
         # rustc derives it, with the same copies of the fields
         "vte_core/parser": ("impl<const OSC_RAW_BUF_SIZE: usize> Clone for Parser",),
         # nobody asks
@@ -181,7 +184,7 @@ VTE = Plan(
     rules={
         **WITHOUT_COUNTS,
         "": ALLOCATORS,
-        "vte_core": COUNTS + PARAMETERS,
+        "vte_core": COUNTS + PARAMETERS + [("P: PerformThroughText", "P: PerformText"), (", PerformThroughText", "")],
         "vte_core/parser": [
             ("struct Parser<const OSC_RAW_BUF_SIZE: usize>",
              "struct Parser<const OSC_RAW_BUF_SIZE: usize = MAX_OSC_RAW>"),

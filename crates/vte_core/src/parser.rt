@@ -25,7 +25,7 @@ mod to_run;
 
 use crate::head::HeadPart;
 use crate::looks::{CountedPerform, Grain, InRuns, Input, Looks, Singly};
-use crate::perform::{Perform, PerformText};
+use crate::perform::{Perform, PerformText, PerformThroughText};
 use crate::utf8::Unfinished;
 use arrayvec::ArrayVec;
 pub use long::LongParser;
@@ -161,12 +161,11 @@ impl<const OSC_RAW_BUF_SIZE: usize> Parser<OSC_RAW_BUF_SIZE> {
     /// Reads bytes as [`advance_until_terminated`](Self::advance_until_terminated) does, and passes
     /// characters to print in [runs](crate::PerformText). Only for performers that nothing in a run
     /// terminates: they aren't asked there.
-    pub fn advance_text_until_terminated<P: PerformText>(
+    pub fn advance_text_until_terminated<P: PerformThroughText>(
         &mut self,
         performer: &mut P,
         bytes: &[u8],
     ) -> usize
-        requires no_stop { NoCharacterStops P.keeps P.step P.is_terminated }
         ensures { ReadsUntilTerminated P.step P.is_terminated (P.value_of performer.old)
             (P.value_of performer.new) bytes.now result self.old self.new }
     {

@@ -151,13 +151,18 @@ VTE = Plan(
             "fn copy_to_array", "fn copy_to_vec", "fn tell_data", "fn tell_text"),
         # their expressions stand where they are called
         "vte_core/class": ("fn is_command_data",),
-        "vte/ansi/performer": ("fn last_char",),
+        "vte/ansi/performer": (
+            "fn last_char", "impl<'s, 'h, H: HandlerText, T: Timeout + Drop, J: TextBuffer + Drop> PerformThroughText"),
         # the macro `bitflags!` writes them in the adapter
         "vte_types/keyboard": (
             "struct KeyboardModes", "impl KeyboardModes", "static FLAGS", "impl Flags for KeyboardModes", "use bitflags"),
         # derived, so that constants can be patterns
         "vte_types/color": (
             "impl PartialEq for NamedColor", "impl Eq for NamedColor", "impl Ord for NamedColor", "impl PartialOrd for NamedColor"),
+        # only proofs use it
+        "vte_core/perform": ("trait PerformThroughText",),
+        # rustc derives it, with the same copies of the fields
+        "vte_core/parser": ("impl<const OSC_RAW_BUF_SIZE: usize> Clone for Parser",),
         # nobody asks
         "vte_core/parser/long": ("fn memory",),
         "vte_core/store": ("fn capacity",),
@@ -179,7 +184,7 @@ VTE = Plan(
     rules={
         **WITHOUT_COUNTS,
         "": ALLOCATORS,
-        "vte_core": COUNTS + PARAMETERS,
+        "vte_core": COUNTS + PARAMETERS + [("P: PerformThroughText", "P: PerformText"), (", PerformThroughText", "")],
         "vte_core/parser": [
             ("struct Parser<const OSC_RAW_BUF_SIZE: usize>",
              "struct Parser<const OSC_RAW_BUF_SIZE: usize = MAX_OSC_RAW>"),
@@ -214,7 +219,6 @@ VTE = Plan(
     },
     has_idioms=True,
     lines={
-        "vte_core/head": {CLONE: ["pub(crate) struct Collected"]},
         "vte_core/parser/machine": {CLONE: ["pub(crate) struct Machine"]},
         "vte_core/parser": {
             CLONE: ["pub struct Parser"],
@@ -226,7 +230,7 @@ VTE = Plan(
         "vte_core/parser/to_run": {'#[must_use = "the bytes after the run are still to be read"]': ["pub fn advance_to_run"]},
         "vte_core/params": {
             '#[doc = include_str!("../../docs/params.md")]': ["pub struct Params {"],
-            CLONE: ["pub struct Params"], "#[derive(Clone, Debug)]": ["pub struct ParamsIter"],
+            "#[derive(Clone, Debug)]": ["pub struct ParamsIter"],
             INLINE: ["pub(crate) fn is_full", "fn take_joined", "pub fn iter", "fn into_iter", "fn next"],
             f"#[cfg({OWN})]": ["pub(crate) fn parts", "pub(crate) fn from_parts", "fn are_lengths"],
         },

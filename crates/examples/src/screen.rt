@@ -38,11 +38,13 @@ impl Screen {
         }
     }
 
-    /// The cells of a row.
-    pub fn row(&self, row: usize) -> &[Cell]
-        requires { row < ROWS }
-    {
-        &self.lines[self.line_of(row)]
+    /// The cells of a row, or none if there is no such row.
+    pub fn row(&self, row: usize) -> &[Cell] {
+        if row < ROWS {
+            &self.lines[self.line_of(row)]
+        } else {
+            &[]
+        }
     }
 
     fn line_of(&self, row: usize) -> usize

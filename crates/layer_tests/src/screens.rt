@@ -1,6 +1,5 @@
 //! What a screen shows of streams, worked by hand from ECMA-48; both by a parser and by a
 //! processor. Runs of text must show the same as characters, in each cell.
-ghost use Rattle.std.specs.Prelude.{◌<◌};
 
 use examples::{Cell, ROWS, Screen};
 use std::alloc::Global;
@@ -76,9 +75,7 @@ fn runs_agree(alloc: Global, stream: &[u8]) -> bool {
 }
 
 /// Whether a row has this text, and blanks after it.
-fn has_text(screen: &Screen, row: usize, text: &str) -> bool
-    requires { row < ROWS }
-{
+fn has_text(screen: &Screen, row: usize, text: &str) -> bool {
     let mut expected = text.chars();
     for cell in screen.row(row) {
         if cell.character != expected.next().unwrap_or(' ') {
@@ -89,9 +86,7 @@ fn has_text(screen: &Screen, row: usize, text: &str) -> bool
 }
 
 /// Whether both show a text in a row, and runs show the same.
-fn both_show(alloc: Global, stream: &[u8], row: usize, text: &str) -> bool
-    requires { row < ROWS }
-{
+fn both_show(alloc: Global, stream: &[u8], row: usize, text: &str) -> bool {
     match processed(alloc, stream) {
         Some(screen) => {
             has_text(&screen, row, text)

@@ -1,4 +1,5 @@
 -- What the fields of a parser hold, and what one byte makes of it.
+pub mod Cloned
 pub mod Groups
 pub mod HeadSteps
 pub mod KeptItems

@@ -13,3 +13,8 @@ HasRead {N} parser stream = IsBehind (Some N) parser.machine stream
 -- It holds the command of these items: the one that is open, or else the one that ended last.
 abbrev pub HoldsCommand : {N : ℕ} → Parser N → List ℕ → Type 0
 HoldsCommand {N} parser items = Keeps (Some N) parser.machine.command items
+
+-- It continues as the other does: it has read the same, and holds the same command.
+pub record IsCopyOf {N : ℕ} (parser copy : Parser N) : Type 0 where
+  pub reads : (stream : List ℕ) → HasRead parser stream → HasRead copy stream
+  pub holds : (items : List ℕ) → HoldsCommand parser items → HoldsCommand copy items

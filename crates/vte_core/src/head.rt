@@ -40,7 +40,7 @@ pub(crate) struct HeadEnd {
 }
 
 /// What is collected of a sequence: intermediates and parameters.
-#[derive(Drop)]
+#[derive(Clone, Drop)]
 pub(crate) struct Collected {
     // the first two, a marker among them
     pub(crate) intermediates: ArrayVec<u8, 2>,

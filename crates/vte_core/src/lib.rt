@@ -29,4 +29,4 @@ pub use parser::Parser;
 pub use parser::Saved;
 // takes memory
 pub use parser::{LongParser, Refused};
-pub use perform::{Perform, PerformText};
+pub use perform::{Perform, PerformText, PerformThroughText};

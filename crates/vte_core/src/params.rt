@@ -13,7 +13,7 @@ use std::iter::FusedIterator;
 use std::marker::Model;
 
 /// The numbers of a sequence, in groups that are never empty.
-#[derive(Drop)]
+#[derive(Clone, Drop)]
 pub struct Params {
     // all numbers in a row
     numbers: ArrayVec<u16, 32>,

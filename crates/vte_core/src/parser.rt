@@ -1,10 +1,10 @@
 //! The parser of a stream, as its callers see it.
-ghost use Rattle.std.specs.Prelude.{◌≡◌, true, false, ℕ, List, [], Some};
+ghost use Rattle.std.specs.Prelude.{◌≡◌, true, false, ℕ, List, [], Some, ⊤};
 ghost use Rattle.vte_core.specs.Advance.{ReadsBytes};
 ghost use Rattle.vte_core.specs.AdvanceUntilTerminated.{ReadsUntilTerminated};
 ghost use Rattle.vte_core.specs.EarlyStop.{NoCharacterStops};
 ghost use Rattle.vte_core.specs.Outcome.{IsLoss};
-ghost use Rattle.vte_core.specs.Parser.{HasRead, HoldsCommand};
+ghost use Rattle.vte_core.specs.Parser.{HasRead, HoldsCommand, IsCopyOf};
 ghost use Rattle.vte_core.specs.Stream.{IsFinished, IsUnfinished, outcome};
 ghost use Rattle.vte_core.specs.SystemCommand.{drops_data};
 
@@ -25,13 +25,14 @@ mod to_run;
 
 use crate::head::HeadPart;
 use crate::looks::{CountedPerform, Grain, InRuns, Input, Looks, Singly};
-use crate::perform::{Perform, PerformText};
+use crate::perform::{Perform, PerformText, PerformThroughText};
 use crate::utf8::Unfinished;
 use arrayvec::ArrayVec;
 pub use long::LongParser;
 use machine::Machine;
 pub use refused::Refused;
 pub use saved::Saved;
+use std::alloc::AllocError;
 
 /// How many data bytes of an operating system command are kept, unless a parser is given another
 /// number.
@@ -95,6 +96,23 @@ impl<const OSC_RAW_BUF_SIZE: usize> Default for Parser<OSC_RAW_BUF_SIZE> {
     }
 }
 
+/// A clone goes on as the parser would.
+impl<const OSC_RAW_BUF_SIZE: usize> Clone for Parser<OSC_RAW_BUF_SIZE> {
+    ghost is_clone = { λ parser clone. IsCopyOf parser clone };
+
+    // It takes no memory.
+    ghost is_infallible = { λ _. ⊤ };
+
+    fn clone(&self) -> Result<Self, AllocError> {
+        let mut clone = Self::new_with_size();
+        clone.machine.state = self.machine.state;
+        clone.machine.collected = self.machine.collected.clone()?;
+        let (bytes, ends, dropped) = self.machine.command.parts();
+        clone.machine.command.restore(bytes, ends, dropped);
+        Ok(clone)
+    }
+}
+
 impl<const OSC_RAW_BUF_SIZE: usize> Parser<OSC_RAW_BUF_SIZE> {
     /// Creates a parser that has read nothing, with room for `OSC_RAW_BUF_SIZE` data bytes of an
     /// operating system command, which may be 0.
@@ -143,12 +161,11 @@ impl<const OSC_RAW_BUF_SIZE: usize> Parser<OSC_RAW_BUF_SIZE> {
     /// Reads bytes as [`advance_until_terminated`](Self::advance_until_terminated) does, and passes
     /// characters to print in [runs](crate::PerformText). Only for performers that nothing in a run
     /// terminates: they aren't asked there.
-    pub fn advance_text_until_terminated<P: PerformText>(
+    pub fn advance_text_until_terminated<P: PerformThroughText>(
         &mut self,
         performer: &mut P,
         bytes: &[u8],
     ) -> usize
-        requires no_stop { NoCharacterStops P.keeps P.step P.is_terminated }
         ensures { ReadsUntilTerminated P.step P.is_terminated (P.value_of performer.old)
             (P.value_of performer.new) bytes.now result self.old self.new }
     {

@@ -1,5 +1,6 @@
 //! What a parser tells of a stream, and who takes it.
 ghost use Rattle.std.specs.Prelude.{◌≡◌, ◌<◌, Bool, true, false, length, map, chars};
+ghost use Rattle.vte_core.specs.EarlyStop.{NoCharacterStops};
 ghost use Rattle.vte_core.specs.Event.{Event, Print, Execute, Hook, Put, Unhook, OscDispatch, CsiDispatch, EscDispatch};
 ghost use Rattle.vte_core.specs.Perform.{after};
 ghost use Rattle.vte_core.specs.Text.{IsRunText, run_event};
@@ -111,4 +112,9 @@ pub trait PerformText: Perform {
             self.put(*byte);
         }
     }
+}
+
+/// A performer that no character of a run terminates, so that it needn't be asked there.
+pub trait PerformThroughText: PerformText {
+    ghost goes_on: { NoCharacterStops Self.keeps Self.step Self.is_terminated };
 }

@@ -1,6 +1,6 @@
 -- What a run of text makes of a performer: the calls of its characters, and its last character. By induction over the
 -- characters; the last one is found from the end, because no character begins with a byte that continues one.
-use Rattle.vte.proofs.Common.{◌≡◌, ℕ, ◌≤◌, false, Option, Some, None, List, [], ◌∷◌, ◌++◌, length, get_or, map, refl, ap, sym, ◌∙◌, add-zero, arith, or-false}
+use Rattle.vte.proofs.Common.{◌≡◌, ℕ, ◌≤◌, Option, Some, None, List, [], ◌∷◌, ◌++◌, length, get_or, map, refl, ap, sym, ◌∙◌, add-zero, arith, or-false}
 use Rattle.vte.proofs.Common.{drop-append_seam, take-append_seam, nat_tests, append-nil, get_or-append-add, length-append, IsCharBoundary, IsUtf8, chars, Print, Input, after, last_printed_behind}
 use Rattle.vte.proofs.Common.{Call, TimeoutMeaning, Lent, with_event, IsUtf8-drop, IsUtf8-take, chars-append, chars-nil, chars_past_char, option_or}
 use Rattle.std.proofs.Math.Utf8.{encode}
@@ -19,11 +19,6 @@ pub performed_run : {H W : Type 0} (step : H → Call → H) (timeout : TimeoutM
 performed_run step timeout lent [] = refl
 performed_run step timeout lent (c ∷ cs) =
     performed_run step timeout (with_event step timeout lent (Print c)) cs ∙ rw or-false
-
--- No printed character terminates.
-pub prints_go_on : {H W : Type 0} (step : H → Call → H) (timeout : TimeoutMeaning W) (lent : Lent H W) (c : ℕ)
-    → lent.terminated ≡ false → (with_event step timeout lent (Print c)).terminated ≡ false
-prints_go_on step timeout lent c goes_on = or-false lent.terminated ∙ goes_on
 
 -- A character at the end of a run is its last.
 last_added : (last : Option ℕ) (cs : List ℕ) (c : ℕ) → last_printed_behind last (map Print (cs ++ c ∷ [])) ≡ Some c

@@ -64,7 +64,7 @@ impl<H: Handler, T: Timeout + Drop, A: Allocator> ParseAs<H, T, LongParser<A>> f
     }
 }
 
-#[tactic(auto, using(crate::proofs::performing::Rooms::long_parses, crate::proofs::performing::Rooms::long_stops, crate::proofs::performing::TextRuns::prints_go_on))]
+#[tactic(auto, using(crate::proofs::performing::Rooms::long_parses, crate::proofs::performing::Rooms::long_stops))]
 impl<H: HandlerText, T: Timeout + Drop, A: Allocator> ParseAs<H, T, LongParser<A>> for InRuns {
     #[inline(always)]
     fn advance<J: TextBuffer + Drop>(

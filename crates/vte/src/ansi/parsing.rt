@@ -111,7 +111,6 @@ impl<H: HandlerText, T: Timeout + Drop> ParseAs<H, T, ProcessorParser> for InRun
         parser.advance_text(performer, bytes);
     }
 
-    #[tactic(auto, using(crate::proofs::performing::TextRuns::prints_go_on))]
     #[inline(always)]
     fn advance_until_begin<J: TextBuffer + Drop>(
         parser: &mut ProcessorParser,

@@ -15,7 +15,7 @@ use crate::ansi::numbers::first_number;
 use crate::ansi::text_buffer::TextBuffer;
 use std::marker::PhantomData;
 use std::time::Duration;
-use vte_core::{InRuns, Params, Perform, PerformText};
+use vte_core::{InRuns, Params, Perform, PerformText, PerformThroughText};
 use vte_handler::{Handler, HandlerText, Timeout};
 use vte_types::NamedPrivateMode;
 
@@ -107,6 +107,15 @@ impl<'s, 'h, H: HandlerText, T: Timeout + Drop, J: TextBuffer + Drop> PerformTex
         self.handler.input_text(text);
         self.state.preceding_char = last_char(text, self.state.preceding_char);
     }
+}
+
+impl<'s, 'h, H: HandlerText, T: Timeout + Drop, J: TextBuffer + Drop> PerformThroughText
+    for Performer<'s, 'h, H, T, J, InRuns> {
+    ghost use Rattle.std.proofs.Common.{◌∙◌};
+    ghost use Rattle.std.proofs.Math.Bool.{or-false};
+
+    // A character begins no update.
+    ghost goes_on = { λ lent c goes_on. or-false lent.terminated ∙ goes_on };
 }
 
 impl<'s, 'h, H: Handler, T: Timeout + Drop, J: TextBuffer + Drop, G> Performer<'s, 'h, H, T, J, G> {

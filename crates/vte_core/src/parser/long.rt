@@ -1,7 +1,6 @@
 //! The parser that keeps operating system commands of any length.
 ghost use Rattle.std.specs.Prelude.{◌≡◌, ◌+◌, ◌<◌, ◌≤◌, ℕ, true, false, List, [], None, length};
 ghost use Rattle.vte_core.specs.LongAdvance.{ReadsBytesLong, ReadsToRunLong, ReadsUntilTerminatedLong};
-ghost use Rattle.vte_core.specs.EarlyStop.{NoCharacterStops};
 ghost use Rattle.vte_core.specs.LongParser.{HasReadLong, HoldsCommandLong, LacksRoom, memory_of};
 ghost use Rattle.vte_core.specs.LongParser.{open_size};
 ghost use Rattle.vte_core.specs.Looks.{looks_long};
@@ -11,7 +10,7 @@ ghost use Rattle.vte_core.specs.SystemCommand.{drops_data};
 
 use crate::looks::{InRuns, Input, Looks, Run, Singly};
 use crate::parser::{Machine, Refused, State};
-use crate::perform::{Perform, PerformText};
+use crate::perform::{Perform, PerformText, PerformThroughText};
 use std::alloc::Allocator;
 
 /// A [`Parser`](crate::Parser) that keeps operating system commands of any length, and whose calls
@@ -164,12 +163,11 @@ impl<A: Allocator> LongParser<A> {
     /// Reads bytes as [`advance_until_terminated`](Self::advance_until_terminated) does, and passes
     /// characters to print in [runs](crate::PerformText). Only for performers that nothing in a run
     /// terminates: they aren't asked there.
-    pub fn advance_text_until_terminated<P: PerformText>(
+    pub fn advance_text_until_terminated<P: PerformThroughText>(
         &mut self,
         performer: &mut P,
         bytes: &[u8],
     ) -> Result<usize, Refused>
-        requires no_stop { NoCharacterStops P.keeps P.step P.is_terminated }
         ensures { ReadsUntilTerminatedLong P.step P.is_terminated (P.value_of performer.old)
             (P.value_of performer.new) bytes.now result self.old self.new }
     {

@@ -6,8 +6,8 @@ use core::fmt;
 use core::iter::FusedIterator;
 
 /// The numbers of a sequence, in groups that are never empty.
-#[doc = include_str!("../../docs/params.md")]
 #[derive(Clone)]
+#[doc = include_str!("../../docs/params.md")]
 pub struct Params {
     // all numbers in a row
     numbers: ArrayVec<u16, 32>,

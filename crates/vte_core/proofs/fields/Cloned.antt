@@ -1,0 +1,31 @@
+-- A machine with the state of another, what is collected there and its items has read the same: by cases of the state.
+use Rattle.vte_core.proofs.Common.{◌≡◌, Option, ℕ, List, [], sym, subst, Machine, State, Text, Escape, EscapeIntermediate, ControlSequence}
+use Rattle.vte_core.proofs.Common.{DeviceControl, DeviceData, SystemCommand, IgnoredString, Holds, IsBehind, StandsBy, StandsInHead, Place, InText, AtEscape}
+use Rattle.vte_core.proofs.Common.{InEscape, InControlSequence, InDeviceControl, InData, InSystemCommand, InIgnoredString, SameItems}
+use Rattle.vte_core.proofs.fields.Standing.{keeps-same, stands-by}
+
+by_clone : {B C : Type 0} (limit : Option ℕ) (state : State) (old : Machine B) (new : Machine C) (place : Place)
+    → new.collected ≡ old.collected → SameItems old.command new.command
+    → StandsBy limit state old place → StandsBy limit state new place
+by_clone limit (Text unfinished) old new (InText u) same items s = s
+by_clone limit Escape old new AtEscape same items s = subst (λ collected. Holds collected []) (sym same) s
+by_clone limit EscapeIntermediate old new (InEscape bytes) same items s =
+    subst (λ collected. Holds collected bytes) (sym same) s
+by_clone limit (ControlSequence part) old new (InControlSequence head) same items s =
+    subst (λ collected. StandsInHead collected part head) (sym same) s
+by_clone limit (DeviceControl part) old new (InDeviceControl head) same items s =
+    subst (λ collected. StandsInHead collected part head) (sym same) s
+by_clone limit DeviceData old new InData same items s = tt
+by_clone limit SystemCommand old new (InSystemCommand command) same items s =
+    keeps-same limit old.command new.command command items s
+by_clone limit IgnoredString old new InIgnoredString same items s = tt
+by_clone limit _ old new _ same items s = absurd s
+
+pub reads_cloned : {B C : Type 0} (limit : Option ℕ) (old : Machine B) (new : Machine C) → new.state ≡ old.state
+    → new.collected ≡ old.collected → SameItems old.command new.command
+    → (stream : List ℕ) → IsBehind limit old stream → IsBehind limit new stream
+reads_cloned limit old new state same items stream behind = record {
+  place = behind.place;
+  stands = stands-by state (by_clone limit old.state old new behind.place same items behind.stands.by);
+  is_after = behind.is_after;
+}

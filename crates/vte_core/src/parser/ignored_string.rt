@@ -28,11 +28,10 @@ impl<B: Buffer> Machine<B> {
             looks.old looks.new }
     {
         let end = looks.find_string_end(input, from);
-        if end == input.len() {
-            return end;
+        match looks.get(input, end) {
+            Some(byte) => self.read_end::<P, G, ASKS>(looks, performer, input, end, byte),
+            None => end,
         }
-        let byte = looks.at(input, end);
-        self.read_end::<P, G, ASKS>(looks, performer, input, end, byte)
     }
 }
 

@@ -37,10 +37,10 @@ impl<B: Buffer> Machine<B> {
             return Err(Refused { read: from });
         }
         self.command.push_data(looks, input, from, end);
-        if end == input.len() {
-            return Ok(end);
-        }
-        let byte = looks.at(input, end);
+        let byte = match looks.get(input, end) {
+            Some(byte) => byte,
+            None => return Ok(end),
+        };
         if ends_all(byte) {
             return Ok(self.read_end::<P, G, ASKS>(looks, performer, input, end, byte));
         }

@@ -8,7 +8,7 @@ use crate::proved::vte_core::buffer::Buffer;
 use crate::proved::vte_core::class::{cannot_end, ends_all};
 use crate::proved::vte_core::grain::{Grain, PerformAs};
 use crate::proved::vte_core::parser::machine::Machine;
-use crate::proved::vte_core::scan::get_block;
+use crate::proved::vte_core::scan::{get, get_block};
 
 impl<B: Buffer> Machine<B> {
     /// Reads a string that means nothing, and the byte that ends it.
@@ -19,11 +19,10 @@ impl<B: Buffer> Machine<B> {
         from: usize,
     ) -> usize {
         let end = find_string_end(input, from);
-        if end == input.len() {
-            return end;
+        match get(input, end) {
+            Some(byte) => self.read_end::<P, G, ASKS>(performer, input, end, byte),
+            None => end,
         }
-        let byte = input[end];
-        self.read_end::<P, G, ASKS>(performer, input, end, byte)
     }
 }
 

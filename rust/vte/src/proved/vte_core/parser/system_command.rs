@@ -5,7 +5,7 @@ use crate::proved::vte_core::buffer::Buffer;
 use crate::proved::vte_core::class::ends_all;
 use crate::proved::vte_core::grain::{Grain, PerformAs};
 use crate::proved::vte_core::parser::{Machine, Refused, State, Unfinished};
-use crate::proved::vte_core::scan::find_data_end;
+use crate::proved::vte_core::scan::{find_data_end, get};
 
 const BELL: u8 = 0x07;
 
@@ -24,10 +24,10 @@ impl<B: Buffer> Machine<B> {
             return Err(Refused { read: from });
         }
         self.command.push_data(input, from, end);
-        if end == input.len() {
-            return Ok(end);
-        }
-        let byte = input[end];
+        let byte = match get(input, end) {
+            Some(byte) => byte,
+            None => return Ok(end),
+        };
         if ends_all(byte) {
             return Ok(self.read_end::<P, G, ASKS>(performer, input, end, byte));
         }

@@ -34,13 +34,13 @@ advances-ignored {i = i} {j = j} begun low high are may_go_on =
     (advances-by (j - i) i begun (omega (arith, low, high))
     (λ k from to. are k from (omega (arith, low, to))) may_go_on)
 
-pub returns-then-end-len-clause-advances : goal.returns-then-end-len-clause-advances
-returns-then-end-len-clause-advances g c =
+pub returns-in-None-clause-advances : goal.returns-in-None-clause-advances
+returns-in-None-clause-advances g c =
     let found = c.find_string_end-end.ensures in
     advances-ignored c.requires.begun found.scans.low found.scans.high found.scans.are c.requires.may_go_on
 
-pub returns-clause-advances : goal.returns-clause-advances
-returns-clause-advances g c =
+pub returns-in-Some-clause-advances : goal.returns-in-Some-clause-advances
+returns-in-Some-clause-advances g c =
     let found = c.find_string_end-end.ensures in
     advances-then
     (advances-ignored c.requires.begun found.scans.low found.scans.high found.scans.are c.requires.may_go_on)

@@ -9,8 +9,8 @@ use Rattle.vte_core.proofs.places.PlaceLeads.{command-item, command-control, com
 use Rattle.vte_core.proofs.parser.machine.Machine.read_system_command.Goals.{then-byte-eq59, else-byte-eq59+then-byte-eq-BELL, else-byte-eq59+else-byte-eq-BELL}
 use Rattle.vte_core.proofs.parser.machine.Machine.read_system_command.Goals as goal
 
-pub returns-then-end-len-clause-advances : goal.returns-then-end-len-clause-advances
-returns-then-end-len-clause-advances g c =
+pub returns-in-None-clause-advances : goal.returns-in-None-clause-advances
+returns-in-None-clause-advances g c =
     let r = c.requires in
     let found = c.find_data_end-end.ensures in
     advances-items r.within r.begun refl found.low found.high
@@ -33,12 +33,13 @@ returns-clause-advances g c =
     let limit = g.B.Buffer.limit in
     let begun = r.begun in
     let found = c.find_data_end-end.ensures in
-    let byte = c.at-byte.result in
+    let byte = c.in-Some.byte in
+    let here = rw c.in-Some.is at c.get.ensures in
     let after_data : Machine _ =
     record { state = c.args.self.now.state; collected = c.args.self.now.collected; command = c.push_data.new.self } in
-    let within : c.find_data_end-end.result < length c.args.input.bytes.now = omega arith in
+    let within : c.find_data_end-end.result < length c.args.input.bytes.now = here.0 in
     let ordinary = sym c.ends_all.ensures ∙ c.if-ends_all.false in
-    let no_data : IsCommandData byte → ⊥ = λ d. found.ended within (rw c.at-byte.ensures.value at d) in
+    let no_data : IsCommandData byte → ⊥ = λ d. found.ended within (rw here.1 at d) in
     advances-then
     (advances-items {next = after_data} r.within begun refl found.low found.high
     (λ k low high. (found.are k low high).0) r.may_go_on begun
@@ -47,7 +48,7 @@ returns-clause-advances g c =
       | then-byte-eq59 w ↦
           let is : byte ≡ 0x3b = w.if-byte-eq59.true in
           rw (w.self-is, w.performer-is)
-          (advances-when tt (advances-in begun within c.at-byte.ensures.value r.may_go_on ordinary
+          (advances-when tt (advances-in begun within here.1 r.may_go_on ordinary
           (in_system_command after_data (λ items keeps. taken [] (InSystemCommand (items ++ byte ∷ [])) refl
           (stands-by begun
           (subst (λ b. Keeps limit w.end_piece.new.self (items ++ b ∷ [])) (sym is)
@@ -55,7 +56,7 @@ returns-clause-advances g c =
           (command-item limit items byte (omega (arith, is))))) (settled-by _ _ begun tt)))
       | else-byte-eq59+then-byte-eq-BELL w ↦
           rw (w.self-is, w.performer-is)
-          (advances-when tt (advances-in begun within c.at-byte.ensures.value r.may_go_on ordinary
+          (advances-when tt (advances-in begun within here.1 r.may_go_on ordinary
           (in_system_command after_data
           (λ items keeps. taken (OscDispatch (pieces_of limit items) true ∷ []) (InText [])
           (rw (pieces_held _ _ items keeps) w.dispatch.ensures.value) (record { by = (refl, refl) })
@@ -63,7 +64,7 @@ returns-clause-advances g c =
           (rw w.if-byte-eq-BELL.true refl)))) tt))
       | else-byte-eq59+else-byte-eq-BELL w ↦
           rw (w.self-is, w.performer-is)
-          (advances-when tt (advances-in begun within c.at-byte.ensures.value r.may_go_on ordinary
+          (advances-when tt (advances-in begun within here.1 r.may_go_on ordinary
           (in_system_command after_data (λ items keeps. taken [] (InSystemCommand items) refl (stands-by begun keeps)
           (command-control limit items byte (left_is_control byte ordinary no_data w.if-byte-eq59.false)
           (ne_eqb _ _ w.if-byte-eq-BELL.false)))) (settled-by _ _ begun tt)))

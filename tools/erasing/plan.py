@@ -164,8 +164,8 @@ VTE = Plan(
         # rustc derives it, with the same copies of the fields
         "vte_core/parser": ("impl<const OSC_RAW_BUF_SIZE: usize> Clone for Parser",),
         # nobody asks
-        "vte_core/parser/long": ("fn memory",),
-        "vte_core/store": ("fn capacity",),
+        "vte_core/parser/long": ("fn memory", "impl<A: Allocator + Clone> Clone for LongParser"),
+        "vte_core/store": ("fn capacity", "impl<A: Allocator + Clone> Clone for Store"),
         # src/lib.rs says what the crate shows
         "vte/lib": ("use vte_core",),
         "vte/ansi": ("use vte_handler", "use vte_types"),

@@ -17,6 +17,11 @@ HasReadLong parser stream = IsBehind None parser.machine stream
 abbrev pub HoldsCommandLong : {A : Type 0} → LongParser A → List ℕ → Type 0
 HoldsCommandLong parser items = Keeps None parser.machine.command items
 
+-- It continues as the other does: it has read the same, and holds the same command.
+pub record IsCopyOfLong {A : Type 0} (parser copy : LongParser A) : Type 0 where
+  pub reads : (stream : List ℕ) → HasReadLong parser stream → HasReadLong copy stream
+  pub holds : (items : List ℕ) → HoldsCommandLong parser items → HoldsCommandLong copy items
+
 -- How many data bytes fit into its allocated memory.
 abbrev pub memory_of : {A : Type 0} → LongParser A → ℕ
 memory_of parser = parser.machine.command.capacity

@@ -6,7 +6,7 @@ ghost use Rattle.vte_core.specs.machine.Words.{ArePieceEnds, HasCapacity, Stored
 use crate::buffer::Buffer;
 use crate::looks::{CountedPerform, Grain, Input, Looks};
 use arrayvec::ArrayVec;
-use std::alloc::Allocator;
+use std::alloc::{AllocError, Allocator};
 use std::marker::Model;
 
 /// The most pieces of a command.
@@ -218,6 +218,18 @@ impl<A: Allocator> Store<Vec<u8, A>> {
         ensures frees { length self.old.bytes ≡ 0 → self.new.capacity ≡ 0 }
     {
         self.bytes.shrink_to_fit();
+    }
+}
+
+impl<A: Allocator + Clone> Clone for Store<Vec<u8, A>> {
+    ghost is_clone = { SameItems };
+
+    fn clone(&self) -> Result<Self, AllocError> {
+        Ok(Store {
+            bytes: self.bytes.clone()?,
+            ends: self.ends.clone()?,
+            dropped: self.dropped,
+        })
     }
 }
 

@@ -1,7 +1,7 @@
 //! The parser that keeps operating system commands of any length.
 ghost use Rattle.std.specs.Prelude.{◌≡◌, ◌+◌, ◌<◌, ◌≤◌, ℕ, true, false, List, [], None, length};
 ghost use Rattle.vte_core.specs.LongAdvance.{ReadsBytesLong, ReadsToRunLong, ReadsUntilTerminatedLong};
-ghost use Rattle.vte_core.specs.LongParser.{HasReadLong, HoldsCommandLong, LacksRoom, memory_of};
+ghost use Rattle.vte_core.specs.LongParser.{HasReadLong, HoldsCommandLong, IsCopyOfLong, LacksRoom, memory_of};
 ghost use Rattle.vte_core.specs.LongParser.{open_size};
 ghost use Rattle.vte_core.specs.Looks.{looks_long};
 ghost use Rattle.vte_core.specs.Outcome.{IsLoss};
@@ -11,7 +11,7 @@ ghost use Rattle.vte_core.specs.SystemCommand.{drops_data};
 use crate::looks::{InRuns, Input, Looks, Run, Singly};
 use crate::parser::{Machine, Refused, State};
 use crate::perform::{Perform, PerformText, PerformThroughText};
-use std::alloc::Allocator;
+use std::alloc::{AllocError, Allocator};
 
 /// A [`Parser`](crate::Parser) that keeps operating system commands of any length, and whose calls
 /// can be refused memory.
@@ -33,6 +33,21 @@ use std::alloc::Allocator;
 pub struct LongParser<A: Allocator> {
     machine: Machine<Vec<u8, A>>,
     looks: Looks<Vec<u8, A>>,
+}
+
+impl<A: Allocator + Clone> Clone for LongParser<A> {
+    ghost is_clone = { λ parser copy. IsCopyOfLong parser copy };
+
+    fn clone(&self) -> Result<Self, AllocError> {
+        Ok(LongParser {
+            machine: Machine {
+                state: self.machine.state,
+                collected: self.machine.collected.clone()?,
+                command: self.machine.command.clone()?,
+            },
+            looks: Looks::unlimited(),
+        })
+    }
 }
 
 impl<A: Allocator> LongParser<A> {

@@ -126,6 +126,16 @@ impl<B: Buffer> Machine<B> {
                 // The place of the last byte that was read: one increment serves all.
                 if is_printed_ascii(byte) {
                     performer.print_char(looks, char::from(byte));
+                } else if G::IN_RUNS && byte >= 0xa0 {
+                    // One comparison tells these from ESC and controls.
+                    if is_lead(byte) {
+                        let next = self.read_longer::<P, G, ASKS>(
+                            looks, performer, input, position, byte,
+                        );
+                        position = next - 1;
+                    } else {
+                        looks.tell_single(performer, byte);
+                    }
                 } else if is_lead(byte) {
                     let next = self.read_longer::<P, G, ASKS>(
                         looks, performer, input, position, byte,

@@ -90,6 +90,14 @@ impl<B: Buffer> Machine<B> {
                 // The place of the last byte that was read: one increment serves all.
                 if is_printed_ascii(byte) {
                     performer.print_char(char::from(byte));
+                } else if G::IN_RUNS && byte >= 0xa0 {
+                    // One comparison tells these from ESC and controls.
+                    if is_lead(byte) {
+                        let next = self.read_longer(performer, input, position, byte);
+                        position = next - 1;
+                    } else {
+                        tell_single(performer, byte);
+                    }
                 } else if is_lead(byte) {
                     let next = self.read_longer(performer, input, position, byte);
                     // A path of its own takes fewer instructions if the call may stop after a

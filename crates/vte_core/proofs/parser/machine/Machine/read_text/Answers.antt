@@ -6,7 +6,8 @@ use Rattle.vte_core.proofs.calls.Characters.{performs-printed, performs-single}
 use Rattle.vte_core.proofs.parser.machine.Machine.read_text.Given.{Over}
 use Rattle.vte_core.proofs.parser.machine.Machine.read_text.Goals.{Joined-IN_RUNS-2, then-IN_RUNS-2+then-is_printed_ascii+in-Some, else-IN_RUNS-2}
 use Rattle.vte_core.proofs.parser.machine.Machine.read_text.Goals.{Joined-is_printed_ascii-2, then-is_printed_ascii-2}
-use Rattle.vte_core.proofs.parser.machine.Machine.read_text.Goals.{else-is_printed_ascii-2+then-is_lead+else-this-ne0, else-is_printed_ascii-2+else-is_lead+else-byte-eq-ESCAPE}
+use Rattle.vte_core.proofs.parser.machine.Machine.read_text.Goals.{else-is_printed_ascii-2+then-IN_RUNS-3+then-byte-ge160+then-is_lead, else-is_printed_ascii-2+then-IN_RUNS-3+then-byte-ge160+else-is_lead}
+use Rattle.vte_core.proofs.parser.machine.Machine.read_text.Goals.{else-is_printed_ascii-2+else-IN_RUNS-3+then-is_lead-2+else-this-ne0, else-is_printed_ascii-2+else-IN_RUNS-3+else-is_lead-2+else-byte-eq-ESCAPE}
 use Rattle.vte_core.proofs.parser.machine.Machine.read_text.Goals as goal
 
 -- the call has come past the run of ASCII, if there was one
@@ -87,6 +88,11 @@ pub read_longer-next-requires-clause-may_read : goal.read_longer-next-requires-c
 read_longer-next-requires-clause-may_read g c = at g
     (goal.at.read_longer-next-requires-clause-may_read g c).Joined-IN_RUNS-2
 
+pub read_longer-next-requires-then-is_lead-2-clause-may_read
+    : goal.read_longer-next-requires-then-is_lead-2-clause-may_read
+read_longer-next-requires-then-is_lead-2-clause-may_read g c = at g
+    (goal.at.read_longer-next-requires-then-is_lead-2-clause-may_read g c).Joined-IN_RUNS-2
+
 pub read_sequence-requires-clause-may_read : goal.read_sequence-requires-clause-may_read
 read_sequence-requires-clause-may_read g c =
     let here = at g (goal.at.read_sequence-requires-clause-may_read g c).Joined-IN_RUNS-2 in
@@ -107,15 +113,25 @@ read g c here = elim c.if-is_printed_ascii-2.branch [
       let printed = sym c.is_printed_ascii-in-loop-position-2.ensures ∙ w.if-is_printed_ascii-2.true in
       rw (w.self-is, w.performer-is, w.position-is) (advances-part (advances-byte here.within here.is here.may_go_on
       (performs-printed here.begun printed w.from.ensures w.print_char.ensures.value) (settled-by _ _ here.begun tt)))
-  | else-is_printed_ascii-2+then-is_lead+else-this-ne0 w ↦
+  | else-is_printed_ascii-2+then-IN_RUNS-3+then-byte-ge160+then-is_lead w ↦
       let read = w.read_longer-next.ensures in
       rw (w.self-is, w.performer-is, w.position-is)
       (advances-moved (omega (arith, read.moves.further here.within)) (advances-part read.advances))
-  | else-is_printed_ascii-2+else-is_lead+else-byte-eq-ESCAPE w ↦
+  | else-is_printed_ascii-2+then-IN_RUNS-3+then-byte-ge160+else-is_lead w ↦
       let told = w.tell_single.ensures in
       rw (w.self-is, w.performer-is, w.position-is) (advances-part (advances-byte here.within here.is here.may_go_on
-      (performs-single here.begun w.if-byte-eq-ESCAPE.false
+      (performs-single here.begun (grind (arith, w.if-byte-ge160.true))
       (sym w.is_lead.ensures ∙ w.if-is_lead.false) told.control told.malformed) (settled-by _ _ here.begun tt)))
+  | else-is_printed_ascii-2+else-IN_RUNS-3+then-is_lead-2+else-this-ne0 w ↦
+      let read = w.read_longer-next-then-is_lead-2.ensures in
+      rw (w.self-is, w.performer-is, w.position-is)
+      (advances-moved (omega (arith, read.moves.further here.within)) (advances-part read.advances))
+  | else-is_printed_ascii-2+else-IN_RUNS-3+else-is_lead-2+else-byte-eq-ESCAPE w ↦
+      let told = w.tell_single-else-byte-eq-ESCAPE.ensures in
+      rw (w.self-is, w.performer-is, w.position-is) (advances-part (advances-byte here.within here.is here.may_go_on
+      (performs-single here.begun w.if-byte-eq-ESCAPE.false
+      (sym w.is_lead-else-IN_RUNS-3.ensures ∙ w.if-is_lead-2.false) told.control told.malformed)
+      (settled-by _ _ here.begun tt)))
 ]
 
 pub returns-then-byte-eq-ESCAPE-clause-advances : goal.returns-then-byte-eq-ESCAPE-clause-advances
@@ -132,12 +148,12 @@ returns-then-terminated-2-clause-advances g c =
 pub returns-then-terminated-clause-advances : goal.returns-then-terminated-clause-advances
 returns-then-terminated-clause-advances g c =
     advances-then (reached g (goal.at.returns-then-terminated-clause-advances g c).Joined-IN_RUNS-2)
-    (advances-part c.read_longer-next.ensures.advances)
+    (advances-part c.read_longer-next-then-is_lead-2.ensures.advances)
 
 pub loop-position-2-preserved-then-not-IN_RUNS : goal.loop-position-2-preserved-then-not-IN_RUNS
 loop-position-2-preserved-then-not-IN_RUNS g c =
     let places = goal.at.loop-position-2-preserved-then-not-IN_RUNS g c in
-    let read = c.read_longer-next.ensures in
+    let read = c.read_longer-next-then-is_lead-2.ensures in
     record {
       advances = advances-then (reached g places.Joined-IN_RUNS-2) (advances-part read.advances);
       may_go_on = search rules;
@@ -162,12 +178,19 @@ loop-position-2-preserved g c =
       may_go_on = search rules;
       between = elim c.if-is_printed_ascii-2.branch [
         | then-is_printed_ascii-2 w ↦ rw w.self-is (λ _. here.begun)
-        | else-is_printed_ascii-2+then-is_lead+else-this-ne0 w ↦
+        | else-is_printed_ascii-2+then-IN_RUNS-3+then-byte-ge160+then-is_lead w ↦
             rw (w.self-is, w.position-is)
             (λ inside.
             w.read_longer-next.ensures.text
             (omega (arith, inside, w.read_longer-next.ensures.moves.further here.within)))
-        | else-is_printed_ascii-2+else-is_lead+else-byte-eq-ESCAPE w ↦ rw w.self-is (λ _. here.begun)
+        | else-is_printed_ascii-2+then-IN_RUNS-3+then-byte-ge160+else-is_lead w ↦ rw w.self-is (λ _. here.begun)
+        | else-is_printed_ascii-2+else-IN_RUNS-3+then-is_lead-2+else-this-ne0 w ↦
+            rw (w.self-is, w.position-is)
+            (λ inside.
+            w.read_longer-next-then-is_lead-2.ensures.text
+            (omega (arith, inside, w.read_longer-next-then-is_lead-2.ensures.moves.further here.within)))
+        | else-is_printed_ascii-2+else-IN_RUNS-3+else-is_lead-2+else-byte-eq-ESCAPE w ↦
+            rw w.self-is (λ _. here.begun)
       ];
       low = search rules;
       high = search rules;
@@ -179,3 +202,14 @@ loop-position-2-preserved g c =
       least = search rules;
       memory = search rules;
     }
+
+pub returns-then-terminated-2-clause-moves : goal.returns-then-terminated-2-clause-moves
+returns-then-terminated-2-clause-moves g c =
+    let join = (goal.at.returns-then-terminated-2-clause-moves g c).Joined-is_printed_ascii-2 in
+    elim join.if-is_printed_ascii-2.branch [
+      | then-is_printed_ascii-2 w ↦ search rules
+      | else-is_printed_ascii-2+then-IN_RUNS-3+then-byte-ge160+then-is_lead w ↦ search rules
+      | else-is_printed_ascii-2+then-IN_RUNS-3+then-byte-ge160+else-is_lead w ↦ search rules
+      | else-is_printed_ascii-2+else-IN_RUNS-3+then-is_lead-2+else-this-ne0 w ↦ search rules
+      | else-is_printed_ascii-2+else-IN_RUNS-3+else-is_lead-2+else-byte-eq-ESCAPE w ↦ search rules
+    ]

@@ -2,8 +2,8 @@
 //!
 //! Nothing else reads a byte of a call or tells a performer an event: an [`Input`] has no other way
 //! to its bytes, and a [`CountedPerform`] takes events with the count alone. Bytes leave it one by
-//! one, in blocks, as a copy in a buffer, or as text or data: for a performer, or in the [`Run`] that
-//! a caller gets. Whoever is generic in the buffer `B` has no count but the one it was lent, for a
+//! one, in blocks, as a copy in a buffer, or as text or data: for a performer, or in a [`Run`] for
+//! the caller. Whoever is generic in the buffer `B` has no count but the one it was lent, for a
 //! `Looks<B>` is made for the buffers of the two parsers alone.
 ghost use Rattle.std.specs.Prelude.{◌≡◌, ◌≢◌, ◌+◌, ◌-◌, ◌<◌, ◌≤◌, ℕ, ◌++◌, length, drop, map, take, slice_index, vec_capacity, MatchOption, IsUtf8};
 ghost use Rattle.vte_core.specs.machine.Words.{AreOfKind, ArePut, FindsEnd, IsCommandData, IsPut, IsRange, IsRun, IsTaken, PrintsRun, Put, after, looked};

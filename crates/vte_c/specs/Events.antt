@@ -10,7 +10,8 @@ use Rattle.vte_c.specs.declared.events.Events.{Events}
 use Rattle.vte_c.specs.Record.{data_of, has, kind_of, may_have_lost, record_of, run_record, without_loss}
 
 -- What was written, how much that is, how much there is room for, which kinds to write and after
--- which to stop. It is paused after a command that may have lost data. The names identify the caller's slices.
+-- which to stop. It is paused after a command that may have lost data. The names identify the
+-- caller's slices.
 pub record Room : Type 0 where
   pub events : List VteEvent
   pub count : ℕ

@@ -79,7 +79,7 @@ goes_on_at_first old true starts others =
     let small : length (data_of (Print replacement)) ≤ 4 =
     omega (arith, length-encode replacement, (len_utf8_bounds replacement).1) in
     let next : Room = with_event old (Print replacement) in
-    let going : next.paused ≡ false = paused_after old (Print replacement) ∙ starts.paused in
+    let going : next.paused ≡ false = paused_after old (Print replacement) refl ∙ starts.paused in
     let same : resumed next ≡ next = resumed_same next going in
     elim (cases_Bool (has old.kinds 0)) [
       | inl wanted ↦
@@ -200,7 +200,7 @@ gone-then a free within b =
 -- a run that has no bytes isn't there
 no_run : (bytes : List ℕ) (end : ℕ) (taken : Taken) → IsWhole bytes end taken → length (taken_bytes taken) ≡ 0
     → (room : Room) (start : ℕ)
-    → with_taken room start taken ≡ room
+    → with_taken room start taken ≡ resumed room
 no_run bytes end (Text text) whole none room start = absurd (omega (arith, whole.0, none))
 no_run bytes end (Data those) whole none room start = absurd (omega (arith, whole.0, none))
 no_run bytes end Nothing whole none room start = refl
@@ -217,7 +217,7 @@ module _ (old mid new : Room) (since bytes : List ℕ) (from : ℕ) (run : Retur
 
   -- a run of this kind was recorded
   goes-some : (kind : Run) → 0 < length (run_bytes run)
-      → new ≡ with_wanted (resumed mid) (run_record (run_kind kind) (from + run.start) (length (run_bytes run)))
+      → new ≡ with_wanted mid (run_record (run_kind kind) (from + run.start) (length (run_bytes run)))
       → IsRun kind (run_bytes run) → returned_events run ≡ run_events kind (run_bytes run)
       → Goes old new since (after_call ++ run_bytes run) bytes from run.end
   goes-some kind some is plain same =
@@ -225,14 +225,15 @@ module _ (old mid new : Room) (since bytes : List ℕ) (from : ℕ) (run : Retur
       ap (take (length (run_bytes run))) (sym (drop-drop run.start from bytes)) ∙ sym r.stands.is in
       let within : from + run.start + length (run_bytes run) ≤ length bytes =
       omega (arith, begins, r.stands.end, r.stands.within, length-drop from bytes) in
-      let open_room = resumed_free mid (r.may_go_on (omega (arith, r.stands.end))) in
+      let open_room = r.may_go_on (omega (arith, r.stands.end)) in
+      let same_room : resumed mid ≡ mid = resumed_same mid (unpaused mid open_room) in
       let more =
       goes-run {since = after_call} kind laws.grows open_room is
       (record { within = within; some = some; is = rw here plain }) (rw here (r.adds since before ∙ same)) in
-      rw r.stands.end (goes-then call open_room within (rw here at more))
+      rw r.stands.end (goes-then (rw same_room at call) open_room within (rw here at more))
 
   goes-taken : (taken : Taken) → run.taken ≡ taken → AreCharacters taken → IsWhole (drop from bytes) run.end taken
-      → new ≡ with_taken (resumed mid) (from + run.start) taken
+      → new ≡ with_taken mid (from + run.start) taken
       → Goes old new since (after_call ++ run_bytes run) bytes from run.end
   goes-taken (Text text) is utf8 whole written =
       let bytes_are : run_bytes run ≡ text.now = ap taken_bytes is in
@@ -245,12 +246,12 @@ module _ (old mid new : Room) (since bytes : List ℕ) (from : ℕ) (run : Retur
       let end : run.end ≡ run.start = omega (arith, r.stands.end, ap length none) in
       rw (none, append-nil after_call, end, written) call
 
-  pub goes-to-run : AreCharacters run.taken → new ≡ with_run (resumed mid) from run
+  pub goes-to-run : AreCharacters run.taken → new ≡ with_run mid from run
       → Goes old new since (after_call ++ run_bytes run) bytes from run.end
   goes-to-run utf8 is = goes-taken run.taken refl utf8 r.stands.whole is
 
   -- with room for what two bytes add a call reads one, unless a record was written that stops
-  pub further : Starts old → from < length bytes → new ≡ with_run (resumed mid) from run
+  pub further : Starts old → from < length bytes → new ≡ with_run mid from run
       → HaveOtherRecords old.stops new.events → 0 < run.end
   unfolding told
   further starts some is others = elim (cases_lt 0 run.end) [
@@ -260,7 +261,7 @@ module _ (old mid new : Room) (since bytes : List ℕ) (from : ℕ) (run : Retur
         let start : run.start ≡ 0 = omega (arith, none, r.stands.end) in
         let empty : length (run_bytes run) ≡ 0 = omega (arith, none, r.stands.end) in
         let same : new ≡ resumed mid =
-        is ∙ no_run unread run.end run.taken r.stands.whole empty (resumed mid) (from + run.start) in
+        is ∙ no_run unread run.end run.taken r.stands.whole empty mid (from + run.start) in
         let performed = rw (start, added_nothing since) at (r.comes since before).performed in
         let goes_on = goes_on_at_first old (breaks_at since unread 0) starts (rw (same, performed) at others) in
         absurd

@@ -2,9 +2,9 @@
 use Rattle.vte_c.proofs.Common.{AreReadable, Bool, CsiDispatch, DataRun, EscDispatch, Event, Events, Execute, HasItems, HaveOtherRecords, Holds, Hook, InInput, IsBounded}
 use Rattle.vte_c.proofs.Common.{IsBrief, IsRunAt, Item, List, OscDispatch, Print, Put, Room, Run, Single, Some, StopsAtKind, TextRun, Unhook, VteEvent, [], add-zero, after, ap}
 use Rattle.vte_c.proofs.Common.{append-nil, append_assoc, arith, cases_Bool, data_of, false, filter-append, flag_byte, flat_map, flat_map-append, has, has_kind, has_room}
-use Rattle.vte_c.proofs.Common.{if◌then◌else◌, inl, inr, is_command, is_full, item_data, kind_of, kinds_of, length, length-append, length-map, map, map-append, most_added}
+use Rattle.vte_c.proofs.Common.{if◌then◌else◌, inl, inr, may_have_lost, is_full, item_data, kind_of, kinds_of, length, length-append, length-map, map, map-append, most_added}
 use Rattle.vte_c.proofs.Common.{nat_lt, nat_tests, or_parts, placed, records_from, refl, reported, resumed, room_of, run_kind, run_record, subst, sym, take, true, with_event}
-use Rattle.vte_c.proofs.Common.{with_items, with_one, with_record, without_loss, ℕ, ◌%◌, ◌++◌, ◌+◌, ◌||◌, ◌∙◌, ◌∷◌, ◌≡◌, ◌≤◌}
+use Rattle.vte_c.proofs.Common.{with_items, with_one, with_record, without_loss, ℕ, ◌%◌, ◌++◌, ◌+◌, ◌∙◌, ◌∷◌, ◌≡◌, ◌≤◌}
 use Rattle.std.proofs.Math.Bool.{or-false, or_assoc}
 use Rattle.std.proofs.lemmas.List.Folds.{list_any-append}
 use Rattle.vte_core.proofs.streams.Performing.{after-append}
@@ -168,13 +168,14 @@ with_event_resumed room event =
     (either (has_room room (length (data_of event))) _ _ _ _
     (either (nat_lt room.count room.most) _ _ _ _ refl refl) refl) refl
 
-pub paused_after : (room : Room) (event : Event) → (with_event room event).paused ≡ (is_command event || room.paused)
+pub paused_after : (room : Room) (event : Event) → may_have_lost event ≡ false
+    → (with_event room event).paused ≡ room.paused
 unfolding with_one with_record
-paused_after room event =
-    let paused : Bool = is_command event || room.paused in
-    either_paused (has room.kinds (kind_of event)) paused _ _
-    (either_paused (has_room room (length (data_of event))) paused _ _
-    (either_paused (nat_lt room.count room.most) paused _ _ refl refl) refl) refl
+paused_after room event kept =
+    either_paused (has room.kinds (kind_of event)) room.paused _ _
+    (rw kept
+    (either_paused (has_room room (length (data_of event))) room.paused _ _
+    (either_paused (nat_lt room.count room.most) room.paused _ _ refl refl) refl)) refl
 
 -- ---- events of the parser
 

@@ -1,16 +1,17 @@
 -- The caller's buffers for events, and how an event changes them.
-use Rattle.std.specs.Prelude.{◌≡◌, ◌≤◌, ℕ, ◌+◌, ◌-◌, ◌^◌, Bool, true, false, ◌&&◌, ◌||◌, List, [], ◌∷◌, ◌++◌, length, map, min, take, if◌then◌else◌, nat_le, nat_lt}
+use Rattle.std.specs.Prelude.{◌≡◌, ◌≤◌, ℕ, ◌+◌, ◌-◌, ◌^◌, Bool, false, ◌&&◌, ◌||◌, List, [], ◌∷◌, ◌++◌, length, map, min, take, if◌then◌else◌, nat_le, nat_lt}
 use Rattle.std.specs.Str.{IsUtf8}
-use Rattle.vte_core.specs.Event.{Event, OscDispatch}
+use Rattle.vte_core.specs.Event.{Event}
 use Rattle.vte_core.specs.declared.looks.taken.Run.{Run}
 use Rattle.vte_core.specs.declared.looks.taken.Taken.{Taken}
 use Rattle.vte_core.specs.declared.looks.taken.Taken.TheVariants.{Text, Data, Nothing}
 use Rattle.vte_c.specs.declared.event.VteEvent.{VteEvent}
 use Rattle.vte_c.specs.declared.events.Events.{Events}
-use Rattle.vte_c.specs.Record.{data_of, has, record_of, run_record, without_loss}
+use Rattle.vte_c.specs.Record.{data_of, has, kind_of, may_have_lost, record_of, run_record, without_loss}
 
 -- What was written, how much that is, how much there is room for, which kinds to write and after
--- which to stop. It is paused after a command. The names identify the caller's slices.
+-- which to stop. It is paused after a command that may have lost data. The names identify the
+-- caller's slices.
 pub record Room : Type 0 where
   pub events : List VteEvent
   pub count : ℕ
@@ -77,18 +78,17 @@ abbrev pub with_reported : Room → VteEvent → List ℕ → Room
 with_reported room event bytes =
     if has room.kinds event.kind then with_record room event bytes else room
 
-abbrev pub is_command : Event → Bool
-is_command (OscDispatch pieces bell) = true
-is_command _ = false
-
-abbrev pub pausing : Room → Event → Room
-pausing room event = record room { paused = is_command event || room.paused }
+abbrev pub paused_if : Bool → Room → Room
+paused_if pauses room = record room { paused = pauses || room.paused }
 
 abbrev pub resumed : Room → Room
 resumed room = record room { paused = false }
 
 abbrev pub with_event : Room → Event → Room
-with_event room event = with_reported (pausing room event) (record_of event) (data_of event)
+with_event room event =
+    if has room.kinds (kind_of event)
+    then paused_if (may_have_lost event) (with_record room (record_of event) (data_of event))
+    else room
 
 -- After what was written in a room, the area holds a text up to a place, or has no room for it.
 pub record Holds (room : Room) (events : Events) (place : ℕ) (text : List ℕ) : Type 0 where
@@ -100,11 +100,12 @@ pub record Holds (room : Room) (events : Events) (place : ℕ) (text : List ℕ)
 abbrev pub with_wanted : Room → VteEvent → Room
 with_wanted room event = if has room.kinds event.kind then with_one room event else room
 
--- The record of a run that the parser returned for the bytes from a place on, if there is a run.
+-- The record of a run that the parser returned for the bytes from a place on. Without a run a pause
+-- ends.
 abbrev pub with_taken : Room → ℕ → Taken → Room
 with_taken room start (Text text) = with_wanted room (run_record 0 start (length text.now))
 with_taken room start (Data those) = with_wanted room (run_record 3 start (length those.now))
-with_taken room start Nothing = room
+with_taken room start Nothing = resumed room
 
 abbrev pub with_run : Room → ℕ → Run → Room
 with_run room from run = with_taken room (from + run.start) run.taken

@@ -1,6 +1,6 @@
 -- How records of a fixed size, a data area, and the input of a call represent events.
 use Rattle.std.specs.Char.{encode_utf8}
-use Rattle.std.specs.Prelude.{ℕ, suc, ◌+◌, ◌*◌, ◌/◌, ◌%◌, ◌^◌, min, Bool, true, List, [], ◌∷◌, ◌++◌, length, take, drop, map, if◌then◌else◌, ◌==◌}
+use Rattle.std.specs.Prelude.{ℕ, suc, ◌+◌, ◌*◌, ◌/◌, ◌%◌, ◌^◌, min, nat_le, Bool, true, false, ◌||◌, List, [], ◌∷◌, ◌++◌, length, take, drop, map, if◌then◌else◌, ◌==◌}
 use Rattle.std.specs.List.{filter, flat_map}
 use Rattle.std.specs.Str.{chars}
 use Rattle.vte_core.specs.Event.{Event, Print, Execute, Hook, Put, Unhook, OscDispatch, CsiDispatch, EscDispatch}
@@ -37,6 +37,15 @@ data_of (CsiDispatch groups intermediates ignore final) = flat_map group_bytes g
 data_of (Put byte) = byte ∷ []
 data_of (OscDispatch pieces bell) = flat_map piece_bytes pieces
 data_of _ = []
+
+-- So many pieces, or so many data bytes with their lengths, that a command may have lost data.
+abbrev pub has_most : ℕ → ℕ → Bool
+has_most pieces size = nat_le 16 pieces || nat_le 1024 size
+
+abbrev pub may_have_lost : Event → Bool
+may_have_lost (OscDispatch pieces bell) =
+    has_most (length pieces) (length (flat_map piece_bytes pieces))
+may_have_lost _ = false
 
 -- ---- the record of an event
 

@@ -3,7 +3,7 @@ ghost use Rattle.std.specs.Prelude.{◌≡◌, ◌≤◌, ◌<◌, ◌+◌, ◌-
 ghost use Rattle.std.specs.List.{concat, flat_map};
 ghost use Rattle.vte_core.specs.Event.{OscDispatch, Print};
 ghost use Rattle.vte_core.specs.AdvanceToRun.{run_bytes};
-ghost use Rattle.vte_c.specs.Record.{data_of, group_bytes, has, piece_bytes, record_of, sequence_record};
+ghost use Rattle.vte_c.specs.Record.{data_of, group_bytes, has, has_most, piece_bytes, record_of, sequence_record};
 
 use crate::event::{self, VteEvent, count_byte, has};
 use vte_core::{Params, Perform, Run, Taken};
@@ -15,11 +15,19 @@ pub(crate) const MOST_DATA: usize = 1088;
 /// The most data bytes of what one byte of a stream adds: an event, and a character after it.
 const MOST_ADDED: usize = MOST_DATA + 4;
 
+/// Returns whether a command has the most pieces, or with their lengths the most data bytes that a
+/// parser with a limit keeps. Any other has lost no data.
+fn has_most(pieces: usize, size: usize) -> bool
+    ensures { result ≡ has_most pieces size }
+{
+    pieces >= 16 || size >= 1024
+}
+
 /// Writes events of some kinds into the caller's buffers, each as a whole or not at all.
 ///
 /// It is terminated if there is no room for what one byte may add: two events, and the data of one
-/// and of a character. It also is after a command, so that the parser can be asked whether that
-/// lost data, and after an event of the kinds that stop.
+/// and of a character. It also is after a command that may have lost data, so that the parser can
+/// be asked whether it has, and after an event of the kinds that stop.
 #[derive(Drop)]
 pub(crate) struct Events<'a> {
     events: &'a mut [VteEvent],
@@ -37,7 +45,7 @@ pub(crate) struct Events<'a> {
     paused: bool,
     command: usize,
     // The room is full with at least so many events: with any number once one that stops was
-    // written, after a command, and if the area has little room left.
+    // written, in a pause, and if the area has little room left.
     full_count: usize,
     ghost size_limit: { size ≡ min (length area.now) (2 ^ 32 - 1) },
     ghost used_limit: { used ≤ size },
@@ -46,7 +54,7 @@ pub(crate) struct Events<'a> {
 }
 
 impl<'a> Events<'a> {
-    ghost use Rattle.vte_c.specs.Events.{AreCharacters, Holds, Room, Starts, is_full, pausing, resumed, room_of, with_event, with_one, with_record, with_reported, with_run};
+    ghost use Rattle.vte_c.specs.Events.{AreCharacters, Holds, Room, Starts, is_full, paused_if, resumed, room_of, with_event, with_one, with_record, with_reported, with_run};
 
     pub(crate) fn new(
         events: &'a mut [VteEvent],
@@ -147,9 +155,9 @@ impl<'a> Events<'a> {
     }
 
     /// Writes a run that is in the input, where the parser returned it for the bytes from a place
-    /// on.
+    /// on. Without a run it goes on after a pause, in which the parser returns none.
     #[inline(always)]
-    pub(crate) fn add_run(&mut self, from: usize, run: Run<'_>)
+    pub(crate) fn add_run(&mut self, from: usize, run: Run<'_>, lost_data: bool)
         requires { from + run.start + length (run_bytes run) < 2 ^ 32 }
         ensures written { room_of self.new ≡ with_run (room_of self.old) from run.entry }
         ensures utf8 { AreCharacters run.entry.taken }
@@ -166,7 +174,7 @@ impl<'a> Events<'a> {
                     self.add_record(VteEvent::run(event::DATA, start, data.len() as u32));
                 }
             }
-            Taken::Nothing => {}
+            Taken::Nothing => self.resume(lost_data),
         }
     }
 
@@ -207,17 +215,19 @@ impl<'a> Events<'a> {
         }
     }
 
-    /// Pauses after a command, whose record comes next.
-    fn pause(&mut self)
-        ensures { room_of self.new ≡ pausing (room_of self.old) (OscDispatch [] false) }
+    /// Pauses if a command may have lost data, and keeps the place of its record.
+    fn pause_if(&mut self, may_have_lost: bool, command: usize)
+        ensures { room_of self.new ≡ paused_if may_have_lost (room_of self.old) }
     {
-        self.paused = true;
-        self.command = self.count;
-        self.full_count = 0;
+        if may_have_lost {
+            self.paused = true;
+            self.command = command;
+            self.full_count = 0;
+        }
     }
 
     /// Goes on after a pause, and says in the record of the command whether it lost data.
-    pub(crate) fn resume(&mut self, lost_data: bool)
+    fn resume(&mut self, lost_data: bool)
         ensures { room_of self.new ≡ resumed (room_of self.old) }
     {
         if self.paused {
@@ -250,13 +260,14 @@ impl<'a> Events<'a> {
             ≡ with_event (room_of self.old) (OscDispatch (map
             (λ piece. piece.now) pieces.now) bell_terminated) }
     {
-        self.pause();
         if self.writes(event::OSC) {
+            let (command, start) = (self.count, self.used);
             let end = self.write_pieces(pieces);
             let event = VteEvent::new(event::OSC, 0)
                 .with_flag(bell_terminated)
                 .with_count(pieces.len());
             self.add_written(event, end);
+            self.pause_if(has_most(pieces.len(), end - start), command);
         }
     }
 
@@ -276,6 +287,10 @@ impl<'a> Events<'a> {
         ensures { (room : Room) (text : List ℕ) → Holds room self.old place text →
             Holds room self.new result (text ++ group_bytes group.now) }
     {
+        // most groups have one number
+        if let [number] = group {
+            return self.write(place, &[1, (*number % 256) as u8, (*number / 256) as u8]);
+        }
         let mut end = self.write(place, &[count_byte(group.len())]);
         for number in group {
             end = self.write(end, &[(*number % 256) as u8, (*number / 256) as u8]);

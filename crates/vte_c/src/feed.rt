@@ -117,7 +117,6 @@ fn read_more(parser: &mut Parser<1024>, bytes: &[u8], from: usize, room: &mut Ev
     laws::events_grow();
     laws::opens_silently();
     let run = parser.advance_to_run(room, &bytes[from..]);
-    room.resume(parser.command_lost_data());
-    room.add_run(from, run);
+    room.add_run(from, run, parser.command_lost_data());
     run.end
 }

@@ -148,7 +148,7 @@ typedef struct {
     void (*report_keyboard_mode)(void *user);
     void (*set_modify_other_keys)(void *user, uint8_t keys);
     void (*report_modify_other_keys)(void *user);
-    /* titles, clipboards and reports; a clipboard is a letter, and an intermediate is 0 if there is none */
+    /* titles, clipboards and reports; a clipboard is a letter, its bytes are base64 as sent, and an intermediate is 0 if there is none */
     void (*set_title)(void *user, const uint8_t *title, size_t length);
     void (*push_title)(void *user);
     void (*pop_title)(void *user);
@@ -176,8 +176,8 @@ vte_processor *vte_processor_new(const vte_handler *calls, size_t size, void *us
 /* Frees a processor. NULL is no processor. */
 int vte_processor_free(vte_processor *processor);
 
-/* Reads the next bytes of the stream, makes the calls that they add, and says how many were read: all, unless it returns
- * VTE_NO_MEMORY. Then the rest can be passed again once there is memory. */
+/* Reads the next bytes of the stream, makes the calls that they add, and says how many were read: all with VTE_OK, none with VTE_BUSY.
+ * After VTE_NO_MEMORY the rest can be passed again once there is memory. */
 int vte_processor_advance(vte_processor *processor, const uint8_t *bytes, size_t length, size_t *read);
 
 /* Ends an update whose end doesn't come: makes the calls of what is held. */

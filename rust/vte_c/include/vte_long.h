@@ -1,7 +1,8 @@
 /* vte_long.h: a parser that keeps operating system commands of any length.
  *
  * It reports the events of vte.h in the same records, with VTE_TRUNCATED only if a command has data after its 16th piece. It takes memory
- * from malloc, as much as the longest command that it was fed, and has its own area for data. It is in the library that cargo builds.
+ * from malloc: for the longest command that it was fed, and for its own data area, which has room for that command, 2 KiB, and five bytes
+ * for each byte of the longest call. It is in the library that cargo builds.
  *
  *     vte_long_parser *parser = vte_long_parser_new();
  *     vte_event events[256];

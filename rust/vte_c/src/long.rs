@@ -72,8 +72,7 @@ fn read_more(
         }
     }
     let run = parser.advance_to_run(room, unread)?;
-    room.resume(parser.command_lost_data());
-    room.add_run(from, run);
+    room.add_run(from, run, parser.command_lost_data());
     Ok(run.end)
 }
 

@@ -1,4 +1,4 @@
-use Rattle.vte_c.proofs.Common.{List, Room, Some, ap, arith, drop, length, length-drop, room_of, stream_at, take, take_all, with_run, ℕ, ◌++◌, ◌-◌, ◌∙◌, ◌≡◌, ◌≤◌}
+use Rattle.vte_c.proofs.Common.{List, Some, arith, drop, length, length-drop, room_of, stream_at, take, take_all, ℕ, ◌++◌, ◌-◌, ◌≡◌, ◌≤◌}
 use Rattle.vte_core.specs.AdvanceToRun.{run_bytes}
 use Rattle.vte_c.proofs.Going.{Laws, further, goes-to-run}
 use Rattle.vte_c.proofs.feed.read_more.Goals as goal
@@ -20,7 +20,7 @@ returns c =
       grows = c.events_grow.ensures (Some 1024);
       silent = c.opens_silently.ensures (Some 1024);
     } in
-    let written = c.add_run.ensures.written ∙ ap (λ (r : Room). with_run r c.args.from run) c.resume.ensures in
+    let written = c.add_run.ensures.written in
     record {
       within = omega (arith, returned.stands.within, c.requires.within);
       goes = λ since reads. record {

@@ -11,11 +11,17 @@ pub(crate) const MOST_DATA: usize = 1088;
 /// The most data bytes of what one byte of a stream adds: an event, and a character after it.
 const MOST_ADDED: usize = MOST_DATA + 4;
 
+/// Returns whether a command has the most pieces, or with their lengths the most data bytes that a
+/// parser with a limit keeps. Any other has lost no data.
+fn has_most(pieces: usize, size: usize) -> bool {
+    pieces >= 16 || size >= 1024
+}
+
 /// Writes events of some kinds into the caller's buffers, each as a whole or not at all.
 ///
 /// It is terminated if there is no room for what one byte may add: two events, and the data of one
-/// and of a character. It also is after a command, so that the parser can be asked whether that
-/// lost data, and after an event of the kinds that stop.
+/// and of a character. It also is after a command that may have lost data, so that the parser can
+/// be asked whether it has, and after an event of the kinds that stop.
 pub(crate) struct Events<'a> {
     events: &'a mut [VteEvent],
     area: &'a mut [u8],
@@ -32,7 +38,7 @@ pub(crate) struct Events<'a> {
     paused: bool,
     command: usize,
     // The room is full with at least so many events: with any number once one that stops was
-    // written, after a command, and if the area has little room left.
+    // written, in a pause, and if the area has little room left.
     full_count: usize,
 }
 
@@ -112,9 +118,9 @@ impl<'a> Events<'a> {
     }
 
     /// Writes a run that is in the input, where the parser returned it for the bytes from a place
-    /// on.
+    /// on. Without a run it goes on after a pause, in which the parser returns none.
     #[inline(always)]
-    pub(crate) fn add_run(&mut self, from: usize, run: Run<'_>) {
+    pub(crate) fn add_run(&mut self, from: usize, run: Run<'_>, lost_data: bool) {
         let start = (from + run.start) as u32;
         match run.taken {
             Taken::Text(text) => {
@@ -127,7 +133,7 @@ impl<'a> Events<'a> {
                     self.add_record(VteEvent::run(event::DATA, start, data.len() as u32));
                 }
             }
-            Taken::Nothing => {}
+            Taken::Nothing => self.resume(lost_data),
         }
     }
 
@@ -161,15 +167,17 @@ impl<'a> Events<'a> {
         }
     }
 
-    /// Pauses after a command, whose record comes next.
-    fn pause(&mut self) {
-        self.paused = true;
-        self.command = self.count;
-        self.full_count = 0;
+    /// Pauses if a command may have lost data, and keeps the place of its record.
+    fn pause_if(&mut self, may_have_lost: bool, command: usize) {
+        if may_have_lost {
+            self.paused = true;
+            self.command = command;
+            self.full_count = 0;
+        }
     }
 
     /// Goes on after a pause, and says in the record of the command whether it lost data.
-    pub(crate) fn resume(&mut self, lost_data: bool) {
+    fn resume(&mut self, lost_data: bool) {
         if self.paused {
             self.paused = false;
             if !self.met && self.size - self.used >= MOST_ADDED {
@@ -192,13 +200,14 @@ impl<'a> Events<'a> {
 
     /// Writes an operating system command.
     fn add_command(&mut self, pieces: &[&[u8]], bell_terminated: bool) {
-        self.pause();
         if self.writes(event::OSC) {
+            let (command, start) = (self.count, self.used);
             let end = self.write_pieces(pieces);
             let event = VteEvent::new(event::OSC, 0)
                 .with_flag(bell_terminated)
                 .with_count(pieces.len());
             self.add_written(event, end);
+            self.pause_if(has_most(pieces.len(), end - start), command);
         }
     }
 
@@ -213,6 +222,10 @@ impl<'a> Events<'a> {
 
     /// Writes a group at a place in the area: its count of numbers, and two bytes for each.
     fn write_group(&mut self, place: usize, group: &[u16]) -> usize {
+        // most groups have one number
+        if let [number] = group {
+            return self.write(place, &[1, (*number % 256) as u8, (*number / 256) as u8]);
+        }
         let mut end = self.write(place, &[count_byte(group.len())]);
         for number in group {
             end = self.write(end, &[(*number % 256) as u8, (*number / 256) as u8]);

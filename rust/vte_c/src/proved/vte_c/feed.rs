@@ -75,7 +75,6 @@ fn read_all(parser: &mut Parser<1024>, bytes: &[u8], room: &mut Events<'_>) -> u
 /// Reads up to a run of text or data, and the run, whose record it writes.
 fn read_more(parser: &mut Parser<1024>, bytes: &[u8], from: usize, room: &mut Events<'_>) -> usize {
     let run = parser.advance_to_run(room, &bytes[from..]);
-    room.resume(parser.command_lost_data());
-    room.add_run(from, run);
+    room.add_run(from, run, parser.command_lost_data());
     run.end
 }

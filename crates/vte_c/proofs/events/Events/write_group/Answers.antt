@@ -1,5 +1,13 @@
-use Rattle.vte_c.proofs.Common.{append_assoc, arith, flat_map_more, take, take_all, take_more, ◌≡◌}
+use Rattle.vte_c.proofs.Common.{List, [], append_assoc, arith, flat_map_more, get_or, group_bytes, length, refl, take, take_all, take_more, two_bytes, ℕ, ◌∷◌, ◌≡◌}
 use Rattle.vte_c.proofs.events.Events.write_group.Goals as goal
+
+one_number : (group : List ℕ) → length group ≡ 1 → group_bytes group ≡ 1 ∷ two_bytes (get_or group 0 0)
+one_number [] one = absurd (omega (arith, one))
+one_number (number ∷ []) one = refl
+one_number (number ∷ next ∷ more) one = absurd (omega (arith, one))
+
+pub returns-in-len1 : goal.returns-in-len1
+returns-in-len1 c = λ room text h. rw (one_number c.args.group.now (omega arith)) (c.write.ensures.holds room text h)
 
 pub loop-number-preserved : goal.loop-number-preserved
 loop-number-preserved c = λ room text h.

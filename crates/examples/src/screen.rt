@@ -93,10 +93,11 @@ impl Screen {
     /// parser's loop, as `line_feed` is.
     #[inline(never)]
     pub(crate) fn draw_text(&mut self, text: &str) {
-        if text.is_ascii() {
-            self.draw_bytes(text.as_bytes());
-        } else {
-            self.draw_characters(text);
+        match text.as_bytes() {
+            // ASCII; much text comes as one character
+            [byte] => self.draw(char::from(*byte)),
+            bytes if text.is_ascii() => self.draw_bytes(bytes),
+            _ => self.draw_characters(text),
         }
     }
 

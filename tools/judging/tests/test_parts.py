@@ -116,8 +116,8 @@ def test_long_answers_are_shown_where_they_differ():
 
 def test_numbers_of_any_length_are_compared_as_numbers():
     for digits, largest, shown in (
-            (b"9", 65535, "9"), (b"65536", 65535, "65535"), (b"100000", 65535, "65535"),
-            (b"070000", 80000, "70000"), (b"9" * 5000, None, "9" * 5000), (b"", 5, "0")):
+            ("9", 65535, "9"), ("65536", 65535, "65535"), ("100000", 65535, "65535"),
+            ("070000", 80000, "70000"), ("9" * 5000, None, "9" * 5000), ("", 5, "0")):
         assert definition.number_of(digits, largest) == shown
 
 

@@ -3,7 +3,6 @@ known."""
 import time
 from collections import Counter
 from dataclasses import dataclass, field
-from functools import partial
 from itertools import islice
 from typing import Optional
 
@@ -116,7 +115,7 @@ class Judge:
 
     def probe(self, case):
         """Whether the program answers at all."""
-        reference, answer = self.both_answers([case.pieces], alone=True)[0]
+        reference, answer = self.both_answers([case.pieces])[0]
         kind = mark_of(answer)
         if kind:
             name = PROTOCOL if self.candidate.takes_pieces or kind == PROTOCOL else f"text/{kind}"
@@ -128,7 +127,7 @@ class Judge:
     def judge_case(self, streams):
         """Judges the last of some streams, which one process gets in a row. Both answers."""
         *before, pieces = [freed(pieces, self.left_out, self.house) for pieces in streams]
-        reference, answer = self.both_answers([*before, pieces], alone=True)[-1]
+        reference, answer = self.both_answers([*before, pieces])[-1]
         self.result.streams, self.result.different = 1, int(reference != answer)
         if reference != answer:
             case, difference = Case("--case", pieces), Difference(pieces, reference, answer, before)
@@ -138,10 +137,10 @@ class Judge:
 
     def judge_batch(self, batch):
         streams = [freed(case.pieces, self.left_out, self.house) for case in batch]
-        differing, history = [], list(self.candidate.history)
+        differing = []
         for index, (reference, answer) in enumerate(self.both_answers(streams)):
             if reference != answer:
-                before = [*history, *streams[:index]] if self.candidate.takes_pieces else []
+                before = streams[:index] if self.candidate.takes_pieces else []
                 difference = Difference(streams[index], reference, answer, before)
                 differing.append((batch[index], difference))
         self.result.streams += len(batch)
@@ -158,23 +157,23 @@ class Judge:
 
     # ---- both answers
 
-    def both_answers(self, streams, whole=False, alone=False):
+    def both_answers(self, streams, whole=False):
         if self.candidate.deadline is not None and time.monotonic() >= self.candidate.deadline:
             raise OutOfTime
         references = self.reference.answers([b"".join(pieces) for pieces in streams])
-        answers = self.candidate.answers(streams, whole, alone)
+        answers = self.candidate.answers(streams, whole)
         return [tuple(map(self.view.of, pair)) for pair in zip(references, answers)]
 
-    def difference(self, pieces, whole=False, alone=False, before=()):
-        """The difference at a stream, or None."""
-        reference, answer = self.both_answers([*before, pieces], whole, alone)[-1]
+    def difference(self, pieces, whole=False, before=()):
+        """The difference at a stream, which new processes get, or None."""
+        reference, answer = self.both_answers([*before, pieces], whole)[-1]
         return None if reference == answer else Difference(pieces, reference, answer)
 
-    def difference_without(self, rules, kind, pieces, **how):
+    def difference_without(self, rules, kind, pieces):
         """The difference at a stream that has none of some rules, of a kind if one is given, or
         None."""
         is_free = freed(pieces, rules, self.house) == pieces
-        found = self.difference(pieces, **how) if is_free else None
+        found = self.difference(pieces) if is_free else None
         return found if found and (kind is None or kind in kinds_of(found)) else None
 
     # ---- what is found so far
@@ -214,7 +213,7 @@ class Judge:
         """Assigns a case that differs to the classes found so far, or finds one of another rule."""
         excluded = self.excluded()
         rest = freed(difference.pieces, excluded, self.house)
-        left = difference if rest == difference.pieces else self.difference(rest, alone=True)
+        left = difference if rest == difference.pieces else self.difference(rest)
         if not left:
             self.examine_kinds(case, difference)
         elif mark_of(left.candidate) == PROTOCOL and self.count(PROTOCOL):
@@ -235,7 +234,7 @@ class Judge:
                 continue
             excluded = self.excluded(of_step)
             rest = freed(difference.pieces, excluded, self.house)
-            left = self.difference_without(excluded, kind, rest, alone=True)
+            left = self.difference_without(excluded, kind, rest)
             self.tries[rule, kind] += bool(left)
             if left and self.steady(case, left):
                 self.resolved[rule, kind] = self.find(case, rest, excluded, kind)
@@ -254,11 +253,7 @@ class Judge:
 
     def find(self, case, pieces, excluded, kind=None):
         """Shrinks a case, and reports its class if it is new. The name of the class, or None."""
-        asked = partial(self.difference_without, excluded, kind)
-        difference, is_smallest = self.smallest(pieces, asked, kind)
-        if difference and not self.difference(difference.pieces, whole=True, alone=True):
-            # it only differs after other streams
-            difference, is_smallest = self.smallest(pieces, asked, kind, alone=True)
+        difference, is_smallest = self.smallest(pieces, excluded, kind)
         # a kind that doesn't show alone comes from several differences in a row
         is_mixed = difference and kind and len(kinds_of(difference)) > 1
         tries = 1 if self.is_over else MORE_TRIES
@@ -272,17 +267,17 @@ class Judge:
             self.add(name, difference, case, is_smallest)
         return name
 
-    def smallest(self, pieces, asked, kind, alone=False):
-        """The smallest case for which `asked` gives a difference, after so many tries, and whether
-        there were enough."""
-        differences, most = {}, MOST_CASES // (4 if kind else 1) // (10 if alone else 1)
+    def smallest(self, pieces, excluded, kind):
+        """The difference at the smallest case that was found, and whether there were enough tries.
+        """
+        differences, most = {}, MOST_CASES // (4 if kind else 1)
 
         def differs(streams):
             (pieces,) = streams
             if self.is_over or len(differences) >= most:
                 return False
             try:
-                differences[tuple(pieces)] = asked(pieces, alone=alone)
+                differences[tuple(pieces)] = self.difference_without(excluded, kind, pieces)
             except OutOfTime:
                 # what was found so far is tried alone
                 self.is_over = True
@@ -300,10 +295,10 @@ class Judge:
         if first_kind == PROTOCOL:
             return PROTOCOL
         is_cut = self.candidate.takes_pieces and len(pieces) > 1 and not self.difference(
-            [b"".join(pieces)], alone=True)
+            [b"".join(pieces)])
         kind = kind or first_kind
         rule = rule_needed(pieces, is_cut, same, kind, self.house)
-        if rule in EMPTY and self.difference(filled(pieces), alone=True):
+        if rule in EMPTY and self.difference(filled(pieces)):
             rule = rule_needed(pieces, is_cut, same, kind, self.house, rule)
         return f"{rule}/{kind}"
 
@@ -325,7 +320,7 @@ class Judge:
         then is why."""
         # a program that doesn't end takes the whole time again
         for _ in range(min(tries, 2) if mark_of(difference.candidate) in LIMITS else tries):
-            again = self.difference(difference.pieces, whole=True, alone=True)
+            again = self.difference(difference.pieces, whole=True)
             if again and is_alike(again, difference):
                 continue
             if mark_of(difference.candidate) == "hang":  # it was only slow
@@ -352,8 +347,8 @@ class Judge:
 
         def wrong(streams):
             *before, pieces = streams
-            found = next(tries, 0) and before and self.difference(pieces, True, True, before)
-            return found if found and not self.difference(pieces, True, True) else None
+            found = next(tries, 0) and before and self.difference(pieces, True, before)
+            return found if found and not self.difference(pieces, True) else None
 
         streams = [*difference.before, difference.pieces]
         if not wrong(streams) or not wrong(streams):

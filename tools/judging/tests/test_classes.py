@@ -1,4 +1,5 @@
 """Tests of the judge on functions of this process: which classes it finds."""
+import random
 import re
 from itertools import count
 
@@ -23,16 +24,10 @@ class Side:
     takes_pieces, batch, at_once, deadline, hangs = True, 50, 1, None, 0
 
     def __init__(self, answer):
-        self.answer, self.history = answer, []
+        self.answer = answer
 
-    def answers(self, streams, whole=False, alone=False):
-        answers = []
-        for pieces in streams:
-            if alone and not answers or len(self.history) > self.batch:
-                self.history = []
-            answers.append(self.answer(pieces, self.history))
-            self.history = [*self.history, pieces]
-        return answers
+    def answers(self, streams, whole=False):
+        return [self.answer(pieces, streams[:index]) for index, pieces in enumerate(streams)]
 
 
 # there are enough to find several differences in a row, which are no class of their own
@@ -180,8 +175,8 @@ def test_what_depends_on_other_streams():
 
 
 def test_what_is_by_chance():
-    turn = count()
-    result = judged(lambda pieces, _: definition.lines_of(b"".join(pieces))[next(turn) % 3 == 2:])
+    chance = random.Random(1)
+    result = judged(lambda pieces, _: definition.lines_of(b"".join(pieces))[chance.random() < 0.3:])
     assert [*result.findings] == ["not-deterministic"]
     assert "  then  " in report.shown_finding(result.findings["not-deterministic"], str)
 

@@ -123,7 +123,8 @@ def test_numbers_of_any_length_are_compared_as_numbers():
 
 @pytest.fixture
 def whole(request):
-    side = candidate.Whole(*request.param)
+    command, *rest = request.param
+    side = candidate.Program(command, False, *rest)
     yield side
     side.close()
 

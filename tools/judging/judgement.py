@@ -3,7 +3,7 @@ known."""
 import time
 from collections import Counter
 from dataclasses import dataclass, field
-from itertools import islice
+from itertools import count, islice
 from typing import Optional
 
 from judging.candidate import OutOfTime, mark_of
@@ -148,10 +148,9 @@ class Judge:
         explained = self.explained([difference for _, difference in differing])
         for (case, difference), is_explained in zip(differing, explained):
             before = self.result.unexplained
-            if is_explained:
-                self.examine_kinds(case, difference)
-            elif steady := self.steady(case, difference):
-                self.examine(case, steady)
+            steady = difference if is_explained else self.steady(case, difference)
+            if steady:
+                self.examine(case, steady, is_explained)
             elif self.result.unexplained == before:  # it was only slow
                 self.result.different -= 1
 
@@ -175,6 +174,10 @@ class Judge:
         is_free = freed(pieces, rules, self.house) == pieces
         found = self.difference(pieces) if is_free else None
         return found if found and (kind is None or kind in kinds_of(found)) else None
+
+    def left(self, difference, rules, kind=None):
+        """What is left of a difference without some rules."""
+        return self.difference_without(rules, kind, freed(difference.pieces, rules, self.house))
 
     # ---- what is found so far
 
@@ -209,39 +212,32 @@ class Judge:
 
     # ---- one difference
 
-    def examine(self, case, difference):
-        """Assigns a case that differs to the classes found so far, or finds one of another rule."""
-        excluded = self.excluded()
-        rest = freed(difference.pieces, excluded, self.house)
-        left = difference if rest == difference.pieces else self.difference(rest)
-        if not left:
-            self.examine_kinds(case, difference)
-        elif mark_of(left.candidate) == PROTOCOL and self.count(PROTOCOL):
-            pass
-        elif self.again < MOST_AGAIN and (left is difference or self.steady(case, left)):
-            self.find(case, rest, excluded)
-
-    def examine_kinds(self, case, difference):
-        """Finds out whether a case differs in ways for which its rules have no class yet, and
-        counts it."""
+    def examine(self, case, difference, is_explained):
+        """Counts a case that differs for a class: a new one if it differs without the rules of the
+        classes found so far, or in a kind for which its rules have no class yet."""
+        if mark_of(difference.candidate) == PROTOCOL and self.count(PROTOCOL):
+            return
+        before, excluded = self.result.unexplained, self.excluded()
+        left = not is_explained and self.left(difference, excluded)
+        if left and self.again < MOST_AGAIN:
+            self.find(case, left, excluded)
+        places = differences_of(*difference[1:3]) if self.rules() else []
         signatures = [(*nearest(difference.pieces, place, self.rules(), self.house), kind)
-                      for place, kind in differences_of(*difference[1:3])]
-        before = self.result.unexplained
+                      for place, kind in places]
         for rule, of_step, kind in signatures:
+            if self.result.unexplained < before:
+                return
             # where several differences meet there is often another event, which says little
             is_known = kind == "other" or f"{rule}/{kind}" in self.result.findings
             if is_known or self.tries[rule, kind] >= MOST_TRIES:
                 continue
             excluded = self.excluded(of_step)
-            rest = freed(difference.pieces, excluded, self.house)
-            left = self.difference_without(excluded, kind, rest)
-            self.tries[rule, kind] += bool(left)
-            if left and self.steady(case, left):
-                self.resolved[rule, kind] = self.find(case, rest, excluded, kind)
-            if self.result.unexplained < before:
-                return
-        rule, _, kind = signatures[0]
-        self.count(self.class_found(rule, kind))
+            if left := self.left(difference, excluded, kind):
+                self.tries[rule, kind] += 1
+                self.resolved[rule, kind] = self.find(case, left, excluded, kind)
+        if signatures and self.result.unexplained == before:
+            rule, _, kind = signatures[0]
+            self.count(self.class_found(rule, kind))
 
     def class_found(self, rule, kind):
         """The class for which a difference counts: of the rule and the kind, or that to which such
@@ -251,42 +247,34 @@ class Judge:
         of_rule = [it for it, finding in self.result.findings.items() if finding.rule == rule]
         return self.resolved.get((rule, kind)) or next(iter(of_rule), None)
 
-    def find(self, case, pieces, excluded, kind=None):
-        """Shrinks a case, and reports its class if it is new. The name of the class, or None."""
-        difference, is_smallest = self.smallest(pieces, excluded, kind)
+    def find(self, case, left, excluded, kind=None):
+        """Shrinks a difference without some rules, and reports its class if it is new. The name of
+        the class, or None."""
+        if not self.steady(case, left):
+            return None
+        tries, most = count(), MOST_CASES // (4 if kind else 1)
+
+        def asked(streams):
+            try:
+                is_asked = not self.is_over and next(tries) < most
+                return self.difference_without(excluded, kind, *streams) if is_asked else None
+            except OutOfTime:
+                # what was found so far is tried alone
+                self.is_over, self.candidate.deadline = True, self.end + GRACE
+
+        difference = shrunk([left.pieces], asked, self.candidate.at_once)
         # a kind that doesn't show alone comes from several differences in a row
         is_mixed = difference and kind and len(kinds_of(difference)) > 1
-        tries = 1 if self.is_over else MORE_TRIES
-        if not difference or is_mixed or not self.steady(case, difference, tries):
+        if not difference or is_mixed or not self.steady(
+                case, difference, 1 if self.is_over else MORE_TRIES):
             return None
         name = self.named(difference, kind)
         name = self.same_as(name, difference) or name
         if self.count(name):
             self.again += 1
         else:
-            self.add(name, difference, case, is_smallest)
+            self.add(name, difference, case, not self.is_over and next(tries) < most)
         return name
-
-    def smallest(self, pieces, excluded, kind):
-        """The difference at the smallest case that was found, and whether there were enough tries.
-        """
-        differences, most = {}, MOST_CASES // (4 if kind else 1)
-
-        def differs(streams):
-            (pieces,) = streams
-            if self.is_over or len(differences) >= most:
-                return False
-            try:
-                differences[tuple(pieces)] = self.difference_without(excluded, kind, pieces)
-            except OutOfTime:
-                # what was found so far is tried alone
-                self.is_over = True
-                self.candidate.deadline = self.end + GRACE
-            return bool(differences.get(tuple(pieces)))
-
-        (smallest,) = shrunk([pieces], differs, self.candidate.at_once)
-        is_smallest = not self.is_over and len(differences) < most
-        return differences.get(tuple(smallest)), is_smallest
 
     def named(self, difference, kind=None):
         """The class of a difference that is shrunk."""
@@ -348,12 +336,12 @@ class Judge:
         def wrong(streams):
             *before, pieces = streams
             found = next(tries, 0) and before and self.difference(pieces, True, before)
-            return found if found and not self.difference(pieces, True) else None
+            if found and not self.difference(pieces, True):
+                return found._replace(before=before)
+            return None
 
         streams = [*difference.before, difference.pieces]
-        if not wrong(streams) or not wrong(streams):
-            return None
-        streams = shrunk(streams, wrong)
+        found = wrong(streams) and wrong(streams) and shrunk(streams, wrong)
         tries = iter(range(1, 9))
-        found = [wrong(streams) for _ in range(4)]
-        return found[0]._replace(before=streams[:-1]) if all(found) else None
+        streams = found and [*found.before, found.pieces]
+        return found if found and all(wrong(streams) for _ in range(4)) else None

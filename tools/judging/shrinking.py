@@ -15,33 +15,33 @@ PLAIN = [("\x1a", "a\x0a\x07\x18"), ("\x1b", ""), ("\x1f", "a\x0a"), ("\x7e", "a
          ("\xef", "a\xe4"), ("\xf4", "a\xf0"), ("\xff", "a\xff"), (NEXT, "")]
 
 
-def shrunk(streams, differs, at_once=1):
-    """The smallest streams in a row that were found to still differ, each in pieces. `differs` says
-    whether some do; so many are tried at once."""
+def shrunk(streams, asked, at_once=1):
+    """What is told of the smallest streams in a row, each in pieces, that were found to differ.
+    `asked` tells something of those that do; so many are tried at once."""
     answers, threads = {}, concurrent.futures.ThreadPoolExecutor(at_once)
 
-    def asked(text):
+    def answer(text):
         if text not in answers:
-            answers[text] = differs(streams_of(text))
+            answers[text] = asked(streams_of(text))
         return answers[text]
 
     def first(texts):
-        """The first of some texts whose case differs, or None."""
+        """The first of some texts whose streams differ, or None."""
         texts = iter(texts)
         while some := list(islice(texts, at_once)):
-            told = threads.map(asked, some) if at_once > 1 else map(asked, some)
+            told = threads.map(answer, some) if at_once > 1 else map(answer, some)
             found = next((text for text, is_different in zip(some, told) if is_different), None)
             if found is not None:
                 return found
         return None
 
     case = NEXT.join(CUT.join(piece.decode("latin-1") for piece in pieces) for pieces in streams)
-    case, before = first([case.replace(NEXT, "")]) or case, None
+    case, before = first([case.replace(CUT, "")]) or case, None
     while case != before:
         before, case = case, smallest(case, first)
         for place in places_of(case):
             case = first(plainer(case, place)) or case
-    return streams_of(case)
+    return answer(case)
 
 
 def smallest(items, first):

@@ -105,8 +105,8 @@ def test_one_fault_has_one_class(pattern, text, found):
     # another event where two differences meet is no class
     ({"execute 0[ef]\n": "", "(?=execute 1[01])": "unhook\n"}, [b"\x0e", b"\x10", b"\x0f\x11"],
      {"control/missing": 2, "control/extra": 1}),
-    # what is found again and again is shrunk only so often, `protocol` but once
-    ({r"\Z": "unhook\n"}, [b"a"] * 25, {"text/extra": 21}),
+    # what is found again and again is counted, also if it isn't shrunk any more
+    ({r"\Z": "unhook\n"}, [b"a"] * 25, {"text/extra": 25}),
     ({"execute 0e": "(protocol: x)"}, [b"\x0e"] * 25, {"protocol": 25})])
 def test_what_is_counted(faults, streams, found):
     def wrong(pieces, _):

@@ -179,7 +179,7 @@ def test_usage(judge, words, message):
 def test_what_the_page_says_of_a_parser(peer, vtlog, tmp_path):
     assert peers.claims(peer)
     try:
-        command = peer.command(tmp_path)
+        command = peer.command_in(tmp_path)
     except peers.Missing as missing:
         # the sources of the crate `vte` are no package
         (miss if peer.packages else pytest.skip)(f"{peer.name}: {missing}")

@@ -181,11 +181,25 @@ def test_what_is_by_chance():
     assert "  then  " in report.shown_finding(result.findings["not-deterministic"], str)
 
 
+def test_two_wrong_answers_are_not_deterministic():
+    turn = count()
+    result = judged(lambda pieces, _: ["unhook"] * (next(turn) % 2), [cases.Case("", [b"b"])])
+    assert [*result.findings] == ["not-deterministic"]
+
+
 def test_a_stream_that_was_slow_once_is_right():
     turn = count()
     result = judged(lambda pieces, _: [candidate.HANG] if next(turn) == 9
                     else definition.lines_of(b"".join(pieces)))
     assert (result.different, result.unexplained, result.status()) == (0, 0, 0)
+
+
+def test_what_is_tried_again_has_the_whole_time(monkeypatch):
+    monkeypatch.setattr(Side, "answers", lambda self, streams, whole=False: [
+        definition.lines_of(b"".join(pieces)) if whole or b"\x0e" not in pieces[0]
+        else [candidate.HANG] for pieces in streams])
+    result = judge_of(None).run(iter([cases.Case("", [b"\x0e"])] * 9))
+    assert (result.streams, result.different, result.status()) == (9, 0, 0)
 
 
 def test_left_out_and_known():
@@ -194,6 +208,11 @@ def test_left_out_and_known():
     def dropped(pieces, _):
         return definition.lines_of(b"".join(pieces), own)
     assert judged(dropped, left_out=["delete"]).different == 0
+    # what is left out doesn't come back in what is shrunk
+    other = house.house_of(["c1-characters=print", "malformed=drop"])
+    result = judged(lambda pieces, _: definition.lines_of(b"".join(pieces), other),
+                    left_out=["malformed", "unfinished"])
+    assert names(result) == {"c1-character"}
     found = judged(dropped).findings["delete/missing"].streams
     assert found == sum(dropped(case.pieces, []) != definition.lines_of(b"".join(case.pieces))
                         for case in CASES)

@@ -176,6 +176,9 @@ def test_what_is_summed_up():
     assert re.search(r"text/missing +must +3 +1 +no\n", report.shown_sum(result(), "1"))
     assert "1 of them new" in report.shown_sum(result(True, 2), "1")
     assert "0 of them new; seed 7" in report.shown_sum(result(True), "7")
+    found = {str(streams): Finding(f"text/{kind}", Difference([b""], [], []), Case("", []),
+                                   streams=streams) for streams, kind in ((2, "extra"), (5, "other"))}
+    assert re.search("(?s)text/other.*text/extra", report.shown_sum(Judgement(9, 7, found), "1"))
     early = Judgement(9, 3, ended_early="the time was over")
     said = report.shown_sum(early, "1")
     assert "3 of the streams that differ weren't assigned" in said
@@ -183,12 +186,13 @@ def test_what_is_summed_up():
 
 
 def formatted(kind, **given):
-    """What a format makes of a known and a new finding, with texts that it has to escape."""
+    """What a format makes of two rules, with texts that it has to escape: one is known, of the
+    other a kind is new."""
     found = {}
-    for name, known in (("text/missing", True), ("colon/groups", False)):
+    for name, known in (("text/missing", True), ("colon/count", True), ("colon/groups", False)):
         lines = ["print 0061", "(protocol: this is no event line: '<&#\">')"]
         found[name] = Finding(name, Difference([b"a#"], ["unhook"], lines), Case("x # y", [b"ab"]), known)
-    judgement = Judgement(**{"streams": 9, "different": 2, "findings": found, **given})
+    judgement = Judgement(**{"streams": 9, "different": 3, "findings": found, **given})
     return formats.FORMATS[kind](judgement, "# \x1b]]>&", lambda case: f"judge '{case}' # <&>")
 
 
@@ -226,7 +230,7 @@ def test_junit_is_read_by_its_library():
 
 
 def test_json():
-    told = json.loads(formatted("json", different=3))
-    assert [it["new"] for it in told["findings"]] == [False, True]
+    told = json.loads(formatted("json", different=4))
+    assert [it["new"] for it in told["findings"]] == [False, False, True]
     assert (told["unassigned"], told["new"]) == (1, 1)
-    assert [it["case"] for it in told["findings"]] == ["61 23"] * 2
+    assert [it["case"] for it in told["findings"]] == ["61 23"] * 3

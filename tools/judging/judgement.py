@@ -268,7 +268,7 @@ class Judge:
         if not difference or is_mixed or not self.steady(
                 case, difference, 1 if self.is_over else MORE_TRIES):
             return None
-        name = self.named(difference, kind)
+        name = self.named(difference)
         name = self.same_as(name, difference) or name
         if self.count(name):
             self.again += 1
@@ -276,15 +276,14 @@ class Judge:
             self.add(name, difference, case, not self.is_over and next(tries) < most)
         return name
 
-    def named(self, difference, kind=None):
+    def named(self, difference):
         """The class of a difference that is shrunk."""
         pieces, reference, candidate, _ = difference
-        same, first_kind = differences_of(reference, candidate)[0]
-        if first_kind == PROTOCOL:
+        same, kind = differences_of(reference, candidate)[0]
+        if kind == PROTOCOL:
             return PROTOCOL
         is_cut = self.candidate.takes_pieces and len(pieces) > 1 and not self.difference(
             [b"".join(pieces)])
-        kind = kind or first_kind
         rule = rule_needed(pieces, is_cut, same, kind, self.house)
         if rule in EMPTY and self.difference(filled(pieces)):
             rule = rule_needed(pieces, is_cut, same, kind, self.house, rule)

@@ -32,20 +32,14 @@ FOLDER = TOOLS.parent / "vectors"
 VERSION = 3
 # streams and answers beyond this size keep their repetitions, in a list of their own
 LONG = 6000
-# rules of what isn't an event; control functions by what is sent, with their names and sources
+# control functions by what is sent, and the rules of these and of what isn't an event
 OWN = json.loads((TOOLS / "vector_rules.json").read_text())
-EVENT_RULES = {name: {"says": rule.says, "level": rule.level,
-                      "page": f"docs/EVENTS.md#{rule.heading}", "source": rule.source}
-               for name, rule in RULES.items()}
+ALL_RULES = {**{name: {"says": rule.says, "level": rule.level,
+                       "page": f"docs/EVENTS.md#{rule.heading}", "source": rule.source}
+                for name, rule in RULES.items()}, **OWN["rules"]}
 # of each kind, the rule that stands before those of its stream
 FIRST_RULE = {"text": "plain-text", "updates": "updates", "stops": "stops",
               "colour": "colour-text", "number": "number-text"}
-# where docs/CALLS.md has the functions
-HEADINGS = {
-    "SGR": "sgr-specsrendition-specscolorreading",
-    "csi": "control-sequences-specscontrol-specscontrolcalls-specsvalues",
-    "esc": "characters-executed-bytes-and-escape-sequences-specscalls-specsescapecalls",
-    "osc": "operating-system-commands-specscommandcalls-specscolortext"}
 LINE = re.compile(r"(csi|esc|execute)(?: \[.*?\])?(?: (\S+) (?:true|false))? (\S\S)")
 
 
@@ -129,31 +123,7 @@ def functions_of(stream):
             # device attributes have any intermediates
             sent = "csi 63" if (kind, final) == ("csi", "63") else sent
             if sent in OWN["functions"]:
-                yield OWN["functions"][sent][0]
-
-
-def function_rules():
-    """The rules of control functions."""
-    for sent, (name, source) in OWN["functions"].items():
-        kind = sent.partition(" ")[0]
-        heading = HEADINGS.get(name) or HEADINGS.get(kind, HEADINGS["esc"])
-        yield name, function_rule(name, heading, source)
-
-
-def function_rule(name, heading, source):
-    return {"says": f"The handler calls of {name}.", "level": "should",
-            "page": f"docs/CALLS.md#{heading}", "source": source}
-
-
-def named_rules(used):
-    """The table of the rules that are used."""
-    functions = dict(function_rules())
-    for name in used:
-        if name.startswith("OSC-"):
-            about = f"operating system command {name[4:]}"
-            functions[name] = function_rule(about, HEADINGS["osc"], "xterm, control sequences")
-    first = {name: rule for name, rule in {**EVENT_RULES, **OWN["rules"]}.items() if name in used}
-    return {**first, **{name: functions[name] for name in used if name in functions}}
+                yield OWN["functions"][sent]
 
 
 def house_rules(stream, limit):
@@ -188,10 +158,9 @@ def ids_of(vectors):
 def text_of(vectors):
     """The text of a file: vectors, and those that are long."""
     names = [rules_of(vector) for vector in vectors]
-    rules = named_rules(dict.fromkeys(name for some in names for name in some))
     lists = [], []
     for identifier, vector, used in zip(ids_of(vectors), vectors, names):
-        level = max((rules[name]["level"] for name in used), key=LEVELS.index, default=MUST)
+        level = max((ALL_RULES[name]["level"] for name in used), key=LEVELS.index, default=MUST)
         head = {"id": identifier, "name": vector["name"], "kind": vector["kind"], "level": level,
                 "rules": used}
         if vector["kind"] == "events":
@@ -200,7 +169,8 @@ def text_of(vectors):
             head["house"] = [*house_rules(stream, vector["limit"]), *limits]
         lists[is_repeated(vector)].append(json.dumps({**head, **vector, **head}))
     about = "Test vectors for parsers of terminal streams; docs/VECTORS.md describes them."
-    shown = [f"{json.dumps(name)}: {json.dumps(rule)}" for name, rule in rules.items()]
+    shown = [f"{json.dumps(name)}: {json.dumps(rule)}" for name, rule in ALL_RULES.items()
+             if any(name in used for used in names)]
     return "\n".join(["{", f'"version": {VERSION},', f'"about": {json.dumps(about)},',
                       '"rules": {', ",\n".join(shown), "},", '"vectors": [',
                       ",\n".join(lists[0]), "],", '"long": [', ",\n".join(lists[1]), "]", "}", ""])

@@ -15,7 +15,6 @@ import json
 import re
 import sys
 from collections import Counter
-from dataclasses import replace
 from pathlib import Path
 
 sys.dont_write_bytecode = True
@@ -134,7 +133,7 @@ def house_rules(stream, limit):
     lines = definition.lines_of(stream, house)
     return list(dict.fromkeys(
         name for name, value in others
-        if lines != definition.lines_of(stream, replace(house, **{name.replace("-", "_"): value}))))
+        if lines != definition.lines_of(stream, house._replace(**{name.replace("-", "_"): value}))))
 
 
 def shortened(value):

@@ -24,6 +24,8 @@ from support import TOOLS, miss, run
     (b"\xf0\x9fa", "malformed=bytes", ["print fffd", "print fffd", "print 0061"]),
     (b"\xf0\x9fa", "malformed=drop", ["print 0061"]),
     (b"\x1b]a\x9cb", "command-9c=ends", ["osc false 1 61", "print 0062"]),
+    (b"\x1b]a\x9c\x1b\\", "command-9c=ends terminator=silent",
+     ["osc false 1 61", "esc - false 5c"]),
     (b"\x1bPqa\x9cb\x18", "device-9c=drop",
      ["hook [0] - false 71", "put 61", "put 62", "unhook", "execute 18"]),
     (b"\x1b_a\x9cb", "ignored-9c=ends", ["print 0062"]),

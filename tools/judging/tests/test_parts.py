@@ -178,8 +178,8 @@ def test_what_is_summed_up():
     assert re.search(r"text/missing +must +3 +1 +no\n", report.shown_sum(result(), "1"))
     assert "1 of them new" in report.shown_sum(result(True, 2), "1")
     assert "0 of them new; seed 7" in report.shown_sum(result(True), "7")
-    found = {str(streams): Finding(f"text/{kind}", Difference([b""], [], []), Case("", []),
-                                   streams=streams) for streams, kind in ((2, "extra"), (5, "other"))}
+    found = {kind: Finding(f"text/{kind}", Difference([b""], [], []), Case("", []), streams=streams)
+             for streams, kind in ((2, "extra"), (5, "other"))}
     assert re.search("(?s)text/other.*text/extra", report.shown_sum(Judgement(9, 7, found), "1"))
     early = Judgement(9, 3, ended_early="the time was over")
     said = report.shown_sum(early, "1")
@@ -193,7 +193,8 @@ def formatted(kind, **given):
     found = {}
     for name, known in (("text/missing", True), ("colon/count", True), ("colon/groups", False)):
         lines = ["print 0061", "(protocol: this is no event line: '<&#\">')"]
-        found[name] = Finding(name, Difference([b"a#"], ["unhook"], lines), Case("x # y", [b"ab"]), known)
+        difference, case = Difference([b"a#"], ["unhook"], lines), Case("x # y", [b"ab"])
+        found[name] = Finding(name, difference, case, known)
     judgement = Judgement(**{"streams": 9, "different": 3, "findings": found, **given})
     return formats.FORMATS[kind](judgement, "# \x1b]]>&", lambda case: f"judge '{case}' # <&>")
 

@@ -26,11 +26,15 @@ def from_vectors():
     for name in ("events", "calls"):
         file = json.loads((VECTORS / f"{name}.json").read_text())
         for vector in file["vectors"] + file["long"]:
-            steps = [step.get("advance", step.get("bytes", "")) for step in vector.get("steps", [])]
-            pieces = [*vector.get("pieces", []), vector.get("before", ""), *steps]
             if "text" not in vector or "pieces" in vector:
-                stream = [bytes_of(piece) for piece in pieces if piece]
-                yield Case(f"vector {vector['id']}", stream or [b""])
+                yield Case(f"vector {vector['id']}", pieces_of(vector))
+
+
+def pieces_of(vector):
+    """The stream of a vector, in pieces; a text alone has none."""
+    steps = [step.get("advance", step.get("bytes", "")) for step in vector.get("steps", [])]
+    pieces = [*vector.get("pieces", []), vector.get("before", ""), *steps]
+    return [bytes_of(piece) for piece in pieces if piece] or [b""]
 
 
 def from_recordings(seed):

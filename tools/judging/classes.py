@@ -31,7 +31,7 @@ class Difference(NamedTuple):
     pieces: list
     reference: list
     candidate: list
-    before: tuple = ()
+    before: list = []
 
 
 def is_class(text):
@@ -61,12 +61,12 @@ def rule_needed(pieces, depends_on_cut, same, kind, house, but=""):
     """The name of the rule that a case is about that differs after some lines, but not a certain
     one. It is exact if the case is shrunk."""
     steps = steps_of(b"".join(pieces), house)
-    if not steps:
-        return "text"
     if depends_on_cut:
         divided = {name for index in steps_at_cuts(steps, cuts_of(pieces)).values()
                    if index is not None for name in steps[index].rules if name in ORDER}
         return CUT_PREFIX + most_special(divided) if divided else BETWEEN
+    if not steps:
+        return "text"
     # what comes after an event that has another field doesn't matter, nor does a terminator after
     # another event
     ends = list(accumulate(len(step.lines) for step in steps))

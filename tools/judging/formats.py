@@ -21,7 +21,7 @@ def finding_object(finding, again):
             "page": f"docs/EVENTS.md#{rule.heading}", "pieces": [piece.hex() for piece in pieces],
             "before": [[piece.hex() for piece in stream] for stream in before],
             "case": case, "again": again(case),
-            first: reference, "yours": candidate, "found_in": finding.found_in,
+            first: reference, "yours": candidate, "found_in": finding.found_in.name,
             "smallest": finding.is_smallest, "streams": finding.streams, "new": finding.is_new}
 
 

@@ -1,8 +1,9 @@
-"""House rules: where terminals rightly differ. Both sides get them, so a parser is judged by the rules of its house."""
-from dataclasses import fields, make_dataclass, replace
-from typing import Optional
+"""House rules: where terminals rightly differ. Both sides get them, so a parser is judged by the
+rules of its house."""
+from collections import namedtuple
 
-# for each rule what it may be, the default first; a number stands for any number or none; docs/JUDGE.md says what they are about
+# for each rule what it may be, the default first; a number stands for any number or none;
+# docs/JUDGE.md says what they are about
 CHOICES = {
     "encoding": ("utf-8", "utf-8-first", "latin-1", "bytes", "ascii"),
     "malformed": ("subparts", "bytes", "drop"),
@@ -23,16 +24,15 @@ CHOICES = {
     "numbers": 32,
     "largest": 65535,
 }
-House = make_dataclass("House", [
-    (name.replace("-", "_"), str, choices[0]) if isinstance(choices, tuple) else (name, Optional[int], choices)
-    for name, choices in CHOICES.items()], frozen=True)
+House = namedtuple("House", [name.replace("-", "_") for name in CHOICES],
+                   defaults=[it[0] if isinstance(it, tuple) else it for it in CHOICES.values()])
 DEFAULT = House()
 
 
 def shown(house):
     """The rules of a house that aren't the defaults, as they are given on the command line."""
-    changed = [field.name for field in fields(house) if getattr(house, field.name) != field.default]
-    return [f"{name.replace('_', '-')}={'none' if getattr(house, name) is None else getattr(house, name)}" for name in changed]
+    return [f"{name}={'none' if value is None else value}"
+            for name, value, default in zip(CHOICES, house, DEFAULT) if value != default]
 
 
 def house_of(words):
@@ -42,7 +42,7 @@ def house_of(words):
         name, _, value = word.partition("=")
         if name not in CHOICES:
             raise ValueError(f"unknown house rule {name!r}; choose from {', '.join(CHOICES)}")
-        house = replace(house, **{name.replace("-", "_"): value_of(name, value)})
+        house = house._replace(**{name.replace("-", "_"): value_of(name, value)})
     return house
 
 

@@ -3,20 +3,19 @@ known."""
 import time
 from collections import Counter
 from dataclasses import dataclass, field
-from itertools import islice
+from itertools import count, islice
 from typing import Optional
 
 from judging.candidate import OutOfTime, mark_of
+from judging.cases import Case
 from judging.classes import EMPTY, Difference, filled, freed, nearest, rule_needed
 from judging.definition import NEAR
 from judging.kinds import FAILURES, differences_of
 from judging.rules import ALONE
-from judging.shrinking import Shrinker, shrunk
+from judging.shrinking import shrunk
 
 # how many differences are shrunk that turn out to be of a class that was found before, and for one
-# rule
-# and kind; one that isn't shrunk, because the kind doesn't show without the other rules, counts a
-# tenth
+# rule and kind
 MOST_AGAIN, MOST_TRIES = 20, 3
 # how many cases are tried to shrink one
 MOST_CASES = 2000
@@ -27,19 +26,16 @@ NOT_DETERMINISTIC, KEPT_STATE, PROTOCOL = ALONE
 GRACE = 3
 # what a program passes when it doesn't end, the first of them
 LIMITS = {"hang", "memory", "output"}
-# a stream that each program must answer
-PROBE = [b"a"]
 
 
 @dataclass
 class Finding:
-    """A class of differences: its smallest example, whether it is known, and in how many streams it
-    is."""
+    """A class of differences: its smallest example, the case in which it was found, whether it is
+    known, and in how many streams it is."""
 
     name: str
     difference: Difference
-    found_in: str
-    size: int
+    found_in: Case
     is_known: bool = False
     # the most streams in which it is known
     allowed: Optional[int] = None
@@ -62,8 +58,12 @@ class Judgement:
     streams: int = 0
     different: int = 0
     findings: dict = field(default_factory=dict)
-    unexplained: int = 0
     ended_early: str = ""
+
+    @property
+    def unexplained(self):
+        """The number of streams that differ and have no class."""
+        return self.different - sum(finding.streams for finding in self.findings.values())
 
     def new(self):
         """The findings that aren't known, or show in more streams than is known."""
@@ -79,6 +79,10 @@ def is_alike(one, other):
     marks = mark_of(one.candidate), mark_of(other.candidate)
     is_same = marks[0] == marks[1] or LIMITS.issuperset(marks)
     return is_same if marks[0] else one[:3] == other[:3]
+
+
+def kinds_of(difference):
+    return [kind for _, kind in differences_of(difference.reference, difference.candidate)]
 
 
 class Judge:
@@ -97,7 +101,7 @@ class Judge:
         """Judges cases until there are none left or the time is over."""
         cases, size = iter(cases), 2
         try:
-            if self.probe():
+            if self.probe(Case("the first stream", [b"a"])):
                 while batch := list(islice(cases, size)):
                     start = time.monotonic()
                     self.judge_batch(batch)
@@ -109,50 +113,71 @@ class Judge:
             self.result.ended_early = "the time was over"
         return self.result
 
-    def probe(self):
+    def probe(self, case):
         """Whether the program answers at all."""
-        reference, answer = self.both_answers([PROBE], alone=True)[0]
+        reference, answer = self.both_answers([case.pieces])[0]
         kind = mark_of(answer)
         if kind:
             name = PROTOCOL if self.candidate.takes_pieces or kind == PROTOCOL else f"text/{kind}"
-            self.add(name, Difference(PROBE, reference, answer), "the first stream", 1)
+            self.result.streams = self.result.different = 1
+            self.add(name, Difference(case.pieces, reference, answer), case)
             self.result.ended_early = "the program doesn't answer the stream `a`"
         return not kind
 
     def judge_case(self, streams):
         """Judges the last of some streams, which one process gets in a row. Both answers."""
         *before, pieces = [freed(pieces, self.left_out, self.house) for pieces in streams]
-        self.result.streams = 1
-        reference, answer = self.both_answers([*before, pieces], alone=True)[-1]
+        reference, answer = self.both_answers([*before, pieces])[-1]
+        self.result.streams, self.result.different = 1, int(reference != answer)
         if reference != answer:
-            self.result.different = self.result.unexplained = 1
-            difference = Difference(pieces, reference, answer, tuple(before))
-            if steady := self.steady("--case", difference, MORE_TRIES):
-                self.add(self.named(steady), steady, "--case", sum(map(len, pieces)))
-                self.result.unexplained = 0
+            case, difference = Case("--case", pieces), Difference(pieces, reference, answer, before)
+            if steady := self.steady(case, difference, MORE_TRIES):
+                self.add(self.named(steady), steady, case)
         return reference, answer
 
     def judge_batch(self, batch):
-        cases = [freed(case.pieces, self.left_out, self.house) for case in batch]
-        differing, history = [], tuple(self.candidate.history)
-        for index, (reference, answer) in enumerate(self.both_answers(cases)):
+        streams = [freed(case.pieces, self.left_out, self.house) for case in batch]
+        differing = []
+        for index, (reference, answer) in enumerate(self.both_answers(streams)):
             if reference != answer:
-                before = (*history, *cases[:index]) if self.candidate.takes_pieces else ()
-                difference = Difference(cases[index], reference, answer, before)
-                differing.append((batch[index].name, difference))
+                before = streams[:index] if self.candidate.takes_pieces else []
+                difference = Difference(streams[index], reference, answer, before)
+                differing.append((batch[index], difference))
         self.result.streams += len(batch)
         self.result.different += len(differing)
-        self.result.unexplained += len(differing)
         explained = self.explained([difference for _, difference in differing])
-        for (name, difference), is_explained in zip(differing, explained):
+        for (case, difference), is_explained in zip(differing, explained):
             before = self.result.unexplained
-            if is_explained:
-                self.examine_kinds(name, difference)
-            elif steady := self.steady(name, difference):
-                self.examine(name, steady)
+            steady = difference if is_explained else self.steady(case, difference)
+            if steady:
+                self.examine(case, steady, is_explained)
             elif self.result.unexplained == before:  # it was only slow
                 self.result.different -= 1
-                self.result.unexplained -= 1
+
+    # ---- both answers
+
+    def both_answers(self, streams, whole=False):
+        if self.candidate.deadline is not None and time.monotonic() >= self.candidate.deadline:
+            raise OutOfTime
+        references = self.reference.answers([b"".join(pieces) for pieces in streams])
+        answers = self.candidate.answers(streams, whole)
+        return [tuple(map(self.view.of, pair)) for pair in zip(references, answers)]
+
+    def difference(self, pieces, whole=False, before=()):
+        """The difference at a stream, which new processes get, or None."""
+        reference, answer = self.both_answers([*before, pieces], whole)[-1]
+        return None if reference == answer else Difference(pieces, reference, answer)
+
+    def difference_without(self, rules, kind, pieces):
+        """The difference at a stream that has none of some rules, of a kind if one is given, or
+        None."""
+        is_free = freed(pieces, rules, self.house) == pieces
+        found = self.difference(pieces) if is_free else None
+        return found if found and (kind is None or kind in kinds_of(found)) else None
+
+    def left(self, difference, rules, kind=None):
+        """What is left of a difference without some rules."""
+        return self.difference_without(rules, kind, freed(difference.pieces, rules, self.house))
 
     # ---- what is found so far
 
@@ -172,151 +197,97 @@ class Judge:
         rests = [freed(difference.pieces, rules, self.house) for difference in differing]
         return [one == other for one, other in self.both_answers(rests)]
 
-    def both_answers(self, cases, whole=False, alone=False):
-        if self.candidate.deadline is not None and time.monotonic() >= self.candidate.deadline:
-            raise OutOfTime
-        references = self.reference.answers([b"".join(pieces) for pieces in cases])
-        answers = self.candidate.answers(cases, whole, alone)
-        return [tuple(map(self.view.of, pair)) for pair in zip(references, answers)]
-
-    # ---- one difference
-
-    def difference(self, pieces, whole=False, alone=False, before=()):
-        """The difference at a case, or None."""
-        reference, answer = self.both_answers([*before, pieces], whole, alone)[-1]
-        return None if reference == answer else Difference(pieces, reference, answer)
-
-    def examine(self, name, difference):
-        """Assigns a case that differs to the classes found so far, or finds one of another rule."""
-        excluded, size = self.excluded(), sum(map(len, difference.pieces))
-        rest = freed(difference.pieces, excluded, self.house)
-        left = difference if rest == difference.pieces else self.difference(rest, alone=True)
-        if not left:
-            return self.examine_kinds(name, difference)
-        if mark_of(left.candidate) == PROTOCOL and self.count(PROTOCOL):
-            return None
-        if self.again < MOST_AGAIN and (left is difference or self.steady(name, left)):
-            def is_new(case, **how):
-                is_free = freed(case, excluded, self.house) == case
-                return self.difference(case, **how) if is_free else None
-
-            self.find(name, rest, is_new if is_new(rest) else self.difference, size)
-
-    def examine_kinds(self, name, difference):
-        """Finds out whether a case differs in ways for which its rules have no class yet, and
-        counts it."""
-        pieces, rules = difference.pieces, self.rules()
-        signatures = [(*nearest(pieces, place, rules, self.house), kind)
-                      for place, kind in differences_of(*difference[1:3])]
-        for rule, of_step, kind in signatures:
-            # where several differences meet there is often another event, which says little
-            is_known = kind == "other" or f"{rule}/{kind}" in self.result.findings
-            if not is_known and self.tries[rule, kind] < MOST_TRIES:
-                if self.find_kind(name, difference, rule, self.excluded(of_step), kind):
-                    return
-        rule, _, kind = signatures[0]
-        self.count(self.class_found(rule, kind))
-
-    def class_found(self, rule, kind):
-        """The class for which a difference counts: of the rule and the kind, or the rule's first.
-        """
-        name = f"{rule}/{kind}"
-        resolved = name if name in self.result.findings else self.resolved.get((rule, kind))
-        of_rule = [it for it, finding in self.result.findings.items() if finding.rule == rule]
-        return resolved if resolved in self.result.findings else next(iter(of_rule), None)
-
-    def find_kind(self, name, difference, rule, excluded, kind):
-        """Finds the class of a kind of difference for a rule that has another class. Whether the
-        stream was counted."""
-        size, before = sum(map(len, difference.pieces)), self.result.unexplained
-
-        def is_such(case, **how):
-            is_free = freed(case, excluded, self.house) == case
-            left = self.difference(case, **how) if is_free else None
-            return left if left and kind in [it for _, it in differences_of(*left[1:3])] else None
-
-        rest = freed(difference.pieces, excluded, self.house)
-        left = is_such(rest, alone=True)
-        self.tries[rule, kind] += 1 if left else 0.1
-        if left and self.steady(name, left):
-            self.resolved[rule, kind] = self.find(name, rest, is_such, size, kind)
-        return self.result.unexplained < before
-
-    def steady(self, name, difference, tries=1):
-        """The difference that a case has alone, each time in a new process, or None: what is told
-        then is why."""
-        # a program that doesn't end takes the whole time again
-        for _ in range(min(tries, 2) if mark_of(difference.candidate) in LIMITS else tries):
-            again = self.difference(difference.pieces, whole=True, alone=True)
-            if again and is_alike(again, difference):
-                continue
-            if mark_of(difference.candidate) == "hang":  # it was only slow
-                self.candidate.hangs = 0
-                return again and self.steady(name, again, tries)
-            return self.tell_unsteady(name, difference, again)
-        return difference._replace(before=())
-
-    def tell_unsteady(self, name, difference, again):
-        """Tells or counts that a case has different answers: after other streams, or at any time.
-        """
-        is_told = NOT_DETERMINISTIC in self.result.findings
-        after = self.after_others(difference) if difference.before and not is_told else None
-        if not self.count(KEPT_STATE if after else NOT_DETERMINISTIC):
-            answer = again.candidate if again else difference.reference
-            shown = after or Difference(difference.pieces, difference.candidate, answer)
-            size = sum(map(len, difference.pieces))
-            self.add(KEPT_STATE if after else NOT_DETERMINISTIC, shown, name, size)
-            self.result.unexplained -= 1
-
-    def after_others(self, difference):
-        """The smallest streams of which the last is answered so after the others alone, or None."""
-        if KEPT_STATE in self.result.findings:
-            return difference
-        tries = iter(range(1, MOST_CASES // 20))
-
-        def wrong(streams):
-            *before, pieces = streams
-            found = next(tries, 0) and before and self.difference(pieces, True, True, before)
-            return found if found and not self.difference(pieces, True, True) else None
-
-        streams = [tuple(pieces) for pieces in (*difference.before, difference.pieces)]
-        if not wrong(streams) or not wrong(streams):
-            return None
-        others = Shrinker(lambda case: wrong([*case, streams[-1]]), 1).smallest(streams[:-1], list)
-        streams = [*others, streams[-1]]
-        for index, pieces in enumerate(streams):
-            streams[index] = shrunk(
-                pieces, lambda case: wrong([*streams[:index], case, *streams[index + 1:]]))
-        tries = iter(range(1, 9))
-        found = [wrong(streams) for _ in range(4)]
-        return all(found) and found[0]._replace(before=tuple(streams[:-1])) or None
-
     def count(self, name):
         """Counts a stream for a class. Whether there is one."""
         if name in self.result.findings:
             self.result.findings[name].streams += 1
-            self.result.unexplained -= 1
         return name in self.result.findings
 
-    def find(self, stream_name, pieces, asked, size, kind=None):
-        """Shrinks a case, and reports its class if it is new. The name of the class, or None."""
-        difference, is_smallest = self.smallest(pieces, asked, kind)
-        if difference and not self.difference(difference.pieces, whole=True, alone=True):
-            # it only differs after other streams
-            difference, is_smallest = self.smallest(pieces, asked, kind, alone=True)
-        # a kind that doesn't show alone comes from several differences in a row
-        is_mixed = difference and kind and len(differences_of(*difference[1:3])) > 1
-        if not difference or is_mixed or not self.steady(
-                stream_name, difference, 1 if self.is_over else MORE_TRIES):
+    def add(self, name, difference, case, is_smallest=True):
+        listed = name if name in self.known else name.partition("/")[0]
+        known = (listed in self.known, self.known.get(listed))
+        finding = Finding(name, difference, case, *known, is_smallest=is_smallest)
+        self.result.findings[name] = finding
+        self.report(finding)
+
+    # ---- one difference
+
+    def examine(self, case, difference, is_explained):
+        """Counts a case that differs for a class: a new one if it differs without the rules of the
+        classes found so far, or in a kind for which its rules have no class yet."""
+        if mark_of(difference.candidate) == PROTOCOL and self.count(PROTOCOL):
+            return
+        before, excluded = self.result.unexplained, self.excluded()
+        left = not is_explained and self.left(difference, excluded)
+        if left and self.again < MOST_AGAIN:
+            self.find(case, left, excluded)
+        places = differences_of(*difference[1:3]) if self.rules() else []
+        signatures = [(*nearest(difference.pieces, place, self.rules(), self.house), kind)
+                      for place, kind in places]
+        for rule, of_step, kind in signatures:
+            if self.result.unexplained < before:
+                return
+            # where several differences meet there is often another event, which says little
+            is_known = kind == "other" or f"{rule}/{kind}" in self.result.findings
+            if is_known or self.tries[rule, kind] >= MOST_TRIES:
+                continue
+            excluded = self.excluded(of_step)
+            if left := self.left(difference, excluded, kind):
+                self.tries[rule, kind] += 1
+                self.resolved[rule, kind] = self.find(case, left, excluded, kind)
+        if signatures and self.result.unexplained == before:
+            rule, _, kind = signatures[0]
+            self.count(self.class_found(rule, kind))
+
+    def class_found(self, rule, kind):
+        """The class for which a difference counts: of the rule and the kind, or that to which such
+        a one was shrunk, or the rule's first."""
+        if f"{rule}/{kind}" in self.result.findings:
+            return f"{rule}/{kind}"
+        of_rule = [it for it, finding in self.result.findings.items() if finding.rule == rule]
+        return self.resolved.get((rule, kind)) or next(iter(of_rule), None)
+
+    def find(self, case, left, excluded, kind=None):
+        """Shrinks a difference without some rules, and reports its class if it is new. The name of
+        the class, or None."""
+        if not self.steady(case, left):
             return None
-        name = self.named(difference, kind)
+        tries, most = count(), MOST_CASES // (4 if kind else 1)
+
+        def asked(streams):
+            try:
+                is_asked = not self.is_over and next(tries) < most
+                return self.difference_without(excluded, kind, *streams) if is_asked else None
+            except OutOfTime:
+                # what was found so far is tried alone
+                self.is_over, self.candidate.deadline = True, self.end + GRACE
+
+        difference = shrunk([left.pieces], asked, self.candidate.at_once)
+        # a kind that doesn't show alone comes from several differences in a row
+        is_mixed = difference and kind and len(kinds_of(difference)) > 1
+        if not difference or is_mixed or not self.steady(
+                case, difference, 1 if self.is_over else MORE_TRIES):
+            return None
+        name = self.named(difference)
         name = self.same_as(name, difference) or name
         if self.count(name):
             self.again += 1
         else:
-            self.add(name, difference, stream_name, size, is_smallest)
-            self.result.unexplained -= 1
+            self.add(name, difference, case, not self.is_over and next(tries) < most)
         return name
+
+    def named(self, difference):
+        """The class of a difference that is shrunk."""
+        pieces, reference, candidate, _ = difference
+        same, kind = differences_of(reference, candidate)[0]
+        if kind == PROTOCOL:
+            return PROTOCOL
+        is_cut = self.candidate.takes_pieces and len(pieces) > 1 and not self.difference(
+            [b"".join(pieces)])
+        rule = rule_needed(pieces, is_cut, same, kind, self.house)
+        if rule in EMPTY and self.difference(filled(pieces)):
+            rule = rule_needed(pieces, is_cut, same, kind, self.house, rule)
+        return f"{rule}/{kind}"
 
     def same_as(self, name, difference):
         """A class of the same rule whose smallest case stands within another, byte after byte: what
@@ -329,43 +300,47 @@ class Judge:
                 return other
         return None
 
-    def smallest(self, pieces, asked, kind, alone=False):
-        """The smallest case for which `asked` gives a difference, after so many tries, and whether
-        there were enough."""
-        differences, most = {}, MOST_CASES // (4 if kind else 1) // (10 if alone else 1)
+    # ---- what differs only at times
 
-        def differs(case):
-            if self.is_over or len(differences) >= most:
-                return False
-            try:
-                differences[tuple(case)] = asked(case, alone=alone)
-            except OutOfTime:
-                # what was found so far is tried alone
-                self.is_over = True
-                self.candidate.deadline = self.end + GRACE
-            return bool(differences.get(tuple(case)))
+    def steady(self, case, difference, tries=1):
+        """The difference that a stream has alone, each time in a new process, or None: what is told
+        then is why."""
+        # a program that doesn't end takes the whole time again
+        for _ in range(min(tries, 2) if mark_of(difference.candidate) in LIMITS else tries):
+            again = self.difference(difference.pieces, whole=True)
+            if again and is_alike(again, difference):
+                continue
+            if mark_of(difference.candidate) == "hang":  # it was only slow
+                self.candidate.hangs = 0
+                return again and self.steady(case, again, tries)
+            return self.tell_unsteady(case, difference, again)
+        return difference._replace(before=[])
 
-        smallest = shrunk(pieces, differs, self.candidate.at_once)
-        is_smallest = not self.is_over and len(differences) < most
-        return differences.get(tuple(smallest)), is_smallest
+    def tell_unsteady(self, case, difference, again):
+        """Tells or counts that a stream has different answers: after others, or at any time."""
+        is_told = NOT_DETERMINISTIC in self.result.findings
+        after = self.after_others(difference) if difference.before and not is_told else None
+        name = KEPT_STATE if after else NOT_DETERMINISTIC
+        if not self.count(name):
+            answer = again.candidate if again else difference.reference
+            self.add(name, after or Difference(difference.pieces, difference.candidate, answer),
+                     case)
 
-    def add(self, name, difference, found_in, size, is_smallest=True):
-        listed = name if name in self.known else name.partition("/")[0]
-        known = (listed in self.known, self.known.get(listed))
-        finding = Finding(name, difference, found_in, size, *known, is_smallest=is_smallest)
-        self.result.findings[name] = finding
-        self.report(finding)
+    def after_others(self, difference):
+        """The smallest streams of which the last is answered so after the others alone, or None."""
+        if KEPT_STATE in self.result.findings:
+            return difference
+        tries = iter(range(1, MOST_CASES // 10))
 
-    def named(self, difference, kind=None):
-        """The class of a difference that is shrunk."""
-        pieces, reference, candidate, _ = difference
-        same, first_kind = differences_of(reference, candidate)[0]
-        if first_kind == PROTOCOL:
-            return PROTOCOL
-        is_cut = self.candidate.takes_pieces and sum(map(bool, pieces)) > 1 and not self.difference(
-            [b"".join(pieces)], alone=True)
-        kind = kind or first_kind
-        rule = rule_needed(pieces, is_cut, same, kind, self.house)
-        if rule in EMPTY and self.difference(filled(pieces), alone=True):
-            rule = rule_needed(pieces, is_cut, same, kind, self.house, rule)
-        return f"{rule}/{kind}"
+        def wrong(streams):
+            *before, pieces = streams
+            found = next(tries, 0) and before and self.difference(pieces, True, before)
+            if found and not self.difference(pieces, True):
+                return found._replace(before=before)
+            return None
+
+        streams = [*difference.before, difference.pieces]
+        found = wrong(streams) and wrong(streams) and shrunk(streams, wrong)
+        tries = iter(range(1, 9))
+        streams = found and [*found.before, found.pieces]
+        return found if found and all(wrong(streams) for _ in range(4)) else None

@@ -61,20 +61,13 @@ def find_vtlog(given=None):
 
 
 def built_by_cargo():
-    program = CARGO_CRATE / "target" / "release" / "vtlog"
-    sources = [file.stat().st_mtime for crate in (CARGO_CRATE, CARGO_CRATE.parent / "vte")
-               for file in (*crate.glob("Cargo.*"), *crate.glob("src/**/*"))]
-    if program.is_file() and program.stat().st_mtime > max(sources):
-        return program
+    words = ["cargo", "build", "--quiet", "--release", "--locked", "--target-dir",
+             CARGO_CRATE / "target", "--manifest-path", CARGO_CRATE / "Cargo.toml"]
     if not shutil.which("cargo"):
         return None
-    words = ["cargo", "build", "--quiet", "--release", "--locked", "--target-dir",
-             CARGO_CRATE / "target",
-             "--manifest-path", CARGO_CRATE / "Cargo.toml"]
     for more in (["--offline"], []):
         done = subprocess.run([*words, *more], stdin=subprocess.DEVNULL, capture_output=True)
         if done.returncode == 0:
-            program.touch()
-            return program
+            return CARGO_CRATE / "target" / "release" / "vtlog"
     sys.stderr.buffer.write(done.stderr[-2000:])
     return None

@@ -83,13 +83,14 @@ def shown_answers(one, other):
 def shown_finding(finding, again):
     """A finding in lines. `again` gives the command that judges a case alone."""
     text, kind = shown_text(finding.difference.pieces), finding.name.partition("/")[2]
-    size = sum(map(len, finding.difference.pieces))
+    size, found_size = (sum(map(len, it.pieces)) for it in (finding.difference, finding.found_in))
     title = "NEW  " if finding.is_new else "KNOWN"
     shrunk = "shrunk from" if finding.is_smallest else "not shrunk to the end, from"
     names = ("yours", "then") if finding.name == "not-deterministic" else ("reference", "yours")
     answers = zip(names, shown_answers(*finding.difference[1:3]))
     before = f"{len(finding.difference.before)} others, then " * bool(finding.difference.before)
-    lines = [f"{title} {finding.name}: {size} bytes, {shrunk} {finding.size} of {finding.found_in}",
+    lines = [f"{title} {finding.name}: {size} bytes, {shrunk} {found_size} of "
+             f"{finding.found_in.name}",
              f"  input      {before}{text if len(text) <= 200 else f'{text[:150]} ..'}",
              *(f"  {name:10} {answer}" for name, answer in answers)]
     lines += [f"  kind       {KINDS[kind]}"] if kind else []

@@ -32,18 +32,10 @@ FILE = Path(__file__).with_suffix(".json")
 RULES = {name: Rule(**rule) for name, rule in json.loads(FILE.read_text()).items()}
 # how many U+FFFD stand for what is malformed is recommended; what Unicode demands is in the sources
 MALFORMED = ("unfinished", "malformed", "surrogate", "overlong")
+# cuts, and what isn't about a rule of streams, stand at the end
+CUT = RULES.pop("cut")
+ALONE = {name: RULES.pop(name) for name in ("not-deterministic", "kept-state", "protocol")}
 ORDER = {name: index for index, name in enumerate(RULES)}
-CUT = Rule("The events of a stream don't depend on how it is cut into pieces.",
-           "prefixes-and-resynchronisation", MUST, "each cut must give the same")
-# what isn't about a rule of streams
-ALONE = {
-    "not-deterministic": Rule("A stream has the same events each time.", "events", MUST,
-                              "each run must give the same"),
-    "kept-state": Rule("The events of a stream don't depend on the streams before it.", "events",
-                       MUST,
-                       "docs/JUDGE.md: each stream must have a new parser"),
-    "protocol": Rule("A program prints one line per event, and nothing else.",
-                     "events-and-their-lines", MUST, "docs/JUDGE.md: it must answer each stream")}
 
 
 def most_special(names):

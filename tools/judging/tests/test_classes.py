@@ -1,4 +1,5 @@
 """Tests of the judge on functions of this process: which classes it finds."""
+import random
 import re
 from itertools import count
 
@@ -23,16 +24,10 @@ class Side:
     takes_pieces, batch, at_once, deadline, hangs = True, 50, 1, None, 0
 
     def __init__(self, answer):
-        self.answer, self.history = answer, []
+        self.answer = answer
 
-    def answers(self, streams, whole=False, alone=False):
-        answers = []
-        for pieces in streams:
-            if alone and not answers or len(self.history) > self.batch:
-                self.history = []
-            answers.append(self.answer(pieces, self.history))
-            self.history = [*self.history, pieces]
-        return answers
+    def answers(self, streams, whole=False):
+        return [self.answer(pieces, streams[:index]) for index, pieces in enumerate(streams)]
 
 
 # there are enough to find several differences in a row, which are no class of their own
@@ -103,16 +98,15 @@ def test_one_fault_has_one_class(pattern, text, found):
     # what isn't shrunk any more counts for the class to which such a case was shrunk last
     ({"execute 0f": "execute 1f", "execute 0e\nexecute 10": "print 0010", "execute 0e\n": ""},
      [b"\x0f", b"\x0e", *[b"\x0e\x10"] * 4], {"control/character": 1, "control/missing": 5}),
-    # a kind that only shows beside another rule is looked for so often, till it shows alone
-    *(({"execute 0e\n": "", "esc - false 41": "execute 41", "execute 0f": "execute 1f"},
-       [b"\x0e", b"\x1bA", *[b"\x0e\x1bA"] * times, b"\x0f"],
-       {"control/missing": missing, "escape-sequence/other": 1, **others})
-      for times, missing, others in ((29, 30, {"control/character": 1}), (30, 32, {}))),
+    # a kind that only shows beside another rule is looked for till it shows alone
+    ({"execute 0e\n": "", "esc - false 41": "execute 41", "execute 0f": "execute 1f"},
+     [b"\x0e", b"\x1bA", *[b"\x0e\x1bA"] * 9, b"\x0f"],
+     {"control/missing": 10, "escape-sequence/other": 1, "control/character": 1}),
     # another event where two differences meet is no class
     ({"execute 0[ef]\n": "", "(?=execute 1[01])": "unhook\n"}, [b"\x0e", b"\x10", b"\x0f\x11"],
      {"control/missing": 2, "control/extra": 1}),
-    # what is found again and again is shrunk only so often, `protocol` but once
-    ({r"\Z": "unhook\n"}, [b"a"] * 25, {"text/extra": 21}),
+    # what is found again and again is counted, also if it isn't shrunk any more
+    ({r"\Z": "unhook\n"}, [b"a"] * 25, {"text/extra": 25}),
     ({"execute 0e": "(protocol: x)"}, [b"\x0e"] * 25, {"protocol": 25})])
 def test_what_is_counted(faults, streams, found):
     def wrong(pieces, _):
@@ -181,10 +175,16 @@ def test_what_depends_on_other_streams():
 
 
 def test_what_is_by_chance():
-    turn = count()
-    result = judged(lambda pieces, _: definition.lines_of(b"".join(pieces))[next(turn) % 3 == 2:])
+    chance = random.Random(1)
+    result = judged(lambda pieces, _: definition.lines_of(b"".join(pieces))[chance.random() < 0.3:])
     assert [*result.findings] == ["not-deterministic"]
     assert "  then  " in report.shown_finding(result.findings["not-deterministic"], str)
+
+
+def test_two_wrong_answers_are_not_deterministic():
+    turn = count()
+    result = judged(lambda pieces, _: ["unhook"] * (next(turn) % 2), [cases.Case("", [b"b"])])
+    assert [*result.findings] == ["not-deterministic"]
 
 
 def test_a_stream_that_was_slow_once_is_right():
@@ -194,12 +194,25 @@ def test_a_stream_that_was_slow_once_is_right():
     assert (result.different, result.unexplained, result.status()) == (0, 0, 0)
 
 
+def test_what_is_tried_again_has_the_whole_time(monkeypatch):
+    monkeypatch.setattr(Side, "answers", lambda self, streams, whole=False: [
+        definition.lines_of(b"".join(pieces)) if whole or b"\x0e" not in pieces[0]
+        else [candidate.HANG] for pieces in streams])
+    result = judge_of(None).run(iter([cases.Case("", [b"\x0e"])] * 9))
+    assert (result.streams, result.different, result.status()) == (9, 0, 0)
+
+
 def test_left_out_and_known():
     own = house.house_of(["delete=drop"])
 
     def dropped(pieces, _):
         return definition.lines_of(b"".join(pieces), own)
     assert judged(dropped, left_out=["delete"]).different == 0
+    # what is left out doesn't come back in what is shrunk
+    other = house.house_of(["c1-characters=print", "malformed=drop"])
+    result = judged(lambda pieces, _: definition.lines_of(b"".join(pieces), other),
+                    left_out=["malformed", "unfinished"])
+    assert names(result) == {"c1-character"}
     found = judged(dropped).findings["delete/missing"].streams
     assert found == sum(dropped(case.pieces, []) != definition.lines_of(b"".join(case.pieces))
                         for case in CASES)

@@ -5,6 +5,7 @@ import time
 
 import pytest
 from judging import candidate, definition, formats, house, reference, report, shrinking, views
+from judging.cases import Case
 from judging.classes import Difference
 from judging.judgement import Finding, Judgement
 from judging.rules import ALONE, CUT, RULES
@@ -23,6 +24,8 @@ from support import TOOLS, miss, run
     (b"\xf0\x9fa", "malformed=bytes", ["print fffd", "print fffd", "print 0061"]),
     (b"\xf0\x9fa", "malformed=drop", ["print 0061"]),
     (b"\x1b]a\x9cb", "command-9c=ends", ["osc false 1 61", "print 0062"]),
+    (b"\x1b]a\x9c\x1b\\", "command-9c=ends terminator=silent",
+     ["osc false 1 61", "esc - false 5c"]),
     (b"\x1bPqa\x9cb\x18", "device-9c=drop",
      ["hook [0] - false 71", "put 61", "put 62", "unhook", "execute 18"]),
     (b"\x1b_a\x9cb", "ignored-9c=ends", ["print 0062"]),
@@ -45,13 +48,13 @@ def test_headings_of_rules_are_there():
 
 @pytest.mark.parametrize("pieces, differs, smallest", [
     ([b"xx\x1b[1mx" * 50, b"b" * 300], lambda case: case[0].count(b"x") > 1 and len(case) > 1,
-     [b"xx", b"a"]),
+     [b"xx", b""]),
     ([b"abc", b"def"], lambda case: b"e" in b"".join(case), [b"e"]),
     # a cut that doesn't matter goes, and one that does stays
     *(([b"x1", b";y", b"z"], lambda case, cuts=cuts: len(case) > cuts and b"1;" in b"".join(case),
-       smallest) for cuts, smallest in ((0, [b"1;"]), (1, [b"1", b";"])))])
+       smallest) for cuts, smallest in ((0, [b"1;"]), (1, [b"1;", b""])))])
 def test_smallest_cases_are_found(pieces, differs, smallest):
-    assert shrinking.shrunk(pieces, differs) == smallest
+    assert shrinking.shrunk([pieces], lambda streams: differs(*streams) and streams) == [smallest]
 
 
 def test_cases_are_read_as_shown():
@@ -115,14 +118,15 @@ def test_long_answers_are_shown_where_they_differ():
 
 def test_numbers_of_any_length_are_compared_as_numbers():
     for digits, largest, shown in (
-            (b"9", 65535, "9"), (b"65536", 65535, "65535"), (b"100000", 65535, "65535"),
-            (b"070000", 80000, "70000"), (b"9" * 5000, None, "9" * 5000), (b"", 5, "0")):
+            ("9", 65535, "9"), ("65536", 65535, "65535"), ("100000", 65535, "65535"),
+            ("070000", 80000, "70000"), ("9" * 5000, None, "9" * 5000), ("", 5, "0")):
         assert definition.number_of(digits, largest) == shown
 
 
 @pytest.fixture
 def whole(request):
-    side = candidate.Whole(*request.param)
+    command, *rest = request.param
+    side = candidate.Program(command, False, *rest)
     yield side
     side.close()
 
@@ -158,14 +162,14 @@ def test_lines_that_are_none(wrong):
 
 
 def result(known=False, allowed=None, **given):
-    found = Finding("text/missing", Difference([b"a"], [], []), "", 1, known, allowed, 3)
-    return Judgement(**{"streams": 9, "findings": {found.name: found}, **given})
+    found = Finding("text/missing", Difference([b"a"], [], []), Case("", [b""]), known, allowed, 3)
+    return Judgement(**{"streams": 9, "different": 3, "findings": {found.name: found}, **given})
 
 
 @pytest.mark.parametrize("status, judgement", [
     (0, Judgement(streams=1)), (1, Judgement()), (1, result()), (0, result(True)),
-    (0, result(True, 3)), (1, result(True, 2)), (1, Judgement(9, 3, unexplained=1)),
-    (1, result(True, unexplained=1)), (0, result(True, ended_early="the time was over"))])
+    (0, result(True, 3)), (1, result(True, 2)), (1, Judgement(9, 1)),
+    (1, result(True, different=4)), (0, result(True, ended_early="the time was over"))])
 def test_statuses(status, judgement):
     assert judgement.status() == status
 
@@ -174,19 +178,24 @@ def test_what_is_summed_up():
     assert re.search(r"text/missing +must +3 +1 +no\n", report.shown_sum(result(), "1"))
     assert "1 of them new" in report.shown_sum(result(True, 2), "1")
     assert "0 of them new; seed 7" in report.shown_sum(result(True), "7")
-    early = Judgement(9, 3, unexplained=2, ended_early="the time was over")
+    found = {kind: Finding(f"text/{kind}", Difference([b""], [], []), Case("", []), streams=streams)
+             for streams, kind in ((2, "extra"), (5, "other"))}
+    assert re.search("(?s)text/other.*text/extra", report.shown_sum(Judgement(9, 7, found), "1"))
+    early = Judgement(9, 3, ended_early="the time was over")
     said = report.shown_sum(early, "1")
-    assert "2 of the streams that differ weren't assigned" in said
+    assert "3 of the streams that differ weren't assigned" in said
     assert "ended early: the time was over\n9 streams, 3 differ; 0 classes" in said
 
 
 def formatted(kind, **given):
-    """What a format makes of a known and a new finding, with texts that it has to escape."""
+    """What a format makes of two rules, with texts that it has to escape: one is known, of the
+    other a kind is new."""
     found = {}
-    for name, known in (("text/missing", True), ("colon/groups", False)):
+    for name, known in (("text/missing", True), ("colon/count", True), ("colon/groups", False)):
         lines = ["print 0061", "(protocol: this is no event line: '<&#\">')"]
-        found[name] = Finding(name, Difference([b"a#"], ["unhook"], lines), "x # y", 2, known)
-    judgement = Judgement(**{"streams": 9, "different": 2, "findings": found, **given})
+        difference, case = Difference([b"a#"], ["unhook"], lines), Case("x # y", [b"ab"])
+        found[name] = Finding(name, difference, case, known)
+    judgement = Judgement(**{"streams": 9, "different": 3, "findings": found, **given})
     return formats.FORMATS[kind](judgement, "# \x1b]]>&", lambda case: f"judge '{case}' # <&>")
 
 
@@ -196,7 +205,7 @@ $r->has_todo, $r->description) : ()), "\\n" } print "errors ", scalar $p->parse_
 join(",", map { $_ } $p->failed), "\\n";'''
 
 
-@pytest.mark.parametrize("given, count", [({}, 1), ({"unexplained": 2}, 2), ({"streams": 0}, 2)])
+@pytest.mark.parametrize("given, count", [({}, 1), ({"different": 4}, 2), ({"streams": 0}, 2)])
 def test_tap_is_read_by_perl(given, count):
     if run("perl", "-MTAP::Parser", "-e", "1")[0]:
         miss("there is no perl with TAP::Parser")
@@ -224,7 +233,7 @@ def test_junit_is_read_by_its_library():
 
 
 def test_json():
-    told = json.loads(formatted("json", unexplained=1))
-    assert [it["new"] for it in told["findings"]] == [False, True]
+    told = json.loads(formatted("json", different=4))
+    assert [it["new"] for it in told["findings"]] == [False, False, True]
     assert (told["unassigned"], told["new"]) == (1, 1)
-    assert [it["case"] for it in told["findings"]] == ["61 23"] * 2
+    assert [it["case"] for it in told["findings"]] == ["61 23"] * 3

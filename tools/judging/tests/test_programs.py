@@ -37,14 +37,16 @@ def processes(word):
 
 def comes_true(what, seconds=1200):
     end = time.monotonic() + seconds
-    while not what() and time.monotonic() < end:
+    while time.monotonic() < end:
+        if what():
+            return True
         time.sleep(0.05)
-    return what()
+    return False
 
 
 @pytest.mark.parametrize("words, fault", [
-    ("--house delete=drop --house bell=drop", "wrapping-number"),
-    ("--leave-out largest,delete --untold ignore", "dropped-control"), ("", "stateful")])
+    ("--house delete=drop --house bell=drop", "largest=9999"),
+    ("--leave-out largest,delete --untold ignore", "colon=separates"), ("", "stateful")])
 def test_a_finding_can_be_shown_again(judge, judge_toy, words, fault):
     output = judge_toy(1, "--seconds", 600, *words.split(), fault=fault)
     name = re.search(r"^NEW +(\S+):", output, re.M)[1]
@@ -52,9 +54,19 @@ def test_a_finding_can_be_shown_again(judge, judge_toy, words, fault):
     assert f"NEW   {name}:" in judge(1, *again)
 
 
-def test_rules_are_left_out(judge_toy):
-    judge_toy(0, "--leave-out", "delete", fault="delete-dropped")
-    judge_toy(0, "--leave-out", "delete", "--case", "61 7f", fault="delete-dropped")
+@pytest.mark.parametrize("status, words, how, told", [
+    *((0, "", how, "40 streams, 0 differ; 0 classes")
+      for how in ({}, {"once": True}, {"pieces": False})),
+    (1, "--count 0", {}, "0 streams"), (0, "--house delete=drop --house bell=drop", {}, ""),
+    (0, "--leave-out delete", {"fault": "delete=drop"}, "0 differ"),
+    (0, "--leave-out delete --case '61 7f'", {"fault": "delete=drop"}, "no difference: print 0061"),
+    *((status, "--case '1b 5b 39 31*4 61'", {"fault": fault, "pieces": False}, told)
+      for status, fault, told in ((0, None, "csi [65535]"), (1, "largest=9999", "csi [9999]"))),
+    (1, "--case 'c3 | a9'", {"fault": "divided"}, "NEW   cut:text/"),
+    (1, "--case '0e / 61'", {"fault": "stateful"}, "NEW   kept-state"),
+    (0, "--case 61", {"fault": "stateful"}, "no difference")])
+def test_statuses(judge_toy, status, words, how, told):
+    assert told in judge_toy(status, *shlex.split(words), **how)
 
 
 @pytest.mark.parametrize("fault", [
@@ -104,7 +116,7 @@ def test_the_children_of_a_program_are_ended(judge_toy, pieces):
     assert not processes(f"sleep 7531.{os.getpid()}")
 
 
-@pytest.mark.parametrize("fault", ["hang", "unsteady", "cut-character"])
+@pytest.mark.parametrize("fault", ["hang", "unsteady", "divided"])
 def test_the_time_is_kept(judge, fault):
     def seconds(*given):
         begun = time.monotonic()
@@ -113,7 +125,7 @@ def test_the_time_is_kept(judge, fault):
 
     # on a busy machine a program takes long to begin
     usual = seconds(0, "--case", "61", *toy())
-    words = ["--seconds", 4, "--timeout", 60, *toy(f"{fault},wrapping-number")]
+    words = ["--seconds", 4, "--timeout", 60, *toy(f"{fault},largest=9999")]
     assert seconds(1, *words) < 4 + 10 + 2 * usual
 
 
@@ -143,35 +155,13 @@ def test_which_vtlog(judge, vtlog, tmp_path, given, named, status):
             else "status 3") in said
 
 
-@pytest.mark.parametrize("how", [{}, {"once": True}, {"pieces": False}])
-def test_a_right_parser_has_no_difference(judge_toy, how):
-    assert "40 streams, 0 differ; 0 classes" in judge_toy(0, **how)
-
-
-def test_a_house_is_that_of_both(judge_toy):
-    judge_toy(0, "--house", "delete=drop", "--house", "bell=drop")
-
-
-def test_no_stream_is_no_success(judge_toy):
-    judge_toy(1, "--streams", "random", "--count", 0)
-
-
 def test_known_differences_are_passed(judge_toy, tmp_path):
     known = tmp_path / "known"
     known.write_text("largest  # as our screen does\n")
-    judge_toy(0, "--known", known, fault="wrapping-number")
-    judge_toy(1, "--write-known", known, fault="wrapping-number")
+    judge_toy(0, "--known", known, fault="largest=9999")
+    judge_toy(1, "--write-known", known, fault="largest=9999")
     assert re.fullmatch(r"largest/smaller \d+\n", known.read_text())
-    judge_toy(0, "--known", known, fault="wrapping-number")
-
-
-def test_one_case(judge_toy):
-    case = ("--case", "1b 5b 39 31*4 61")
-    assert "csi [25575]" in judge_toy(1, *case, fault="wrapping-number", pieces=False)
-    judge_toy(0, *case, pieces=False)
-    judge_toy(1, "--case", "c3 | a9", fault="cut-character")
-    judge_toy(1, "--case", "0e / 61", fault="stateful")
-    judge_toy(0, "--case", "61", fault="stateful")
+    judge_toy(0, "--known", known, fault="largest=9999")
 
 
 @pytest.mark.parametrize("words, message", [
@@ -189,7 +179,7 @@ def test_usage(judge, words, message):
 def test_what_the_page_says_of_a_parser(peer, vtlog, tmp_path):
     assert peers.claims(peer)
     try:
-        command = peer.command(tmp_path)
+        command = peer.command_in(tmp_path)
     except peers.Missing as missing:
         # the sources of the crate `vte` are no package
         (miss if peer.packages else pytest.skip)(f"{peer.name}: {missing}")

@@ -78,14 +78,15 @@ def _element_end(source, at):
     return source.match(at) if source.is_sign(at, OPENING) else at
 
 
-def rewrite(source, pattern, by, if_=lambda source, at, end, names: True):
-    """Puts `by`, a text with names or a function of them, in the place of each match, from the last on. Returns how many there were.
+def rewrite(source, pattern, by, holds=lambda names: True):
+    """Puts `by`, a text with names or a function of them, in the place of each match, from the last on, if it holds of its names. Returns how
+    many there were.
 
     An empty text takes out the comments above, too.
     """
     count, (first, *_) = 0, _parts(pattern)
     for at in [at for at, token in enumerate(source.tokens) if not isinstance(first, str) or token.text == first][::-1]:
-        if (found := find(source, at, pattern)) and if_(source, at, *found):
+        if (found := find(source, at, pattern)) and holds(found[1]):
             made = by(found[1]) if callable(by) else filled(by, found[1])
             if made:
                 source.replace(at, found[0], made)

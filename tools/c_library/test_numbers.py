@@ -1,9 +1,11 @@
 """The numbers that cross the border, which Rust's types and vte_handler.h each name."""
 import re
 import shutil
+from functools import cache
 
-from c_library.builds import BESIDE, TOOLS
-from c_library.report import output_of
+import pytest
+
+from c_library.library import BESIDE, HERE, TOOLS, miss, output_of
 
 TYPES = TOOLS.parent / "rust/vte/src/proved/vte_types"
 # Rust's type, and how the names of C begin, but for those that C names otherwise, which handler.cpp tries
@@ -26,6 +28,7 @@ def numbered(text):
     return numbers
 
 
+@cache
 def of_rust():
     text = "".join(file.read_text() for file in sorted(TYPES.glob("*.rs")))
     return {name: numbered(re.search(LIST.format(f" {name}"), text)[1]) for name in ENUMS}
@@ -36,16 +39,15 @@ def of_c():
     return {name: number for text in lists for name, number in numbered(re.sub(r"/\*.*?\*/", "", text).replace(",", "\n")).items()}
 
 
-def test_numbers(library, report):
-    if not library.is_whole:
-        return
-    rust, c = of_rust(), of_c()
-    for name, prefix in ENUMS.items():
-        if prefix:
-            wanted = {prefix + re.sub("(?<!^)(?=[A-Z])", "_", one).upper(): number for one, number in rust[name].items()}
-            found = {one: c.get(one) for one in wanted}
-            report.holds(f"numbers of {name} in C", found == wanted, f"{found}, not {wanted}")
-    if shutil.which("c++"):
-        words = ["-std=c++17", "-Wl,--wrap=malloc", "-Wl,--wrap=realloc"]
-        handler = library.program(TOOLS / "c_library/handler.cpp", *words, compiler="c++")
-        report.same("numbers of vte_handler.h, and refused memory in C++", b"", output_of([handler]), b"")
+@pytest.mark.parametrize("name", [name for name in ENUMS if ENUMS[name]])
+def test_names(name):
+    wanted = {ENUMS[name] + re.sub("(?<!^)(?=[A-Z])", "_", one).upper(): number for one, number in of_rust()[name].items()}
+    assert {one: of_c().get(one) for one in wanted} == wanted
+
+
+def test_handler(whole):
+    """The other names, and refused memory in C++."""
+    if shutil.which("c++") is None:
+        miss("c++, so vte.hpp was not tested")
+    words = ["-std=c++17", "-Wl,--wrap=malloc", "-Wl,--wrap=realloc"]
+    assert output_of([whole.program(HERE / "handler.cpp", *words, compiler="c++")]) == b""

@@ -10,14 +10,6 @@ from generating.rows import all_rows, bytes_of, lines_of
 from c_library.library import BESIDE, HERE, SANITIZERS, miss, output_of
 from c_library.test_numbers import of_rust
 
-MODES = {4: "Insert", 20: "LineFeedNewLine"}
-PRIVATE_MODES = {
-    1: "CursorKeys", 3: "ColumnMode", 6: "Origin", 7: "LineWrap", 12: "BlinkingCursor",
-    25: "ShowCursor", 1000: "ReportMouseClicks", 1002: "ReportCellMouseMotion",
-    1003: "ReportAllMouseMotion", 1004: "ReportFocusInOut", 1005: "Utf8Mouse", 1006: "SgrMouse",
-    1007: "AlternateScroll", 1042: "UrgencyHints", 1049: "SwapScreenAndSetRestoreCursor",
-    2004: "BracketedPaste", 2026: "SyncUpdate",
-}
 # a timeout that is set, which calls.c writes, and one that is cleared
 SET = "set_timeout 150"
 TIMEOUTS = SET, "clear_timeout"
@@ -88,8 +80,8 @@ def each(*shows):
     return lambda *words: " ".join(show(word) for show, word in zip(shows, words))
 
 
-def mode(known):
-    return lambda word: f"Named({known[int(word)]})" if int(word) in known else f"Unknown({word})"
+def mode(kind):
+    return lambda word: f"Named({names(kind)[int(word)]})" if int(word) in names(kind) else f"Unknown({word})"
 
 
 def hexadecimal(word):
@@ -118,8 +110,8 @@ SHOWN = {
     "set_scp": each(named("ScpCharPath"), named("ScpUpdateMode")),
     "set_keyboard_mode": each(str, named("KeyboardModesApplyBehavior")),
     "set_modify_other_keys": named("ModifyOtherKeys"),
-    **{f"{what}_mode": mode(MODES) for what in ("set", "unset", "report")},
-    **{f"{what}_private_mode": mode(PRIVATE_MODES) for what in ("set", "unset", "report")},
+    **{f"{what}_mode": mode("NamedMode") for what in ("set", "unset", "report")},
+    **{f"{what}_private_mode": mode("NamedPrivateMode") for what in ("set", "unset", "report")},
 }
 
 

@@ -13,6 +13,7 @@ ENUMS = {
     "Attr": "VTE_", "NamedColor": None, "LineClearMode": "VTE_LINE_", "ClearMode": "VTE_SCREEN_",
     "TabulationClearMode": "VTE_TAB_", "CursorShape": "VTE_SHAPE_", "StandardCharset": None,
     "ScpCharPath": None, "ScpUpdateMode": None, "KeyboardModesApplyBehavior": None, "ModifyOtherKeys": None,
+    "NamedMode": None, "NamedPrivateMode": None,
 }
 # an enum of the declarations of C or Rust, and its names
 LIST = r"\benum{} {{([^}}]*)}}"

@@ -1,7 +1,7 @@
 """Patterns over the tokens of a file, and what stands in their place.
 
 A pattern is Rust in which `$x` stands for one token, or for a bracket with what is in it; `$$x` for any number of these without `;`, and
-`$$$x` for any number, the fewest that fit. The same name stands for the same text. Blanks and comments don't count.
+`$$$x` for any number, the fewest that fit. Blanks and comments don't count.
 """
 from functools import lru_cache
 
@@ -38,15 +38,10 @@ def _fit(source, at, parts, places):
     end = source.before(at)
     for index, part in enumerate(parts):
         count, name = (0, part) if isinstance(part, str) else part
-        if name in places:
-            wanted = [token.text for token in source.tokens[places[name][0] : places[name][1] + 1] if not token.is_blank]
-        else:
-            wanted = [part]
-        if count == 0 or name in places:
-            for text in wanted:
-                if source.text(at) != text:
-                    return None
-                end, at = at, source.after(at)
+        if count == 0:
+            if source.text(at) != name:
+                return None
+            end, at = at, source.after(at)
         elif count == 1:
             if (end := _element_end(source, at)) is None:
                 return None

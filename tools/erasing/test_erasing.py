@@ -22,7 +22,6 @@ TRAPS = '''//! Head.
 #![tactic(auto)]
 ghost use A.{◌≡◌, ◌∷◌};
 
-/* ghost use /* requires { */ ; */
 // ensures { this comment stays }
 #[inline]
 #[tactic(auto, using(crate::x))]
@@ -69,7 +68,6 @@ mod tests;
 '''
 ERASED = '''//! Head.
 
-/* ghost use /* requires { */ ; */
 // ensures { this comment stays }
 #[inline]
 pub fn f<'a>(s: &'a str, c: char) -> bool {
@@ -106,8 +104,8 @@ def words(text):
 
 # each text of a file, and what is left of it
 PLAIN = [
-    ("use crate::m::F; use b::G; use std::alloc::A; use std::{mem, str}; fn f() { str::g(x.str::<u8>(), std::mem::h()) }",
-     "use crate::a::m::F; use crate::b::G; use crate::prelude::A; use core::{mem, str}; fn f() { str::g(x.str::<u8>(), core::mem::h()) }"),
+    ("use crate::m::F; use b::G; use std::alloc::A; use std::{mem, str}; fn f() { str::g(x.str::<u8>()) }",
+     "use crate::a::m::F; use crate::b::G; use crate::prelude::A; use core::{mem, str}; fn f() { str::g(x.str::<u8>()) }"),
     ("fn f() { str::from_utf8(crate::x) }", "fn f() { core::str::from_utf8(crate::a::x) }"),
     ("use b::{G, laws}; mod laws; fn f() { laws::x(); G }", "use crate::b::G; fn f() { G }"),
     ("use b::laws; pub use laws::Step; mod laws; mod c;", "mod c;"),
@@ -247,7 +245,8 @@ class Erasing(unittest.TestCase):
             ("fn f() {}\n#[derive(Clone, Ghostly)]\nstruct S;\n", 2, {}),
             ("fn f() {}\nuse std::thread;\n", 2, {}),
             ("\n/// ```\n/// f();\n/// ```\nfn f() {}\n", 2, {}),
-            ("/* /* */\n", 1, {}),
+            ("\n/* a */\n", 2, {}),
+            ("\nfn f() { std::mem::g() }\n", 2, {}),
             ("\nfn f()\n    ensures { { }\n{}\n", 3, {}),
             ("ghost use A\n", 1, {}),
             ("\nfn f() { \"x }\n", 2, {}),

@@ -8,15 +8,18 @@ from c_library.library import Library, miss
 
 
 def pytest_addoption(parser):
-    parser.addoption("--short", action="store_true", help="test cargo's build alone, on fewer streams, without vtlog")
-    parser.addoption("--streams", type=int, help="how many random streams (default: 20,000, with --short 400)")
+    parser.addoption("--short", action="store_true",
+                     help="test cargo's build alone, on fewer streams, without vtlog")
+    parser.addoption("--streams", type=int,
+                     help="how many random streams (default: 20,000, with --short 400)")
     parser.addoption("--seed", type=int, default=1, help="of random streams")
 
 
 def pytest_terminal_summary(terminalreporter):
     """What tools/test lists as not tested."""
     for report in terminalreporter.stats.get("skipped", []):
-        terminalreporter.write_line(f"missing: tools/test_c_library: {report.longrepr[2].replace('Skipped: ', '')}")
+        why = report.longrepr[2].replace("Skipped: ", "")
+        terminalreporter.write_line(f"missing: tools/test_c_library: {why}")
 
 
 def pytest_generate_tests(metafunc):

@@ -29,10 +29,11 @@ def miss(what):
 
 
 def output_of(words, stream=b"", **environment):
-    """Returns what a program writes, followed by its status and its standard error if it fails or writes any."""
-    done = subprocess.run(words, input=stream, capture_output=True, env={**os.environ, **environment})
+    """Returns what a program writes, and its status and standard error if it has these."""
+    environment = {**os.environ, **environment}
+    done = subprocess.run(words, input=stream, capture_output=True, env=environment)
     if done.returncode != 0 or done.stderr:
-        return done.stdout + f"\nstatus {done.returncode}: {done.stderr.decode(errors='replace')}".encode()
+        return done.stdout + b"\nstatus %d: %b" % (done.returncode, done.stderr)
     return done.stdout
 
 
@@ -61,9 +62,10 @@ class Library:
         self.of_events = ["-DWITH_LONG"] if self.is_whole else []
 
     def program(self, source, *words, compiler="cc", name=None, optional=False):
-        """Compiles a program and returns its path, or None if it is optional and doesn't compile."""
+        """Compiles a program. Returns its path, or None if it is optional and doesn't compile."""
         program = self.folder / (name or Path(source).name.replace(".", "_"))
-        is_built, said = compiles([compiler, *WARNINGS, *words, source, self.archive, "-o", program])
+        command = [compiler, *WARNINGS, *words, source, self.archive, "-o", program]
+        is_built, said = compiles(command)
         assert is_built or optional, said
         return program if is_built else None
 
@@ -74,4 +76,5 @@ class Library:
     @cached_property
     def sanitized(self):
         """The same program with sanitizers, or None if cc has none."""
-        return self.program(EXAMPLES / "events.c", *self.of_events, *SANITIZERS, name="events_sanitized", optional=True)
+        words = [*self.of_events, *SANITIZERS]
+        return self.program(EXAMPLES / "events.c", *words, name="events_sanitized", optional=True)

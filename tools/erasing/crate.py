@@ -4,7 +4,7 @@ from pathlib import PurePosixPath
 from erasing import passes, wording
 from erasing.imports import rename_paths, settle_imports, words_of_code
 from erasing.patterns import rewrite
-from erasing.rules import GENERAL, OLDER, apply, use_idioms
+from erasing.rules import GENERAL, OLDER, apply
 from erasing.source import Source
 from rattle_text.tokens import Refused
 
@@ -106,7 +106,4 @@ def _apply_rules(source, crate, name, plan):
     for rule in plan.rules.get(name, ()):
         if not rewrite(source, *rule):
             source.refuse(f"tools/erasing/plan.py has a rule that nothing here needs: {rule[0]}")
-    apply(source, GENERAL + plan.rules.get("", []) + plan.rules.get(crate, []))
-    if plan.has_idioms:
-        use_idioms(source)
-    apply(source, OLDER)
+    apply(source, GENERAL + plan.rules.get("", []) + plan.rules.get(crate, []) + OLDER)

@@ -39,9 +39,6 @@ def rename_paths(source, crate, plan):
         if source.text(at) == "str" and not imports_str:
             # as a method of the type it is newer than our oldest Rust
             source.replace(at, at, "core::str")
-        elif source.is_word(at, "std"):
-            last = source.after(source.after(source.after(at)))
-            source.replace(at, last, renamed(source, at, f"std::{source.text(last)}", crate, plan))
         else:
             source.replace(at, at, renamed(source, at, source.text(at), crate, plan))
 

@@ -1,7 +1,7 @@
 """Patterns over the tokens of a file, and what stands in their place.
 
 A pattern is Rust in which `$x` stands for one token, or for a bracket with what is in it; `$$x` for any number of these without `;`, and
-`$$$x` for any number, the fewest that fit. The same name stands for the same text. Blanks and comments don't count.
+`$$$x` for any number, the fewest that fit. Blanks and comments don't count.
 """
 from functools import lru_cache
 
@@ -38,15 +38,10 @@ def _fit(source, at, parts, places):
     end = source.before(at)
     for index, part in enumerate(parts):
         count, name = (0, part) if isinstance(part, str) else part
-        if name in places:
-            wanted = [token.text for token in source.tokens[places[name][0] : places[name][1] + 1] if not token.is_blank]
-        else:
-            wanted = [part]
-        if count == 0 or name in places:
-            for text in wanted:
-                if source.text(at) != text:
-                    return None
-                end, at = at, source.after(at)
+        if count == 0:
+            if source.text(at) != name:
+                return None
+            end, at = at, source.after(at)
         elif count == 1:
             if (end := _element_end(source, at)) is None:
                 return None
@@ -78,14 +73,15 @@ def _element_end(source, at):
     return source.match(at) if source.is_sign(at, OPENING) else at
 
 
-def rewrite(source, pattern, by, if_=lambda source, at, end, names: True):
-    """Puts `by`, a text with names or a function of them, in the place of each match, from the last on. Returns how many there were.
+def rewrite(source, pattern, by, holds=lambda names: True):
+    """Puts `by`, a text with names or a function of them, in the place of each match, from the last on, if it holds of its names. Returns how
+    many there were.
 
     An empty text takes out the comments above, too.
     """
     count, (first, *_) = 0, _parts(pattern)
     for at in [at for at, token in enumerate(source.tokens) if not isinstance(first, str) or token.text == first][::-1]:
-        if (found := find(source, at, pattern)) and if_(source, at, *found):
+        if (found := find(source, at, pattern)) and holds(found[1]):
             made = by(found[1]) if callable(by) else filled(by, found[1])
             if made:
                 source.replace(at, found[0], made)

@@ -33,7 +33,6 @@ class Plan:
     added: dict = field(default_factory=dict)  # lines above the first item
     imports: dict = field(default_factory=dict)  # imports that lead elsewhere, or nowhere, in the files whose names begin so
     rules: dict = field(default_factory=dict)  # patterns and what stands in their place, in the files whose names begin so
-    has_idioms: bool = False
     lines: dict = field(default_factory=dict)  # attributes, and the first words of what each belongs to
     members: dict = field(default_factory=dict)  # docs of members that have none, by the first words of their type
     inlined: dict = field(default_factory=dict)  # impls whose functions are inlined
@@ -70,7 +69,7 @@ OF_THREE = """// SAFETY: the masks leave at most FFFF. Callers have tested `may_
 debug_assert!(may_begin_three(first, second) && is_continuation(third));
 """
 OF_FOUR = """// SAFETY: callers have tested `may_begin_four`, by which the front of the number is 10000 to
-// 10F000, and the masks leave at most FFF for its rest.
+// 10F000, and the remainders leave at most FFF for its rest.
 debug_assert!(may_begin_four(first, second));
 debug_assert!(is_continuation(third) && is_continuation(fourth));
 """
@@ -106,7 +105,7 @@ WITHOUT_COUNTS = {
 VTE = Plan(
     out="rust/vte/src/proved",
     # bytes are read by their places
-    allowed=("clippy::needless_range_loop",),
+    allowed=("clippy::manual_range_contains", "clippy::needless_range_loop"),
     modules={name: f"crate::proved::{name}" for name in ("vte_core", "vte_types", "vte_handler", "vte")},
     of_std={"alloc": "crate::prelude"},
     homes={
@@ -206,6 +205,8 @@ VTE = Plan(
         # .. whose `clear` writes nothing over what it held
         "vte_core/params": [("*self = Params::new();", "self.numbers.clear(); self.lengths.clear();")],
         "vte_core/utf8": [
+            # which rustc makes one comparison of
+            ("number >= 0x10000 && number < 0x110000", "matches!(number, 0x10000..=0x10ffff)"),
             # below the surrogates whatever the bytes are, as compilers see
             ("unsafe { char::from_u32_unchecked(number_of_two($$a)) }",
              "char::from_u32(number_of_two($a)).unwrap_or(char::REPLACEMENT_CHARACTER)"),
@@ -215,9 +216,10 @@ VTE = Plan(
              f"{OF_FOUR}unsafe {{ char::from_u32_unchecked(number_of_four($a)) }}")],
         # as a function it would be called for each U+FFFD, unless a program has link-time optimization
         "vte/ansi/performer": [("last_char(text, $$before)", "text.chars().next_back().or($before)")],
+        # with a counter of its own, calls of other commands would be inlined otherwise
+        "vte/ansi/command_calls": [("let mut code = first; for text in texts { $$$body code += 1; }", "for (code, text) in (first..).zip(texts) { $body }")],
         "vte_handler/timeout": [("trait Timeout", "trait Timeout: Default")],
     },
-    has_idioms=True,
     lines={
         "vte_core/parser/machine": {CLONE: ["pub(crate) struct Machine"]},
         "vte_core/parser": {

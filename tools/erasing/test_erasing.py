@@ -8,10 +8,9 @@ sys.dont_write_bytecode = True
 TOOLS = Path(__file__).resolve().parent.parent
 sys.path.insert(0, str(TOOLS))
 
-from erasing import rules, wording  # noqa: E402
+from erasing import wording  # noqa: E402
 from erasing.crate import Failure, erase, write_crate  # noqa: E402
-from erasing.plan import VTE, Plan  # noqa: E402
-from erasing.source import Source  # noqa: E402
+from erasing.plan import Plan  # noqa: E402
 from rattle_text.tokens import COMMENT, Refused, split  # noqa: E402
 
 
@@ -23,7 +22,6 @@ TRAPS = '''//! Head.
 #![tactic(auto)]
 ghost use A.{◌≡◌, ◌∷◌};
 
-/* ghost use /* requires { */ ; */
 // ensures { this comment stays }
 #[inline]
 #[tactic(auto, using(crate::x))]
@@ -57,7 +55,7 @@ impl Model for Q {
     ghost Value = { ℕ };
 }
 
-trait R<T: A + Drop, U: Drop + B> {
+trait R<T: A + Drop, U: B> {
     // goes with it
     ghost x: { Self → ℕ } = { λ _. 0 };
 
@@ -70,7 +68,6 @@ mod tests;
 '''
 ERASED = '''//! Head.
 
-/* ghost use /* requires { */ ; */
 // ensures { this comment stays }
 #[inline]
 pub fn f<'a>(s: &'a str, c: char) -> bool {
@@ -95,8 +92,8 @@ trait R<T: A, U: B> {
 '''
 
 
-def erased(text, given=None, name="a/x"):
-    return erase(text, "a", name, given or plan())[0]
+def erased(text, given):
+    return erase(text, "a", "a/x", given)[0]
 
 
 def words(text):
@@ -105,144 +102,22 @@ def words(text):
     return [token.text for token in tokens if token.text != ","]
 
 
-# each text of a file, and what is left of it
-PLAIN = [
-    ("use crate::m::F; use b::G; use std::alloc::A; use std::{mem, str}; fn f() { str::g(x.str::<u8>(), std::mem::h()) }",
-     "use crate::a::m::F; use crate::b::G; use crate::prelude::A; use core::{mem, str}; fn f() { str::g(x.str::<u8>(), core::mem::h()) }"),
-    ("fn f() { str::from_utf8(crate::x) }", "fn f() { core::str::from_utf8(crate::a::x) }"),
-    ("use b::{G, laws}; mod laws; fn f() { laws::x(); G }", "use crate::b::G; fn f() { G }"),
-    ("use b::laws; pub use laws::Step; mod laws; mod c;", "mod c;"),
-    ("use c::Kept; use c::Gone; fn f(k: u8) {} #[cfg(test)] mod tests { fn g() { Gone } }",
-     "use c::Kept; use c::Gone; fn f(k: u8) {}"),
-    ("impl D for X { fn fmt<W: fmt::Write>(&self, f: &mut fmt::Formatter<W>) -> R { g() } }",
-     "impl D for X { fn fmt(&self, f: &mut fmt::Formatter<'_>) -> R { g() } }"),
-    ("fn f() { let Some(a) = g() else { return 1; }; let Ok((b, c)) = h() else { k(); return }; match a { 1..0x10 => 2, _ => 3 } }",
-     "fn f() { let a = match g() { Some(a) => a, None => return 1, }; "
-     "let (b, c) = match h() { Ok((b, c)) => (b, c), Err(_) => { k(); return } }; match a { 1..=0xf => 2, _ => 3 } }"),
-]
-# what is told of a file, and the same
-TOLD = [
-    (dict(default_bodies={"T"}), "trait T { fn f(&self); fn is(&self) -> bool; } trait U { fn g(&self); }",
-     "#[allow(unused_variables)] trait T { fn f(&self) {} fn is(&self) -> bool { false } } trait U { fn g(&self); }"),
-    (dict(lines={"a/x": {"#[must_use]": ["pub fn g"], "#[derive(Eq)]": ["struct S", "struct U"]}}),
-     "pub fn g() {} #[derive(Clone, Drop)] struct S; /// U.\nstruct U;",
-     "#[must_use] pub fn g() {} #[derive(Clone, Eq)] struct S; /// U.\n#[derive(Eq)] struct U;"),
-    (dict(rules={"a/x": [("S<const N: usize>", "S<const N: usize = 7>")]}), "struct S<const N: usize>;", "struct S<const N: usize = 7>;"),
-    (dict(dropped={"a/x": ("const N", "fn f")}, added={"a/x": "use crate::N;"}), "/// N.\npub const N: u8 = 1; impl A {\n/// F.\n fn f() {} fn ff() {} }",
-     "use crate::N; impl A { fn ff() {} }"),
-    (dict(dropped={"a/x": ("fn f",)}), "const A: u8 = 1; // one\nfn f() {}",
-     "const A: u8 = 1; // one\n"),
-    (dict(default_bodies={"T"}), "pub(crate) trait T { fn f(&self); }",
-     "#[allow(unused_variables)] pub(crate) trait T { fn f(&self) {} }"),
-    (dict(left_out={"a/x/y"}), "mod y; pub use y::Z; mod z;", "mod z;"),
-    (dict(under={"a": {"x": {"B"}}, "a/x": {"y": {"E"}}}), "use c::{A, B, C}; pub use c::{B, E}; struct D; impl D for B {}",
-     "use c::{A, C}; #[cfg(x)] use c::B; #[cfg(x)] pub use c::B; #[cfg(y)] pub use c::E; struct D; #[cfg(x)] impl D for B {}"),
-    (dict(homes={"": {"p": "V"}, "a": {"q": "find g"}}), "use c::D; fn g() { find(V, x.find()) }", "use p::V; use q::find; use c::D; fn g() { find(V, x.find()) }"),
-    (dict(homes={"a": {"c": "find"}}), "use c::D; pub use c::E; fn f() { find(D) }", "use c::{D, find}; pub use c::E; fn f() { find(D) }"),
-    (dict(homes={"a": {"c": "find"}}, under={"a": {"x": {"D"}}}),
-     "use c::D; fn f() { find(1) }  fn g() { D }",
-     "use c::find; #[cfg(x)] use c::D; fn f() { find(1) } #[cfg(x)] fn g() { D }"),
+# what is told of a file, its text, and what is left of it, as crates/ have no such case
+TEXTS = [
+    ({}, "use c::Kept; use c::Gone; fn f(k: u8) {} #[cfg(test)] mod tests { fn g() { Gone } }", "use c::Kept; use c::Gone; fn f(k: u8) {}"),
+    ({}, "use b::laws; pub use laws::Step; mod laws; mod c;", "mod c;"),
+    ({}, "fn f() { match a { 1..0x10 => 2, _ => 3 } }", "fn f() { match a { 1..=0xf => 2, _ => 3 } }"),
+    (dict(dropped={"a/x": ("fn f",)}), "const A: u8 = 1; // one\nfn f() {} fn ff() {}", "const A: u8 = 1; // one\nfn ff() {}"),
+    (dict(homes={"a": {"q": "find g"}}), "use c::D; fn g() { find(x.find()) }", "use q::find; use c::D; fn g() { find(x.find()) }"),
     (dict(imports={"a": {"c::D": "e::D", "f::": ""}}), "use c::D; use c::{I as J, K}; use f::{G, H};", "use e::D; use c::{I as J, K};"),
-    (dict(inlined={"a/x": "impl V"}), "impl V { pub(crate) fn f() {} fn g<T>() {} #[inline(always)] fn h() {} }",
-     "impl V { #[inline] pub(crate) fn f() {} fn g<T>() {} #[inline(always)] fn h() {} }"),
-    (dict(members={"a/x": {"enum E": {"*": "{words}, {snake}.", "Five": "5"}}}),
-     "pub enum E {\n/// Has some.\n OneTwo(Uu), ThreeFour { a: u8 }, #[default] Five }",
-     "pub enum E { /// Has some.\n OneTwo(Uu), /// Three four, three_four.\n ThreeFour { a: u8 }, /// 5\n #[default] Five }"),
-    (dict(examples={"a/x": ("use a::f;", "..", "end")}), "/// ```\n/// f(alloc);\n/// ```\nfn f() {}",
-     "/// ```\n/// # use a::f;\n/// f();\n/// # end\n/// ```\nfn f() {}"),
-    (dict(examples={"a/x": None}), "/// F.\n///\n/// ```\n/// f();\n/// ```\nfn f() {}", "/// F.\nfn f() {}"),
-    (dict(handler=("a/x", [("t: &str", "t: &str as String = t.into()")])), "use c::D;\n/// Takes.\npub trait Handler { /// Doc.\n fn f(t: &str, n: D) {} }",
-     "use c::D; handlers! { /// Takes.\n pub trait Handler; /// Doc.\n fn f(t: &str as String = t.into(), n: D) {} }"),
-    (dict(rules={"": rules.ALLOCATORS}), "use b::Allocator; impl<A: Allocator> S<A> { fn f(alloc: A, n: T<u8, A>) { g(alloc, n) } } "
-     "impl<T: U, A: Allocator + Copy> V<T, A> { fn h(alloc: A) { g(alloc) } }",
-     "impl S { fn f(n: T<u8>) { g(n) } } impl<T: U> V<T> { fn h() { g() } }"),
-]
-# the count of looks, in a file of the parser
-COUNTED = [
-    ("vte_core/x", """use crate::looks::{CountedPerform, Grain, Input, Looks};
-use crate::other::ArrayVec;
-pub struct P { machine: M, looks: Looks<ArrayVec<u8, 2>>, }
-impl P {
-    fn end_data<P: CountedPerform<B, G>, G: Grain, const ASKS: bool>(&mut self, looks: &mut Looks<B>, performer: &mut P, input: Input<'_, B>) -> u8 {
-        performer.print(looks, 'a');
-        performer.unhook(looks);
-        self.drive::<P, G, true>(&mut self.looks, Input::new(bytes));
-        self.read_character::<P, G, ASKS>(looks, 1);
-        looks.at(input, looks.find_escape(input, from) + 1)
-    }
-}""", """use crate::proved::vte_core::grain::{Grain, PerformAs}; use crate::proved::vte_core::scan::find_escape;
-pub struct P { machine: M }
-impl P {
-    fn end_data<P: PerformAs<G>, G: Grain, const ASKS: bool>(&mut self, performer: &mut P, input: &[u8]) -> u8 {
-        performer.print('a');
-        performer.unhook();
-        self.drive::<P, G, true>(bytes);
-        self.read_character(1);
-        input[find_escape(input, from) + 1]
-    }
-}"""),
-    ("vte_core/x", """impl<B> Looks<B> {
-    /// Finds.
-    fn find_more(&mut self, input: Input<'_, B>, from: usize) -> usize { self.find_end(input, from) + self.get_block::<8>(input, from)[0] }
-    fn find_run_end<P: CountedPerform<B, G>, G: Grain>(&mut self, performer: &P) -> usize { self.find_rest(performer) }
-}
-impl Machine { fn f(&self, looks: &mut Looks<B>, a: u8) { self.f(looks, a) } }""", """use crate::proved::vte_core::grain::{Grain, PerformAs}; use crate::proved::vte_core::scan::get_block;
-/// Finds.
-fn find_more(input: &[u8], from: usize) -> usize { find_end(input, from) + get_block::<8>(input, from)[0] }
-fn find_run_end<P: PerformAs<G>, G: Grain>(performer: &P) -> usize { find_rest(performer) }
-impl Machine { fn f(&self, a: u8) { self.f(a) } }"""),
-    ("vte/x", "fn f(looks: u8) { looks.g() }", "fn f(looks: u8) { looks.g() }"),
-]
-# bodies, and Rust's forms for them
-FORMS = [
-    ("-> Option<u8> { match g(a) { Ok(b) => Some(b), Err(_) => None, } }", "-> Option<u8> { g(a).ok() }"),
-    ("-> Option<u8> { match g(a) { Some(b) => h(b), None => None, } }", "-> Option<u8> { let b = g(a)?; h(b) }"),
-    ("-> Result<u8, E> { match g(a) { Ok(b) => Ok(h(b)), Err(e) => Err(e), } }",
-     "-> Result<u8, E> { let b = g(a)?; Ok(h(b)) }"),
-    ("-> Option<u8> { let b = *g(a)?; Some(b) }", "-> Option<u8> { g(a).copied() }"),
-    ("-> Option<u8> { match g(a) { Ok(b) => h(b), Err(_) => None, } }", "-> Option<u8> { let b = g(a).ok()?; h(b) }"),
-    ("-> Result<u8, E> { let b = g(a); match b { Ok(b) => Ok(h(b)), Err(e) => Err(e), } }", "-> Result<u8, E> { let b = g(a)?; Ok(h(b)) }"),
-    ("{ (a % 8) as u8 }", "{ (a & 0x7) as u8 }"),
-    ("{ a >= b'0' && a <= b'9' || (b < 0x20 || b > 0x7e) }", "{ a.is_ascii_digit() || !matches!(b, 0x20..=0x7e) }"),
-    ('{ x(match g(a) { Ok(b) => b, Err(_) => "", }) }', "{ x(g(a).unwrap_or_default()) }"),
-    ("{ match g(a) { Ok(b) => { h(b) } Err(_) => {} } }", "{ if let Ok(b) = g(a) { h(b) } }"),
-    ("{ for _t in 0..a.len() { if n == a.len() { return n; } n += g(); } n }", "{ while n < a.len() { n += g(); } n }"),
-    ("{ let mut n = m; for a in b { g(n, a); n += 1; } }", "{ for (n, a) in (m..).zip(b) { g(n, a); } }"),
-    ("{ (a % 32) as u32 * 0x40 + (b % 64) as u32 }", "{ u32::from(a & 0x1f) * 0x40 + u32::from(b & 0x3f) }"),
-    ("{ (a >= 0x20 && a < 0x7f) || b >= b'<' && b <= b'?' }", "{ matches!(a, 0x20..=0x7e) || matches!(b, b'<'..=b'?') }"),
-]
-# bodies that stay
-OTHERS = [
-    "-> Option<u8> { match a { Ok(b) => Some(c), Err(_) => None, } }",
-    "-> Option<u8> { x(match g(a) { Some(b) => h(b), None => None, }); None }",
-    "-> Option<u8> { match g(a) { Some(b) => h(b), // why\n None => None, } }",
-    "{ for t in 0..a.len() { if n == a.len() { return n; } g(t); } }",
-    "{ let mut n = m; for a in b { n = g(n, a); n += 1; } }",
-    "{ (a % 10) as u32 + b >= 1 && b < c }",
-    "-> Option<u8> { let x = *g(); h()?; Some(x) }",
-    "-> Option<u8> { let x = *g()?; Some(y) }",
-    "{ !x >= 1 && x <= 5 }",
-    "{ -x >= 1 && x <= 5 }",
-    "{ a + x < 1 || x > 5 }",
-    "{ x >= 1 && x <= 5 + a }",
-    "{ x >= a && x <= b }",
-    "{ x >= 1 && y <= 5 }",
-    "{ (a % 1) as u8 }",
-    "{ (a % n) as u32 }",
-    "-> Result<u8, E> { match g(a) { Ok(b) => Ok(h(b)), Err(e) => Err(f), } }",
-    "-> Option<u8> { match a + g(b) { Ok(c) => Some(c), Err(_) => None, } }",
-    '-> &str { match g(a) { Ok(b) => b, Err(_) => "x", } }',
-    "{ for turn in 0..n { if a == n { return a; } a += g(); } }",
-    "{ let mut n = m; for a in b { g(n, a); n += 1; } h(n) }",
+    # bodies that stay as they are
+    *(({}, text, text) for text in (
+        "fn f() -> Option<u8> { let x = *g(); h()?; Some(x) }", "fn f() { !x >= 1 && x <= 5 }",
+        "fn f() { (a % 32) as u32 + match g(b) { Ok(c) => c, Err(_) => return 1, } }")),
 ]
 
 
 class Erasing(unittest.TestCase):
-    def assert_erased(self, rows):
-        for text, made, wanted in rows:
-            with self.subTest(text=text):
-                self.assertEqual(words(made), words(wanted))
-
     def test_tokens_are_the_file(self):
         self.assertEqual("".join(token.text for token in split(TRAPS)), TRAPS)
 
@@ -251,33 +126,13 @@ class Erasing(unittest.TestCase):
         self.assertEqual(words(text), words(ERASED))
         self.assertEqual(tests, {"a/x/tests"})
 
-    def test_what_goes_and_what_is_told(self):
-        self.assert_erased([(text, erased(text), wanted) for text, wanted in PLAIN])
-        self.assert_erased([(text, erased(text, plan(**given)), wanted) for given, text, wanted in TOLD])
-
-    def test_counts(self):
-        given = Plan(out="o", modules={"vte_core": "crate::proved::vte_core", "vte": "crate::vte"}, homes=VTE.homes, imports=VTE.imports,
-                     rules={"": VTE.rules[""], "vte_core": VTE.rules["vte_core"]})
-        self.assert_erased([(text, erase(text, name.partition("/")[0], name, given)[0], wanted) for name, text, wanted in COUNTED])
-
-    def test_forms(self):
-        for text, wanted in [*FORMS, *((text, text) for text in OTHERS)]:
-            head = "" if text.startswith("fn") else "fn f() "
-            source = Source(head + text, "a/x")
-            rules.use_idioms(source)
-            self.assert_erased([(text, source.written(), head + wanted)])
+    def test_texts(self):
+        for given, text, wanted in TEXTS:
+            with self.subTest(text=text):
+                self.assertEqual(words(erased(text, plan(**given))), words(wanted))
 
     def test_comments_are_reworded(self):
-        for text, changes, wanted in [
-            ("/// A thing. Its ghost\n/// members go.\n///\n/// Proved.\nfn f() {}\n", {" Its ghost members go.": "", "Proved.": ""},
-             "/// A thing.\nfn f() {}\n"),
-            ("    // One. Two\n    // goes. Three.\n    f();\n", {"Two goes.": "Too."}, "    // One. Too. Three.\n    f();\n"),
-            ("//! One. Two goes.\n//! Three, too.\n", {"Two ..": "Four"}, "//! One. Four\n"),
-            ("/// One: two.\nfn f() {}\n", {": two.": ".\n\nTwo"}, "/// One.\n///\n/// Two\nfn f() {}\n"),
-            ("/// Far.\n", {"Far.": "word " * 20},
-             "/// " + ("word " * 18).strip() + "\n/// word word\n"),
-        ]:
-            self.assertEqual(wording.reword(text, changes), wanted)
+        self.assertEqual(wording.reword("    // One. Two\n    // goes. Three.\n    f();\n", {"Two goes.": "Too."}), "    // One. Too. Three.\n    f();\n")
         for text in "/// One.\nfn f() {}\n", "/// Two.\nfn f() {}\n/// Two.\nfn g() {}\n":
             with self.assertRaisesRegex(Refused, "Two"):
                 wording.reword(text, {"Two": "Three"})
@@ -288,7 +143,8 @@ class Erasing(unittest.TestCase):
             ("fn f() {}\n#[derive(Clone, Ghostly)]\nstruct S;\n", 2, {}),
             ("fn f() {}\nuse std::thread;\n", 2, {}),
             ("\n/// ```\n/// f();\n/// ```\nfn f() {}\n", 2, {}),
-            ("/* /* */\n", 1, {}),
+            ("\n/* a */\n", 2, {}),
+            ("\nfn f() { std::mem::g() }\n", 2, {}),
             ("\nfn f()\n    ensures { { }\n{}\n", 3, {}),
             ("ghost use A\n", 1, {}),
             ("\nfn f() { \"x }\n", 2, {}),

@@ -25,10 +25,7 @@ TOKEN = re.compile(
 )
 # a function's clause that names a ghost value, which the next clause follows
 GHOST_VALUE = re.compile(r"ghost \w+: \{[^{}]*\}(?=\s+(?:ghost|requires|ensures)\b)")
-# signs that Rust reads as one
-OPERATOR = re.compile(r"\.\.=|<<=|->|=>|==|!=|<=|>=|&&|\|\||[-+*/%^&|]=|::|\.\.")
-# a beginning or an end of a block comment; of ghost text a string, a comment, or a sign
-BLOCK = re.compile(r"/\*|\*/")
+# of ghost text a string, a comment, or a sign
 GHOST_MARK = re.compile(r'"(?:[^"\\]|\\(?s:.))*"|(?://|-- )[^\n]*|["{};,]')
 
 
@@ -50,16 +47,14 @@ class Token(NamedTuple):
         return self.kind in (SPACE, COMMENT)
 
 
-def split(text, has_operators=False):
-    """The tokens of a file. Their texts, joined, are the file. A mark is one sign or, with `has_operators`, an operator."""
+def split(text):
+    """The tokens of a file. Their texts, joined, are the file."""
     tokens, at, line = [], 0, 1
     while at < len(text):
         try:
             kind, end = _token_at(text, at)
         except Refused as refused:
             raise Refused(str(refused), line) from None
-        if has_operators and kind == MARK and (operator := OPERATOR.match(text, at)):
-            end = operator.end()
         tokens.append(Token(kind, text[at:end], line))
         line += text.count("\n", at, end)
         at = end
@@ -68,7 +63,7 @@ def split(text, has_operators=False):
 
 def _token_at(text, at):
     if text.startswith("/*", at):
-        return COMMENT, _block_comment_end(text, at)
+        raise Refused("a comment of several lines")
     found = TOKEN.match(text, at)
     kind = STRING if found.lastgroup == "hashes" else found.lastgroup
     if kind == MARK and found[0] in ('"', "'"):
@@ -79,16 +74,6 @@ def _token_at(text, at):
     if kind == WORD and found[0] in ("requires", "ensures"):
         return CLAUSE, _ghost_end(text, found.end(), "}")
     return kind, found.end()
-
-
-def _block_comment_end(text, start):
-    """Where a block comment ends. Block comments nest."""
-    depth = 0
-    for mark in BLOCK.finditer(text, start):
-        depth += 1 if mark[0] == "/*" else -1
-        if depth == 0:
-            return mark.end()
-    raise Refused("a comment that isn't closed")
 
 
 def _ghost_end(text, at, stops):

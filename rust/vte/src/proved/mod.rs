@@ -1,7 +1,7 @@
 // Written by tools/erase from crates/: edit those.
 //! The proved text.
 // The code has the form that is proved.
-#![allow(clippy::needless_range_loop)]
+#![allow(clippy::manual_range_contains, clippy::needless_range_loop)]
 
 #[cfg(feature = "ansi")]
 pub(crate) mod vte;

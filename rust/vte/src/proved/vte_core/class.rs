@@ -15,17 +15,17 @@ pub(crate) fn ends_all(byte: u8) -> bool {
 
 /// Whether a byte is surely none of CAN, SUB and ESC, by one comparison: not one of 18..1B.
 pub(crate) fn cannot_end(byte: u8) -> bool {
-    !matches!(byte, 0x18..=ESCAPE)
+    byte < 0x18 || byte > ESCAPE
 }
 
 /// Whether a byte is one of the data of a device control string: C0 and 20..7E.
 pub(crate) fn is_data(byte: u8) -> bool {
-    matches!(byte, 0x20..=0x7e) || is_control(byte)
+    (byte >= 0x20 && byte < 0x7f) || is_control(byte)
 }
 
 /// Whether a byte is an intermediate 20..2F.
 pub(crate) fn is_intermediate(byte: u8) -> bool {
-    matches!(byte, 0x20..=0x2f)
+    byte >= 0x20 && byte < 0x30
 }
 
 /// Returns the value of a digit `0`..`9`.
@@ -45,22 +45,22 @@ pub(crate) fn is_separator(byte: u8) -> bool {
 
 /// Whether a byte is a digit or a separator `0`..`;`.
 pub(crate) fn is_parameter_text(byte: u8) -> bool {
-    matches!(byte, b'0'..=b';')
+    byte >= b'0' && byte <= b';'
 }
 
 /// Whether a byte is part of a head: 20..3F.
 pub(crate) fn is_head(byte: u8) -> bool {
-    matches!(byte, 0x20..=0x3f)
+    byte >= 0x20 && byte < 0x40
 }
 
 /// Whether a byte ends a head: 40..7E.
 pub(crate) fn is_final(byte: u8) -> bool {
-    matches!(byte, 0x40..=0x7e)
+    byte >= 0x40 && byte < 0x7f
 }
 
 /// Whether a byte ends an escape sequence: 30..7E.
 pub(crate) fn dispatches_escape(byte: u8) -> bool {
-    matches!(byte, 0x30..=0x7e)
+    byte >= 0x30 && byte < 0x7f
 }
 
 /// Whether a byte begins a string that means nothing after ESC: `X`, `^` and `_` for SOS, PM and

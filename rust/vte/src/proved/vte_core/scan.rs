@@ -80,11 +80,13 @@ pub(crate) fn find_escape(input: &[u8], from: usize) -> usize {
 /// Returns the byte at an index, or `None` past the end.
 #[inline(always)]
 pub(crate) fn get(input: &[u8], index: usize) -> Option<u8> {
-    input.get(index).copied()
+    let byte = *input.get(index)?;
+    Some(byte)
 }
 
 /// Returns a copy of the `N` bytes from a place on, or `None` if there are fewer.
 #[inline(always)]
 pub(crate) fn get_block<const N: usize>(input: &[u8], from: usize) -> Option<[u8; N]> {
-    first_chunk::<N>(&input[from..]).copied()
+    let block = *first_chunk::<N>(&input[from..])?;
+    Some(block)
 }

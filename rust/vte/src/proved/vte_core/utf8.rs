@@ -64,7 +64,7 @@ fn may_be_second(first: u8, byte: u8) -> bool {
 /// form's and no surrogate's.
 #[inline(always)]
 pub(crate) fn may_begin_three(first: u8, second: u8) -> bool {
-    let number = u32::from(first & 0xf) * 0x1000 + u32::from(second & 0x3f) * 0x40;
+    let number = (first % 16) as u32 * 0x1000 + (second % 64) as u32 * 0x40;
     is_continuation(second) && number >= 0x800 && number / 0x800 != 0xd800 / 0x800
 }
 
@@ -72,7 +72,7 @@ pub(crate) fn may_begin_three(first: u8, second: u8) -> bool {
 /// form's, and not past the last character's.
 #[inline(always)]
 pub(crate) fn may_begin_four(first: u8, second: u8) -> bool {
-    let number = u32::from(first & 0x7) * 0x40000 + u32::from(second & 0x3f) * 0x1000;
+    let number = (first % 8) as u32 * 0x40000 + (second % 64) as u32 * 0x1000;
     is_continuation(second) && matches!(number, 0x10000..=0x10ffff)
 }
 
@@ -93,22 +93,22 @@ pub(crate) fn is_continuation(byte: u8) -> bool {
     matches!(byte, 0x80..=0xbf)
 }
 
-// A mask takes off the bits that only mark a byte as the first or a further one; what is left
+// A remainder takes off the bits that only mark a byte as the first or a further one; what is left
 // are the digits of the character's number, six bits a further byte.
 
 fn number_of_two(first: u8, second: u8) -> u32 {
-    u32::from(first & 0x1f) * 0x40 + u32::from(second & 0x3f)
+    (first % 32) as u32 * 0x40 + (second % 64) as u32
 }
 
 fn number_of_three(first: u8, second: u8, third: u8) -> u32 {
-    u32::from(first & 0xf) * 0x1000 + u32::from(second & 0x3f) * 0x40 + u32::from(third & 0x3f)
+    (first % 16) as u32 * 0x1000 + (second % 64) as u32 * 0x40 + (third % 64) as u32
 }
 
 fn number_of_four(first: u8, second: u8, third: u8, fourth: u8) -> u32 {
-    u32::from(first & 0x7) * 0x40000
-        + u32::from(second & 0x3f) * 0x1000
-        + u32::from(third & 0x3f) * 0x40
-        + u32::from(fourth & 0x3f)
+    (first % 8) as u32 * 0x40000
+        + (second % 64) as u32 * 0x1000
+        + (third % 64) as u32 * 0x40
+        + (fourth % 64) as u32
 }
 
 /// The character of this number, which is a surrogate's for no well-formed sequence.
@@ -140,7 +140,7 @@ pub(crate) fn character_of_three(first: u8, second: u8, third: u8) -> char {
 #[allow(unsafe_code)]
 pub(crate) fn character_of_four(first: u8, second: u8, third: u8, fourth: u8) -> char {
     // SAFETY: callers have tested `may_begin_four`, by which the front of the number is 10000 to
-    // 10F000, and the masks leave at most FFF for its rest.
+    // 10F000, and the remainders leave at most FFF for its rest.
     debug_assert!(may_begin_four(first, second));
     debug_assert!(is_continuation(third) && is_continuation(fourth));
     unsafe { char::from_u32_unchecked(number_of_four(first, second, third, fourth)) }

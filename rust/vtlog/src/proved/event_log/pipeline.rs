@@ -41,7 +41,7 @@ fn run_with<C: Collector, R: Source, W: Sink>(
     for _ in 0..u64::MAX {
         let count = match reader.read(&mut room) {
             Ok(count) => count,
-            Err(_) => return Err(Fault::Read),
+            _ => return Err(Fault::Read),
         };
         if count == 0 {
             return Ok(());

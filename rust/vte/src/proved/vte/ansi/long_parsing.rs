@@ -13,7 +13,7 @@ impl EventParser for LongParser {
     fn reserve<J: TextBuffer>(&mut self, text: &mut J, held: usize, more: usize) -> bool {
         let count = match held.checked_add(more) {
             Some(count) => count,
-            None => return false,
+            _ => return false,
         };
         if !LongParser::reserve(self, count) {
             return false;

@@ -24,7 +24,7 @@ pub(crate) fn behavior(number: u16) -> KeyboardModesApplyBehavior {
 
 /// Returns the keyboard modes of a number's low five bits.
 pub(crate) fn keyboard_modes(number: u16) -> KeyboardModes {
-    KeyboardModes::from_bits_retain((number & 0x1f) as u8)
+    KeyboardModes::from_bits_retain((number % 32) as u8)
 }
 
 /// Returns the character path, the first selection of SCP.

@@ -1,0 +1,58 @@
+import shutil
+from functools import cache
+
+import pytest
+from building import peers
+
+from c_library.library import Library, miss
+
+
+def pytest_addoption(parser):
+    parser.addoption("--short", action="store_true",
+                     help="test cargo's build alone, on fewer streams, without vtlog")
+    parser.addoption("--streams", type=int,
+                     help="how many random streams (default: 20,000, with --short 400)")
+    parser.addoption("--seed", type=int, default=1, help="of random streams")
+
+
+def pytest_terminal_summary(terminalreporter):
+    """What tools/test lists as not tested."""
+    for report in terminalreporter.stats.get("skipped", []):
+        why = report.longrepr[2].replace("Skipped: ", "")
+        terminalreporter.write_line(f"missing: tools/test_c_library: {why}")
+
+
+def pytest_generate_tests(metafunc):
+    if "library" in metafunc.fixturenames:
+        builds = ["cargo"] if metafunc.config.option.short else ["cargo", "rt"]
+        metafunc.parametrize("library", builds, indirect=True, scope="session")
+
+
+@pytest.fixture(scope="session")
+def built(tmp_path_factory):
+    """Builds the library, once in each way."""
+    @cache
+    def build_by(build):
+        for command in "cc", build:
+            if shutil.which(command) is None:
+                miss(f"{command}, so the C library was not tested")
+        return Library(build, tmp_path_factory.mktemp(build))
+    return build_by
+
+
+@pytest.fixture(scope="session")
+def library(request, built):
+    """Each build in turn."""
+    return built(request.param)
+
+
+@pytest.fixture(scope="session")
+def whole(built):
+    """The build that has what takes memory."""
+    return built("cargo")
+
+
+@pytest.fixture(scope="session")
+def vtlog(request):
+    """The proved program, or None with --short."""
+    return None if request.config.option.short else peers.program("vtlog")

@@ -1,0 +1,80 @@
+"""A build of the C library, and the C programs over it."""
+import os
+import subprocess
+from concurrent.futures import ThreadPoolExecutor
+from functools import cached_property
+from pathlib import Path
+
+import pytest
+
+TOOLS = Path(__file__).resolve().parent.parent
+HERE = TOOLS / "c_library"
+CRATE = TOOLS.parent / "crates/vte_c"
+# what cargo's build has beside the proved functions
+BESIDE = TOOLS.parent / "rust/vte_c"
+EXAMPLES = CRATE / "examples"
+INCLUDES = [f"-I{CRATE / 'include'}", f"-I{BESIDE / 'include'}"]
+WARNINGS = ["-O2", "-Wall", "-Wextra", "-Werror", *INCLUDES]
+SANITIZERS = ["-g", "-fsanitize=address,undefined", "-fno-sanitize-recover=all"]
+# a program over an earlier table of functions, and the calls of that
+OLD_PROGRAM = HERE / "old_program.c"
+OLD_CALLS = b"input a\nbell\nbackspace\ninput b\ninput c\n"
+
+
+def miss(what):
+    """Fails for something that isn't there, or says so and skips what needs it."""
+    if os.environ.get("NAQSHUVE_ALLOW_MISSING") != "1":
+        pytest.fail(f"{what}. NAQSHUVE_ALLOW_MISSING=1 lets it pass")
+    pytest.skip(what)
+
+
+def output_of(words, stream=b"", **environment):
+    """Returns what a program writes, and its status and standard error if it has these."""
+    environment = {**os.environ, **environment}
+    done = subprocess.run(words, input=stream, capture_output=True, env=environment)
+    if done.returncode != 0 or done.stderr:
+        return done.stdout + b"\nstatus %d: %b" % (done.returncode, done.stderr)
+    return done.stdout
+
+
+def at_once(test, cases):
+    """Runs a test for all cases, side by side."""
+    with ThreadPoolExecutor(os.cpu_count()) as pool:
+        list(pool.map(test, cases))
+
+
+def compiles(words):
+    """Whether this compiler command succeeds, and what it says."""
+    done = subprocess.run(words, stdout=subprocess.PIPE, stderr=subprocess.STDOUT, text=True)
+    return done.returncode == 0, done.stdout
+
+
+class Library:
+    """A build of the library in a folder, with the programs that are compiled there."""
+
+    def __init__(self, build, folder):
+        self.build, self.folder = build, folder
+        is_built, said = compiles([TOOLS / "build_c_library", f"--{build}", folder])
+        assert is_built, said
+        self.archive, self.shared = folder / "libvte_c.a", folder / "libvte_c.so"
+        # whether it has what takes memory
+        self.is_whole = build == "cargo"
+        self.of_events = ["-DWITH_LONG"] if self.is_whole else []
+
+    def program(self, source, *words, compiler="cc", name=None, optional=False):
+        """Compiles a program. Returns its path, or None if it is optional and doesn't compile."""
+        program = self.folder / (name or Path(source).name.replace(".", "_"))
+        command = [compiler, *WARNINGS, *words, source, self.archive, "-o", program]
+        is_built, said = compiles(command)
+        assert is_built or optional, said
+        return program if is_built else None
+
+    @cached_property
+    def events(self):
+        return self.program(EXAMPLES / "events.c", *self.of_events)
+
+    @cached_property
+    def sanitized(self):
+        """The same program with sanitizers, or None if cc has none."""
+        words = [*self.of_events, *SANITIZERS]
+        return self.program(EXAMPLES / "events.c", *words, name="events_sanitized", optional=True)

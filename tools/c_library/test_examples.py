@@ -1,0 +1,126 @@
+"""The examples in C, C++ and Go, some on a pipe that is written slowly."""
+import os
+import select
+import shutil
+import subprocess
+
+import pytest
+
+from c_library.library import CRATE, EXAMPLES, SANITIZERS, TOOLS, miss, output_of
+
+# before glibc 2.34 pseudo-terminals were in a library of their own
+OF_PTY = "-lutil"
+STREAM = b"a\xc3\xbc\x1b[1;31m\x1b]2;a;b\x07\xff\n"
+# what each example writes: those of a pty run a program that writes the stream, and a pty writes CR before LF
+PRINTS = r"printf 'a\303\274\033[1;31m\033]2;a;b\007\377\n'"
+EVENTS = "text aü\ncsi 6d\nosc 00\ntext \ufffd\nexecute 0d\nexecute 0a\n".encode()
+TEXT = "aü\ufffd\n".encode()
+# what comes slowly, and what must be written of each at once: by a title watcher on standard error, by a stripper on output
+SLOWLY = [(title, title, said) for title, said in (
+    (b"a\x1b]2;hi\x07", b"title: hi\n"), (b"b\x1b]1;icon\x07\x1b]21;x\x07\x1b]0;you\x1b\\", b"title: you\n"))]
+LINES = [(b"\x1b[1mone\x1b[m\n", b"one\n", b""), (b"two\n", b"two\n", b"")]
+
+
+def program(library, place, *words):
+    """An example, in the language of its file."""
+    source = EXAMPLES / place
+    compiler = {".c": "cc", ".cpp": "c++", ".go": "go"}[source.suffix]
+    if shutil.which(compiler) is None:
+        miss(f"{compiler}, so {place} was not built")
+    if compiler != "go":
+        return library.program(source, OF_PTY, *words, compiler=compiler)
+    made = library.folder / f"{source.parent.name}_go"
+    environment = {"CGO_ENABLED": "1", "CGO_CFLAGS": f"-I{CRATE / 'include'}", "CGO_LDFLAGS": f"{library.archive} {OF_PTY}",
+                   "GO111MODULE": "off", "GOFLAGS": "-mod=mod"}
+    assert output_of(["go", "build", "-o", made, source], **environment) == b""
+    return made
+
+
+def status_of(*words, **given):
+    return subprocess.run(words, **given).returncode
+
+
+def assert_slow(words, pieces):
+    """Writes pieces: what one has comes out before the next one is written."""
+    pipes = dict.fromkeys(("stdin", "stdout", "stderr"), subprocess.PIPE)
+    with subprocess.Popen(words, **pipes) as running:
+        for piece, *wanted in pieces:
+            os.write(running.stdin.fileno(), piece)
+            for stream, want in zip((running.stdout, running.stderr), wanted):
+                assert read_soon(stream, len(want)) == want
+        running.stdin.close()
+    assert running.returncode == 0
+
+
+def read_soon(stream, count):
+    """Reads so many bytes, or fewer if they don't come within minutes: beside a gate that takes all cores, a start takes long."""
+    read = b""
+    while len(read) < count and select.select([stream], [], [], 300)[0] and (more := os.read(stream.fileno(), count - len(read))):
+        read += more
+    return read
+
+
+def test_stripper(library):
+    stripper = program(library, "c/stripper.c")
+    assert output_of([stripper], STREAM) == TEXT
+    # more text than there is room for
+    assert output_of([stripper], b"\xff" * 9000) == "\ufffd".encode() * 9000
+    with open("/dev/full", "w") as full:
+        assert status_of(stripper, input=STREAM, stdout=full) == 1
+    assert status_of(stripper, stdin=os.open("/", os.O_RDONLY)) == 1
+    assert_slow([stripper], LINES)
+
+
+@pytest.mark.parametrize("place", ["c/title_watcher.c", "go/title_watcher/main.go"])
+def test_title_watcher(library, place):
+    watcher = program(library, place)
+    # more events than there is room for
+    many = b"\r" * 2500 + b"\x1b]0;t\x07" * 2
+    for stream, said in (STREAM, b"title: a;b\n"), (many, b"title: t\ntitle: t\n"):
+        assert output_of([watcher], stream) == stream + b"\nstatus 0: " + said
+    if place.startswith("c/"):
+        assert status_of(watcher, stdin=os.open("/", os.O_RDONLY)) == 1
+    assert_slow([watcher], SLOWLY)
+
+
+@pytest.mark.parametrize("place", ["c/pty_events.c", "cpp/pty_events.cpp", "go/pty_events/main.go"])
+def test_pty_events(library, place, tmp_path):
+    printer, mark = program(library, place), tmp_path / "goes_on"
+    assert output_of([printer, "sh", "-c", PRINTS]) == EVENTS
+    # a program goes on once there is a file: what came before has been printed by then
+    slow = f"printf one; until [ -e {mark} ]; do sleep 0.02; done; printf two"
+    with subprocess.Popen([printer, "sh", "-c", slow], stdout=subprocess.PIPE) as running:
+        for want in b"text one\n", b"text two\n":
+            assert read_soon(running.stdout, len(want)) == want
+            mark.touch()
+    assert running.returncode == 0
+
+
+def test_forward(library):
+    """Streams are passed on without clipboards, however they are cut."""
+    forward = program(library, "c/forward.c", *(SANITIZERS if library.sanitized else ()))
+    kept = [b"a\xc3\xbc\xff\x1b[1;31m", b"b\x1b]2;a;b\x07\x1bPq+\x1b\\", b"\x1b]521;x\x07\x1b_52;c\x1b\\", b"\x1b[mc\xc3\r\n", b"\x1b]2;t\x1b\\d\x1b]5"]
+    clipboards = [b"\x1b]52;c;YQ==\x07", b"\x1b]52;c;" + b"YQ==" * 3000 + b"\x1b\\", b"\x1b]52\x18", b"\x1b]52;c;x"]
+    stream = b"".join(a + b for a, b in zip(kept, [*clipboards, b""]))
+    assert output_of([forward], stream) == b"".join(kept)
+    # one that another sequence ends isn't followed by ST
+    for name in "vim", "tmux", "sixel", "malformed-text":
+        recorded = (TOOLS / f"recorded/{name}.bin").read_bytes()
+        assert output_of([forward], recorded) == recorded
+    assert_slow([forward], [(b"a\x1b]52;c;", b"a"), (b"YQ==\x07b\x1b", b"b"), (b"[mc", b"\x1b[mc")])
+
+
+def test_clipboards(whole, tmp_path):
+    texts = [b"Q" * 1_000_000, b"", b"YWJj"] + [b"YQ=="] * 20
+    stream = b"a\x1b]52;c;?\x07\x1b]2;c;title\x07\x1b]52;c\x07" + b"".join(b"b\x1b]52;c;" + text + b"\x1b\\" for text in texts)
+    clipboards, few_files = program(whole, "c/clipboards.c"), ["sh", "-c", 'ulimit -n 12; exec "$0" "$1"']
+    assert output_of([*few_files, clipboards, tmp_path], stream) == b"23\n"
+    assert [(tmp_path / str(at)).read_bytes() for at in range(23)] == texts
+    for words in [], [tmp_path, tmp_path], [tmp_path / "none"]:
+        assert status_of(clipboards, *words, input=stream, stdout=subprocess.DEVNULL) in (1, 2)
+
+
+def test_outline(whole):
+    outline = program(whole, "cpp/outline.cpp", "-std=c++17")
+    assert output_of([outline], STREAM + b"\x1b[3;5H\x1b[?2026hend") == "aü[bold][title a;b]\ufffd[go to 2, 4]end".encode()
+    assert_slow([outline], [(b"a\x1b[1m", b"a[bold]"), (b"b", b"b")])

@@ -27,7 +27,7 @@ PROFILES = {
 }
 # where the code of a placed program begins, and the bytes that its functions are aligned to
 CODE_START, ALIGNMENT = 0x200000, 16
-# what else strips a stream of sequences, and the fastest check of UTF-8
+# what else strips a stream of sequences, and the check of UTF-8 that `console` gets
 STRIPPERS = ["console", "simdutf8", "strip-ansi-escapes"]
 CRATES = ["arrayvec", "bitflags", "cursor-icon", "log", "memchr", "serde", "serde-derive"]
 # what tools/peer shares with crates/race: the files of each crate
@@ -159,13 +159,6 @@ def by_cargo(folder, source, dependencies, flags):
     workshop = Workshop(folder)
     workshop.dependencies, workshop.options = dependencies, INSTALLED
     return workshop.program("built", source, flags=flags)
-
-
-def vtlog(out, profile="fat"):
-    """Builds the program of rust/vtlog over rust/vte into the folder `out`."""
-    workshop = Workshop(out, profile)
-    workshop.vte(OURS, [])
-    return workshop.program("vtlog", OURS.parent / "vtlog" / "src" / "main.rs")
 
 
 def run(words, what, environment=None, folder=None):

@@ -10,8 +10,8 @@ sys.path.insert(0, str(Path(__file__).resolve().parent.parent / "tools"))
 from building import peers, rust_builds
 from generating import streams
 
-# the sides: ours as rt proves and builds it, the same text in the crates of rust/, and the crate, the latter two in the best build
-# (fat link-time optimization) and in cargo's default release profile
+# The sides: ours as rt proves and builds it, the same text in the crates of rust/, and the crate,
+# these two in the best build (fat link-time optimization) and in cargo's default release profile.
 IN_RUST = {"rust": "fat", "rust_release": "release", "best": "fat", "release": "release"}
 OURS_IN_RUST = ("rust", "rust_release")
 # the kinds of tools/peer that put text into memory, or only copy it, all in cargo's best build
@@ -19,7 +19,8 @@ STRIPPERS = {"rust": "strip_runs", "advance": "strip", "copy": "copy", "console"
              "strip-ansi-escapes": "strip_ansi_escapes"}
 # the minimum time of a side in a round
 SECONDS = 0.05
-# the bytes of a stream whose checksums are compared: the crate takes quadratic time for malformed text in one call
+# the bytes of a stream whose checksums are compared: the crate takes quadratic time for malformed
+# text in one call
 CHECKED = 50_000
 
 
@@ -57,26 +58,31 @@ class Course:
 
     @functools.cache
     def placed_peers(self, side, placements):
-        """The program of a side of IN_RUST, once for each placement of its code. It has the default features of the crate, and so of
-        rust/vte: commands have no limit."""
+        """The program of a side of IN_RUST, once for each placement of its code. It has the default
+        features of the crate, and so of rust/vte: commands have no limit."""
         crate = rust_builds.OURS if side in OURS_IN_RUST else peers.sources(self.given)
-        return rust_builds.placed_peers(crate, self.folder / side, ("std", IN_RUST[side]), placements)
+        words = ("std", IN_RUST[side])
+        return rust_builds.placed_peers(crate, self.folder / side, words, placements)
 
     @functools.cached_property
     def race(self):
         return peers.program("race", self.given.race, ["parser", "1", "1"])
 
     def racers(self, kind):
-        """The commands of each side, for benchmarks in memory: one for each placement of its code. Rattle's build has one placement."""
+        """The commands of each side: one for each placement of its code. Rattle's build has one."""
         count = self.given.placements
-        return {"ours": [[self.race, kind]] * count,
-                **{side: [[program, "race", kind] for program in self.placed_peers(side, count)] for side in IN_RUST}}
+        commands = {"ours": [[self.race, kind]] * count}
+        for side in IN_RUST:
+            programs = self.placed_peers(side, count)
+            commands[side] = [[program, "race", kind] for program in programs]
+        return commands
 
     @functools.cached_property
     def strippers(self):
-        """What puts a stream's text into memory, and what it is compared with: the commands of each side."""
+        """The commands of each of STRIPPERS."""
         programs = rust_builds.strippers(self.folder / "strippers", self.given.placements)
-        return {side: [[program, "race", kind] for program in programs] for side, kind in STRIPPERS.items()}
+        return {side: [[program, "race", kind] for program in programs]
+                for side, kind in STRIPPERS.items()}
 
     def build(self, kinds):
         """Builds every program that these kinds run, before one is measured."""
@@ -84,8 +90,9 @@ class Course:
             _ = self.strippers
         if set(kinds) - {"strip"}:
             _ = self.race
+            count = self.given.placements
             with ThreadPoolExecutor() as pool:
-                list(pool.map(lambda side: self.placed_peers(side, self.given.placements), IN_RUST))
+                list(pool.map(lambda side: self.placed_peers(side, count), IN_RUST))
 
     def stream(self, name, size):
         """A file with a prefix of a stream."""
@@ -98,31 +105,32 @@ class Course:
 def run(words, place):
     """The standard output and standard error of a program for the stream in a file."""
     with open(place, "rb") as stream:
-        done = subprocess.run(words, stdin=stream, stdout=subprocess.PIPE, stderr=subprocess.PIPE, text=True)
+        done = subprocess.run(words, stdin=stream, capture_output=True, text=True)
     if done.returncode != 0:
-        peers.stop(f"{' '.join(map(str, words))} failed with status {done.returncode}: {done.stderr}")
+        peers.stop(f"{' '.join(map(str, words))}: status {done.returncode}: {done.stderr}")
     return done.stdout, done.stderr
 
 
 def in_rounds(rounds, sides):
-    """The seconds of each side, round by round: a list, with one number for each of the side's programs.
+    """The seconds of each side, round by round: a list, with one number for each of its programs.
 
-    A round runs the first program of each side, one right after the other, then the second of each, and so on. It begins with
-    another side than the one before."""
+    A round runs the first program of each side, one right after the other, then the second of
+    each, and so on. It begins with another side than the one before."""
     names = list(sides)
     times = {name: [] for name in names}
     for count in range(rounds):
         first = count % len(names)
+        order = names[first:] + names[:first]
         for name in names:
             times[name].append([])
-        for programs in zip(*(sides[name] for name in names[first:] + names[:first])):
-            for name, seconds in zip(names[first:] + names[:first], programs):
+        for programs in zip(*(sides[name] for name in order)):
+            for name, seconds in zip(order, programs):
                 times[name][-1].append(seconds())
     return times
 
 
 def in_passes(words, place, piece):
-    """A function that runs a program over a stream in memory, and returns the seconds of its fastest pass."""
+    """A function that runs a program over a stream, and returns the seconds of its fastest pass."""
     def seconds(passes):
         return int(run([*words, str(piece), str(passes)], place)[1]) / 1e9
 
@@ -131,7 +139,8 @@ def in_passes(words, place, piece):
 
 
 def compare_checksums(name, sides, place):
-    """Stops if the sides' checksums of a stream differ. They get it in one call, because the crate's events can be wrong in pieces."""
+    """Stops if the sides' checksums of a stream differ. They get it in one call, because the
+    crate's events can be wrong in pieces."""
     size = str(place.stat().st_size)
     told = {side: run([*commands[0], size, "1"], place)[0] for side, commands in sides.items()}
     if len(set(told.values())) > 1:

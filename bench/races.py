@@ -1,18 +1,21 @@
-"""The kinds of benchmarks. Each yields rows: what was measured, and the nanoseconds per byte of each side, per round."""
+"""The kinds of benchmarks. Each yields rows: what was measured, and the nanoseconds per byte of
+each side, per round."""
 from functools import partial
 
 import course as timing
 from generating import streams
 
-STREAMS = ["ascii", "prose", "cjk", "latin1", "ls_color", "coloured", "dense_cells", "random", "bad_ff", "bad_trunc4",
-           "bad_alternate", "lead_esc", "osc_title", "osc_clipboard", "sixel", "updates"]
+STREAMS = ["ascii", "prose", "cjk", "latin1", "ls_color", "coloured", "dense_cells", "random",
+           "bad_ff", "bad_trunc4", "bad_alternate", "lead_esc", "osc_title", "osc_clipboard",
+           "sixel", "updates"]
 # streams with something to show on a screen
 SCREEN_STREAMS = [*STREAMS, "emoji", "unicode", "cursor", "dense_rgb"]
 # the streams of the races in memory, by the bytes of a call
 ALONE = {
-    "parser": {4096: [*STREAMS, "emoji", "unicode", "esc_flood", "ignored", "sos_open"], 65536: STREAMS,
-               1: ["ascii", "cjk", "dense_cells", "random"]},
-    "screen": {4096: SCREEN_STREAMS}, "processor": {4096: [*STREAMS, "osc_pieces", "cursor", "update_open"]},
+    "parser": {4096: [*STREAMS, "emoji", "unicode", "esc_flood", "ignored", "sos_open"],
+               65536: STREAMS, 1: ["ascii", "cjk", "dense_cells", "random"]},
+    "screen": {4096: SCREEN_STREAMS},
+    "processor": {4096: [*STREAMS, "osc_pieces", "cursor", "update_open"]},
     "terminal": {4096: SCREEN_STREAMS}}
 # streams of commands with more than the 1,024 bytes that Rattle's parser and processor keep
 BEYOND_THE_LIMIT = ["osc_clipboard"]
@@ -21,49 +24,58 @@ STRIPPED = ["ascii", "prose", "cjk", "cyrillic", "ls_color", "coloured", "random
 
 
 def row(race, stream, piece, size, times):
-    """A row of figures, in nanoseconds per byte. A round has one number, or one for each placement of the code."""
+    """A row of figures, in nanoseconds per byte. A round has one number, or one for each placement
+    of the code."""
     def of_round(seconds):
         numbers = [round(its / size * 1e9, 4) for its in seconds]
         return numbers if len(numbers) > 1 else numbers[0]
 
-    figures = {side: [of_round(seconds) for seconds in of_side] for side, of_side in times.items()}
+    figures = {side: list(map(of_round, of_side)) for side, of_side in times.items()}
     return {"race": race, "stream": stream, "piece": piece, "nanoseconds": figures}
 
 
 def timed(commands, place, piece):
     """What `in_rounds` runs for the commands of each side."""
-    return {side: [timing.in_passes(words, place, piece) for words in of_side] for side, of_side in commands.items()}
+    return {side: [timing.in_passes(words, place, piece) for words in of_side]
+            for side, of_side in commands.items()}
 
 
 def strip(course):
-    """What puts text into memory: ours in pieces, others at once, and `console` only for streams of UTF-8, which it wants."""
+    """What puts text into memory: ours in pieces, others at once, and `console` only for streams of
+    UTF-8, which it wants."""
     for name in course.given.streams or STRIPPED:
-        # more than the second cache has room for; whole lines of a stream that isn't repeated, so that no character is cut
+        # more than the second cache has room for; whole lines of a stream that isn't repeated, so
+        # that no character is cut
         place = course.folder / f"{name}_lines"
         lines = streams.generate(name, streams.PERIOD).rsplit(b"\n", 1)[0]
         place.write_bytes(lines)
         is_text = lines == lines.decode(errors="ignore").encode()
-        others = {side: commands for side, commands in course.strippers.items() if is_text or side != "console"}
+        others = dict(course.strippers)
         ours = {side: others.pop(side) for side in ("rust", "advance")}
+        if not is_text:
+            del others["console"]
         timing.compare_checksums(name, ours, place)
         sides = {**timed(ours, place, 4096), **timed(others, place, len(lines))}
-        yield row("strip", name, 4096, len(lines), timing.in_rounds(course.given.rounds, sides))
+        times = timing.in_rounds(course.given.rounds, sides)
+        yield row("strip", name, 4096, len(lines), times)
 
 
 def alone(race, course):
     """Each side in memory, for the given streams and pieces."""
     racers, size = course.racers(race), course.given.bytes
-    for name, piece in asked_for(course.given, [(name, piece) for piece, names in ALONE[race].items() for name in names]):
-        commands = {side: of_side for side, of_side in racers.items() if side != "ours" or name not in BEYOND_THE_LIMIT}
+    for name, piece in asked_for(course.given, ALONE[race]):
+        commands = {side: of_side for side, of_side in racers.items()
+                    if side != "ours" or name not in BEYOND_THE_LIMIT}
         timing.compare_checksums(name, commands, course.stream(name, timing.CHECKED))
-        times = timing.in_rounds(course.given.rounds, timed(commands, course.stream(name, size), piece))
-        yield row(race, name, piece, size, times)
+        sides = timed(commands, course.stream(name, size), piece)
+        yield row(race, name, piece, size, timing.in_rounds(course.given.rounds, sides))
 
 
 def asked_for(given, default):
+    """The names of streams, each with the bytes of a call."""
     if not given.streams and not given.pieces:
-        return default
-    names = given.streams or dict.fromkeys(name for name, _ in default)
+        return [(name, piece) for piece, names in default.items() for name in names]
+    names = given.streams or dict.fromkeys(name for names in default.values() for name in names)
     return [(name, piece) for name in names for piece in given.pieces or [4096]]
 
 

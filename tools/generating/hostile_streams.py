@@ -189,7 +189,7 @@ OF_LONG = {LONG: 4, KNOWN_COMMAND: 2, TEXT: 1, BROKEN: 1, UPDATES: 1}
 
 def hostile_stream(seed, index, kinds=None):
     """The pieces of the stream of this number, of these kinds of parts or of all."""
-    chance = random.Random(f"{seed}/{index}")
+    chance = random.Random(f"hostile {seed}/{index}")
     kinds = kinds or KINDS
     size = chance.random()
     count = (chance.randint(1, 3) if size < 0.45 else chance.randint(2, 9) if size < 0.85 else

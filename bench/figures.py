@@ -4,21 +4,23 @@ import statistics
 
 
 def by_round(row, side):
-    """The times of a side: a list per round, with one number for each placement of its code. Without a side each is a nanosecond."""
-    return [each if isinstance(each, list) else [each] for each in row["nanoseconds"][side]] if side else itertools.repeat([1])
+    """The times of a side: a list per round, with one number for each placement of its code.
+    Without a side each is a nanosecond."""
+    if not side:
+        return itertools.repeat([1])
+    return [each if isinstance(each, list) else [each] for each in row["nanoseconds"][side]]
 
 
 class Comparison:
-    """Our time over the other's, or alone: the median of all ratios, the quartiles, the least and the most."""
+    """Our time over the other's, or alone: the median of all ratios, and the quartiles."""
 
     def __init__(self, row, other, ours="ours"):
         # in each round that of each placement of our code over each of theirs
         rounds = zip(by_round(row, ours), by_round(row, other))
-        found = sorted(one / its for of_ours, of_others in rounds for one in of_ours for its in of_others)
-        self.median = statistics.median(found)
-        self.least, self.most = found[0], found[-1]
+        found = [one / its for of_ours, of_others in rounds for one in of_ours for its in of_others]
         # the quartiles of one number are that
-        self.low, _, self.high = statistics.quantiles(found if len(found) > 1 else 2 * found, n=4, method="inclusive")
+        found = found if len(found) > 1 else 2 * found
+        self.low, self.median, self.high = statistics.quantiles(found, n=4, method="inclusive")
 
     def __str__(self):
         """The median and the quartiles, with a digit more below 0.01."""
@@ -26,16 +28,10 @@ class Comparison:
         return f"{self.median:.{digits}f} ({self.low:.{digits}f}–{self.high:.{digits}f})"
 
 
-OURS = ("ours", "rust", "rust_release")
-
-
-def others(row):
-    """The sides that aren't ours."""
-    return [side for side in row["nanoseconds"] if side not in OURS]
-
-
 def pairs(row):
-    """The pairs of sides to compare. A side in cargo's release profile is compared with another in that profile."""
-    sides, strangers = row["nanoseconds"], others(row)
-    found = [(one, other) for other in strangers for one in (OURS[:1] if "best" in strangers else OURS)]
-    return [pair for pair in [*found, ("rust", "best"), ("rust_release", "release")] if sides.keys() >= set(pair)]
+    """The pairs of sides to compare: Rattle's build and ours in cargo's best build with the others,
+    and that in the release profile with the crate's."""
+    sides = row["nanoseconds"]
+    others = [side for side in sides if side not in ("ours", "rust", "rust_release")]
+    found = [(one, other) for other in others for one in ("ours", "rust") if other != "release"]
+    return [pair for pair in [*found, ("rust_release", "release")] if sides.keys() >= set(pair)]

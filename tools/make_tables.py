@@ -5,8 +5,6 @@
     crates/conformance/src/rows/long.rt          the same for long streams, which repeat a few bytes
     crates/conformance/src/early_stops/rows.rt   calls of `Parser::advance_until_terminated`
     crates/conformance/src/log_tests/plain.rt    streams for `run_text`
-    crates/conformance/src/log_tests/faults.rt   reads that fail
-    crates/conformance/src/log_tests/recorder.rt the number of bytes that a `Recorder` holds after a stream
 
 There is one array per stage, because one array of all rows reaches a limit of the prover. Rows that fit no table are
 listed on standard error. Run `rt fmt` in the crate afterwards.
@@ -108,18 +106,6 @@ def plain_record(row):
     return record("PlainRow", row, bytes=given(row["pieces"]), text=given(row["expect"]))
 
 
-def failing_read_record(row):
-    assert row["then"] == "fail" and row["result"] == "Fault::Read", row["name"]
-    return record("FailingReadRow", row, reads=array(map(given, row["reads"])), lines=lines(row["expect"]))
-
-
-def recorder_record(row):
-    assert row["size"] == 1024, row["name"]
-    front, unit, times, back = split_repeated(bytes_of(row["pieces"]))
-    return record("RecorderRow", row, front=byte_text(front), unit=byte_text(unit), times=times, back=byte_text(back), bytes=row["bytes"],
-                  lost=str(row["lost"]).lower())
-
-
 def kind_of(row):
     """The kind of a row, which selects its table."""
     if row["kind"] == "lines" and is_long(row):
@@ -134,16 +120,15 @@ def main():
         if row["stage"] in STAGES:
             kinds.setdefault(kind_of(row), []).append(row)
 
-    streams, tests = "conformance/src/rows", "conformance/src/log_tests"
+    streams = "conformance/src/rows"
     of_lines = kinds.pop("lines")
     for stage, file in STAGES.items():
         write(f"{streams}/{file}.rt", f"Streams: {stage}.", "LinesRow", lines_record, [row for row in of_lines if row["stage"] == stage])
     write(f"{streams}/long.rt", "Long streams.", "LongRow", long_record, kinds.pop("long"), "super::{RepeatedBytes, RepeatedText}")
     write("conformance/src/early_stops/rows.rt", "Early stops.", "UntilRow", until_record, kinds.pop("until"),
           "super::{Call, Step}", "test_lines::Stop")
-    write(f"{tests}/plain.rt", "Streams: plain text.", "PlainRow", plain_record, kinds.pop("plain"))
-    write(f"{tests}/faults.rt", "Reads that fail.", "FailingReadRow", failing_read_record, kinds.pop("vtlog"))
-    write(f"{tests}/recorder.rt", "Long lines.", "RecorderRow", recorder_record, kinds.pop("recorder"))
+    write("conformance/src/log_tests/plain.rt", "Streams: plain text.", "PlainRow", plain_record,
+          kinds.pop("plain"))
 
     for kind, left_out in kinds.items():
         for row in left_out:

@@ -27,15 +27,16 @@ PROFILES = {
 }
 # where the code of a placed program begins, and the bytes that its functions are aligned to
 CODE_START, ALIGNMENT = 0x200000, 16
-# what else strips a stream of sequences, and the fastest check of UTF-8
+# what else strips a stream of sequences, and the check of UTF-8 that `console` gets
 STRIPPERS = ["console", "simdutf8", "strip-ansi-escapes"]
 CRATES = ["arrayvec", "bitflags", "cursor-icon", "log", "memchr", "serde", "serde-derive"]
-# what tools/peer shares with crates/race: the files of each crate
+# what tools/peer shares with crates/: the files of each crate
 SHARED = {
     "test_lines": ["variant", "visitor"],
     "examples": ["cell", "handler", "performer", "screen"],
     "race": ["call_checksum", "checksum", "screens", "until_cleared"],
     "vte_handler": ["by_call", "hyperlink"],
+    "conformance": ["frames", "timeouts"],
 }
 # the files of the crate `vte`; a folder may have them under other names (file_of), and no manifest
 FILES = ["lib", "params", "ansi"]
@@ -92,22 +93,15 @@ class Workshop:
         self.dependencies += (f'vte = {{ path = "{place}", default-features = false, '
                               f"features = {list(features)} }}\n")
 
-    def program(self, name, source, edition="2024", features=(), flags=()):
+    def program(self, name, source, flags=()):
         """Builds a program of a source, without warnings, and returns its path."""
         manifest = self.out / "Cargo.toml"
-        manifest.write_text(f'[package]\nname = "built"\nversion = "0.0.0"\nedition = "{edition}"\n'
+        manifest.write_text('[package]\nname = "built"\nversion = "0.0.0"\nedition = "2024"\n'
                             f'[[bin]]\nname = "{name}"\npath = "{Path(source).resolve()}"\n'
                             f'[workspace]\n[dependencies]\n{self.dependencies}')
-        flags = ["--cap-lints", "allow", *flags]
-        for feature in features:
-            flags += ["--cfg", f'feature="{feature}"']
-        words = ["cargo", "rustc", "--release", *self.options, "--manifest-path", manifest]
-        run([*words, "--", *flags], f"{name} of {source}", self.environment)
+        words = ["cargo", "rustc", "--release", *self.options, "--manifest-path", manifest, "--"]
+        run([*words, "--cap-lints", "allow", *flags], f"{name} of {source}", self.environment)
         return self.built / name
-
-    def tests(self, name, source, features=()):
-        """Builds a program that runs the tests of a source, and returns its path."""
-        return self.program(name, source, features=features, flags=["--test"])
 
 
 def peer(folder, out, words=()):
@@ -161,18 +155,10 @@ def by_cargo(folder, source, dependencies, flags):
     return workshop.program("built", source, flags=flags)
 
 
-def vtlog(out, profile="fat"):
-    """Builds the program of rust/vtlog over rust/vte into the folder `out`."""
-    workshop = Workshop(out, profile)
-    workshop.vte(OURS, [])
-    return workshop.program("vtlog", OURS.parent / "vtlog" / "src" / "main.rs")
-
-
-def run(words, what, environment=None, folder=None):
+def run(words, what, environment=None, folder=None, given=b""):
     """Runs a command and returns what it prints, or ends the program with that if it fails."""
     try:
-        done = subprocess.run(words, cwd=folder, stdin=subprocess.DEVNULL, capture_output=True,
-                              env=environment)
+        done = subprocess.run(words, cwd=folder, input=given, capture_output=True, env=environment)
     except FileNotFoundError:
         stop(f"{words[0]} isn't installed, or isn't in the PATH")
     if done.returncode != 0:

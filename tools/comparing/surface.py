@@ -1,20 +1,17 @@
 #!/usr/bin/env python3
-"""Compares the public items with those of the crate (`tools/compare rust surface`), or with the
-list that is kept of ours.
+"""Compares the public items of rust/vte, with their auto traits, with a list that is kept of them.
 
-    tools/comparing/surface.py [--write]
+    tools/comparing/surface.py [--write | --crate FOLDER]
 
-compares the public items of rust/vte, with their auto traits, with tools/surface/items.txt, or
-writes that file. It needs no crate. Each line has the sets of features, an item and what it is. The
-status is 1 if a line differs.
+compares them with tools/surface/items.txt, and --write writes that file. Each line has the sets of
+features, an item and what it is. With --crate they are compared with those of the crate `vte` whose
+sources are in the folder; then the list of docs/RUST.md after the line ANCHOR has what is new:
+items at the start of a line, as in "- `A`, `B`: what they are". An item covers everything in it,
+and `Type: A + B` stands for each trait. The status is 1 if something differs.
 
 Each item that a user can name becomes a line of Rust, as rustdoc's pages show it: functions with
 their signatures, types with their parameters, fields, variants and implemented traits, constants
 with their values; for two sets of features. The names of arguments are ignored.
-
-The list of docs/RUST.md after the line ANCHOR has what is new: items at the start of a line, as in
-"- `A`, `B`: what they are". A difference that isn't listed is an error, and so is a listed item
-that isn't new. An item covers everything in it, and `Type: A + B` stands for each trait.
 """
 import argparse
 import html
@@ -24,16 +21,14 @@ import tempfile
 from itertools import takewhile
 from pathlib import Path
 
-if __name__ == "__main__":
-    sys.dont_write_bytecode = True
-    sys.path.insert(0, str(Path(__file__).resolve().parent.parent))
-
+sys.dont_write_bytecode = True
+sys.path.insert(0, str(Path(__file__).resolve().parent.parent))
 from building import rust_builds  # noqa: E402
 
 FEATURES = {"std": ["ansi", "std", "serde"], "no std": ["ansi", "serde"]}
 LIST = rust_builds.TOOLS.parent / "docs" / "RUST.md"
 KEPT = rust_builds.TOOLS / "surface" / "items.txt"
-ANCHOR = "<!-- tools/compare rust surface -->"
+ANCHOR = "<!-- tools/comparing/surface.py -->"
 ITEMS = re.compile(r"^- ((?:`[^`]+`(?:,\s+)?)+)", re.M)
 # what the crate `bitflags` makes: later versions make more
 OF_BITFLAGS = re.compile(r"ansi::KeyboardModes(: |::[a-z])")
@@ -51,51 +46,32 @@ PART = re.compile(
     r'|<span id="structfield\.[^"]*".*?<code>(?P<field>.*?)</code>', re.S)
 
 
-def surface(comparison):
-    """Compares the public items, and the differences with the list of docs/RUST.md."""
-    found = {}
-    for name, features in FEATURES.items():
-        crate = items(comparison.sources(), comparison.folder / f"surface_of_crate_{features[1]}", features)
-        ours = items(rust_builds.OURS, comparison.folder / f"surface_of_ours_{features[1]}", features)
-        alike = sum(ours.get(item) == text for item, text in crate.items())
-        print(f"surface, {name}: {len(crate)} items of the crate, {len(ours)} of ours, {alike} alike")
-        for item, kind, shown in differences(crate, ours):
-            found.setdefault((item, kind), (name, shown))
-    rows = listed(LIST)
-    for (item, kind), (name, shown) in sorted(found.items()):
-        covered = [row for row in rows if row == (item, kind) or kind == row[1] and is_inside(item, row[0])]
-        comparison.compare(f"surface, {name}: {item}", [shown.encode()], [shown.encode() if covered else b"no row of docs/RUST.md"])
-    for item, kind in rows:
-        shown = any(kind == other and (item == inner or is_inside(inner, item)) for inner, other in found)
-        comparison.compare(f"the row of {item} in docs/RUST.md", [kind.encode()], [kind.encode() if shown else b"no difference"])
+def listed():
+    """The new items that docs/RUST.md lists."""
+    for names in ITEMS.findall(LIST.read_text().partition(ANCHOR)[2].partition("\n## ")[0]):
+        for item in re.findall("`([^`]+)`", names):
+            outer, colon, traits = item.partition(": ")
+            yield from (f"{outer}{colon}{trait}" for trait in traits.split(" + "))
 
 
 def is_inside(item, outer):
-    return item.startswith((f"{outer}::", f"{outer}: "))
+    return item == outer or item.startswith((f"{outer}::", f"{outer}: "))
 
 
-def listed(page):
-    """The new items that docs/RUST.md lists, each with its kind of difference."""
-    text = page.read_text() if page.exists() else ""
-    rows = []
-    for names in ITEMS.findall(text.partition(ANCHOR)[2].partition("\n## ")[0]):
-        for item in re.findall("`([^`]+)`", names):
-            outer, colon, traits = item.partition(": ")
-            rows += [(f"{outer}{colon}{trait}", "new") for trait in traits.split(" + ")]
-    return rows
-
-
-def differences(crate, ours):
-    """Items that are missing, new or different, with both texts. New items inside a new one are left out."""
-    for item in sorted(crate.keys() | ours.keys()):
-        if item not in ours:
-            yield item, "missing", crate[item]
-        elif item not in crate:
-            outer = item.rpartition(": ")[0] or item.rpartition("::")[0]
-            if outer in crate or outer not in ours:
-                yield item, "new", ours[item]
-        elif crate[item] != ours[item]:
-            yield item, "different", f"{ours[item]}   in the crate: {crate[item]}"
+def of_crate(folder):
+    """The differences with the crate of a folder, and with the list of docs/RUST.md."""
+    rows, new = list(listed()), set()
+    for name, features in FEATURES.items():
+        with tempfile.TemporaryDirectory() as room:
+            crate, ours = (items(it, Path(room) / side, features)
+                           for side, it in (("crate", folder), ("ours", rust_builds.OURS)))
+        print(f"{name}: {len(crate)} items of the crate, {len(ours)} of ours")
+        yield from (f"{name}: {item}: {ours.get(item, 'missing')}   in the crate: {text}"
+                    for item, text in crate.items() if text != ours.get(item))
+        new |= ours.keys() - crate.keys()
+    yield from (f"not in docs/RUST.md: {item}" for item in sorted(new)
+                if not any(is_inside(item, row) for row in rows))
+    yield from (f"not new: {row}" for row in rows if not any(is_inside(item, row) for item in new))
 
 
 def items(folder, out, features):
@@ -169,7 +145,7 @@ def must_use(sources, found):
 
 
 def lines_of_ours():
-    """A line for each public item: the sets of features that have it so, the item, and what it is."""
+    """A line for each public item: the sets of features that have it so, and what it is."""
     sets = {}
     with tempfile.TemporaryDirectory() as folder:
         for name, features in FEATURES.items():
@@ -180,21 +156,27 @@ def lines_of_ours():
     return [f"{' and '.join(names)}: {line}" for line, names in sorted(sets.items())]
 
 
+def of_list():
+    """The differences with the list that is kept."""
+    found, kept = lines_of_ours(), KEPT.read_text().splitlines()
+    print(f"{len(found)} public items")
+    yield from (f"gone: {it}" for it in sorted(set(kept) - set(found)))
+    yield from (f"new: {it}" for it in sorted(set(found) - set(kept))
+                if not OF_BITFLAGS.match(it.partition(": ")[2]))
+
+
 def main():
     parser = argparse.ArgumentParser(description=__doc__,
                                      formatter_class=argparse.RawDescriptionHelpFormatter)
     parser.add_argument("--write", action="store_true", help="write the list")
-    found = lines_of_ours()
-    if parser.parse_args().write:
-        KEPT.write_text("\n".join(found) + "\n")
+    parser.add_argument("--crate", type=Path, metavar="FOLDER", help="compare with this crate")
+    given = parser.parse_args()
+    if given.write:
+        KEPT.write_text("\n".join(lines_of_ours()) + "\n")
         return 0
-    kept = KEPT.read_text().splitlines() if KEPT.exists() else []
-    lost = sorted(set(kept) - set(found))
-    new = sorted(line for line in set(found) - set(kept)
-                 if not OF_BITFLAGS.match(line.partition(": ")[2]))
-    print(*(f"gone: {it}" for it in lost), *(f"new: {it}" for it in new),
-          f"{len(found)} public items, {len(lost) + len(new)} differences", sep="\n")
-    return 1 if lost or new else 0
+    found = list(of_crate(given.crate) if given.crate else of_list())
+    print(*found, f"{len(found)} differences", sep="\n")
+    return 1 if found else 0
 
 
 if __name__ == "__main__":

@@ -34,14 +34,3 @@ def ends_inside_a_character(tail):
     """Whether bytes end in a prefix of a well-formed character. `tail` is at most the last three bytes."""
     return bool(UNFINISHED.search(tail))
 
-
-def cuts_between_characters(stream, step):
-    """Places `step` bytes apart, or up to twice as many, where no character is unfinished, as far as there are any."""
-    cuts, last, at = [], 0, step
-    while at < len(stream) and at <= last + 2 * step:
-        if ends_inside_a_character(stream[max(at - 3, 0):at]):
-            at += 1
-        else:
-            cuts.append(at)
-            last, at = at, at + step
-    return cuts

@@ -29,10 +29,6 @@ EMOJI = characters(range(0x1F300, 0x1F650), range(0x1F680, 0x1F6D0), range(0x1F9
 JOINED = ["\U0001F468\u200D\U0001F469\u200D\U0001F467", "\U0001F44D\U0001F3FD", "\u2764\uFE0F", "\U0001F1E9\U0001F1EA",
           "e\u0301", "a\u0308\u0323", "1\uFE0F\u20E3"]
 LATIN = list("abcdefghijklmnopqrstuvwxyz      " * 3 + "\u00E4\u00F6\u00FC\u00DF\u00E9\u00E8\u00E0\u00F1")
-DEVICE_STRINGS = [b"\x1bP$qm\x1b\\", b"\x1bP+q544e;436f\x1b\\", b"\x1bP1$r0;1;31m\x1b\\", b"\x1bP0;1|17/41;18/42\x9c",
-                  b"\x1bPtmux;\x1b\x1b]0;x\x07\x1b\\", b"\x1bP=1s\x1b\\"]
-TOLD_APART = b"\x1b\x1b\x1b[[[]P;;::019?>= !$mhlqABCxX^_\\\x07\x18\x1a\x00\x0a\x7f\x80\x9b\x9c\xc3\xa4\xe2\x82\xac\xf0\x9f\x98\x80\xff ab"
-
 # name: (what it is, a function from a random.Random to parts without end, whether the parts come by chance)
 STREAMS = {}
 
@@ -133,13 +129,6 @@ def osc_title(chance):
     return b"\x1b]%d;%s%s" % (chance.randrange(3), words(chance, 5, 60), end) + words(chance, 1, 30)
 
 
-@stream("osc_links", "links about short names")
-def osc_links(chance):
-    path = words(chance, 10, 50).replace(b" ", b"/")
-    name = chance.choice(WORDS).encode()
-    return b"\x1b]8;id=%d;file://demo/%s\x1b\\\x1b[01;34m%s\x1b[0m\x1b]8;;\x1b\\  " % (chance.randrange(99), path, name)
-
-
 @stream("sixel", "sixel images of some 30 kB")
 def sixel(chance):
     def band():
@@ -152,16 +141,9 @@ def sixel(chance):
     return b'\x1bP0;1;8q"1;1;400;240' + b"".join([*colours, *lines]) + b"\x1b\\\r\n"
 
 
-@stream("csi_32_params", "control sequences with 30 to 34 parameters and subparameters")
-def csi_32_params(chance):
-    numbers = [b"%d%c" % (chance.randrange(300), chance.choice(b";;;:")) for _ in range(chance.randint(29, 33))]
-    return b"\x1b[" + b"".join(numbers) + b"1" + bytes([chance.choice(b"mhl")])
-
-
 # what each part of a stream is
 PARTS = {
     "ascii": ("lines of 20 to 120 ASCII characters", lambda chance: words(chance, 20, 120) + b"\r\n"),
-    "ascii_long": ("ASCII characters without a line's end", lambda chance: bytes(chance.choices(range(0x20, 0x7F), k=4096))),
     "prose": ("western text in UTF-8, one letter in thirteen above ASCII, with typographic quotes and dashes",
               lambda chance: (pick(chance, [*LATIN, "\u2019", "\u2013"], chance.randint(30, 100)) + "\r\n").encode()),
     "latin1": ("western text in Latin-1: one byte in thirteen is malformed UTF-8",
@@ -175,13 +157,9 @@ PARTS = {
                       lambda chance: b"\x1b]52;c;" + bytes(chance.choices(BASE64, k=65536)) + b"\x07text\r\n"),
     "osc_pieces": ("colours of the palette, 2 to 40 semicolons each", lambda chance: b"\x1b]4" + b"".join(
         b";%d;#%06x" % (chance.randrange(256), chance.randrange(1 << 24)) for _ in range(chance.randint(1, 20))) + b"\x07"),
-    "dcs_short": ("short device control strings", lambda chance: chance.choice(DEVICE_STRINGS) + words(chance, 0, 12)),
     "ignored": ("strings of 4 kB that mean nothing, as Kitty's images",
                 lambda chance: b"\x1b_Gm=1;" + bytes(chance.choices(BASE64, k=4096)) + b"\x1b\\"),
     "random": ("random bytes", lambda chance: chance.randbytes(4096)),
-    "random_control": ("random bytes of those that a parser tells apart", lambda chance: bytes(chance.choices(TOLD_APART, k=4096))),
-    "csi_many_params": ("control sequences with 5,000 parameters",
-                        lambda chance: b"\x1b[" + b";".join(b"%d" % chance.randrange(70000) for _ in range(5000)) + b"m"),
 }
 for name, (what, part) in PARTS.items():
     stream(name, what)(part)
@@ -191,41 +169,11 @@ for name, (what, part) in PARTS.items():
 REPEATED = {
     "bad_ff": ("FF alone", b"", b"\xff"),
     "bad_trunc4": ("four-byte characters without their last byte", b"", b"\xf0\x9f\x98"),
-    "bad_trunc4_ascii": ("the same, and an ASCII letter behind each", b"", b"\xf0\x9f\x98x"),
-    "bad_continuation": ("80 alone, each executed", b"", b"\x80"),
-    "bad_continuation_a0": ("A0 alone, each replaced", b"", b"\xa0"),
-    "bad_lead": ("E4 alone", b"", b"\xe4"),
     "bad_alternate": ("a letter and FF in turn", b"", b"a\xff"),
-    "bad_alternate3": ("a CJK character, and a truncated one", b"", b"\xe4\xbd\xa0\xf0\x9f"),
-    "bad_surrogates": ("surrogates, of three malformed sequences each", b"", b"\xed\xa0\x80"),
-    "bad_long_run": ("4,000 letters, and then one FF", b"", b"a" * 4000 + b"\xff"),
     "lead_esc": ("a lead byte before each control sequence", b"", b"\xe2\x1b[m"),
-    "lead_leads_cancel": ("four lead bytes, and then ESC and CAN", b"", b"\xe4\xe4\xe4\xe4\x1b\x18"),
-    "c1_characters": ("U+0085 in two bytes, each executed", b"", b"\xc2\x85"),
     "esc_flood": ("ESC alone", b"", b"\x1b"),
-    "esc_bracket": ("the beginning of a control sequence alone", b"", b"\x1b["),
-    "esc_osc": ("the beginning of an operating system command alone", b"", b"\x1b]"),
-    "esc_dcs": ("the beginning of a device control string alone", b"", b"\x1bPq"),
-    "sgr_reset": ("a reset of all attributes alone", b"", b"\x1b[m"),
-    "bell": ("BEL alone", b"", b"\x07"),
-    "cancelled": ("operating system commands that CAN ends", b"", b"\x1b]\x18"),
-    "csi_controls": ("control sequences with a control behind each digit", b"", b"\x1b[1\x071\x0a1\x08m"),
-    "csi_digits": ("a control sequence of digits without end", b"\x1b[", b"9"),
-    "csi_params": ("a control sequence of parameters without end", b"\x1b[", b"1;"),
-    "csi_colons": ("a control sequence of colons without end", b"\x1b[", b":"),
-    "esc_intermediates": ("an escape sequence of intermediates without end", b"\x1b", b" "),
-    "osc_open": ("an operating system command without end", b"\x1b]2;", b"text "),
-    "osc_semicolons": ("an operating system command of semicolons without end", b"\x1b]", b";"),
-    "dcs_open": ("a device control string without end", b"\x1bPq", b"#0~~@@vv"),
-    "dcs_ill_shaped": ("the same with an ill-shaped head", b"\x1bP1?", b"#0~~@@vv"),
     "sos_open": ("a string that means nothing, without end", b"\x1bX", b"text "),
     "update_open": ("an update that never ends", b"\x1b[?2026h", b"text \x1b[31m"),
-    "update_escapes": ("an update of ESC alone", b"\x1b[?2026h", b"\x1b"),
-    "update_near_ends": ("an update of sequences that almost end it", b"\x1b[?2026h", b"\x1b[?2026"),
-    "update_begins": ("begins of updates alone", b"", b"\x1b[?2026h"),
-    "update_ends": ("ends of updates alone", b"", b"\x1b[?2026l"),
-    "update_toggle": ("empty updates", b"", b"\x1b[?2026h\x1b[?2026l"),
-    "repeats": ("for a handler: each asks for 65,535 characters", b"", b"x\x1b[65535b"),
 }
 
 

@@ -3,8 +3,7 @@
 //! `processor`, with a performer or handler that folds all into a checksum, `screen` and
 //! `terminal`, with a screen as the parser's performer or the processor's handler, and `strip` and
 //! `filter`, which put text into memory. Over rust/vte the last four are there with `_runs` too,
-//! and get text in runs. With `--cfg strippers` there are also what else strips, a copy, and a
-//! check of UTF-8.
+//! and get text in runs. With `--cfg strippers` there are also what else strips, and a copy.
 
 use std::hint::black_box;
 use std::time::{Duration, Instant};
@@ -71,12 +70,10 @@ races! {
     #[cfg(strippers)]
     copy: (), Text::default(), |_, text: &mut Text, bytes| text.put(bytes), Text::checksum, Text::clear;
     #[cfg(strippers)]
-    simdutf8: (), Text::default(), |_, _, bytes| _ = black_box(from_utf8(bytes).is_ok()), Text::checksum;
-    #[cfg(strippers)]
     console: (), Text::default(), |_, text: &mut Text, bytes| text.put(strip_ansi_codes(from_utf8(bytes).expect("UTF-8")).as_bytes()),
         Text::checksum, Text::clear;
     #[cfg(strippers)]
-    strip_ansi_escapes: (), Text::default(), |_, text: &mut Text, bytes| text.put(&strip_ansi_escapes::strip(bytes).expect("memory")),
+    strip_ansi_escapes: (), Text::default(), |_, text: &mut Text, bytes| text.put(&strip_ansi_escapes::strip(bytes)),
         Text::checksum, Text::clear;
 }
 

@@ -1,5 +1,4 @@
 //! Reads that fail.
-// Written by tools/make_tables.py.
 
 use super::FailingReadRow;
 

@@ -1,5 +1,4 @@
 //! Long lines.
-// Written by tools/make_tables.py.
 
 use super::RecorderRow;
 

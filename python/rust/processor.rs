@@ -1,7 +1,7 @@
 //! The processor of calls.
 
 use crate::objects::{borrowed, bytes_of, integer, list, no_memory, real, text};
-use crate::reader::{make, read, step, Reader};
+use crate::reader::{make, read, Reader};
 use crate::tape::Tape;
 use pyo3::prelude::*;
 use pyo3::sync::GILOnceCell;
@@ -71,23 +71,22 @@ impl Processor {
     /// calls of these bytes were lost.
     #[pyo3(signature = (data))]
     fn feed(slf: &Bound<'_, Self>, data: &Bound<'_, PyAny>) -> PyResult<PyObject> {
-        let source = bytes_of(data, "feed")?;
-        let (made, _) = read(slf.py(), &mut *borrowed(slf)?, source.as_bytes())?;
-        Ok(made.into_any().unbind())
+        let source = bytes_of(data)?;
+        Ok(read(slf.py(), &mut *borrowed(slf)?, source.as_bytes())?.0)
     }
 
     /// Ends an update whose end doesn't come, and returns the calls of what was held.
     fn stop_sync(slf: &Bound<'_, Self>) -> PyResult<PyObject> {
-        let (made, mut processor) = (list(slf.py())?, borrowed(slf)?);
+        let (made, mut shared) = (list(slf.py())?, borrowed(slf)?);
         let Processor {
             processor, calls, ..
-        } = &mut *processor;
+        } = &mut *shared;
         calls.0.end_run();
-        let has_room = calls.0.reserve(processor.sync_bytes_count(), 0);
-        if has_room {
+        let is_refused = calls.0.reserve(processor.sync_bytes_count(), 0).is_err();
+        if !is_refused {
             processor.stop_sync_text(calls);
         }
-        make(&made, &mut calls.0, 0, !has_room, true)?;
+        make(&made, &mut calls.0, 0, is_refused, true)?;
         Ok(made.into_any().unbind())
     }
 
@@ -107,8 +106,10 @@ impl Processor {
         };
         let now = monotonic(py)?.call0(py)?.extract::<f64>(py)?;
         let left = deadline.saturating_duration_since(Instant::now());
-        let late = deadline.elapsed();
-        real(py, now + left.as_secs_f64() - late.as_secs_f64())
+        real(
+            py,
+            now + left.as_secs_f64() - deadline.elapsed().as_secs_f64(),
+        )
     }
 }
 
@@ -118,17 +119,14 @@ impl Reader for Processor {
     }
 
     fn read(&mut self, bytes: &[u8]) -> Result<usize, Refused> {
-        let (step, tape) = (step(bytes), &mut self.calls.0);
-        let held = self.processor.sync_bytes_count();
-        if !tape.reserve(held + step.len(), self.command) {
-            return Err(Refused { read: 0 });
-        }
-        let before = tape.size();
-        self.processor.advance_text(&mut self.calls, step)?;
+        let before = self.calls.0.size();
+        let most = self.processor.sync_bytes_count() + bytes.len();
+        self.calls.0.reserve(most, self.command)?;
+        self.processor.advance_text(&mut self.calls, bytes)?;
         self.command = match self.calls.0.size() == before {
-            true => self.command + step.len(),
-            false => step.len(),
+            true => self.command + bytes.len(),
+            false => bytes.len(),
         };
-        Ok(step.len())
+        Ok(bytes.len())
     }
 }

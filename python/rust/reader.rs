@@ -18,7 +18,7 @@ const MOST: usize = 1 << 14;
 pub trait Reader: Send {
     fn tape(&mut self) -> &mut Tape;
 
-    /// Reads some of the bytes, and returns how many.
+    /// Reads some of the bytes, at most `STEP`, and returns how many.
     fn read(&mut self, bytes: &[u8]) -> Result<usize, Refused>;
 
     fn has_stopped(&self) -> bool {
@@ -26,17 +26,12 @@ pub trait Reader: Send {
     }
 }
 
-/// The bytes of a step.
-pub fn step(bytes: &[u8]) -> &[u8] {
-    &bytes[..bytes.len().min(STEP)]
-}
-
 /// Reads bytes up to a stop. Returns a list of what they add, and how many were read.
-pub fn read<'py>(
-    py: Python<'py>,
+pub fn read(
+    py: Python<'_>,
     reader: &mut impl Reader,
     source: &[u8],
-) -> PyResult<(Bound<'py, PyList>, usize)> {
+) -> PyResult<(PyObject, usize)> {
     let (made, mut at) = (list(py)?, 0);
     reader.tape().end_run();
     loop {
@@ -46,7 +41,7 @@ pub fn read<'py>(
         let ends = is_refused || at == source.len() || reader.has_stopped();
         make(&made, reader.tape(), at, is_refused, ends)?;
         if ends {
-            return Ok((made, at));
+            return Ok((made.into_any().unbind(), at));
         }
     }
 }
@@ -55,7 +50,7 @@ pub fn read<'py>(
 fn read_piece(reader: &mut impl Reader, piece: &[u8]) -> (usize, bool) {
     let mut at = 0;
     while at < piece.len() && reader.tape().count() < MOST && !reader.has_stopped() {
-        match reader.read(&piece[at..]) {
+        match reader.read(&piece[at..piece.len().min(at + STEP)]) {
             Ok(read) => at += read,
             Err(Refused { read }) => return (at + read, true),
         }

@@ -8,6 +8,7 @@ use pyo3::prelude::*;
 use pyo3::sync::GILOnceCell;
 use pyo3::types::PyList;
 use std::iter::from_fn;
+use vte::Refused;
 
 /// What an object is made of. The content of texts and data is stored beside it, in the same order.
 #[derive(Clone, Copy, PartialEq)]
@@ -127,13 +128,14 @@ impl Tape {
         self.places.len() + self.content.len()
     }
 
-    /// Takes memory for what bytes add, and the command that they may end. Returns whether it is
-    /// there.
-    pub fn reserve(&mut self, bytes: usize, command: usize) -> bool {
+    /// Takes memory for what bytes add, and the command that they may end.
+    pub fn reserve(&mut self, bytes: usize, command: usize) -> Result<(), Refused> {
         let most = Self::PER_BYTE * bytes + Self::BEFORE;
-        self.places.try_reserve(bytes + Self::BEFORE).is_ok()
-            && self.values.try_reserve(most).is_ok()
-            && self.content.try_reserve(most + command).is_ok()
+        let places = self.places.try_reserve(bytes + Self::BEFORE);
+        places
+            .and_then(|()| self.values.try_reserve(most))
+            .and_then(|()| self.content.try_reserve(most + command))
+            .map_err(|_| Refused { read: 0 })
     }
 
     /// Begins an object. Its fields are to follow.

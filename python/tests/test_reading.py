@@ -89,8 +89,8 @@ def test_files_that_cannot_be_read(path):
 @pytest.mark.parametrize("wrong, message", [
     (lambda: vte.open(None), "open takes a path, a file descriptor or a binary file, not NoneType"),
     (lambda: vte.open(b"path"), "open takes a path, a file descriptor or a binary file, not bytes"),
-    (lambda: vte.open(io.StringIO("a")), "not a text file: open it in binary mode"),
-    (lambda: vte.open(sys.__stdout__), "not a text file: open it in binary mode"),
+    (lambda: vte.open(io.StringIO("a")), "a binary file, not StringIO"),
+    (lambda: vte.open(sys.__stdout__), "a binary file, not TextIOWrapper"),
     (lambda: vte.open(io.BytesIO(), kinds={int}), "kinds must be types of events"),
     *((lambda size=size: vte.open(io.BytesIO(), size), f"size must be at least 1, not {size!r}")
       for size in (0, -1, 1.5, None, "9")),

@@ -1,5 +1,6 @@
 """The events of a stream. An event equals another of the same type with the same values."""
 import array
+import codecs
 import mmap
 from collections.abc import Iterable
 from typing import Any, Literal, NamedTuple, Union, get_args
@@ -105,6 +106,12 @@ class Refused(MemoryError):
         return f"no memory, after {self.read} bytes"
 
 
+def _replace(error: Any) -> tuple[bytes, int]:
+    return "\ufffd".encode() * (error.end - error.start), error.end
+
+
+# what `strip` makes of surrogates
+codecs.register_error("vte.replace", _replace)
 for _kind in get_args(Event):
     _distinct(_kind)
 # named as they are imported

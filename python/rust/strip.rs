@@ -10,6 +10,7 @@ use std::collections::TryReserveError;
 use vte::{LongParser, Perform, PerformText, Refused, Taken};
 
 /// What is shown. Nothing is copied as long as it is the front of the source.
+#[derive(Default)]
 struct Shown<'a> {
     source: &'a [u8],
     same: usize,
@@ -21,9 +22,7 @@ impl<'a> Shown<'a> {
     fn new(source: &'a [u8]) -> Self {
         Shown {
             source,
-            same: 0,
-            text: Vec::new(),
-            is_refused: false,
+            ..Shown::default()
         }
     }
 

@@ -221,7 +221,8 @@ impl Tape {
         let count = self.places.len() - usize::from(self.is_open && !ends);
         let (mut made, mut start, mut done) = (0, (0, 0), Ok(()));
         while made < count && done.is_ok() {
-            let end = self.place(made + 1);
+            let all = (self.values.len(), self.content.len());
+            let end = self.places.get(made + 1).copied().unwrap_or(all);
             done = self
                 .object(py, classes, start, end)
                 .and_then(|object| list.append(object.into_bound(py)));
@@ -236,13 +237,6 @@ impl Tape {
             *place = (place.0 - start.0, place.1 - start.1);
         }
         done
-    }
-
-    /// The place of an object, or the end of all.
-    #[inline]
-    fn place(&self, object: usize) -> Place {
-        let end = (self.values.len(), self.content.len());
-        self.places.get(object).copied().unwrap_or(end)
     }
 
     #[inline]
@@ -266,32 +260,22 @@ impl Tape {
         let hash = values.iter().fold(0, |hash: u64, Value(_, number)| {
             (hash.rotate_left(5) ^ *number as u64).wrapping_mul(0x517C_C1B7_2722_0A95)
         });
-        let place = (hash >> (u64::BITS - KNOWN)) as usize;
-        match self.known.get(place) {
+        if self.known.is_empty() && self.known.try_reserve_exact(1 << KNOWN).is_ok() {
+            self.known.resize_with(1 << KNOWN, || None);
+        }
+        match self.known.get_mut((hash >> (u64::BITS - KNOWN)) as usize) {
             Some(Some((known, made))) if known == values => Ok(made.clone_ref(py)),
-            _ => remember(py, &mut self.known, place, values, maker.next()?),
+            Some(place) => {
+                let (made, mut key) = (maker.next()?, Vec::new());
+                if key.try_reserve_exact(values.len()).is_ok() {
+                    key.extend_from_slice(values);
+                    *place = Some((key, made.clone_ref(py)));
+                }
+                Ok(made)
+            }
+            None => maker.next(),
         }
     }
-}
-
-/// Remembers an object, if there is memory.
-#[cold]
-fn remember(
-    py: Python<'_>,
-    known: &mut Vec<Option<Known>>,
-    place: usize,
-    values: &[Value],
-    made: PyObject,
-) -> PyResult<PyObject> {
-    let mut key = Vec::new();
-    if known.is_empty() && known.try_reserve_exact(1 << KNOWN).is_ok() {
-        known.resize_with(1 << KNOWN, || None);
-    }
-    if key.try_reserve_exact(values.len()).is_ok() && !known.is_empty() {
-        key.extend_from_slice(values);
-        known[place] = Some((key, made.clone_ref(py)));
-    }
-    Ok(made)
 }
 
 /// The classes of objects, by their kinds.

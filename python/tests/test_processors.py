@@ -1,5 +1,6 @@
 """Tests of processors and of their calls."""
 import re
+import subprocess
 import sys
 import time
 
@@ -71,9 +72,12 @@ def test_many_calls_of_few_bytes():
 
 # ---- the example: bytes, and a cell that is then shown
 
-@pytest.fixture(scope="module")
-def screen():
-    return Screen()
+screen, processor = Screen(), vte.Processor()
+
+
+def show(stream):
+    for call in processor.feed(stream):
+        screen.take(call)
 
 
 @pytest.mark.parametrize("stream, row, column, character", [
@@ -83,30 +87,32 @@ def screen():
     (b"\x1b[99;99Hlm", 23, 0, "m"), (b"", 22, 79, "l"), (b"\x1b[99A\x1b[99Dn", 0, 0, "n"),
     (b"\x1b[99B\x1b[99Co", 23, 79, "o"), (b"\x1b[3;1Hpqr\x1b[1D\x1b[1K", 2, 1, " "),
     (b"\x1b[3;1Hpqr\x08\x1b[K", 2, 1, "q"), (b"\x1b[2J", 23, 79, " ")])
-def test_cells(screen, stream, row, column, character):
-    screen.feed(stream)
-    assert screen.cell(row, column).character == character
+def test_cells(stream, row, column, character):
+    show(stream)
+    assert screen.lines[row][column].character == character
 
 
 @pytest.mark.parametrize("rendition, foreground, background, attributes", [
     (b"31;1;4", "Red", None, "Bold Underline"), (b"22;39;44", None, "Blue", "Underline"),
     (b"24;49;3;7", None, None, "Italic Reverse"), (b"23;27", None, None, ""),
     (b"1;32;45", "Green", "Magenta", "Bold"), (b"0", None, None, "")])
-def test_looks(screen, rendition, foreground, background, attributes):
-    screen.feed(b"\x1b[H\x1b[%smx" % rendition)
-    style = screen.cell(0, 0).style
-    colors = [color and color.name for color in (style.foreground, style.background)]
+def test_looks(rendition, foreground, background, attributes):
+    show(b"\x1b[H\x1b[%smx" % rendition)
+    cell = screen.lines[0][0]
+    colors = [color and color.name for color in (cell.foreground, cell.background)]
     assert colors == [foreground, background]
-    assert {it.name for it in style.attributes} == set(attributes.split())
+    assert {it.name for it in cell.attributes} == set(attributes.split())
 
 
-def test_erasing_and_updates(screen):
+def test_erasing():
     # what is erased has the background, and no attributes
-    screen.feed(b"\x1b[41;1m\x1b[2J")
-    assert screen.cell(3, 4).style == (None, NamedColor.Red, frozenset())
-    # an update is shown when it ends
-    screen.feed(b"\x1b[H\x1b[?2026hy")
-    assert screen.cell(0, 0).character == " "
-    screen.end()
-    assert screen.cell(0, 0).character == "y"
-    assert screen.text().splitlines() == ["y", *[""] * 23]
+    show(b"\x1b[41;1m\x1b[2J")
+    assert screen.lines[3][4] == (" ", None, NamedColor.Red, frozenset())
+
+
+def test_screen():
+    words = [sys.executable, EXAMPLES / "screen.py"]
+    # an update that doesn't end is shown, too
+    stream = b"\x1b[2;3Ha\x1b[?2026h\r\nb"
+    said = subprocess.run(words, input=stream, stdout=subprocess.PIPE, check=True).stdout
+    assert said.decode().split("\n") == ["", "  a", "b", *[""] * 22]

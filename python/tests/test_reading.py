@@ -116,9 +116,9 @@ def test_files_that_have_nothing_yet():
 
 
 def test_standard_input():
-    words = [sys.executable, "-c", "import vte; print([*vte.open(0)])"]
-    done = subprocess.run(words, input=b"a\n", capture_output=True)
-    assert done.stdout == b"[Text(text='a'), Execute(byte=10)]\n", done.stderr
+    words = [sys.executable, EXAMPLES / "events.py"]
+    said = subprocess.run(words, input=b"a\n", stdout=subprocess.PIPE, check=True).stdout
+    assert said == b"print 0061\nexecute 0a\n"
 
 
 def test_a_piece_is_read_when_it_is_wanted():

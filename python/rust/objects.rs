@@ -6,7 +6,7 @@
 
 use pyo3::exceptions::PyRuntimeError;
 use pyo3::pyclass::boolean_struct::False;
-use pyo3::types::{PyBool, PyBytes, PyList, PyString, PyTuple, PyType};
+use pyo3::types::{PyBytes, PyList, PyString, PyTuple, PyType};
 use pyo3::{ffi, prelude::*, PyClass, PyTypeInfo};
 
 /// From how many bytes on other threads may run meanwhile. Below, a release costs more than it
@@ -68,12 +68,6 @@ pub fn encoded<'py>(
     Ok(encoded?.into_bound(py).downcast_into()?)
 }
 
-/// Whether this is a `str` or `bytes`, and of no class made from them: then it can be returned as
-/// it is.
-pub fn is_plain(data: &Bound<'_, PyAny>) -> bool {
-    data.is_exact_instance_of::<PyBytes>() || data.is_exact_instance_of::<PyString>()
-}
-
 /// The error of memory that was refused, which needs none itself.
 pub fn no_memory(py: Python<'_>) -> PyErr {
     // SAFETY: the lock is held
@@ -130,10 +124,6 @@ pub fn integer(py: Python<'_>, value: i64) -> PyResult<PyObject> {
 pub fn real(py: Python<'_>, value: f64) -> PyResult<PyObject> {
     // SAFETY: the lock is held
     unsafe { made(py, ffi::PyFloat_FromDouble(value)) }
-}
-
-pub fn flag(py: Python<'_>, value: bool) -> PyObject {
-    PyBool::new_bound(py, value).to_owned().into_any().unbind()
 }
 
 /// A tuple of as many values.

@@ -90,14 +90,6 @@ impl Parser {
         }
     }
 
-    fn __repr__(slf: &Bound<'_, Self>) -> PyResult<PyObject> {
-        let shown: &[u8] = match borrowed(slf)?.machine {
-            Machine::Long(_) => b"vte.Parser(limit=None)",
-            Machine::Limited(_) => b"vte.Parser(limit=1024)",
-        };
-        text(slf.py(), shown)
-    }
-
     /// Reads the next bytes of the stream, and returns the events that they add to it.
     ///
     /// `kinds` is a set of types of events: then only these are returned, and the others cost

@@ -1,6 +1,6 @@
 //! The processor of calls.
 
-use crate::objects::{borrowed, bytes_of, integer, list, no_memory, real, text};
+use crate::objects::{borrowed, bytes_of, integer, list, no_memory, real};
 use crate::reader::{make, read, Reader};
 use crate::tape::Tape;
 use pyo3::prelude::*;
@@ -59,10 +59,6 @@ impl Processor {
             calls: ByCall(Tape::default()),
             command: 0,
         })
-    }
-
-    fn __repr__(slf: &Bound<'_, Self>) -> PyResult<PyObject> {
-        text(slf.py(), b"vte.Processor()")
     }
 
     /// Reads the next bytes of the stream, and returns the calls that they add.

@@ -8,10 +8,9 @@ use pyo3::prelude::*;
 use pyo3::types::PyList;
 use vte::Refused;
 
-/// How many bytes are read between two questions for memory, and how many bytes or objects before
-/// objects are made.
+/// How many bytes are read between two questions for memory, and how many objects are recorded
+/// before they are made.
 const STEP: usize = 1 << 14;
-const PIECE: usize = 1 << 20;
 const MOST: usize = 1 << 14;
 
 /// Records what a stream adds.
@@ -35,8 +34,8 @@ pub fn read(
     let (made, mut at) = (list(py)?, 0);
     reader.tape().end_run();
     loop {
-        let piece = &source[at..source.len().min(at + PIECE)];
-        let (read, is_refused) = run(py, piece.len(), || read_piece(reader, piece));
+        let rest = &source[at..];
+        let (read, is_refused) = run(py, rest.len(), || read_some(reader, rest));
         at += read;
         let ends = is_refused || at == source.len() || reader.has_stopped();
         make(&made, reader.tape(), at, is_refused, ends)?;
@@ -46,11 +45,11 @@ pub fn read(
     }
 }
 
-/// Reads a piece. Returns how much was read, and whether memory was refused.
-fn read_piece(reader: &mut impl Reader, piece: &[u8]) -> (usize, bool) {
+/// Reads until objects are to be made. Returns how much was read, and whether memory was refused.
+fn read_some(reader: &mut impl Reader, source: &[u8]) -> (usize, bool) {
     let mut at = 0;
-    while at < piece.len() && reader.tape().count() < MOST && !reader.has_stopped() {
-        match reader.read(&piece[at..piece.len().min(at + STEP)]) {
+    while at < source.len() && reader.tape().count() < MOST && !reader.has_stopped() {
+        match reader.read(&source[at..source.len().min(at + STEP)]) {
             Ok(read) => at += read,
             Err(Refused { read }) => return (at + read, true),
         }

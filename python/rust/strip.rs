@@ -1,10 +1,10 @@
 //! Texts without sequences.
 
-use crate::objects::{borrowed, bytes, bytes_of, decoded, encoded, is_plain, no_memory, run, text};
+use crate::objects::{borrowed, bytes, bytes_of, decoded, encoded, no_memory, run};
 use crate::parser::{restored, state_of, Limited};
 use pyo3::exceptions::PyValueError;
 use pyo3::prelude::*;
-use pyo3::types::PyString;
+use pyo3::types::{PyBytes, PyString};
 use std::borrow::Cow;
 use std::collections::TryReserveError;
 use vte::{LongParser, Perform, PerformText, Refused, Taken};
@@ -144,9 +144,13 @@ where
 {
     let made;
     let py = data.py();
-    let (source, is_text, is_itself) = match data.downcast::<PyString>() {
+    let (source, is_text, is_exact) = match data.downcast::<PyString>() {
         Ok(text) => match text.to_str() {
-            Ok(utf8) => (utf8.as_bytes(), true, true),
+            Ok(utf8) => (
+                utf8.as_bytes(),
+                true,
+                text.is_exact_instance_of::<PyString>(),
+            ),
             Err(_) => {
                 made = encoded(text, errors)?;
                 (made.as_bytes(), true, false)
@@ -154,11 +158,15 @@ where
         },
         Err(_) => {
             made = bytes_of(data)?;
-            (made.as_bytes(), false, true)
+            (
+                made.as_bytes(),
+                false,
+                data.is_exact_instance_of::<PyBytes>(),
+            )
         }
     };
     match run(py, source.len(), || read(source)).map_err(|_| no_memory(py))? {
-        Cow::Borrowed(shown) if is_itself && shown.len() == source.len() && is_plain(data) => {
+        Cow::Borrowed(shown) if is_exact && shown.len() == source.len() => {
             Ok(data.clone().unbind())
         }
         shown if is_text => decoded(py, &shown, errors),
@@ -193,10 +201,6 @@ impl Stripper {
     #[new]
     fn new() -> Self {
         Stripper(Limited::new())
-    }
-
-    fn __repr__(slf: &Bound<'_, Self>) -> PyResult<PyObject> {
-        text(slf.py(), b"vte.Stripper()")
     }
 
     /// Reads more of the stream, and returns the text that this adds, without the sequences:

@@ -3,7 +3,7 @@
 //! still there.
 
 use crate::calls::{Kind, NAMES};
-use crate::objects::{bytes, flag, integer, text, tuple, Class};
+use crate::objects::{bytes, integer, text, tuple, Class};
 use pyo3::prelude::*;
 use pyo3::sync::GILOnceCell;
 use pyo3::types::PyList;
@@ -308,7 +308,7 @@ impl Maker<'_, '_> {
         let count = number as usize;
         match is {
             Is::Nothing => Ok(py.None()),
-            Is::Flag => Ok(flag(py, number != 0)),
+            Is::Flag => Ok((number != 0).into_py(py)),
             Is::Number => integer(py, number),
             Is::Letter => text(
                 py,

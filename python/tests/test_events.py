@@ -201,7 +201,6 @@ def test_wrong_limits(limit):
 
 def test_limits():
     assert [made.limit for made in (*parsers(), vte.Parser(1024))] == [None, 1024, 1024]
-    assert [*map(repr, parsers())] == ["vte.Parser(limit=None)", "vte.Parser(limit=1024)"]
 
 
 # ---- a stop at an event

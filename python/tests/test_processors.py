@@ -42,7 +42,7 @@ def test_calls():
     processor = vte.Processor()
     assert processor.feed(STREAM) == CALLS
     assert repr(CALLS[2]) == "TerminalAttribute(attribute=Bold, color=None)"
-    assert (repr(processor), processor.feed(b"")) == ("vte.Processor()", [])
+    assert processor.feed(b"") == []
 
 
 def test_updates():

@@ -163,26 +163,16 @@ def test_pty():
     os.close(master)
 
 
-@pytest.mark.parametrize("program, said, title, status", [
-    (r"printf '\033]2;a;b\007x'", b"\x1b]2;a;b\x07x", b"title: a;b\n", 0),
-    (r"printf '\033]0;x\033\\\033]1;y\007'; exit 3", b"\x1b]0;x\x1b\\\x1b]1;y\x07",
-     b"title: x\n", 3)])
-def test_title_watcher(program, said, title, status):
-    words = [sys.executable, EXAMPLES / "title_watcher.py", "sh", "-c", program]
-    done = subprocess.run(words, stdin=subprocess.DEVNULL, capture_output=True)
-    assert (done.stdout, done.stderr, done.returncode) == (said, title, status)
-
-
-def test_titles_are_not_late():
+def test_title_watcher():
     # the program waits until the first title was seen; a watcher that is late is killed
-    program = r"printf 'a\033]2;hi\007'; read line; printf '\033]0;you\033\\'"
+    program = r"printf 'a\033]2;hi;you\007'; read line; printf '\033]1;x\007\033]0;b\033\\'; exit 3"
     words = [sys.executable, EXAMPLES / "title_watcher.py", "sh", "-c", program]
-    with subprocess.Popen(words, stdin=subprocess.PIPE, stdout=subprocess.DEVNULL,
+    with subprocess.Popen(words, stdin=subprocess.PIPE, stdout=subprocess.PIPE,
                           stderr=subprocess.PIPE) as watcher:
         late = threading.Timer(300, watcher.kill)
         late.start()
-        assert watcher.stderr.readline() == b"title: hi\n"
-        watcher.stdin.write(b"\n")
-        watcher.stdin.flush()
-        assert watcher.stderr.readline() == b"title: you\n"
+        assert watcher.stderr.readline() == b"title: hi;you\n"
+        said, titles = watcher.communicate(b"\n")
         late.cancel()
+    assert (titles, watcher.returncode) == (b"title: b\n", 3)
+    assert said == b"a\x1b]2;hi;you\x07\r\n\x1b]1;x\x07\x1b]0;b\x1b\\"

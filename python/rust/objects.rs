@@ -57,15 +57,11 @@ pub fn encoded<'py>(
     errors: &'static str,
 ) -> PyResult<Bound<'py, PyBytes>> {
     debug_assert!(errors.ends_with('\0'));
-    let (py, encoding, errors) = (text.py(), "utf-8\0".as_ptr().cast(), errors.as_ptr().cast());
+    let (py, text) = (text.py(), text.as_ptr());
+    let (utf8, errors) = ("utf-8\0".as_ptr().cast(), errors.as_ptr().cast());
     // SAFETY: a `str`, texts that end in NUL, and a new reference
-    let encoded = unsafe {
-        made(
-            py,
-            ffi::PyUnicode_AsEncodedString(text.as_ptr(), encoding, errors),
-        )
-    };
-    Ok(encoded?.into_bound(py).downcast_into()?)
+    let encoded = unsafe { made(py, ffi::PyUnicode_AsEncodedString(text, utf8, errors))? };
+    Ok(encoded.into_bound(py).downcast_into()?)
 }
 
 /// The error of memory that was refused, which needs none itself.
@@ -97,23 +93,16 @@ pub fn text(py: Python<'_>, utf8: &[u8]) -> PyResult<PyObject> {
 /// A `str` of bytes, as `encoded` makes them.
 pub fn decoded(py: Python<'_>, utf8: &[u8], errors: &'static str) -> PyResult<PyObject> {
     debug_assert!(errors.ends_with('\0'));
-    let (place, length, errors) = (
-        utf8.as_ptr().cast(),
-        size(utf8.len()),
-        errors.as_ptr().cast(),
-    );
+    let (place, length) = (utf8.as_ptr().cast(), size(utf8.len()));
+    let errors = errors.as_ptr().cast();
     // SAFETY: the bytes are those of a slice, and the text ends in NUL
     unsafe { made(py, ffi::PyUnicode_DecodeUTF8(place, length, errors)) }
 }
 
 pub fn bytes(py: Python<'_>, content: &[u8]) -> PyResult<PyObject> {
+    let (place, length) = (content.as_ptr().cast(), size(content.len()));
     // SAFETY: the bytes are those of a slice
-    unsafe {
-        made(
-            py,
-            ffi::PyBytes_FromStringAndSize(content.as_ptr().cast(), size(content.len())),
-        )
-    }
+    unsafe { made(py, ffi::PyBytes_FromStringAndSize(place, length)) }
 }
 
 pub fn integer(py: Python<'_>, value: i64) -> PyResult<PyObject> {
@@ -174,14 +163,13 @@ pub struct Class {
 impl Class {
     pub fn of(class: Bound<'_, PyAny>) -> PyResult<Self> {
         let is_tuple = class.downcast::<PyType>()?.is_subclass_of::<PyTuple>()?;
+        // what is no named tuple is made of its number
+        let fields = class
+            .getattr("_fields")
+            .map_or(Ok(1), |names| names.len())?;
         Ok(Class {
             is_allocated: is_tuple && class.py().version_info() < (3, 14),
-            // what is no tuple is made of its number
-            fields: if is_tuple {
-                class.getattr("_fields")?.len()?
-            } else {
-                1
-            },
+            fields,
             class: class.unbind(),
         })
     }

@@ -142,34 +142,24 @@ fn strip_by<F>(data: &Bound<'_, PyAny>, errors: &'static str, read: F) -> PyResu
 where
     F: for<'a> FnOnce(&'a [u8]) -> Result<Cow<'a, [u8]>, Refused> + Send,
 {
-    let made;
     let py = data.py();
-    let (source, is_text, is_exact) = match data.downcast::<PyString>() {
-        Ok(text) => match text.to_str() {
-            Ok(utf8) => (
-                utf8.as_bytes(),
-                true,
-                text.is_exact_instance_of::<PyString>(),
-            ),
-            Err(_) => {
-                made = encoded(text, errors)?;
-                (made.as_bytes(), true, false)
-            }
-        },
-        Err(_) => {
-            made = bytes_of(data)?;
-            (
-                made.as_bytes(),
-                false,
-                data.is_exact_instance_of::<PyBytes>(),
-            )
+    let text = data.downcast::<PyString>().ok();
+    let utf8 = text.and_then(|text| text.to_str().ok());
+    let made;
+    let source = match utf8 {
+        Some(utf8) => utf8.as_bytes(),
+        None => {
+            made = text.map_or_else(|| bytes_of(data), |text| encoded(text, errors))?;
+            made.as_bytes()
         }
     };
+    let is_exact = data.is_exact_instance_of::<PyBytes>()
+        || utf8.is_some() && data.is_exact_instance_of::<PyString>();
     match run(py, source.len(), || read(source)).map_err(|_| no_memory(py))? {
         Cow::Borrowed(shown) if is_exact && shown.len() == source.len() => {
             Ok(data.clone().unbind())
         }
-        shown if is_text => decoded(py, &shown, errors),
+        shown if text.is_some() => decoded(py, &shown, errors),
         shown => bytes(py, &shown),
     }
 }

@@ -71,6 +71,7 @@ impl Recorder {
     }
 
     /// Begins an event, whose fields are to follow, if it is wanted.
+    #[inline]
     fn begin(&mut self, kind: Kind) -> Option<&mut Tape> {
         self.has_stopped |= self.stops.has(kind);
         self.is_paused |= self.has_stopped || kind == Kind::Osc || self.only_commands();

@@ -15,7 +15,7 @@ use vte::{LongParser, Own as _, Refused, Saved};
 const LIMIT: usize = 1024;
 
 /// A parser that keeps 1,024 data bytes of a command.
-pub type Limited = vte::Parser<LIMIT>;
+pub type Limited = vte::BoundedParser<LIMIT>;
 
 /// The bytes of a saved parser. Any bytes are some parser.
 #[repr(C, align(8))]

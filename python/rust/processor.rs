@@ -5,28 +5,10 @@ use crate::reader::{make, read, Reader};
 use crate::tape::Tape;
 use pyo3::prelude::*;
 use pyo3::sync::GILOnceCell;
-use std::time::{Duration, Instant};
+use std::time::Instant;
 use vte::ansi::lent::{ByCall, LongProcessor};
-use vte::ansi::Timeout;
+use vte::ansi::StdSyncHandler;
 use vte::Refused;
-
-/// When an update that is held ends.
-#[derive(Default)]
-struct Deadline(Option<Instant>);
-
-impl Timeout for Deadline {
-    fn set_timeout(&mut self, duration: Duration) {
-        self.0 = Some(Instant::now() + duration);
-    }
-
-    fn clear_timeout(&mut self) {
-        self.0 = None;
-    }
-
-    fn pending_timeout(&self) -> bool {
-        self.0.is_some()
-    }
-}
 
 /// The function `time.monotonic`.
 pub fn monotonic(py: Python<'_>) -> PyResult<&'static PyObject> {
@@ -43,7 +25,7 @@ pub fn monotonic(py: Python<'_>) -> PyResult<&'static PyObject> {
 /// `sync_timeout`, call `stop_sync`.
 #[pyclass(module = "vte", subclass, weakref)]
 pub struct Processor {
-    processor: LongProcessor<Deadline>,
+    processor: LongProcessor<StdSyncHandler>,
     calls: ByCall<Tape>,
     // how many bytes an open command has at most
     command: usize,
@@ -53,7 +35,7 @@ pub struct Processor {
 impl Processor {
     #[new]
     fn new(py: Python<'_>) -> PyResult<Self> {
-        let processor = LongProcessor::new(Deadline(None)).map_err(|_| no_memory(py))?;
+        let processor = LongProcessor::new(StdSyncHandler::default()).map_err(|_| no_memory(py))?;
         Ok(Processor {
             processor,
             calls: ByCall(Tape::default()),
@@ -96,7 +78,7 @@ impl Processor {
     #[getter]
     fn sync_timeout(slf: &Bound<'_, Self>) -> PyResult<PyObject> {
         let py = slf.py();
-        let deadline = match borrowed(slf)?.processor.sync_timeout().0 {
+        let deadline = match borrowed(slf)?.processor.sync_timeout().sync_timeout() {
             Some(deadline) => deadline,
             None => return Ok(py.None()),
         };

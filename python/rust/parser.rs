@@ -3,7 +3,7 @@
 use crate::calls::Kind;
 use crate::events::{Kinds, Recorder};
 use crate::objects::{borrowed, bytes, bytes_of, error, integer, text, tuple};
-use crate::reader::{read, Reader};
+use crate::reader::{read, step, Reader};
 use crate::tape::Tape;
 use pyo3::exceptions::{PyTypeError, PyValueError};
 use pyo3::prelude::*;
@@ -180,6 +180,7 @@ impl Reader for Parser {
                 return Ok(skipped);
             }
         }
+        let bytes = step(bytes);
         recorder.tape.reserve(bytes.len(), command)?;
         recorder.go_on();
         let (read, lost_data) = match machine {

@@ -1,7 +1,7 @@
 //! The processor of calls.
 
 use crate::objects::{borrowed, bytes_of, integer, list, no_memory, real};
-use crate::reader::{make, read, Reader};
+use crate::reader::{make, read, step, Reader};
 use crate::tape::Tape;
 use pyo3::prelude::*;
 use pyo3::sync::GILOnceCell;
@@ -97,7 +97,7 @@ impl Reader for Processor {
     }
 
     fn read(&mut self, bytes: &[u8]) -> Result<usize, Refused> {
-        let before = self.calls.0.size();
+        let (bytes, before) = (step(bytes), self.calls.0.size());
         let most = self.processor.sync_bytes_count() + bytes.len();
         self.calls.0.reserve(most, self.command)?;
         self.processor.advance_text(&mut self.calls, bytes)?;

@@ -1,28 +1,35 @@
 //! How streams are read, and what an error has.
 
 use crate::calls::Kind;
-use crate::objects::{integer, list, no_memory, run};
+use crate::objects::{integer, list, no_memory, run, LONG};
 use crate::tape::{classes, Tape};
 use pyo3::exceptions::PyMemoryError;
 use pyo3::prelude::*;
 use pyo3::types::PyList;
 use vte::Refused;
 
-/// How many bytes are read between two questions for memory, and how many objects are recorded
-/// before they are made.
-const STEP: usize = 1 << 14;
-const MOST: usize = 1 << 14;
+/// How many bytes are read between two questions for memory.
+const STEP: usize = 1 << 11;
+/// How many objects are recorded before they are made: few, because their memory is then at hand,
+/// but not if the lock is taken again each time.
+const MOST: usize = 1 << 10;
+const MOST_OF_LONG: usize = 1 << 14;
 
 /// Records what a stream adds.
 pub trait Reader: Send {
     fn tape(&mut self) -> &mut Tape;
 
-    /// Reads some of the bytes, at most `STEP`, and returns how many.
+    /// Reads some of the bytes, and returns how many.
     fn read(&mut self, bytes: &[u8]) -> Result<usize, Refused>;
 
     fn has_stopped(&self) -> bool {
         false
     }
+}
+
+/// The bytes of a step.
+pub fn step(bytes: &[u8]) -> &[u8] {
+    &bytes[..bytes.len().min(STEP)]
 }
 
 /// Reads bytes up to a stop. Returns a list of what they add, and how many were read.
@@ -48,8 +55,13 @@ pub fn read(
 /// Reads until objects are to be made. Returns how much was read, and whether memory was refused.
 fn read_some(reader: &mut impl Reader, source: &[u8]) -> (usize, bool) {
     let mut at = 0;
-    while at < source.len() && reader.tape().count() < MOST && !reader.has_stopped() {
-        match reader.read(&source[at..source.len().min(at + STEP)]) {
+    let most = if source.len() < LONG {
+        MOST
+    } else {
+        MOST_OF_LONG
+    };
+    while at < source.len() && reader.tape().count() < most && !reader.has_stopped() {
+        match reader.read(&source[at..]) {
             Ok(read) => at += read,
             Err(Refused { read }) => return (at + read, true),
         }

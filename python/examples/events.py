@@ -1,9 +1,4 @@
-"""Writes the events of its standard input, one line each, as vtlog does.
-
-events.py [strip|long] [PIECE]
-"""
-import sys
-
+"""Writes the events of its standard input, one line each, as `vtlog long` does."""
 import vte
 
 
@@ -34,19 +29,6 @@ def line(event):
     return f"{head} {truth(event.ignore)} {ord(event.final):02x}"
 
 
-def main(words):
-    strips, is_long = words[:1] == ["strip"], words[:1] == ["long"]
-    piece = int((words[strips or is_long:] or ["4096"])[0])
-    parser = vte.Stripper() if strips else vte.Parser(limit=None if is_long else 1024)
-    # read1 returns what is there; read would wait for the whole piece
-    while data := sys.stdin.buffer.read1(piece):
-        if strips:
-            sys.stdout.buffer.write(parser.strip(data))
-        else:
-            lines = "".join(line(event) + "\n" for event in parser.feed(data))
-            sys.stdout.buffer.write(lines.encode())
-        sys.stdout.buffer.flush()
-
-
 if __name__ == "__main__":
-    main(sys.argv[1:])
+    for event in vte.open(0):
+        print(line(event), flush=True)

@@ -1,7 +1,7 @@
 """A screen of 80 by 24 cells, kept from the calls of a processor.
 
-screen.py [PIECE] shows the one that its standard input leaves. It knows what crates/examples
-knows: text, the cursor, erasing, and how cells look.
+Shows the one that its standard input leaves. It knows what crates/examples knows: text, the cursor,
+erasing, and how cells look.
 """
 from __future__ import annotations
 
@@ -10,25 +10,19 @@ from typing import NamedTuple
 
 import vte
 from vte import calls
-from vte.calls import Attribute
+from vte.calls import Attribute, NamedColor
 
 COLUMNS, ROWS = 80, 24
 
 
-class Style(NamedTuple):
-    """How a cell looks."""
+class Cell(NamedTuple):
+    character: str = " "
     foreground: calls.Color | None = None
     background: calls.Color | None = None
     attributes: frozenset[Attribute] = frozenset()
 
 
-class Cell(NamedTuple):
-    character: str = " "
-    style: Style = Style()
-
-
-# what an attribute adds, and what one takes away
-ADDED = {Attribute.Bold, Attribute.Italic, Attribute.Underline, Attribute.Reverse}
+# what an attribute takes away
 REMOVED = {
     Attribute.CancelBoldDim: Attribute.Bold,
     Attribute.CancelItalic: Attribute.Italic,
@@ -41,31 +35,19 @@ class Screen:
     """A grid of cells, and a cursor that never leaves it."""
 
     def __init__(self) -> None:
-        self._processor = vte.Processor()
-        self._lines = [[Cell()] * COLUMNS for _ in range(ROWS)]
+        self.lines = [[Cell()] * COLUMNS for _ in range(ROWS)]
         # the column is COLUMNS after a character in the last one: the next goes to the next row
         self._row = self._column = 0
-        self._style = Style()
+        # a blank that looks as the next character
+        self._pen = Cell()
 
-    def feed(self, data: bytes) -> None:
-        """Shows more of a stream."""
-        for call in self._processor.feed(data):
-            self._take(call)
-
-    def end(self) -> None:
-        """Shows what an update that didn't end holds."""
-        for call in self._processor.stop_sync():
-            self._take(call)
-
-    def text(self) -> str:
+    def __str__(self) -> str:
         """The characters of all rows, without blanks at their ends."""
-        rows = ("".join(cell.character for cell in line) for line in self._lines)
+        rows = ("".join(cell.character for cell in line) for line in self.lines)
         return "".join(row.rstrip() + "\n" for row in rows)
 
-    def cell(self, row: int, column: int) -> Cell:
-        return self._lines[row][column]
-
-    def _take(self, call: calls.Call) -> None:
+    def take(self, call: calls.Call) -> None:
+        """Does what a call asks for."""
         row, column = self._row, min(self._column, COLUMNS - 1)
         match call:
             case calls.Input(text):
@@ -106,17 +88,17 @@ class Screen:
             if self._column == COLUMNS:
                 self._feed_line()
                 self._column = 0
-            self._lines[self._row][self._column] = Cell(character, self._style)
+            self.lines[self._row][self._column] = self._pen._replace(character=character)
             self._column += 1
 
     def _feed_line(self) -> None:
         if self._row + 1 == ROWS:
-            self._lines.append([self._blank()] * COLUMNS)
-            del self._lines[0]
+            self.lines.append([self._erased()] * COLUMNS)
+            del self.lines[0]
         self._move(self._row + 1, self._column)
 
-    def _blank(self) -> Cell:
-        return Cell(" ", self._style._replace(attributes=frozenset()))
+    def _erased(self) -> Cell:
+        return self._pen._replace(attributes=frozenset())
 
     def _erase(self, part: int, rows: range) -> None:
         """Blanks what is behind the cursor, before it, or everything, of some rows."""
@@ -125,31 +107,31 @@ class Screen:
             for column in range(COLUMNS):
                 place = row, column
                 if part == 2 or part == 0 and place >= cursor or part == 1 and place <= cursor:
-                    self._lines[row][column] = self._blank()
+                    self.lines[row][column] = self._erased()
 
     def _change(self, attribute: Attribute, color: calls.Color | None) -> None:
-        style = self._style
-        if color in (calls.NamedColor.Foreground, calls.NamedColor.Background):
+        if color in (NamedColor.Foreground, NamedColor.Background):
             color = None
-        if attribute is Attribute.Reset:
-            self._style = Style()
-        elif attribute is Attribute.Foreground:
-            self._style = style._replace(foreground=color)
-        elif attribute is Attribute.Background:
-            self._style = style._replace(background=color)
-        elif attribute in ADDED:
-            self._style = style._replace(attributes=style.attributes | {attribute})
-        elif attribute in REMOVED:
-            self._style = style._replace(attributes=style.attributes - {REMOVED[attribute]})
-
-
-def main(words: list[str]) -> None:
-    screen = Screen()
-    while data := sys.stdin.buffer.read1(int(words[0]) if words else 4096):
-        screen.feed(data)
-    screen.end()
-    sys.stdout.write(screen.text())
+        pen = self._pen
+        match attribute:
+            case Attribute.Reset:
+                self._pen = Cell()
+            case Attribute.Foreground:
+                self._pen = pen._replace(foreground=color)
+            case Attribute.Background:
+                self._pen = pen._replace(background=color)
+            case _:
+                kept = pen.attributes - {REMOVED.get(attribute, attribute)}
+                added = {attribute}.intersection(REMOVED.values())
+                self._pen = pen._replace(attributes=kept | added)
 
 
 if __name__ == "__main__":
-    main(sys.argv[1:])
+    processor, screen = vte.Processor(), Screen()
+    while data := sys.stdin.buffer.read1(4096):
+        for call in processor.feed(data):
+            screen.take(call)
+    # what an update that didn't end holds
+    for call in processor.stop_sync():
+        screen.take(call)
+    print(screen, end="")

@@ -43,7 +43,7 @@ classes! {
     InsertBlank(cols) InsertBlankLines(lines) DeleteChars(cols) DeleteLines(lines) EraseChars(cols)
     ClearLine(part) ClearScreen(part) Decaln TerminalAttribute(attribute) SetColor(index, color)
     ResetColor(index) DynamicColorSequence(prefix, index, terminator) SetHyperlink(link)
-    SetCursorStyle(style) SetCursorShape(shape) SetMouseCursorIcon(icon) SetActiveCharset(index)
+    SetCursorStyle(style) SetCursorShape(shape) SetMouseCursorIcon(keyword) SetActiveCharset(index)
     ConfigureCharset(index, charset) SetScp(path, update) SetMode(mode) UnsetMode(mode)
     ReportMode(mode) SetPrivateMode(mode) UnsetPrivateMode(mode) ReportPrivateMode(mode) ResetState
     SetKeypadApplicationMode UnsetKeypadApplicationMode PushKeyboardMode(modes)

@@ -1,6 +1,6 @@
 //! The events of a stream.
 
-use crate::calls::{Kind, NAMES};
+use crate::calls::Kind;
 use crate::tape::{classes, Field, Is, Tape, Value};
 use pyo3::exceptions::PyTypeError;
 use pyo3::prelude::*;
@@ -11,7 +11,6 @@ use vte::{Params, Perform, PerformText};
 pub struct Kinds(u16);
 
 impl Kinds {
-    pub const NONE: Kinds = Kinds(0);
     /// All but `Data`, which stands for `Put`.
     pub const ALL: Kinds = Kinds((1 << Kind::Data as u16) - 1);
     const COMMANDS: Kinds = Kinds(1 << Kind::Osc as u16);
@@ -22,20 +21,14 @@ impl Kinds {
 
     /// Those that an iterable over classes names.
     pub fn of(kinds: &Bound<'_, PyAny>) -> PyResult<Self> {
-        let count = Kind::Data as usize + 1;
-        let wrong = || {
-            let names = NAMES[..count].join(", vte.");
-            let wrong = format!("kinds must be types of events (vte.{names}), not {kinds:?}");
-            PyTypeError::new_err(wrong)
-        };
-        let events = &classes(kinds.py())?[..count];
-        let mut made = Kinds::NONE;
-        let is_wrong = |error: PyErr| match error.is_instance_of::<PyTypeError>(kinds.py()) {
-            true => wrong(),
-            false => error,
-        };
-        for kind in kinds.iter().map_err(is_wrong)? {
+        let events = &classes(kinds.py())?[..=Kind::Data as usize];
+        let mut made = Kinds::default();
+        for kind in kinds.iter()? {
             let kind = kind?;
+            let wrong = || {
+                let wrong = format!("kinds must be types of events, such as vte.Osc, not {kind:?}");
+                PyTypeError::new_err(wrong)
+            };
             let place = events.iter().position(|class| class.is(&kind));
             made.0 |= 1 << place.ok_or_else(wrong)?;
         }
@@ -52,7 +45,7 @@ pub struct Recorder {
     kinds: Kinds,
     stops: Kinds,
     is_paused: bool,
-    has_stopped: bool,
+    pub has_stopped: bool,
     // where it stands whether the last command lost data
     truncated: Option<usize>,
 }
@@ -66,10 +59,6 @@ impl Recorder {
         (self.is_paused, self.truncated) = (false, None);
     }
 
-    pub fn has_stopped(&self) -> bool {
-        self.has_stopped
-    }
-
     pub fn only_commands(&self) -> bool {
         self.kinds == Kinds::COMMANDS
     }
@@ -81,12 +70,18 @@ impl Recorder {
         }
     }
 
-    /// Records an event, if it is wanted.
-    fn add(&mut self, kind: Kind, record: impl FnOnce(&mut Tape) -> &mut Tape) {
+    /// Begins an event, whose fields are to follow, if it is wanted.
+    #[inline]
+    fn begin(&mut self, kind: Kind) -> Option<&mut Tape> {
         self.has_stopped |= self.stops.has(kind);
         self.is_paused |= self.has_stopped || kind == Kind::Osc || self.only_commands();
+        self.tape.end_run();
+        self.kinds.has(kind).then(|| self.tape.begin(kind))
+    }
+
+    fn add_run<T: Field + AsRef<[u8]>>(&mut self, kind: Kind, run: T) {
         match self.kinds.has(kind) {
-            true => drop(record(&mut self.tape)),
+            true => self.tape.add_run(kind, run),
             false => self.tape.end_run(),
         }
     }
@@ -114,58 +109,52 @@ fn brief(bytes: &[u8]) -> Value {
 
 impl Perform for Recorder {
     fn execute(&mut self, byte: u8) {
-        self.add(Kind::Execute, |tape| {
-            tape.begin(Kind::Execute).with(u16::from(byte))
-        });
+        if let Some(tape) = self.begin(Kind::Execute) {
+            tape.with(u16::from(byte));
+        }
     }
 
     fn put(&mut self, byte: u8) {
-        self.add(Kind::Put, |tape| {
-            tape.begin(Kind::Put).with(u16::from(byte))
-        });
+        if let Some(tape) = self.begin(Kind::Put) {
+            tape.with(u16::from(byte));
+        }
     }
 
     fn unhook(&mut self) {
-        self.add(Kind::Unhook, |tape| tape.begin(Kind::Unhook));
+        self.begin(Kind::Unhook);
     }
 
     fn hook(&mut self, params: &Params, intermediates: &[u8], ignore: bool, action: char) {
-        self.add(Kind::Hook, |tape| {
-            tape.begin(Kind::Hook)
-                .with(params)
+        if let Some(tape) = self.begin(Kind::Hook) {
+            tape.with(params)
                 .with(brief(intermediates))
                 .with(ignore)
-                .with(action)
-        });
+                .with(action);
+        }
     }
 
     fn csi_dispatch(&mut self, params: &Params, intermediates: &[u8], ignore: bool, action: char) {
-        self.add(Kind::Csi, |tape| {
-            tape.begin(Kind::Csi)
-                .with(params)
+        if let Some(tape) = self.begin(Kind::Csi) {
+            tape.with(params)
                 .with(brief(intermediates))
                 .with(ignore)
-                .with(action)
-        });
+                .with(action);
+        }
     }
 
     fn esc_dispatch(&mut self, intermediates: &[u8], ignore: bool, byte: u8) {
-        self.add(Kind::Esc, |tape| {
-            tape.begin(Kind::Esc)
-                .with(brief(intermediates))
+        if let Some(tape) = self.begin(Kind::Esc) {
+            tape.with(brief(intermediates))
                 .with(ignore)
-                .with(char::from(byte))
-        });
+                .with(char::from(byte));
+        }
     }
 
     fn osc_dispatch(&mut self, pieces: &[&[u8]], bell_terminated: bool) {
-        self.add(Kind::Osc, |tape| {
-            let pieces = tape
-                .begin(Kind::Osc)
-                .with_tuple(pieces.len(), pieces.iter().copied());
-            pieces.with(bell_terminated).with(false)
-        });
-        self.truncated = self.kinds.has(Kind::Osc).then(|| self.tape.last_value());
+        if let Some(tape) = self.begin(Kind::Osc) {
+            tape.with_tuple(pieces.len(), pieces.iter().copied());
+            self.truncated = Some(tape.with(bell_terminated).with(false).last_value());
+        }
     }
 
     fn terminated(&self) -> bool {
@@ -175,15 +164,12 @@ impl Perform for Recorder {
 
 impl PerformText for Recorder {
     fn print_text(&mut self, text: &str) {
-        match self.kinds.has(Kind::Text) {
-            true => self.tape.add_run(Kind::Text, text),
-            false => self.tape.end_run(),
-        }
+        self.add_run(Kind::Text, text);
     }
 
     fn put_slice(&mut self, data: &[u8]) {
         match self.kinds.has(Kind::Data) {
-            true => self.tape.add_run(Kind::Data, data),
+            true => self.add_run(Kind::Data, data),
             false => data.iter().for_each(|byte| self.put(*byte)),
         }
     }

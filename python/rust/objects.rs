@@ -4,9 +4,9 @@
 //! return an error instead. A named tuple is made by the allocator of its class, as `tuple.__new__`
 //! makes it, in a quarter of the time of a call of the class.
 
-use pyo3::exceptions::{PyRuntimeError, PyTypeError};
+use pyo3::exceptions::PyRuntimeError;
 use pyo3::pyclass::boolean_struct::False;
-use pyo3::types::{PyBool, PyBytes, PyList, PyString, PyTuple, PyType};
+use pyo3::types::{PyBytes, PyList, PyString, PyTuple, PyType};
 use pyo3::{ffi, prelude::*, PyClass, PyTypeInfo};
 
 /// From how many bytes on other threads may run meanwhile. Below, a release costs more than it
@@ -38,14 +38,9 @@ pub fn borrowed<'py, T: PyClass<Frozen = False>>(
 }
 
 /// The bytes of an object with a buffer. Those that can change meanwhile are copied.
-pub fn bytes_of<'py>(data: &Bound<'py, PyAny>, what: &str) -> PyResult<Bound<'py, PyBytes>> {
+pub fn bytes_of<'py>(data: &Bound<'py, PyAny>) -> PyResult<Bound<'py, PyBytes>> {
     if let Ok(bytes) = data.downcast::<PyBytes>() {
         return Ok(bytes.clone());
-    }
-    if data.is_instance_of::<PyString>() {
-        return Err(PyTypeError::new_err(format!(
-            "{what} takes bytes, not str: pass text.encode(), or read the stream in binary mode"
-        )));
     }
     let py = data.py();
     // SAFETY: new references
@@ -53,40 +48,20 @@ pub fn bytes_of<'py>(data: &Bound<'py, PyAny>, what: &str) -> PyResult<Bound<'py
         made(py, ffi::PyMemoryView_FromObject(data.as_ptr()))
             .and_then(|view| made(py, ffi::PyBytes_FromObject(view.as_ptr())))
     };
-    match copied {
-        Ok(bytes) => Ok(bytes.into_bound(py).downcast_into()?),
-        Err(error) if error.is_instance_of::<PyTypeError>(py) => {
-            Err(PyTypeError::new_err(format!(
-                "{what} takes bytes, or another object with a buffer, not {}",
-                data.get_type().name()?
-            )))
-        }
-        Err(error) => Err(error),
-    }
+    Ok(copied?.into_bound(py).downcast_into()?)
 }
 
-/// The bytes of a `str` in an encoding, both named by texts that end in NUL.
+/// A `str` in UTF-8. What errors of codecs do is named by a text that ends in NUL.
 pub fn encoded<'py>(
     text: &Bound<'py, PyString>,
-    encoding: &'static str,
     errors: &'static str,
 ) -> PyResult<Bound<'py, PyBytes>> {
-    debug_assert!(encoding.ends_with('\0') && errors.ends_with('\0'));
-    let (encoding, errors) = (encoding.as_ptr().cast(), errors.as_ptr().cast());
+    debug_assert!(errors.ends_with('\0'));
+    let (py, text) = (text.py(), text.as_ptr());
+    let (utf8, errors) = ("utf-8\0".as_ptr().cast(), errors.as_ptr().cast());
     // SAFETY: a `str`, texts that end in NUL, and a new reference
-    let made = unsafe {
-        made(
-            text.py(),
-            ffi::PyUnicode_AsEncodedString(text.as_ptr(), encoding, errors),
-        )?
-    };
-    Ok(made.into_bound(text.py()).downcast_into()?)
-}
-
-/// Whether this is a `str` or `bytes`, and of no class made from them: then it can be returned as
-/// it is.
-pub fn is_plain(data: &Bound<'_, PyAny>) -> bool {
-    data.is_exact_instance_of::<PyBytes>() || data.is_exact_instance_of::<PyString>()
+    let encoded = unsafe { made(py, ffi::PyUnicode_AsEncodedString(text, utf8, errors))? };
+    Ok(encoded.into_bound(py).downcast_into()?)
 }
 
 /// The error of memory that was refused, which needs none itself.
@@ -112,39 +87,22 @@ fn size(length: usize) -> ffi::Py_ssize_t {
 
 /// A `str` of text in UTF-8, which Python checks.
 pub fn text(py: Python<'_>, utf8: &[u8]) -> PyResult<PyObject> {
-    let place = utf8.as_ptr().cast();
-    // SAFETY: the bytes are those of a slice, and null stands for strict
-    unsafe {
-        let made_of = ffi::PyUnicode_DecodeUTF8(place, size(utf8.len()), std::ptr::null());
-        made(py, made_of)
-    }
+    decoded(py, utf8, "strict\0")
 }
 
-/// A `str` of bytes in an encoding, as `encoded` has them.
-pub fn decoded(
-    py: Python<'_>,
-    content: &[u8],
-    encoding: &'static str,
-    errors: &'static str,
-) -> PyResult<PyObject> {
-    debug_assert!(encoding.ends_with('\0') && errors.ends_with('\0'));
-    let (encoding, errors) = (encoding.as_ptr().cast(), errors.as_ptr().cast());
-    let place = content.as_ptr().cast();
-    // SAFETY: the bytes are those of a slice, and the texts end in NUL
-    unsafe {
-        let made_of = ffi::PyUnicode_Decode(place, size(content.len()), encoding, errors);
-        made(py, made_of)
-    }
+/// A `str` of bytes, as `encoded` makes them.
+pub fn decoded(py: Python<'_>, utf8: &[u8], errors: &'static str) -> PyResult<PyObject> {
+    debug_assert!(errors.ends_with('\0'));
+    let (place, length) = (utf8.as_ptr().cast(), size(utf8.len()));
+    let errors = errors.as_ptr().cast();
+    // SAFETY: the bytes are those of a slice, and the text ends in NUL
+    unsafe { made(py, ffi::PyUnicode_DecodeUTF8(place, length, errors)) }
 }
 
 pub fn bytes(py: Python<'_>, content: &[u8]) -> PyResult<PyObject> {
+    let (place, length) = (content.as_ptr().cast(), size(content.len()));
     // SAFETY: the bytes are those of a slice
-    unsafe {
-        made(
-            py,
-            ffi::PyBytes_FromStringAndSize(content.as_ptr().cast(), size(content.len())),
-        )
-    }
+    unsafe { made(py, ffi::PyBytes_FromStringAndSize(place, length)) }
 }
 
 pub fn integer(py: Python<'_>, value: i64) -> PyResult<PyObject> {
@@ -155,10 +113,6 @@ pub fn integer(py: Python<'_>, value: i64) -> PyResult<PyObject> {
 pub fn real(py: Python<'_>, value: f64) -> PyResult<PyObject> {
     // SAFETY: the lock is held
     unsafe { made(py, ffi::PyFloat_FromDouble(value)) }
-}
-
-pub fn flag(py: Python<'_>, value: bool) -> PyObject {
-    PyBool::new_bound(py, value).to_owned().into_any().unbind()
 }
 
 /// A tuple of as many values.
@@ -209,11 +163,10 @@ pub struct Class {
 impl Class {
     pub fn of(class: Bound<'_, PyAny>) -> PyResult<Self> {
         let is_tuple = class.downcast::<PyType>()?.is_subclass_of::<PyTuple>()?;
-        // what is no tuple is made of its number
-        let fields = match is_tuple {
-            true => class.getattr("_fields")?.len()?,
-            false => 1,
-        };
+        // what is no named tuple is made of its number
+        let fields = class
+            .getattr("_fields")
+            .map_or(Ok(1), |names| names.len())?;
         Ok(Class {
             is_allocated: is_tuple && class.py().version_info() < (3, 14),
             fields,

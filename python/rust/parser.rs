@@ -14,58 +14,41 @@ use vte::{LongParser, Own as _, Refused, Saved};
 /// How many data bytes of a command a parser with a limit keeps.
 const LIMIT: usize = 1024;
 
-/// A parser that keeps 1,024 data bytes of a command, as plain data of which each value is some
-/// parser.
-pub struct Limited(pub vte::Parser<LIMIT>);
+/// A parser that keeps 1,024 data bytes of a command.
+pub type Limited = vte::BoundedParser<LIMIT>;
 
-const WORDS: usize = size_of::<Saved>() / size_of::<u64>();
-const _: () =
-    assert!(size_of::<Saved>() % size_of::<u64>() == 0 && align_of::<Saved>() <= align_of::<u64>());
+/// The bytes of a saved parser. Any bytes are some parser.
+#[repr(C, align(8))]
+struct Content([u8; size_of::<Saved>()]);
+const _: () = assert!(align_of::<Saved>() <= align_of::<Content>());
 
-impl Limited {
-    pub fn new() -> Self {
-        Limited(vte::Parser::new())
-    }
-
-    /// The parser and the version of this package, to be pickled.
-    pub fn state(&self, py: Python<'_>) -> PyResult<PyObject> {
-        let mut words = [0u64; WORDS];
-        // SAFETY: it is plain data with the size of the words, and needs no larger alignment
-        self.0
-            .save(unsafe { &mut *words.as_mut_ptr().cast::<Saved>() });
-        let mut content = [0; WORDS * size_of::<u64>()];
-        for (part, word) in content.chunks_exact_mut(size_of::<u64>()).zip(words) {
-            part.copy_from_slice(&word.to_ne_bytes());
-        }
-        let version = text(py, env!("CARGO_PKG_VERSION").as_bytes());
-        tuple(py, 2, [version, bytes(py, &content)].into_iter())
-    }
-
-    /// The parser of a state.
-    pub fn of_state(state: &Bound<'_, PyAny>) -> PyResult<Self> {
-        let pair = state.extract::<(Bound<'_, PyString>, Bound<'_, PyBytes>)>();
-        let content = match &pair {
-            Ok((version, content)) if version.to_str()? == env!("CARGO_PKG_VERSION") => {
-                content.as_bytes()
-            }
-            _ => &[],
-        };
-        if content.len() != size_of::<Saved>() {
-            let wrong = "this was pickled with another version of the package\0";
-            return Err(error::<PyValueError>(state.py(), wrong));
-        }
-        let mut words = [0u64; WORDS];
-        for (word, part) in words.iter_mut().zip(content.chunks_exact(size_of::<u64>())) {
-            *word = u64::from_ne_bytes(part.try_into().expect("a chunk has its size"));
-        }
-        // SAFETY: as in `state`, and any bytes are some parser
-        Ok(Limited(vte::Parser::restored(unsafe {
-            &*words.as_ptr().cast::<Saved>()
-        })))
+impl Content {
+    fn saved(&mut self) -> &mut Saved {
+        // SAFETY: plain data of this size, aligned, for which any bytes do
+        unsafe { &mut *self.0.as_mut_ptr().cast() }
     }
 }
 
-/// A parser with a limit or without.
+/// A parser and the version of this package, to be pickled.
+pub fn state_of(py: Python<'_>, parser: &Limited) -> PyResult<PyObject> {
+    let mut content = Content([0; size_of::<Saved>()]);
+    parser.save(content.saved());
+    let version = text(py, env!("CARGO_PKG_VERSION").as_bytes());
+    tuple(py, 2, [version, bytes(py, &content.0)].into_iter())
+}
+
+/// The parser of a state.
+pub fn restored(state: &Bound<'_, PyAny>) -> PyResult<Limited> {
+    if let Ok((version, content)) = state.extract::<(Bound<'_, PyString>, Bound<'_, PyBytes>)>() {
+        let content = content.as_bytes().try_into().map(Content);
+        if let (env!("CARGO_PKG_VERSION"), Ok(mut content)) = (version.to_str()?, content) {
+            return Ok(Limited::restored(content.saved()));
+        }
+    }
+    let wrong = "this was pickled with another version of the package\0";
+    Err(error::<PyValueError>(state.py(), wrong))
+}
+
 enum Machine {
     Long(LongParser),
     Limited(Limited),
@@ -107,14 +90,6 @@ impl Parser {
         }
     }
 
-    fn __repr__(slf: &Bound<'_, Self>) -> PyResult<PyObject> {
-        let shown: &[u8] = match borrowed(slf)?.machine {
-            Machine::Long(_) => b"vte.Parser(limit=None)",
-            Machine::Limited(_) => b"vte.Parser(limit=1024)",
-        };
-        text(slf.py(), shown)
-    }
-
     /// Reads the next bytes of the stream, and returns the events that they add to it.
     ///
     /// `kinds` is a set of types of events: then only these are returned, and the others cost
@@ -127,12 +102,7 @@ impl Parser {
         data: &Bound<'_, PyAny>,
         kinds: Option<&Bound<'_, PyAny>>,
     ) -> PyResult<PyObject> {
-        let source = bytes_of(data, "feed")?;
-        let kinds = kinds.map_or(Ok(Kinds::ALL), Kinds::of)?;
-        let mut parser = borrowed(slf)?;
-        parser.recorder.start(kinds, Kinds::default());
-        let (events, _) = read(slf.py(), &mut *parser, source.as_bytes())?;
-        Ok(events.into_any().unbind())
+        Ok(read_events(slf, data, kinds, Kinds::default())?.0)
     }
 
     /// Reads the next bytes up to the first event of the types `stops`, and that too. Returns a
@@ -147,17 +117,12 @@ impl Parser {
         stops: &Bound<'_, PyAny>,
         kinds: Option<&Bound<'_, PyAny>>,
     ) -> PyResult<PyObject> {
-        let (source, stops) = (bytes_of(data, "feed_until")?, Kinds::of(stops)?);
-        let kinds = kinds.map_or(Ok(Kinds::ALL), Kinds::of)?;
-        let py = slf.py();
+        let (py, stops) = (slf.py(), Kinds::of(stops)?);
         if stops.has(Kind::Text) || stops.has(Kind::Data) {
             let wrong = "stops can't have vte.Text or vte.Data\0";
             return Err(error::<PyValueError>(py, wrong));
         }
-        let mut parser = borrowed(slf)?;
-        parser.recorder.start(kinds, stops);
-        let (events, read) = read(py, &mut *parser, source.as_bytes())?;
-        let events = events.into_any().unbind();
+        let (events, read) = read_events(slf, data, kinds, stops)?;
         tuple(py, 2, [Ok(events), integer(py, read as i64)].into_iter())
     }
 
@@ -170,15 +135,28 @@ impl Parser {
     fn __getstate__(slf: &Bound<'_, Self>) -> PyResult<PyObject> {
         let wrong = "only parsers with a limit can be copied and pickled: vte.Parser(limit=1024)\0";
         match &borrowed(slf)?.machine {
-            Machine::Limited(limited) => limited.state(slf.py()),
+            Machine::Limited(parser) => state_of(slf.py(), parser),
             Machine::Long(_) => Err(error::<PyTypeError>(slf.py(), wrong)),
         }
     }
 
     fn __setstate__(slf: &Bound<'_, Self>, state: &Bound<'_, PyAny>) -> PyResult<()> {
-        borrowed(slf)?.machine = Machine::Limited(Limited::of_state(state)?);
+        borrowed(slf)?.machine = Machine::Limited(restored(state)?);
         Ok(())
     }
+}
+
+/// Reads bytes up to a stop. Returns the events, and how many bytes were read.
+fn read_events(
+    parser: &Bound<'_, Parser>,
+    data: &Bound<'_, PyAny>,
+    kinds: Option<&Bound<'_, PyAny>>,
+    stops: Kinds,
+) -> PyResult<(PyObject, usize)> {
+    let (source, kinds) = (bytes_of(data)?, kinds.map_or(Ok(Kinds::ALL), Kinds::of)?);
+    let mut reader = borrowed(parser)?;
+    reader.recorder.start(kinds, stops);
+    read(parser.py(), &mut *reader, source.as_bytes())
 }
 
 impl Reader for Parser {
@@ -187,14 +165,14 @@ impl Reader for Parser {
     }
 
     fn has_stopped(&self) -> bool {
-        self.recorder.has_stopped()
+        self.recorder.has_stopped
     }
 
     fn read(&mut self, bytes: &[u8]) -> Result<usize, Refused> {
         let Parser { machine, recorder } = self;
         let (is_open, command) = match machine {
             Machine::Long(parser) => (parser.is_open(), parser.stored()),
-            Machine::Limited(parser) => (parser.0.is_open(), LIMIT),
+            Machine::Limited(parser) => (parser.is_open(), LIMIT),
         };
         if recorder.only_commands() && !is_open {
             let skipped = skipped(bytes);
@@ -202,18 +180,16 @@ impl Reader for Parser {
                 return Ok(skipped);
             }
         }
-        let step = step(bytes);
-        if !recorder.tape.reserve(step.len(), command) {
-            return Err(Refused { read: 0 });
-        }
+        let bytes = step(bytes);
+        recorder.tape.reserve(bytes.len(), command)?;
         recorder.go_on();
         let (read, lost_data) = match machine {
             Machine::Long(parser) => {
-                let read = parser.advance_text_until_terminated(recorder, step)?;
+                let read = parser.advance_text_until_terminated(recorder, bytes)?;
                 (read, parser.command_lost_data())
             }
-            Machine::Limited(Limited(parser)) => {
-                let read = parser.advance_text_until_terminated(recorder, step);
+            Machine::Limited(parser) => {
+                let read = parser.advance_text_until_terminated(recorder, bytes);
                 (read, parser.command_lost_data())
             }
         };

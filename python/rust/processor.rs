@@ -1,32 +1,14 @@
 //! The processor of calls.
 
-use crate::objects::{borrowed, bytes_of, integer, list, no_memory, real, text};
+use crate::objects::{borrowed, bytes_of, integer, list, no_memory, real};
 use crate::reader::{make, read, step, Reader};
 use crate::tape::Tape;
 use pyo3::prelude::*;
 use pyo3::sync::GILOnceCell;
-use std::time::{Duration, Instant};
+use std::time::Instant;
 use vte::ansi::lent::{ByCall, LongProcessor};
-use vte::ansi::Timeout;
+use vte::ansi::StdSyncHandler;
 use vte::Refused;
-
-/// When an update that is held ends.
-#[derive(Default)]
-struct Deadline(Option<Instant>);
-
-impl Timeout for Deadline {
-    fn set_timeout(&mut self, duration: Duration) {
-        self.0 = Some(Instant::now() + duration);
-    }
-
-    fn clear_timeout(&mut self) {
-        self.0 = None;
-    }
-
-    fn pending_timeout(&self) -> bool {
-        self.0.is_some()
-    }
-}
 
 /// The function `time.monotonic`.
 pub fn monotonic(py: Python<'_>) -> PyResult<&'static PyObject> {
@@ -43,7 +25,7 @@ pub fn monotonic(py: Python<'_>) -> PyResult<&'static PyObject> {
 /// `sync_timeout`, call `stop_sync`.
 #[pyclass(module = "vte", subclass, weakref)]
 pub struct Processor {
-    processor: LongProcessor<Deadline>,
+    processor: LongProcessor<StdSyncHandler>,
     calls: ByCall<Tape>,
     // how many bytes an open command has at most
     command: usize,
@@ -53,16 +35,12 @@ pub struct Processor {
 impl Processor {
     #[new]
     fn new(py: Python<'_>) -> PyResult<Self> {
-        let processor = LongProcessor::new(Deadline(None)).map_err(|_| no_memory(py))?;
+        let processor = LongProcessor::new(StdSyncHandler::default()).map_err(|_| no_memory(py))?;
         Ok(Processor {
             processor,
             calls: ByCall(Tape::default()),
             command: 0,
         })
-    }
-
-    fn __repr__(slf: &Bound<'_, Self>) -> PyResult<PyObject> {
-        text(slf.py(), b"vte.Processor()")
     }
 
     /// Reads the next bytes of the stream, and returns the calls that they add.
@@ -71,23 +49,22 @@ impl Processor {
     /// calls of these bytes were lost.
     #[pyo3(signature = (data))]
     fn feed(slf: &Bound<'_, Self>, data: &Bound<'_, PyAny>) -> PyResult<PyObject> {
-        let source = bytes_of(data, "feed")?;
-        let (made, _) = read(slf.py(), &mut *borrowed(slf)?, source.as_bytes())?;
-        Ok(made.into_any().unbind())
+        let source = bytes_of(data)?;
+        Ok(read(slf.py(), &mut *borrowed(slf)?, source.as_bytes())?.0)
     }
 
     /// Ends an update whose end doesn't come, and returns the calls of what was held.
     fn stop_sync(slf: &Bound<'_, Self>) -> PyResult<PyObject> {
-        let (made, mut processor) = (list(slf.py())?, borrowed(slf)?);
+        let (made, mut shared) = (list(slf.py())?, borrowed(slf)?);
         let Processor {
             processor, calls, ..
-        } = &mut *processor;
+        } = &mut *shared;
         calls.0.end_run();
-        let has_room = calls.0.reserve(processor.sync_bytes_count(), 0);
-        if has_room {
+        let is_refused = calls.0.reserve(processor.sync_bytes_count(), 0).is_err();
+        if !is_refused {
             processor.stop_sync_text(calls);
         }
-        make(&made, &mut calls.0, 0, !has_room, true)?;
+        make(&made, &mut calls.0, 0, is_refused, true)?;
         Ok(made.into_any().unbind())
     }
 
@@ -101,14 +78,16 @@ impl Processor {
     #[getter]
     fn sync_timeout(slf: &Bound<'_, Self>) -> PyResult<PyObject> {
         let py = slf.py();
-        let deadline = match borrowed(slf)?.processor.sync_timeout().0 {
+        let deadline = match borrowed(slf)?.processor.sync_timeout().sync_timeout() {
             Some(deadline) => deadline,
             None => return Ok(py.None()),
         };
         let now = monotonic(py)?.call0(py)?.extract::<f64>(py)?;
         let left = deadline.saturating_duration_since(Instant::now());
-        let late = deadline.elapsed();
-        real(py, now + left.as_secs_f64() - late.as_secs_f64())
+        real(
+            py,
+            now + left.as_secs_f64() - deadline.elapsed().as_secs_f64(),
+        )
     }
 }
 
@@ -118,17 +97,14 @@ impl Reader for Processor {
     }
 
     fn read(&mut self, bytes: &[u8]) -> Result<usize, Refused> {
-        let (step, tape) = (step(bytes), &mut self.calls.0);
-        let held = self.processor.sync_bytes_count();
-        if !tape.reserve(held + step.len(), self.command) {
-            return Err(Refused { read: 0 });
-        }
-        let before = tape.size();
-        self.processor.advance_text(&mut self.calls, step)?;
+        let (bytes, before) = (step(bytes), self.calls.0.size());
+        let most = self.processor.sync_bytes_count() + bytes.len();
+        self.calls.0.reserve(most, self.command)?;
+        self.processor.advance_text(&mut self.calls, bytes)?;
         self.command = match self.calls.0.size() == before {
-            true => self.command + step.len(),
-            false => step.len(),
+            true => self.command + bytes.len(),
+            false => bytes.len(),
         };
-        Ok(step.len())
+        Ok(bytes.len())
     }
 }

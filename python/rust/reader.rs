@@ -1,18 +1,19 @@
 //! How streams are read, and what an error has.
 
 use crate::calls::Kind;
-use crate::objects::{integer, list, no_memory, run};
+use crate::objects::{integer, list, no_memory, run, LONG};
 use crate::tape::{classes, Tape};
 use pyo3::exceptions::PyMemoryError;
 use pyo3::prelude::*;
 use pyo3::types::PyList;
 use vte::Refused;
 
-/// How many bytes are read between two questions for memory, and how many bytes or objects before
-/// objects are made.
-const STEP: usize = 1 << 14;
-const PIECE: usize = 1 << 20;
-const MOST: usize = 1 << 14;
+/// How many bytes are read between two questions for memory.
+const STEP: usize = 1 << 11;
+/// How many objects are recorded before they are made: few, because their memory is then at hand,
+/// but not if the lock is taken again each time.
+const MOST: usize = 1 << 10;
+const MOST_OF_LONG: usize = 1 << 14;
 
 /// Records what a stream adds.
 pub trait Reader: Send {
@@ -32,30 +33,35 @@ pub fn step(bytes: &[u8]) -> &[u8] {
 }
 
 /// Reads bytes up to a stop. Returns a list of what they add, and how many were read.
-pub fn read<'py>(
-    py: Python<'py>,
+pub fn read(
+    py: Python<'_>,
     reader: &mut impl Reader,
     source: &[u8],
-) -> PyResult<(Bound<'py, PyList>, usize)> {
+) -> PyResult<(PyObject, usize)> {
     let (made, mut at) = (list(py)?, 0);
     reader.tape().end_run();
     loop {
-        let piece = &source[at..source.len().min(at + PIECE)];
-        let (read, is_refused) = run(py, piece.len(), || read_piece(reader, piece));
+        let rest = &source[at..];
+        let (read, is_refused) = run(py, rest.len(), || read_some(reader, rest));
         at += read;
         let ends = is_refused || at == source.len() || reader.has_stopped();
         make(&made, reader.tape(), at, is_refused, ends)?;
         if ends {
-            return Ok((made, at));
+            return Ok((made.into_any().unbind(), at));
         }
     }
 }
 
-/// Reads a piece. Returns how much was read, and whether memory was refused.
-fn read_piece(reader: &mut impl Reader, piece: &[u8]) -> (usize, bool) {
+/// Reads until objects are to be made. Returns how much was read, and whether memory was refused.
+fn read_some(reader: &mut impl Reader, source: &[u8]) -> (usize, bool) {
     let mut at = 0;
-    while at < piece.len() && reader.tape().count() < MOST && !reader.has_stopped() {
-        match reader.read(&piece[at..]) {
+    let most = if source.len() < LONG {
+        MOST
+    } else {
+        MOST_OF_LONG
+    };
+    while at < source.len() && reader.tape().count() < most && !reader.has_stopped() {
+        match reader.read(&source[at..]) {
             Ok(read) => at += read,
             Err(Refused { read }) => return (at + read, true),
         }

@@ -1,15 +1,16 @@
 //! Texts without sequences.
 
-use crate::objects::{borrowed, bytes, bytes_of, decoded, encoded, is_plain, no_memory, run, text};
-use crate::parser::Limited;
-use pyo3::exceptions::{PyUnicodeEncodeError, PyValueError};
+use crate::objects::{borrowed, bytes, bytes_of, decoded, encoded, no_memory, run};
+use crate::parser::{restored, state_of, Limited};
+use pyo3::exceptions::PyValueError;
 use pyo3::prelude::*;
-use pyo3::types::PyString;
+use pyo3::types::{PyBytes, PyString};
 use std::borrow::Cow;
 use std::collections::TryReserveError;
 use vte::{LongParser, Perform, PerformText, Refused, Taken};
 
 /// What is shown. Nothing is copied as long as it is the front of the source.
+#[derive(Default)]
 struct Shown<'a> {
     source: &'a [u8],
     same: usize,
@@ -21,9 +22,7 @@ impl<'a> Shown<'a> {
     fn new(source: &'a [u8]) -> Self {
         Shown {
             source,
-            same: 0,
-            text: Vec::new(),
-            is_refused: false,
+            ..Shown::default()
         }
     }
 
@@ -80,7 +79,7 @@ fn shown(source: &[u8]) -> Result<Cow<'_, [u8]>, Refused> {
 /// The text of more of a stream.
 fn shown_by<'a>(parser: &mut Limited, source: &'a [u8]) -> Result<Cow<'a, [u8]>, Refused> {
     let mut shown = Shown::new(source);
-    parser.0.advance_text(&mut shown, source);
+    parser.advance_text(&mut shown, source);
     shown.all()
 }
 
@@ -107,7 +106,7 @@ fn shown_with_bytes(source: &[u8]) -> Result<Cow<'_, [u8]>, Refused> {
     let (mut parser, mut shown, mut at) = (Limited::new(), Shown::new(source), 0);
     while at < source.len() {
         let mut single = Single::default();
-        let run = parser.0.advance_to_run(&mut single, &source[at..]);
+        let run = parser.advance_to_run(&mut single, &source[at..]);
         match single.0 {
             // a well-formed one comes in a run
             Some(char::REPLACEMENT_CHARACTER) => {
@@ -135,54 +134,34 @@ fn malformed_end(bytes: &[u8]) -> &[u8] {
     end((1..=most).rev().find(is_front).unwrap_or(1))
 }
 
-/// A `str` with a replacement character for each surrogate.
-fn without_surrogates<'py>(data: &Bound<'py, PyString>) -> PyResult<Bound<'py, PyString>> {
-    match data.to_str() {
-        Ok(_) => Ok(data.clone()),
-        Err(error) if error.is_instance_of::<PyUnicodeEncodeError>(data.py()) => {
-            let codes = encoded(data, "utf-32-le\0", "surrogatepass\0")?;
-            let made = decoded(data.py(), codes.as_bytes(), "utf-32-le\0", "replace\0")?;
-            Ok(made.into_bound(data.py()).downcast_into()?)
-        }
-        Err(error) => Err(error),
-    }
-}
+/// The errors of codecs that the package names: U+FFFD for each surrogate.
+const REPLACE: &str = "vte.replace\0";
 
 /// The text of a `str` or bytes by a function of bytes. If it is all of them, it is their object.
-fn strip_by<F>(data: &Bound<'_, PyAny>, read: F) -> PyResult<PyObject>
+fn strip_by<F>(data: &Bound<'_, PyAny>, errors: &'static str, read: F) -> PyResult<PyObject>
 where
     F: for<'a> FnOnce(&'a [u8]) -> Result<Cow<'a, [u8]>, Refused> + Send,
 {
-    let (text_of, bytes_of_data);
-    let (data, source, is_text) = match data.downcast::<PyString>() {
-        Ok(data) => {
-            text_of = without_surrogates(data)?;
-            (text_of.as_any(), text_of.to_str()?.as_bytes(), true)
-        }
-        Err(_) => {
-            bytes_of_data = bytes_of(data, "strip")?;
-            (bytes_of_data.as_any(), bytes_of_data.as_bytes(), false)
+    let py = data.py();
+    let text = data.downcast::<PyString>().ok();
+    let utf8 = text.and_then(|text| text.to_str().ok());
+    let made;
+    let source = match utf8 {
+        Some(utf8) => utf8.as_bytes(),
+        None => {
+            made = text.map_or_else(|| bytes_of(data), |text| encoded(text, errors))?;
+            made.as_bytes()
         }
     };
-    let py = data.py();
+    let is_exact = data.is_exact_instance_of::<PyBytes>()
+        || utf8.is_some() && data.is_exact_instance_of::<PyString>();
     match run(py, source.len(), || read(source)).map_err(|_| no_memory(py))? {
-        Cow::Borrowed(shown) if shown.len() == source.len() && is_plain(data) => {
+        Cow::Borrowed(shown) if is_exact && shown.len() == source.len() => {
             Ok(data.clone().unbind())
         }
-        shown if is_text => text(py, &shown),
+        shown if text.is_some() => decoded(py, &shown, errors),
         shown => bytes(py, &shown),
     }
-}
-
-/// The text of a `str` or bytes, in which bytes that aren't UTF-8 stay.
-fn strip_with_bytes(data: &Bound<'_, PyAny>) -> PyResult<PyObject> {
-    let text = match data.downcast::<PyString>() {
-        Ok(text) => encoded(text, "utf-8\0", "surrogateescape\0")?,
-        Err(_) => return strip_by(data, shown_with_bytes),
-    };
-    let (py, source) = (data.py(), text.as_bytes());
-    let shown = run(py, source.len(), || shown_with_bytes(source)).map_err(|_| no_memory(py))?;
-    decoded(py, &shown, "utf-8\0", "surrogateescape\0")
 }
 
 /// Returns the text of a whole stream, a `str` or bytes, without its sequences.
@@ -194,8 +173,8 @@ fn strip_with_bytes(data: &Bound<'_, PyAny>) -> PyResult<PyObject> {
 #[pyo3(signature = (data, errors="replace"))]
 pub fn strip(data: &Bound<'_, PyAny>, errors: &str) -> PyResult<PyObject> {
     match errors {
-        "replace" => strip_by(data, shown),
-        "surrogateescape" => strip_with_bytes(data),
+        "replace" => strip_by(data, REPLACE, shown),
+        "surrogateescape" => strip_by(data, "surrogateescape\0", shown_with_bytes),
         _ => Err(PyValueError::new_err(format!(
             "errors must be 'replace' or 'surrogateescape', not {errors:?}"
         ))),
@@ -214,10 +193,6 @@ impl Stripper {
         Stripper(Limited::new())
     }
 
-    fn __repr__(slf: &Bound<'_, Self>) -> PyResult<PyObject> {
-        text(slf.py(), b"vte.Stripper()")
-    }
-
     /// Reads more of the stream, and returns the text that this adds, without the sequences:
     /// characters, HT, LF and CR.
     ///
@@ -226,15 +201,15 @@ impl Stripper {
     fn strip(slf: &Bound<'_, Self>, data: &Bound<'_, PyAny>) -> PyResult<PyObject> {
         let mut stripper = borrowed(slf)?;
         let parser = &mut stripper.0;
-        strip_by(data, |source| shown_by(parser, source))
+        strip_by(data, REPLACE, |source| shown_by(parser, source))
     }
 
     fn __getstate__(slf: &Bound<'_, Self>) -> PyResult<PyObject> {
-        borrowed(slf)?.0.state(slf.py())
+        state_of(slf.py(), &borrowed(slf)?.0)
     }
 
     fn __setstate__(slf: &Bound<'_, Self>, state: &Bound<'_, PyAny>) -> PyResult<()> {
-        borrowed(slf)?.0 = Limited::of_state(state)?;
+        borrowed(slf)?.0 = restored(state)?;
         Ok(())
     }
 }

@@ -3,11 +3,12 @@
 //! still there.
 
 use crate::calls::{Kind, NAMES};
-use crate::objects::{bytes, flag, integer, text, tuple, Class};
+use crate::objects::{bytes, integer, text, tuple, Class};
 use pyo3::prelude::*;
 use pyo3::sync::GILOnceCell;
 use pyo3::types::PyList;
 use std::iter::from_fn;
+use vte::Refused;
 
 /// What an object is made of. The content of texts and data is stored beside it, in the same order.
 #[derive(Clone, Copy, PartialEq)]
@@ -127,13 +128,14 @@ impl Tape {
         self.places.len() + self.content.len()
     }
 
-    /// Takes memory for what bytes add, and the command that they may end. Returns whether it is
-    /// there.
-    pub fn reserve(&mut self, bytes: usize, command: usize) -> bool {
+    /// Takes memory for what bytes add, and the command that they may end.
+    pub fn reserve(&mut self, bytes: usize, command: usize) -> Result<(), Refused> {
         let most = Self::PER_BYTE * bytes + Self::BEFORE;
-        self.places.try_reserve(bytes + Self::BEFORE).is_ok()
-            && self.values.try_reserve(most).is_ok()
-            && self.content.try_reserve(most + command).is_ok()
+        let places = self.places.try_reserve(bytes + Self::BEFORE);
+        places
+            .and_then(|()| self.values.try_reserve(most))
+            .and_then(|()| self.content.try_reserve(most + command))
+            .map_err(|_| Refused { read: 0 })
     }
 
     /// Begins an object. Its fields are to follow.
@@ -219,7 +221,8 @@ impl Tape {
         let count = self.places.len() - usize::from(self.is_open && !ends);
         let (mut made, mut start, mut done) = (0, (0, 0), Ok(()));
         while made < count && done.is_ok() {
-            let end = self.place(made + 1);
+            let all = (self.values.len(), self.content.len());
+            let end = self.places.get(made + 1).copied().unwrap_or(all);
             done = self
                 .object(py, classes, start, end)
                 .and_then(|object| list.append(object.into_bound(py)));
@@ -234,13 +237,6 @@ impl Tape {
             *place = (place.0 - start.0, place.1 - start.1);
         }
         done
-    }
-
-    /// The place of an object, or the end of all.
-    #[inline]
-    fn place(&self, object: usize) -> Place {
-        let end = (self.values.len(), self.content.len());
-        self.places.get(object).copied().unwrap_or(end)
     }
 
     #[inline]
@@ -264,32 +260,22 @@ impl Tape {
         let hash = values.iter().fold(0, |hash: u64, Value(_, number)| {
             (hash.rotate_left(5) ^ *number as u64).wrapping_mul(0x517C_C1B7_2722_0A95)
         });
-        let place = (hash >> (u64::BITS - KNOWN)) as usize;
-        match self.known.get(place) {
+        if self.known.is_empty() && self.known.try_reserve_exact(1 << KNOWN).is_ok() {
+            self.known.resize_with(1 << KNOWN, || None);
+        }
+        match self.known.get_mut((hash >> (u64::BITS - KNOWN)) as usize) {
             Some(Some((known, made))) if known == values => Ok(made.clone_ref(py)),
-            _ => remember(py, &mut self.known, place, values, maker.next()?),
+            Some(place) => {
+                let (made, mut key) = (maker.next()?, Vec::new());
+                if key.try_reserve_exact(values.len()).is_ok() {
+                    key.extend_from_slice(values);
+                    *place = Some((key, made.clone_ref(py)));
+                }
+                Ok(made)
+            }
+            None => maker.next(),
         }
     }
-}
-
-/// Remembers an object, if there is memory.
-#[cold]
-fn remember(
-    py: Python<'_>,
-    known: &mut Vec<Option<Known>>,
-    place: usize,
-    values: &[Value],
-    made: PyObject,
-) -> PyResult<PyObject> {
-    let mut key = Vec::new();
-    if known.is_empty() && known.try_reserve_exact(1 << KNOWN).is_ok() {
-        known.resize_with(1 << KNOWN, || None);
-    }
-    if key.try_reserve_exact(values.len()).is_ok() && !known.is_empty() {
-        key.extend_from_slice(values);
-        known[place] = Some((key, made.clone_ref(py)));
-    }
-    Ok(made)
 }
 
 /// The classes of objects, by their kinds.
@@ -322,7 +308,7 @@ impl Maker<'_, '_> {
         let count = number as usize;
         match is {
             Is::Nothing => Ok(py.None()),
-            Is::Flag => Ok(flag(py, number != 0)),
+            Is::Flag => Ok((number != 0).into_py(py)),
             Is::Number => integer(py, number),
             Is::Letter => text(
                 py,

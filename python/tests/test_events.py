@@ -35,11 +35,6 @@ def test_documentation():
 
 
 @both
-def test_all_kinds(make):
-    assert make().feed(STREAM) == EVENTS
-
-
-@both
 def test_a_text_is_one_event(make):
     parser = make()
     assert parser.feed(b"\xf0\x9f\x98") == []
@@ -98,30 +93,23 @@ def test_only_a_command_that_lost_data_says_so(make):
     assert not Osc((MOST,), True).truncated
 
 
-@pytest.mark.parametrize("size", [1, 7, 4096, 1 << 20])
-@pytest.mark.parametrize("kinds", [None, {Osc}, {Text}, {Osc, Text}, {Csi}])
-def test_commands_of_any_length(size, kinds):
-    commands = [[b"52", b"c", b"Q" * 100_000], [b"x" * 3000], [b"%d" % it for it in range(16)]]
-    # byte by byte without the longest
-    commands = commands[size == 1:]
-    stream = b"".join(b"a\x1b]" + b";".join(pieces) + b"\x07\xff" for pieces in commands)
-    events = [event for pieces in commands
-              for event in (Text("a"), Osc(tuple(pieces), True, False), Text("\ufffd"))]
-    wanted = [event for event in events if kinds is None or type(event) in kinds]
-    assert joined(feed(vte.Parser(), cut(stream, size), kinds)) == joined(wanted)
-
-
 @both
-@pytest.mark.parametrize("times, size", [(9, 1), (900, 4096), (900, 1 << 20)])
-@pytest.mark.parametrize("kinds", [{Data}, {Hook, Data, Unhook}])
-def test_data_in_runs(make, times, size, kinds):
-    long = bytes(range(0x20, 0x7F)) * times
-    stream = b"a\x1bP1q" + long + b"\n\x1b\\\x1bPqx\x18\x1bPq\x1b\\"
-    found = feed(make(), cut(stream, size), kinds)
-    data = [event.data for event in found if isinstance(event, Data)]
-    assert b"".join(data) == long + b"\nx"
-    assert len(data) <= len(stream) // size + 2 or size == 1
-    assert len(found) - len(data) == (6 if Hook in kinds else 0)
+@pytest.mark.parametrize("size", [7, 4096, 1 << 20])
+@pytest.mark.parametrize("kinds", [None, {Osc}, {Text}, {Osc, Text}, {Csi}, {Data}, {Hook, Data}])
+def test_long_strings_in_pieces(make, size, kinds):
+    long = bytes(range(0x20, 0x7F)) * 900
+    commands = [(b"52", b"c", b"Q" * 1000), tuple(b"%d" % it for it in range(16))]
+    if make is vte.Parser:
+        commands.append((b"x" * 100_000,))
+    stream = b"".join(b"a\x1b]" + b";".join(pieces) + b"\x07\xff" for pieces in commands)
+    stream += b"\x1bP1q" + long + b"\n\x1b\\\x1bPqx\x18"
+    wanted = [event for pieces in commands
+              for event in (Text("a"), Osc(pieces, True), Text("\ufffd"))]
+    wanted += [Hook(((1,),), b"", False, "q"), Data(long + b"\n"), Hook(((0,),), b"", False, "q"),
+               Data(b"x")]
+    found = feed(make(), cut(stream, size), kinds or {Text, Osc, Csi, Hook, Data})
+    assert len(found) < 2 * len(stream) // size + 20
+    assert joined(found) == joined(it for it in wanted if kinds is None or type(it) in kinds)
 
 
 @both
@@ -160,8 +148,14 @@ def test_made_events_hash_as_others():
 
 # ---- what functions take
 
+def mapped(data):
+    made = mmap.mmap(-1, len(data))
+    made[:] = data
+    return made
+
+
 @pytest.mark.parametrize("make", [
-    bytes, Bytes, bytearray, memoryview, lambda data: array.array("B", data),
+    bytes, Bytes, bytearray, memoryview, lambda data: array.array("B", data), mapped,
     lambda data: memoryview(data + data)[:len(data)]])
 def test_any_object_with_a_buffer(make):
     data = make(STREAM)
@@ -180,21 +174,13 @@ def test_buffers_of_other_shapes(data, wanted):
         assert (parser.feed(data), vte.strip(data)) == (wanted, text_of(wanted))
 
 
-def test_a_mapped_file():
-    with mmap.mmap(-1, len(STREAM)) as mapped:
-        mapped[:] = STREAM
-        assert vte.Parser().feed(mapped) == EVENTS
-
-
 @both
-def test_wrong_data(make):
-    with pytest.raises(TypeError, match=r"feed takes bytes, not str: pass text\.encode\(\)"):
-        make().feed("a")
-    for wrong in 1, None, ["a"], [97]:
-        message = f"takes bytes, or another object with a buffer, not {type(wrong).__name__}"
-        for function in make().feed, vte.strip, vte.Stripper().strip:
-            with pytest.raises(TypeError, match=message):
-                function(wrong)
+@pytest.mark.parametrize("wrong", ["a", 1, None, ["a"], [97]])
+def test_wrong_data(make, wrong):
+    functions = [make().feed, vte.Processor().feed]
+    for function in functions if wrong == "a" else [*functions, vte.strip, vte.Stripper().strip]:
+        with pytest.raises(TypeError, match=f"bytes-like object is .*not '{type(wrong).__name__}'"):
+            function(wrong)
 
 
 @both
@@ -202,8 +188,7 @@ def test_wrong_data(make):
 def test_wrong_kinds_leave_the_stream(make, wrong):
     parser = make()
     parser.feed(b"\x1b[1")
-    message = r"kinds must be types of events \(vte\.Text, .*vte\.Data\), not "
-    with pytest.raises(TypeError, match=message):
+    with pytest.raises(TypeError, match="kinds must be types of events|is not iterable"):
         parser.feed(b"ma", wrong)
     assert parser.feed(b"ma") == [Csi(((1,),), b"", False, "m"), Text("a")]
 
@@ -216,7 +201,6 @@ def test_wrong_limits(limit):
 
 def test_limits():
     assert [made.limit for made in (*parsers(), vte.Parser(1024))] == [None, 1024, 1024]
-    assert [*map(repr, parsers())] == ["vte.Parser(limit=None)", "vte.Parser(limit=1024)"]
 
 
 # ---- a stop at an event

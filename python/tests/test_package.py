@@ -1,14 +1,12 @@
 """Tests of the package as a whole: names, threads, signals, leaks."""
 import gc
 import importlib.metadata
-import inspect
 import pickle
 import resource
 import signal
 import sys
 import threading
 import time
-import typing
 
 import pytest
 from common import parsers
@@ -17,14 +15,6 @@ import vte
 from vte import Csi, Osc, calls
 from vte.calls import Attribute, TerminalAttribute
 
-# what is passed, and what stands for that which may be left out
-PASSED = [
-    (vte.Parser, "(limit=None)"), (vte.Parser.feed, "(self, /, data, kinds=None)"),
-    (vte.Parser.feed_until, "(self, /, data, stops, kinds=None)"), (vte.Processor, "()"),
-    (vte.Processor.feed, "(self, /, data)"), (vte.Processor.stop_sync, "(self, /)"),
-    (vte.strip, "(data, errors='replace')"), (vte.Stripper, "()"),
-    (vte.Stripper.strip, "(self, /, data)"),
-]
 NAMES = {f"vte.{name}": getattr(vte, name) for name in vte.__all__ if name != "Event"}
 NAMES |= {f"vte.calls.{kind.__name__}": kind for kind in (*calls.KINDS, calls.Rgb)}
 NAMES |= {f"{name}.{of}": part for name, value in NAMES.items()
@@ -47,13 +37,6 @@ def test_each_name_is_documented(name):
     value = NAMES[name]
     assert value.__doc__
     assert not (isinstance(value, type) and value.__doc__.startswith(f"{value.__name__}("))
-
-
-def test_signatures():
-    assert [str(inspect.signature(function)) for function, _ in PASSED] == [it for _, it in PASSED]
-    for function, names in (vte.open, "source size kinds"), (vte.strip_lines, "lines errors"):
-        assert " ".join(inspect.signature(function).parameters) == names
-        typing.get_type_hints(function)
 
 
 @pytest.mark.parametrize("name", ["limits", "limit", "sync_timeouts"])

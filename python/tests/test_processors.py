@@ -1,4 +1,6 @@
 """Tests of processors and of their calls."""
+import re
+import subprocess
 import sys
 import time
 
@@ -21,42 +23,26 @@ CALLS = [
     TerminalAttribute(Attribute.CancelItalic, None),
     TerminalAttribute(Attribute.CancelUnderline, None), calls.ClipboardStore("c", b"YQ=="),
 ]
-# the fields of calls; each other one has none
-FIELDS = {
-    "text": "Input", "count": "PutTab MoveForwardTabs MoveBackwardTabs PopKeyboardModes",
-    "line col": "Goto", "line": "GotoLine", "col": "GotoCol",
-    "lines": "MoveUp MoveDown MoveDownAndCr MoveUpAndCr ScrollUp ScrollDown InsertBlankLines"
-             " DeleteLines",
-    "cols": "MoveForward MoveBackward InsertBlank DeleteChars EraseChars",
-    "top bottom": "SetScrollingRegion", "which": "ClearTabs", "interval": "SetTabs",
-    "part": "ClearLine ClearScreen", "attribute color": "TerminalAttribute",
-    "index color": "SetColor", "index": "ResetColor SetActiveCharset",
-    "prefix index terminator": "DynamicColorSequence", "id uri": "SetHyperlink",
-    "shape blinking": "SetCursorStyle", "shape": "SetCursorShape", "keyword": "SetMouseCursorIcon",
-    "index charset": "ConfigureCharset", "path update": "SetScp",
-    "mode": "SetMode UnsetMode ReportMode SetPrivateMode UnsetPrivateMode ReportPrivateMode",
-    "modes": "PushKeyboardMode", "modes behavior": "SetKeyboardMode", "keys": "SetModifyOtherKeys",
-    "title": "SetTitle", "clipboard data": "ClipboardStore",
-    "clipboard terminator": "ClipboardLoad", "kind": "DeviceStatus",
-    "intermediate": "IdentifyTerminal",
-}
 
 
 def test_fields():
-    named = {name: fields for fields, names in FIELDS.items() for name in names.split()}
-    for kind in calls.KINDS:
-        assert " ".join(kind._fields) == named.pop(kind.__name__, ""), kind
-        assert getattr(calls, kind.__name__) is kind
-    assert (named, Rgb._fields, len(calls.KINDS)) == ({}, ("red", "green", "blue"), 71)
+    # Rust lists calls and their values by the same names
+    source = (EXAMPLES.parent / "rust" / "calls.rs").read_text()
+    listed = source[source.index("Input;"):source.index("impl TakeText")]
+    fields = {name: tuple(re.findall(r"\w+", values))
+              for name, values in re.findall(r"(\w+)(?:\((.*?)\))?", listed)}
+    # but for a value that makes several fields
+    fields |= {"Input": ("text",), "TerminalAttribute": ("attribute", "color"),
+               "SetHyperlink": ("id", "uri"), "SetCursorStyle": ("shape", "blinking")}
+    assert {kind.__name__: kind._fields for kind in calls.KINDS} == fields
+    assert (Rgb._fields, len(fields)) == (("red", "green", "blue"), 71)
 
 
 def test_calls():
     processor = vte.Processor()
     assert processor.feed(STREAM) == CALLS
     assert repr(CALLS[2]) == "TerminalAttribute(attribute=Bold, color=None)"
-    assert (repr(processor), processor.feed(b"")) == ("vte.Processor()", [])
-    with pytest.raises(TypeError, match="feed takes bytes, not str"):
-        processor.feed("a")
+    assert processor.feed(b"") == []
 
 
 def test_updates():
@@ -86,9 +72,12 @@ def test_many_calls_of_few_bytes():
 
 # ---- the example: bytes, and a cell that is then shown
 
-@pytest.fixture(scope="module")
-def screen():
-    return Screen()
+screen, processor = Screen(), vte.Processor()
+
+
+def show(stream):
+    for call in processor.feed(stream):
+        screen.take(call)
 
 
 @pytest.mark.parametrize("stream, row, column, character", [
@@ -98,30 +87,32 @@ def screen():
     (b"\x1b[99;99Hlm", 23, 0, "m"), (b"", 22, 79, "l"), (b"\x1b[99A\x1b[99Dn", 0, 0, "n"),
     (b"\x1b[99B\x1b[99Co", 23, 79, "o"), (b"\x1b[3;1Hpqr\x1b[1D\x1b[1K", 2, 1, " "),
     (b"\x1b[3;1Hpqr\x08\x1b[K", 2, 1, "q"), (b"\x1b[2J", 23, 79, " ")])
-def test_cells(screen, stream, row, column, character):
-    screen.feed(stream)
-    assert screen.cell(row, column).character == character
+def test_cells(stream, row, column, character):
+    show(stream)
+    assert screen.lines[row][column].character == character
 
 
 @pytest.mark.parametrize("rendition, foreground, background, attributes", [
     (b"31;1;4", "Red", None, "Bold Underline"), (b"22;39;44", None, "Blue", "Underline"),
     (b"24;49;3;7", None, None, "Italic Reverse"), (b"23;27", None, None, ""),
     (b"1;32;45", "Green", "Magenta", "Bold"), (b"0", None, None, "")])
-def test_looks(screen, rendition, foreground, background, attributes):
-    screen.feed(b"\x1b[H\x1b[%smx" % rendition)
-    style = screen.cell(0, 0).style
-    colors = [color and color.name for color in (style.foreground, style.background)]
+def test_looks(rendition, foreground, background, attributes):
+    show(b"\x1b[H\x1b[%smx" % rendition)
+    cell = screen.lines[0][0]
+    colors = [color and color.name for color in (cell.foreground, cell.background)]
     assert colors == [foreground, background]
-    assert {it.name for it in style.attributes} == set(attributes.split())
+    assert {it.name for it in cell.attributes} == set(attributes.split())
 
 
-def test_erasing_and_updates(screen):
+def test_erasing():
     # what is erased has the background, and no attributes
-    screen.feed(b"\x1b[41;1m\x1b[2J")
-    assert screen.cell(3, 4).style == (None, NamedColor.Red, frozenset())
-    # an update is shown when it ends
-    screen.feed(b"\x1b[H\x1b[?2026hy")
-    assert screen.cell(0, 0).character == " "
-    screen.end()
-    assert screen.cell(0, 0).character == "y"
-    assert screen.text().splitlines() == ["y", *[""] * 23]
+    show(b"\x1b[41;1m\x1b[2J")
+    assert screen.lines[3][4] == (" ", None, NamedColor.Red, frozenset())
+
+
+def test_screen():
+    words = [sys.executable, EXAMPLES / "screen.py"]
+    # an update that doesn't end is shown, too
+    stream = b"\x1b[2;3Ha\x1b[?2026h\r\nb"
+    said = subprocess.run(words, input=stream, stdout=subprocess.PIPE, check=True).stdout
+    assert said.decode().split("\n") == ["", "  a", "b", *[""] * 22]

@@ -89,8 +89,8 @@ def test_files_that_cannot_be_read(path):
 @pytest.mark.parametrize("wrong, message", [
     (lambda: vte.open(None), "open takes a path, a file descriptor or a binary file, not NoneType"),
     (lambda: vte.open(b"path"), "open takes a path, a file descriptor or a binary file, not bytes"),
-    (lambda: vte.open(io.StringIO("a")), "not a text file: open it in binary mode"),
-    (lambda: vte.open(sys.__stdout__), "not a text file: open it in binary mode"),
+    (lambda: vte.open(io.StringIO("a")), "a binary file, not StringIO"),
+    (lambda: vte.open(sys.__stdout__), "a binary file, not TextIOWrapper"),
     (lambda: vte.open(io.BytesIO(), kinds={int}), "kinds must be types of events"),
     *((lambda size=size: vte.open(io.BytesIO(), size), f"size must be at least 1, not {size!r}")
       for size in (0, -1, 1.5, None, "9")),
@@ -116,9 +116,9 @@ def test_files_that_have_nothing_yet():
 
 
 def test_standard_input():
-    words = [sys.executable, "-c", "import vte; print([*vte.open(0)])"]
-    done = subprocess.run(words, input=b"a\n", capture_output=True)
-    assert done.stdout == b"[Text(text='a'), Execute(byte=10)]\n", done.stderr
+    words = [sys.executable, EXAMPLES / "events.py"]
+    said = subprocess.run(words, input=b"a\n", stdout=subprocess.PIPE, check=True).stdout
+    assert said == b"print 0061\nexecute 0a\n"
 
 
 def test_a_piece_is_read_when_it_is_wanted():
@@ -163,26 +163,16 @@ def test_pty():
     os.close(master)
 
 
-@pytest.mark.parametrize("program, said, title, status", [
-    (r"printf '\033]2;a;b\007x'", b"\x1b]2;a;b\x07x", b"title: a;b\n", 0),
-    (r"printf '\033]0;x\033\\\033]1;y\007'; exit 3", b"\x1b]0;x\x1b\\\x1b]1;y\x07",
-     b"title: x\n", 3)])
-def test_title_watcher(program, said, title, status):
-    words = [sys.executable, EXAMPLES / "title_watcher.py", "sh", "-c", program]
-    done = subprocess.run(words, stdin=subprocess.DEVNULL, capture_output=True)
-    assert (done.stdout, done.stderr, done.returncode) == (said, title, status)
-
-
-def test_titles_are_not_late():
+def test_title_watcher():
     # the program waits until the first title was seen; a watcher that is late is killed
-    program = r"printf 'a\033]2;hi\007'; read line; printf '\033]0;you\033\\'"
+    program = r"printf 'a\033]2;hi;you\007'; read line; printf '\033]1;x\007\033]0;b\033\\'; exit 3"
     words = [sys.executable, EXAMPLES / "title_watcher.py", "sh", "-c", program]
-    with subprocess.Popen(words, stdin=subprocess.PIPE, stdout=subprocess.DEVNULL,
+    with subprocess.Popen(words, stdin=subprocess.PIPE, stdout=subprocess.PIPE,
                           stderr=subprocess.PIPE) as watcher:
         late = threading.Timer(300, watcher.kill)
         late.start()
-        assert watcher.stderr.readline() == b"title: hi\n"
-        watcher.stdin.write(b"\n")
-        watcher.stdin.flush()
-        assert watcher.stderr.readline() == b"title: you\n"
+        assert watcher.stderr.readline() == b"title: hi;you\n"
+        said, titles = watcher.communicate(b"\n")
         late.cancel()
+    assert (titles, watcher.returncode) == (b"title: b\n", 3)
+    assert said == b"a\x1b]2;hi;you\x07\r\n\x1b]1;x\x07\x1b]0;b\x1b\\"

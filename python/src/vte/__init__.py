@@ -1,8 +1,8 @@
 r"""A parser of the bytes that programs send to a terminal.
 
-**Events.** A `Parser` reads a stream in pieces of any length, and reports text, controls and
-sequences. The events are those of the whole stream, in order, however you split it; only a `Text`
-and a `Data` end where a call of `feed` does.
+A `Parser` reads a stream in pieces of any length, and reports text, controls and sequences as
+events. They are those of the whole stream, in order, however you split it; only a `Text` and a
+`Data` end where a call of `feed` does.
 
 >>> import vte
 >>> parser = vte.Parser()
@@ -10,53 +10,24 @@ and a `Data` end where a call of `feed` does.
 [Text(text='red: ')]
 >>> parser.feed(b"1mhi")
 [Csi(groups=((1,), (31,)), intermediates=b'', ignore=False, final='m'), Text(text='hi')]
-
-If memory is refused, `feed` raises `Refused`. `kinds` selects what is returned:
-
 >>> parser.feed(b"text \x1b]2;a title\x07 more text", kinds={vte.Osc})
 [Osc(pieces=(b'2', b'a title'), bell_terminated=True, truncated=False)]
-
-`feed_until` stops after the first event of some types, and says how many bytes it has read:
-
 >>> parser.feed_until(b"one\ntwo\n", {vte.Execute})
 ([Text(text='one'), Execute(byte=10)], 4)
 
-**Files and terminals.** `open` returns an iterator over the events of a path, a file descriptor or
-a binary file:
-
->>> import tempfile
->>> with tempfile.NamedTemporaryFile() as file:
-...     _ = file.write(b"a\x1b]2;a title\x1b\\\r\n")
-...     file.flush()
-...     with vte.open(file.name, kinds={vte.Osc, vte.Execute}) as events:
-...         for event in events:
-...             print(event)
-Osc(pieces=(b'2', b'a title'), bell_terminated=False, truncated=False)
-Execute(byte=13)
-Execute(byte=10)
-
-**Plain text.** `strip` returns the text of a whole stream, a `Stripper` that of a stream in pieces,
-and `strip_lines` that of each line:
+`open` returns an iterator over the events of a path, a file descriptor or a binary file. `strip`
+returns the text of a whole stream, a `Stripper` that of a stream in pieces, and `strip_lines` that
+of each line. A `Processor` returns what a stream asks of a terminal, as calls of `vte.calls`.
 
 >>> vte.strip(b"a\x1b[1mb"), vte.strip("\x1b]0;title\x07ü")
 (b'ab', 'ü')
 >>> list(vte.strip_lines(["a\x1b[1mb", "c"]))
 ['ab', 'c']
-
-**Calls.** A `Processor` returns what a stream asks of a terminal, as calls of `vte.calls`, and
-holds synchronized updates back:
-
 >>> vte.Processor().feed(b"\x1b[5H\x1b[1mhi")
 [Goto(line=4, col=0), TerminalAttribute(attribute=Bold, color=None), Input(text='hi')]
 
-A parser with a limit, and a stripper, can be copied and pickled:
-
->>> import copy
->>> parser = vte.Parser(limit=1024)
->>> parser.feed(b"\xe2\x82"), copy.copy(parser).feed(b"\xac"), parser.feed(b"\xac")
-([], [Text(text='€')], [Text(text='€')])
-
-A call of what another thread uses raises a `RuntimeError`.
+If memory is refused, they raise `Refused` or another `MemoryError`. A call of what another thread
+uses raises a `RuntimeError`.
 """
 from ._events import Csi, Data, Esc, Event, Execute, Hook, Osc, Put, Refused, Text, Unhook
 from . import calls

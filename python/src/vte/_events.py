@@ -1,21 +1,20 @@
 """The events of a stream. An event equals another of the same type with the same values."""
 import array
+import codecs
 import mmap
 from collections.abc import Iterable
 from typing import Any, Literal, NamedTuple, Union, get_args
 
 
-def _distinct(kind: type) -> None:
+def _equal(self: tuple[Any, ...], other: object) -> bool:
+    return type(self) is type(other) and tuple.__eq__(self, other)
+
+
+def _distinct(*kinds: Any) -> None:
     """Makes objects of different types differ, and each true, as named tuples don't and aren't."""
-
-    def equal(self: tuple[Any, ...], other: object) -> bool:
-        return type(self) is type(other) and tuple.__eq__(self, other)
-
-    def unequal(self: tuple[Any, ...], other: object) -> bool:
-        return not equal(self, other)
-
-    kind.__eq__, kind.__ne__ = equal, unequal  # type: ignore[assignment]
-    kind.__bool__ = lambda _: True  # type: ignore[attr-defined]
+    for kind in kinds:
+        kind.__eq__, kind.__ne__ = _equal, lambda self, other: not _equal(self, other)
+        kind.__bool__ = lambda _: True
 
 
 class Text(NamedTuple):
@@ -105,8 +104,13 @@ class Refused(MemoryError):
         return f"no memory, after {self.read} bytes"
 
 
-for _kind in get_args(Event):
-    _distinct(_kind)
+def _replace(error: Any) -> tuple[bytes, int]:
+    return "\ufffd".encode() * (error.end - error.start), error.end
+
+
+# what `strip` makes of surrogates
+codecs.register_error("vte.replace", _replace)
+_distinct(*get_args(Event))
 # named as they are imported
 for _kind in (*get_args(Event), Refused):
     _kind.__module__ = "vte"

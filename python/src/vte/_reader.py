@@ -4,7 +4,7 @@ from __future__ import annotations
 import builtins
 import errno
 import os
-from collections.abc import Callable, Iterable, Iterator
+from collections.abc import Iterable, Iterator
 from functools import partial
 from typing import IO, Any, Union, overload
 
@@ -15,29 +15,50 @@ Source = Union[str, "os.PathLike[str]", int, IO[bytes]]
 
 
 class Reader(Iterator[Event]):
-    """An iterator over the events of a file or of a terminal, which `open` returns.
+    """An iterator over the events of a path, a file descriptor or a binary file.
 
-    As a context manager it closes the file at the end, if `open` opened it.
+    With `kinds`, a set of types of events, it has these alone. The file is read in pieces of at
+    most `size` bytes, each when its events are requested, with what is there by then. If a
+    nonblocking file has nothing yet, `BlockingIOError` is raised, and the iterator goes on later. A
+    pty, given by its descriptor, ends when no program has it open any more. As a context manager it
+    closes the file of a path at the end.
     """
 
-    def __init__(
-        self, read: Callable[[], bytes | None], close: Callable[[], object], kinds: Kinds
-    ) -> None:
-        self._read, self._close, self._parser = read, close, Parser()
+    def __init__(self, source: Source, size: int = 65536, kinds: Kinds = None) -> None:
+        if not isinstance(size, int) or size < 1:
+            raise ValueError(f"size must be at least 1, not {size!r}")
         # an iterator lasts for one call only; wrong kinds are an error now
         self._kinds = list(kinds) if isinstance(kinds, Iterable) else kinds
+        self._parser = Parser()
         self._events = iter(self._parser.feed(b"", self._kinds))
+        self._is_terminal = isinstance(source, int) and os.isatty(source)
+        file: Any = source
+        self._is_own = isinstance(source, (str, os.PathLike, int))
+        if self._is_own:
+            # a descriptor stays open
+            file = builtins.open(file, "rb", buffering=0, closefd=not isinstance(source, int))
+        read = getattr(file, "read1", None) or getattr(file, "read", None)
+        if read is None or hasattr(file, "encoding"):
+            kind = type(source).__name__
+            raise TypeError(f"open takes a path, a file descriptor or a binary file, not {kind}")
+        self._file, self._read = file, partial(read, size)
 
     def __next__(self) -> Event:
-        for event in self._events:
-            return event
-        while data := self._read():
-            self._events = iter(self._parser.feed(data, self._kinds))
+        while True:
             for event in self._events:
                 return event
-        if data is None:
-            raise BlockingIOError(errno.EAGAIN, "the file is nonblocking and has no bytes yet")
-        raise StopIteration
+            try:
+                data = self._read()
+            except OSError as error:
+                # what Linux answers once the last program has closed a pty
+                if error.errno != errno.EIO or not self._is_terminal:
+                    raise
+                data = b""
+            if data is None:
+                raise BlockingIOError(errno.EAGAIN, "the file has no bytes yet")
+            if not data:
+                raise StopIteration
+            self._events = iter(self._parser.feed(data, self._kinds))
 
     def __enter__(self) -> Reader:
         return self
@@ -46,44 +67,12 @@ class Reader(Iterator[Event]):
         self.close()
 
     def close(self) -> None:
-        """Closes the file, if `open` opened it."""
-        self._close()
+        """Closes the file of a path."""
+        if self._is_own:
+            self._file.close()
 
 
-def open(source: Source, size: int = 65536, kinds: Kinds = None) -> Reader:
-    """Returns an iterator over the events of a path, a file descriptor or a binary file.
-
-    With `kinds`, a set of types of events, it has these alone. The file is read in pieces of at
-    most `size` bytes, each when its events are requested, with what is there by then. If a
-    nonblocking file has nothing yet, `BlockingIOError` is raised, and the iterator goes on later. A
-    pty, given by its descriptor, ends when no program has it open any more.
-    """
-    if not isinstance(size, int) or size < 1:
-        raise ValueError(f"size must be at least 1, not {size!r}")
-    if isinstance(source, int):
-        return Reader(partial(_read_descriptor, source, size), _nothing, kinds)
-    if isinstance(source, (str, os.PathLike)):
-        file = builtins.open(source, "rb", buffering=0)
-        return Reader(partial(file.read, size), file.close, kinds)
-    read: Any = getattr(source, "read1", None) or getattr(source, "read", None)
-    if read is None or hasattr(source, "encoding"):
-        what = "a text file: open it in binary mode" if read else type(source).__name__
-        raise TypeError(f"open takes a path, a file descriptor or a binary file, not {what}")
-    return Reader(partial(read, size), _nothing, kinds)
-
-
-def _nothing() -> None:
-    """Who opened a file closes it."""
-
-
-def _read_descriptor(descriptor: int, size: int) -> bytes:
-    try:
-        return os.read(descriptor, size)
-    except OSError as error:
-        # what Linux answers once the last program has closed a pty
-        if error.errno == errno.EIO:
-            return b""
-        raise
+open = Reader
 
 
 @overload

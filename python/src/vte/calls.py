@@ -464,5 +464,4 @@ Call = Union[
 ]
 # all of them
 KINDS: tuple[type, ...] = get_args(Call)
-for _kind in KINDS:
-    _distinct(_kind)
+_distinct(*KINDS)

@@ -1,13 +1,10 @@
 #!/usr/bin/env python3
-"""Compares the public items of rust/vte, with their auto traits, with a list that is kept of them.
+"""Compares the public items of rust/vte with those of the crate `vte`: tools/comparing/surface.py
 
-    tools/comparing/surface.py [--write | --crate FOLDER]
-
-compares them with tools/surface/items.txt, and --write writes that file. Each line has the sets of
-features, an item and what it is. With --crate they are compared with those of the crate `vte` whose
-sources are in the folder; then the list of docs/RUST.md after the line ANCHOR has what is new:
-items at the start of a line, as in "- `A`, `B`: what they are". An item covers everything in it,
-and `Type: A + B` stands for each trait. The status is 1 if something differs.
+All of the crate's must be there, the same. What is new, the list of docs/RUST.md after the line
+ANCHOR has: items at the start of a line, as in "- `A`, `B`: what they are". An item covers
+everything in it, and `Type: A + B` stands for each trait. The crate's sources are those that cargo
+has for rust/vte/fuzz. The status is 1 if something differs.
 
 Each item that a user can name becomes a line of Rust, as rustdoc's pages show it: functions with
 their signatures, types with their parameters, fields, variants and implemented traits, constants
@@ -15,7 +12,9 @@ with their values; for two sets of features. The names of arguments are ignored.
 """
 import argparse
 import html
+import json
 import re
+import subprocess
 import sys
 import tempfile
 from itertools import takewhile
@@ -27,11 +26,8 @@ from building import rust_builds  # noqa: E402
 
 FEATURES = {"std": ["ansi", "std", "serde"], "no std": ["ansi", "serde"]}
 LIST = rust_builds.TOOLS.parent / "docs" / "RUST.md"
-KEPT = rust_builds.TOOLS / "surface" / "items.txt"
 ANCHOR = "<!-- tools/comparing/surface.py -->"
 ITEMS = re.compile(r"^- ((?:`[^`]+`(?:,\s+)?)+)", re.M)
-# what the crate `bitflags` makes: later versions make more
-OF_BITFLAGS = re.compile(r"ansi::KeyboardModes(: |::[a-z])")
 # those that a user can name
 AUTO = re.compile(r"!?(RefUnwindSafe|Send|Sync|Unpin|UnwindSafe)$")
 # of rustdoc's pages: a link to an item, its declaration, and its parts
@@ -58,7 +54,17 @@ def is_inside(item, outer):
     return item == outer or item.startswith((f"{outer}::", f"{outer}: "))
 
 
-def of_crate(folder):
+def sources_of_crate():
+    """The folder of the crate `vte` that rust/vte/fuzz compares ours with."""
+    words = ["cargo", "metadata", "--format-version", "1",
+             "--config", rust_builds.TOOLS / "stand_ins/fuzz.toml",
+             "--manifest-path", rust_builds.OURS / "fuzz/Cargo.toml"]
+    said = json.loads(subprocess.run(words, stdout=subprocess.PIPE, check=True).stdout)
+    return next(Path(package["manifest_path"]).parent for package in said["packages"]
+                if package["name"] == "vte" and package["source"])
+
+
+def differences(folder):
     """The differences with the crate of a folder, and with the list of docs/RUST.md."""
     rows, new = list(listed()), set()
     for name, features in FEATURES.items():
@@ -144,37 +150,10 @@ def must_use(sources, found):
     return "#[must_use] " * any("#[must_use" in line for line in above)
 
 
-def lines_of_ours():
-    """A line for each public item: the sets of features that have it so, and what it is."""
-    sets = {}
-    with tempfile.TemporaryDirectory() as folder:
-        for name, features in FEATURES.items():
-            for item, text in items(rust_builds.OURS, Path(folder) / features[1], features).items():
-                if OF_BITFLAGS.match(item):
-                    text = text.removeprefix("#[must_use] ")
-                sets.setdefault(f"{item} = {text}", []).append(name)
-    return [f"{' and '.join(names)}: {line}" for line, names in sorted(sets.items())]
-
-
-def of_list():
-    """The differences with the list that is kept."""
-    found, kept = lines_of_ours(), KEPT.read_text().splitlines()
-    print(f"{len(found)} public items")
-    yield from (f"gone: {it}" for it in sorted(set(kept) - set(found)))
-    yield from (f"new: {it}" for it in sorted(set(found) - set(kept))
-                if not OF_BITFLAGS.match(it.partition(": ")[2]))
-
-
 def main():
-    parser = argparse.ArgumentParser(description=__doc__,
-                                     formatter_class=argparse.RawDescriptionHelpFormatter)
-    parser.add_argument("--write", action="store_true", help="write the list")
-    parser.add_argument("--crate", type=Path, metavar="FOLDER", help="compare with this crate")
-    given = parser.parse_args()
-    if given.write:
-        KEPT.write_text("\n".join(lines_of_ours()) + "\n")
-        return 0
-    found = list(of_crate(given.crate) if given.crate else of_list())
+    argparse.ArgumentParser(description=__doc__,
+                            formatter_class=argparse.RawDescriptionHelpFormatter).parse_args()
+    found = list(differences(sources_of_crate()))
     print(*found, f"{len(found)} differences", sep="\n")
     return 1 if found else 0
 

@@ -30,9 +30,11 @@ class Side:
         return [self.answer(pieces, streams[:index]) for index, pieces in enumerate(streams)]
 
 
-# there are enough to find several differences in a row, which are no class of their own
+# there are enough to find several differences in a row, which are no class of their own; in the
+# last two a difference has another kind than elsewhere, as a limit hides the rest
 CASES = [case for case in cases.all_cases(("vectors", "random"), "1", 240)
-         if sum(map(len, case.pieces)) < 3000]
+         if sum(map(len, case.pieces)) < 3000] + [
+    cases.Case("", [b"\x1b]" + front + b"\x9c\xa0\x1b"]) for front in (b";" * 16, b"a" * 1024)]
 
 
 def judge_of(answer, **given):

@@ -20,9 +20,11 @@ CUT_PREFIX = "cut:"
 BETWEEN = "cut:between"
 # the rules of what ends a command, and the kinds of its data, which aren't about these
 ENDS, DATA = {"command-bell", "command-cut-short"}, {"pieces", "shorter", "longer", "data"}
-# rules of what isn't there, and what comes before it: a digit in its place makes a case of others
-EMPTY = {"empty-number", "empty-command"}
-BEFORE_EMPTY = re.compile(rb"(\x1b[\[P][<-?]?|[:;])(?![0-9])|(\x1b\])(?=[\x07\x18\x1a\x1b])")
+# rules of what isn't there or is too much, and what re.sub makes a case of others by: a digit for
+# what is empty, and one byte for each run
+EMPTY = (rb"(\x1b[\[P][<-?]?|[:;])(?![0-9])|(\x1b\])(?=[\x07\x18\x1a\x1b])", rb"\g<1>\g<2>1")
+INSTEAD = {"empty-number": EMPTY, "empty-command": EMPTY,
+           **dict.fromkeys(("pieces", "limit"), (rb"(?s)(.)\1+", rb"\1"))}
 
 
 class Difference(NamedTuple):
@@ -57,13 +59,14 @@ def level_of(name):
     return MUST if kind in FAILURES or is_read else rule_of(name)[0].level
 
 
-def rule_needed(pieces, depends_on_cut, same, kind, house, but=""):
-    """The name of the rule that a case is about that differs after some lines, but not a certain
-    one. It is exact if the case is shrunk."""
+def rule_needed(pieces, depends_on_cut, same, kind, house, but=()):
+    """The name of the rule that a case is about that differs after some lines, but not certain
+    ones. It is exact if the case is shrunk."""
     steps = steps_of(b"".join(pieces), house)
     if depends_on_cut:
         divided = {name for index in steps_at_cuts(steps, cuts_of(pieces)).values()
-                   if index is not None for name in steps[index].rules if name in ORDER}
+                   if index is not None for name in steps[index].rules
+                   if name in ORDER and is_about(name, kind)}
         return CUT_PREFIX + most_special(divided) if divided else BETWEEN
     if not steps:
         return "text"
@@ -73,20 +76,14 @@ def rule_needed(pieces, depends_on_cut, same, kind, house, but=""):
     last = next((index for index, end in enumerate(ends) if end > same), len(steps) - 1)
     needed = steps[:last + 1] if kind in FIELDS else [
         step for step in steps if "terminator" not in step.rules or step == steps[last]]
-    return most_special({name for step in needed for name in rules_about(step, kind)
-                         if name != but})
+    # what is near a limit is about it, as the case is the smallest
+    names = {name.replace(NEAR, "") for step in needed for name in step.rules}
+    return most_special(name for name in names if name not in but and is_about(name, kind))
 
 
-def rules_about(step, kind):
-    """The rules of a step that a kind can be about. What is near a limit is about it, as the case
-    is the smallest."""
-    names = [name.replace(NEAR, "") for name in step.rules]
-    return [name for name in names if kind not in DATA or name not in ENDS]
-
-
-def filled(pieces):
-    """The case with a digit for each empty number and command, uncut."""
-    return [BEFORE_EMPTY.sub(rb"\g<1>\g<2>1", b"".join(pieces))]
+def is_about(rule, kind):
+    """Whether a difference of a kind can be about a rule."""
+    return kind not in DATA or rule not in ENDS
 
 
 def steps_at_cuts(steps, cuts):

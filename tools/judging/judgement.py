@@ -1,5 +1,6 @@
 """Judges a parser: compares it with the reference, shrinks what differs, and goes on past what is
 known."""
+import re
 import time
 from collections import Counter
 from dataclasses import dataclass, field
@@ -8,7 +9,7 @@ from typing import Optional
 
 from judging.candidate import OutOfTime, mark_of
 from judging.cases import Case
-from judging.classes import EMPTY, Difference, filled, freed, nearest, rule_needed
+from judging.classes import INSTEAD, Difference, freed, nearest, rule_needed
 from judging.definition import NEAR
 from judging.kinds import FAILURES, differences_of
 from judging.rules import ALONE
@@ -282,12 +283,13 @@ class Judge:
         same, kind = differences_of(reference, candidate)[0]
         if kind == PROTOCOL:
             return PROTOCOL
-        is_cut = self.candidate.takes_pieces and len(pieces) > 1 and not self.difference(
-            [b"".join(pieces)])
-        rule = rule_needed(pieces, is_cut, same, kind, self.house)
-        if rule in EMPTY and self.difference(filled(pieces)):
-            rule = rule_needed(pieces, is_cut, same, kind, self.house, rule)
-        return f"{rule}/{kind}"
+        stream, needless = b"".join(pieces), []
+        is_cut = self.candidate.takes_pieces and len(pieces) > 1 and not self.difference([stream])
+        while True:
+            rule = rule_needed(pieces, is_cut, same, kind, self.house, needless)
+            if rule not in INSTEAD or not self.difference([re.sub(*INSTEAD[rule], stream)]):
+                return f"{rule}/{kind}"
+            needless.append(rule)
 
     def same_as(self, name, difference):
         """A class of the same rule whose smallest case stands within another, byte after byte: what

@@ -30,3 +30,11 @@ def run(*words, **how):
 
 def run_python(*words, **how):
     return run(sys.executable, "-B", *words, **how)
+
+
+def program_in(folder, line):
+    """A program in a folder, of a line for the shell."""
+    program = folder / "program"
+    program.write_text(f"#!/bin/sh\n{line}\n")
+    program.chmod(0o755)
+    return program

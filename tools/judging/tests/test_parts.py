@@ -9,7 +9,7 @@ from judging.cases import Case
 from judging.classes import Difference
 from judging.judgement import Finding, Judgement
 from judging.rules import ALONE, CUT, RULES
-from support import TOOLS, miss, run
+from support import TOOLS, miss, program_in, run
 
 
 # streams, house rules, and the events under them
@@ -74,9 +74,7 @@ def test_streams_are_shown_as_text(pieces, shown):
 
 
 def test_the_reference_and_the_definition_must_agree(tmp_path):
-    program = tmp_path / "vtlog"
-    program.write_text("#!/bin/sh\necho print 0062\n")
-    program.chmod(0o755)
+    program = program_in(tmp_path, "echo print 0062")
     assert reference.Reference(program).answers([b"a"]) == [["print 0062"]]
     with pytest.raises(reference.NoReference, match="differ"):
         reference.Reference(program, house.house_of(["delete=drop"])).answers([b"a"])

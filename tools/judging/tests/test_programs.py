@@ -9,7 +9,7 @@ import time
 
 import pytest
 from judging import peers
-from support import TOOLS, TOY, miss, run, run_python
+from support import TOOLS, TOY, miss, program_in, run, run_python
 
 
 def toy(fault=None, pieces=True, once=False):
@@ -116,8 +116,8 @@ def test_the_children_of_a_program_are_ended(judge_toy, pieces):
     assert not processes(f"sleep 7531.{os.getpid()}")
 
 
-@pytest.mark.parametrize("fault", ["hang", "unsteady", "divided"])
-def test_the_time_is_kept(judge, fault):
+@pytest.mark.parametrize("fault", ["hang", "unsteady", "divided", "slow reference"])
+def test_the_time_is_kept(judge, tmp_path, fault):
     def seconds(*given):
         begun = time.monotonic()
         judge(*given)
@@ -125,7 +125,8 @@ def test_the_time_is_kept(judge, fault):
 
     # on a busy machine a program takes long to begin
     usual = seconds(0, "--case", "61", *toy())
-    words = ["--seconds", 4, "--timeout", 60, *toy(f"{fault},largest=9999")]
+    slow = ["--vtlog", program_in(tmp_path, "exec sleep 60")] * (fault == "slow reference")
+    words = ["--seconds", 4, "--timeout", 60, *slow, *toy(f"{fault},largest=9999")]
     assert seconds(1, *words) < 4 + 10 + 2 * usual
 
 
@@ -144,9 +145,7 @@ def test_closed_standard_output(vtlog):
     ("right", "failing", 0), ("failing", "right", 2), (None, "failing", 2), (None, "no", 2),
     (None, "right", 0)])
 def test_which_vtlog(judge, vtlog, tmp_path, given, named, status):
-    failing = tmp_path / "program"
-    failing.write_text("#!/bin/sh\nexit 3\n")
-    failing.chmod(0o755)
+    failing = program_in(tmp_path, "exit 3")
     place = {"right": vtlog, "failing": failing, "no": "/no/vtlog"}
     words = ["--vtlog", place[given]] if given else []
     said = judge(status, *words, "--case", "61", *toy(pieces=False),

@@ -61,8 +61,7 @@ class Course:
         """The program of a side of IN_RUST, once for each placement of its code. It has the default
         features of the crate, and so of rust/vte: commands have no limit."""
         crate = rust_builds.OURS if side in OURS_IN_RUST else peers.sources(self.given)
-        words = ("std", IN_RUST[side])
-        return rust_builds.placed_peers(crate, self.folder / side, words, placements)
+        return rust_builds.placed_peers(crate, self.folder / side, IN_RUST[side], placements)
 
     @functools.cached_property
     def race(self):

@@ -36,7 +36,6 @@ SHARED = {
     "examples": ["cell", "handler", "performer", "screen"],
     "race": ["call_checksum", "checksum", "screens", "until_cleared"],
     "vte_handler": ["by_call", "hyperlink"],
-    "conformance": ["frames", "timeouts"],
 }
 # the files of the crate `vte`; a folder may have them under other names (file_of), and no manifest
 FILES = ["lib", "params", "ansi"]
@@ -104,16 +103,10 @@ class Workshop:
         return self.built / name
 
 
-def peer(folder, out, words=()):
-    """Builds tools/peer over the crate of a folder into `out`, and returns its path. Words are
-    `release` and `std`."""
-    return placed_peers(folder, out, words, 1)[0]
-
-
-def placed_peers(folder, out, words, count):
-    """Builds the same program so many times, each with its code at another place."""
-    workshop = Workshop(out, "release" if "release" in words else "fat")
-    workshop.vte(folder, ["ansi", "std"] if "std" in words else ["ansi"])
+def placed_peers(folder, out, profile, count):
+    """Builds tools/peer over the crate of a folder into `out`, so many times."""
+    workshop = Workshop(out, profile)
+    workshop.vte(folder, ["ansi", "std"])
     # only ours has runs of text
     return placed(workshop, count, ["--cfg", "runs"] if folder == OURS else [])
 
@@ -138,10 +131,8 @@ def placed(workshop, count, flags):
 
 
 def peer_sources(folder):
-    """The sources of tools/peer, with what they share with crates/, erased, and with the lines of
-    calls of rust/vte's tests."""
+    """The sources of tools/peer, with what they share with crates/, erased."""
     shutil.copytree(TOOLS / "peer" / "src", folder, dirs_exist_ok=True)
-    shutil.copy(OURS / "tests" / "rows" / "call_lines.rs", folder)
     for crate, name in ((crate, name) for crate, names in SHARED.items() for name in names):
         text = (TOOLS.parent / "crates" / crate / "src" / f"{name}.rt").read_text()
         (folder / f"{name}.rs").write_text(erase(text, crate, f"{crate}/{name}", RACE)[0])
@@ -155,10 +146,11 @@ def by_cargo(folder, source, dependencies, flags):
     return workshop.program("built", source, flags=flags)
 
 
-def run(words, what, environment=None, folder=None, given=b""):
+def run(words, what, environment=None, folder=None):
     """Runs a command and returns what it prints, or ends the program with that if it fails."""
     try:
-        done = subprocess.run(words, cwd=folder, input=given, capture_output=True, env=environment)
+        done = subprocess.run(words, cwd=folder, stdin=subprocess.DEVNULL, capture_output=True,
+                              env=environment)
     except FileNotFoundError:
         stop(f"{words[0]} isn't installed, or isn't in the PATH")
     if done.returncode != 0:

@@ -60,8 +60,8 @@ class Course:
     def placed_peers(self, side, placements):
         """The program of a side of IN_RUST, once for each placement of its code. It has the default
         features of the crate, and so of rust/vte: commands have no limit."""
-        crate = rust_builds.OURS if side in OURS_IN_RUST else peers.sources(self.given)
-        return rust_builds.placed_peers(crate, self.folder / side, IN_RUST[side], placements)
+        return rust_builds.placed_peers(side in OURS_IN_RUST, self.folder / side, IN_RUST[side],
+                                        placements)
 
     @functools.cached_property
     def race(self):
@@ -73,14 +73,14 @@ class Course:
         commands = {"ours": [[self.race, kind]] * count}
         for side in IN_RUST:
             programs = self.placed_peers(side, count)
-            commands[side] = [[program, "race", kind] for program in programs]
+            commands[side] = [[program, kind] for program in programs]
         return commands
 
     @functools.cached_property
     def strippers(self):
         """The commands of each of STRIPPERS."""
         programs = rust_builds.strippers(self.folder / "strippers", self.given.placements)
-        return {side: [[program, "race", kind] for program in programs]
+        return {side: [[program, kind] for program in programs]
                 for side, kind in STRIPPERS.items()}
 
     def build(self, kinds):

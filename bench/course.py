@@ -7,7 +7,7 @@ from concurrent.futures import ThreadPoolExecutor
 from pathlib import Path
 
 sys.path.insert(0, str(Path(__file__).resolve().parent.parent / "tools"))
-from building import peers, rust_builds
+from building import rattle_builds, rust_builds
 from generating import streams
 
 # The sides: ours as rt proves and builds it, the same text in the crates of rust/, and the crate,
@@ -65,7 +65,7 @@ class Course:
 
     @functools.cached_property
     def race(self):
-        return peers.program("race", self.given.race, ["parser", "1", "1"])
+        return rattle_builds.program("race", self.given.race, ["parser", "1", "1"])
 
     def racers(self, kind):
         """The commands of each side: one for each placement of its code. Rattle's build has one."""
@@ -106,7 +106,7 @@ def run(words, place):
     with open(place, "rb") as stream:
         done = subprocess.run(words, stdin=stream, capture_output=True, text=True)
     if done.returncode != 0:
-        peers.stop(f"{' '.join(map(str, words))}: status {done.returncode}: {done.stderr}")
+        rattle_builds.stop(f"{' '.join(map(str, words))}: status {done.returncode}: {done.stderr}")
     return done.stdout, done.stderr
 
 
@@ -143,4 +143,4 @@ def compare_checksums(name, sides, place):
     size = str(place.stat().st_size)
     told = {side: run([*commands[0], size, "1"], place)[0] for side, commands in sides.items()}
     if len(set(told.values())) > 1:
-        peers.stop(f"the checksums of {name} differ: {told}")
+        rattle_builds.stop(f"the checksums of {name} differ: {told}")

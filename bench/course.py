@@ -7,7 +7,7 @@ from concurrent.futures import ThreadPoolExecutor
 from pathlib import Path
 
 sys.path.insert(0, str(Path(__file__).resolve().parent.parent / "tools"))
-from building import peers, rust_builds
+from building import rattle_builds, rust_builds
 from generating import streams
 
 # The sides: ours as rt proves and builds it, the same text in the crates of rust/, and the crate,
@@ -60,13 +60,12 @@ class Course:
     def placed_peers(self, side, placements):
         """The program of a side of IN_RUST, once for each placement of its code. It has the default
         features of the crate, and so of rust/vte: commands have no limit."""
-        crate = rust_builds.OURS if side in OURS_IN_RUST else peers.sources(self.given)
-        words = ("std", IN_RUST[side])
-        return rust_builds.placed_peers(crate, self.folder / side, words, placements)
+        return rust_builds.placed_peers(side in OURS_IN_RUST, self.folder / side, IN_RUST[side],
+                                        placements)
 
     @functools.cached_property
     def race(self):
-        return peers.program("race", self.given.race, ["parser", "1", "1"])
+        return rattle_builds.program("race", self.given.race, ["parser", "1", "1"])
 
     def racers(self, kind):
         """The commands of each side: one for each placement of its code. Rattle's build has one."""
@@ -74,14 +73,14 @@ class Course:
         commands = {"ours": [[self.race, kind]] * count}
         for side in IN_RUST:
             programs = self.placed_peers(side, count)
-            commands[side] = [[program, "race", kind] for program in programs]
+            commands[side] = [[program, kind] for program in programs]
         return commands
 
     @functools.cached_property
     def strippers(self):
         """The commands of each of STRIPPERS."""
         programs = rust_builds.strippers(self.folder / "strippers", self.given.placements)
-        return {side: [[program, "race", kind] for program in programs]
+        return {side: [[program, kind] for program in programs]
                 for side, kind in STRIPPERS.items()}
 
     def build(self, kinds):
@@ -107,7 +106,7 @@ def run(words, place):
     with open(place, "rb") as stream:
         done = subprocess.run(words, stdin=stream, capture_output=True, text=True)
     if done.returncode != 0:
-        peers.stop(f"{' '.join(map(str, words))}: status {done.returncode}: {done.stderr}")
+        rattle_builds.stop(f"{' '.join(map(str, words))}: status {done.returncode}: {done.stderr}")
     return done.stdout, done.stderr
 
 
@@ -144,4 +143,4 @@ def compare_checksums(name, sides, place):
     size = str(place.stat().st_size)
     told = {side: run([*commands[0], size, "1"], place)[0] for side, commands in sides.items()}
     if len(set(told.values())) > 1:
-        peers.stop(f"the checksums of {name} differ: {told}")
+        rattle_builds.stop(f"the checksums of {name} differ: {told}")

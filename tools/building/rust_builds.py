@@ -1,4 +1,4 @@
-"""Builds programs by cargo over the crate `vte` of a folder: the original, or ours in rust/vte.
+"""Builds programs by cargo over the crate `vte` 0.15.0, or over ours in rust/vte.
 
 Crates come from Debian's next release, by tools/next_release. Two profiles: `fat` has link-time
 optimization over everything and one codegen unit, which is what a terminal ships with; `release`
@@ -29,34 +29,14 @@ PROFILES = {
 CODE_START, ALIGNMENT = 0x200000, 16
 # what else strips a stream of sequences, and the check of UTF-8 that `console` gets
 STRIPPERS = ["console", "simdutf8", "strip-ansi-escapes"]
-CRATES = ["arrayvec", "bitflags", "cursor-icon", "log", "memchr", "serde", "serde-derive"]
+CRATES = ["arrayvec", "bitflags", "cursor-icon", "log", "memchr", "serde", "serde-derive", "vte"]
 # what tools/peer shares with crates/: the files of each crate
 SHARED = {
     "test_lines": ["variant", "visitor"],
     "examples": ["cell", "handler", "performer", "screen"],
     "race": ["call_checksum", "checksum", "screens", "until_cleared"],
     "vte_handler": ["by_call", "hyperlink"],
-    "conformance": ["frames", "timeouts"],
 }
-# the files of the crate `vte`; a folder may have them under other names (file_of), and no manifest
-FILES = ["lib", "params", "ansi"]
-MANIFEST = """[package]
-name = "vte"
-version = "0.15.0"
-edition = "2021"
-[features]
-default = ["std"]
-std = ["memchr/std"]
-ansi = ["dep:bitflags", "dep:cursor-icon", "dep:log"]
-serde = ["dep:serde"]
-[dependencies]
-arrayvec = { version = "0.7", default-features = false }
-bitflags = { version = "2", default-features = false, optional = true }
-cursor-icon = { version = "1", default-features = false, optional = true }
-log = { version = "0.4", optional = true }
-memchr = { version = "2", default-features = false }
-serde = { version = "1", default-features = false, features = ["derive"], optional = true }
-"""
 
 
 def stop(message):
@@ -87,10 +67,10 @@ class Workshop:
         self.dependencies = "".join(f'{name} = "*"\n' for name in ("arrayvec", *others))
         self.options = []
 
-    def vte(self, folder, features):
-        """Lets programs depend on the crate of a folder."""
-        place = crate_of(Path(folder), self.out).resolve()
-        self.dependencies += (f'vte = {{ path = "{place}", default-features = false, '
+    def vte(self, features, folder=None):
+        """Lets programs depend on the crate `vte`, or on that of a folder."""
+        source = f'path = "{folder}"' if folder else 'version = "=0.15.0"'
+        self.dependencies += (f"vte = {{ {source}, default-features = false, "
                               f"features = {list(features)} }}\n")
 
     def program(self, name, source, flags=()):
@@ -104,24 +84,18 @@ class Workshop:
         return self.built / name
 
 
-def peer(folder, out, words=()):
-    """Builds tools/peer over the crate of a folder into `out`, and returns its path. Words are
-    `release` and `std`."""
-    return placed_peers(folder, out, words, 1)[0]
-
-
-def placed_peers(folder, out, words, count):
-    """Builds the same program so many times, each with its code at another place."""
-    workshop = Workshop(out, "release" if "release" in words else "fat")
-    workshop.vte(folder, ["ansi", "std"] if "std" in words else ["ansi"])
+def placed_peers(is_ours, out, profile, count):
+    """Builds tools/peer over the crate, or over ours, into `out`, so many times."""
+    workshop = Workshop(out, profile)
+    workshop.vte(["ansi", "std"], OURS if is_ours else None)
     # only ours has runs of text
-    return placed(workshop, count, ["--cfg", "runs"] if folder == OURS else [])
+    return placed(workshop, count, ["--cfg", "runs"] if is_ours else [])
 
 
 def strippers(out, count):
     """Builds the same program over rust/vte and STRIPPERS, so many times."""
     workshop = Workshop(out, others=STRIPPERS)
-    workshop.vte(OURS, ["ansi"])
+    workshop.vte(["ansi"], OURS)
     return placed(workshop, count, ["--cfg", "runs", "--cfg", "strippers"])
 
 
@@ -138,10 +112,8 @@ def placed(workshop, count, flags):
 
 
 def peer_sources(folder):
-    """The sources of tools/peer, with what they share with crates/, erased, and with the lines of
-    calls of rust/vte's tests."""
+    """The sources of tools/peer, with what they share with crates/, erased."""
     shutil.copytree(TOOLS / "peer" / "src", folder, dirs_exist_ok=True)
-    shutil.copy(OURS / "tests" / "rows" / "call_lines.rs", folder)
     for crate, name in ((crate, name) for crate, names in SHARED.items() for name in names):
         text = (TOOLS.parent / "crates" / crate / "src" / f"{name}.rt").read_text()
         (folder / f"{name}.rs").write_text(erase(text, crate, f"{crate}/{name}", RACE)[0])
@@ -155,10 +127,11 @@ def by_cargo(folder, source, dependencies, flags):
     return workshop.program("built", source, flags=flags)
 
 
-def run(words, what, environment=None, folder=None, given=b""):
+def run(words, what, environment=None, folder=None):
     """Runs a command and returns what it prints, or ends the program with that if it fails."""
     try:
-        done = subprocess.run(words, cwd=folder, input=given, capture_output=True, env=environment)
+        done = subprocess.run(words, cwd=folder, stdin=subprocess.DEVNULL, capture_output=True,
+                              env=environment)
     except FileNotFoundError:
         stop(f"{words[0]} isn't installed, or isn't in the PATH")
     if done.returncode != 0:
@@ -166,22 +139,3 @@ def run(words, what, environment=None, folder=None, given=b""):
         sys.stderr.buffer.write(done.stdout[-6000:])
         stop(f"{what}: {words[0]} failed with status {done.returncode}")
     return done.stdout
-
-
-def crate_of(folder, out):
-    """The folder of a crate `vte` for cargo. If it has no manifest, its files are copied to a
-    folder of `out`, with MANIFEST."""
-    if (folder / "Cargo.toml").is_file():
-        return folder
-    (out / "vte" / "src").mkdir(parents=True, exist_ok=True)
-    (out / "vte" / "Cargo.toml").write_text(MANIFEST)
-    for name in FILES:
-        shutil.copy(file_of(folder, name), out / "vte" / "src" / f"{name}.rs")
-    return out / "vte"
-
-
-def file_of(folder, name):
-    for place in f"src/{name}.rs", f"{name}.rs", f"src--src--{name}.rs.txt":
-        if (folder / place).is_file():
-            return folder / place
-    return stop(f"{folder} has no src/{name}.rs; it must have the sources of vte 0.15.0")

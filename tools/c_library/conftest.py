@@ -2,7 +2,7 @@ import shutil
 from functools import cache
 
 import pytest
-from building import peers
+from building import rattle_builds
 
 from c_library.library import Library, miss
 
@@ -55,4 +55,4 @@ def whole(built):
 @pytest.fixture(scope="session")
 def vtlog(request):
     """The proved program, or None with --short."""
-    return None if request.config.option.short else peers.program("vtlog")
+    return None if request.config.option.short else rattle_builds.program("vtlog")

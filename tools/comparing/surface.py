@@ -83,11 +83,10 @@ def differences(folder):
 def items(folder, out, features):
     """The public items of a crate: their paths, and what they are."""
     workshop = rust_builds.Workshop(out, "checked")
-    crate = rust_builds.crate_of(Path(folder), workshop.out)
-    words = ["cargo", "rustdoc", "--manifest-path", crate / "Cargo.toml", "--no-default-features",
+    words = ["cargo", "rustdoc", "--manifest-path", folder / "Cargo.toml", "--no-default-features",
              "--features", ",".join(features), "--", "--cap-lints", "allow"]
     rust_builds.run(words, f"the documentation of {folder}", workshop.environment)
-    return items_of_pages(out / "target" / "doc" / "vte", crate / "src")
+    return items_of_pages(out / "target" / "doc" / "vte", folder / "src")
 
 
 def items_of_pages(folder, sources):

@@ -391,7 +391,7 @@ PLANS = (VTE, VTLOG, VTE_C)
 # The screen and the checksums of the benchmark, over the crate `vte` or over ours: tools/building erases these files when it builds.
 RACE = Plan(
     out="",
-    modules=dict.fromkeys(("test_lines", "examples", "race", "vte_handler", "conformance"), "crate"),
+    modules=dict.fromkeys(("test_lines", "examples", "race", "vte_handler"), "crate"),
     of_std={"cell": "std::cell"},
     outside={"vte_core": "vte", "vte_types": "vte::ansi"},
     under={"examples/performer": {"runs": {"PerformText"}}, "vte_handler/by_call": {"runs": {"HandlerText"}}},
@@ -420,8 +420,7 @@ RACE = Plan(
             ("link: Option<Hyperlink<'_>>", "link: Option<vte::ansi::Hyperlink>"),
             ("SetHyperlink(link)", "SetHyperlink(link.as_ref().map(|link| Hyperlink { id: link.id.as_deref(), uri: &link.uri }))")],
     },
-    lines={"conformance/timeouts": {"#[derive(Default)]": ["pub(crate) struct Expiring"]},
-           "race/checksum": {"#[derive(Default)]": ["pub(crate) struct Checksum"]},
+    lines={"race/checksum": {"#[derive(Default)]": ["pub(crate) struct Checksum"]},
            "race/until_cleared": {"#[derive(Default)]": ["pub(crate) struct UntilCleared"]}},
     examples={"vte_handler/by_call": None},
 )

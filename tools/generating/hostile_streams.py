@@ -2,8 +2,8 @@
 
 A stream has 1 to 24 parts, rarely 200. A part follows the grammar, stands at a limit, or breaks a
 rule. Then some bytes may be damaged. The stream is cut nowhere, at every byte, at random, or where
-a cut is most likely to hurt. Empty pieces occur. There are five sets of kinds of parts: all, mostly
-text, mostly what a processor knows, mostly updates, and mostly long commands.
+a cut is most likely to hurt. Empty pieces occur. There are two sets of kinds of parts: all, and
+mostly text.
 """
 import random
 
@@ -165,12 +165,6 @@ LETTERS = (b"a B - / : = id= id=1 a=b http://x CursorShape= 0 1 2 7 007 255 256 
 PIECE = either(either(*COLORS), number_below(300), several(range(5), either(*LETTERS)))
 KNOWN_COMMAND = row(b"\x1b]", mostly(either(*CODES), PIECE),
                     several([0, 1, 1, 2, 3, 4, 18], row(b";", PIECE)), END)
-# texts of lengths at which something may be full or grow
-LENGTHS = [limit + more for limit in (1, 1024, 2048, 8192, 16384) for more in (-1, 0, 1, 16)]
-LONG_PIECE = row(b";", either(*COLORS, b"http://"), filled(LENGTHS),
-                 several(range(3), either(PIECE, CHARACTER, BROKEN)))
-LONG_CODES = b"0 2 8; 8;id=x 8;a=b:id=y:c 52;c 4;1 10 12 22 50 1337".split(b" ")
-LONG = row(b"\x1b]", either(*LONG_CODES), several([1, 1, 1, 2], LONG_PIECE), END)
 
 # each kind of part, and its weight
 KINDS = {TEXT: 6, CONTROL: 3, CANCELS: 2, EIGHT_BITS: 3, CHARACTER: 6, BROKEN: 8, FAULT: 4,
@@ -178,11 +172,6 @@ KINDS = {TEXT: 6, CONTROL: 3, CANCELS: 2, EIGHT_BITS: 3, CHARACTER: 6, BROKEN: 8
          REPETITION: 1, DEVICE: 6, COMMAND: 3, KNOWN_COMMAND: 4, IGNORED: 3, ANY: 3}
 OF_TEXT = {TEXT: 6, CONTROL: 2, CANCELS: 1, CHARACTER: 6, BROKEN: 10, FAULT: 4, ESCAPE: 1,
            SEQUENCE: 2, DEVICE: 1, KNOWN_COMMAND: 1, IGNORED: 1, ANY: 3}
-OF_CALLS = {TEXT: 2, CONTROL: 2, CHARACTER: 1, BROKEN: 1, ESCAPE: 3, KNOWN_SEQUENCE: 6,
-            RENDITION: 6, KNOWN_COMMAND: 6, COMMAND: 1, REPETITION: 1}
-OF_UPDATES = {UPDATES: 8, TEXT: 4, CHARACTER: 2, CONTROL: 1, ESCAPE: 1, RENDITION: 1,
-              KNOWN_COMMAND: 1, REPETITION: 1}
-OF_LONG = {LONG: 4, KNOWN_COMMAND: 2, TEXT: 1, BROKEN: 1, UPDATES: 1}
 
 
 # ---- streams and their pieces

@@ -1,5 +1,4 @@
 """Parts of random text, well-formed and malformed, and random cuts."""
-import re
 
 # well-formed characters of each length, including the ends of the ranges of UTF-8
 CHARACTERS = [chr(code).encode() for code in (
@@ -9,10 +8,6 @@ MALFORMED = [bytes.fromhex(text) for text in (
     "80 85 9c a0 bf c0 c1 c080 c0af c1bf c2 df e0 e080 e08080 e09f e09fbf e0a0 e1 e4bf ed ed9f eda0 eda080 ee80 f0 f080 f0808080 f08f f08fbfbf f090 "
     "f09080 f09f98 f1 f48f f48fbf f490 f4908080 f5 f5808080 fe ff c3c3a9 e4bde4bda0 f09f98f09f9880 e4bf18 e4bf0a c37f f09f981b e21b5b6d c21b5d "
     "f18080c285").split()]
-# a prefix of a well-formed character, by Unicode's table, at the end of some bytes
-UNFINISHED = re.compile(
-    rb"([\xc2-\xf4]|\xe0[\xa0-\xbf]|\xed[\x80-\x9f]|[\xe1-\xec\xee\xef][\x80-\xbf]"
-    rb"|(\xf0[\x90-\xbf]|[\xf1-\xf3][\x80-\xbf]|\xf4[\x80-\x8f])[\x80-\xbf]?)\Z")
 
 
 def cut_at_random(chance, stream, share):
@@ -28,9 +23,3 @@ def cut_at_random(chance, stream, share):
 
 def cut_at(stream, cuts):
     return [stream[start:end] for start, end in zip([0, *cuts], [*cuts, len(stream)])]
-
-
-def ends_inside_a_character(tail):
-    """Whether bytes end in a prefix of a well-formed character. `tail` is at most the last three bytes."""
-    return bool(UNFINISHED.search(tail))
-

@@ -2,7 +2,6 @@
 //! stream asks for it, one line per handler call. `end` comes after each stream.
 //!
 //! A pipe doesn't keep cuts, so they are part of the input; `frames` describes its form.
-//! `tools/compare` writes it.
 #![tactic(auto)]
 
 mod calls;

@@ -1,6 +1,6 @@
 //! Racers with a screen as performer or handler, and its checksum.
 //!
-//! tools/peer/src/race.rs does the same for the crate.
+//! tools/peer/src/main.rs does the same for the crate.
 
 use crate::Racer;
 use crate::checksum::Checksum;

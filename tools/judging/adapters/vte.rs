@@ -2,10 +2,10 @@
 //! per_byte` 0.10.
 use std::io::{Read, Write};
 
-use event_lines::EventLines;
+use event_lines::{EventLines, Stop};
 use vte::Parser;
 
-#[path = "../../peer/src/event_lines.rs"]
+#[path = "../../../rust/vte/tests/rows/event_lines.rs"]
 mod event_lines;
 
 #[cfg(not(per_byte))]
@@ -15,13 +15,14 @@ type Input = Parser;
 
 fn main() -> std::io::Result<()> {
     let (mut input, mut output) = (std::io::stdin().lock(), std::io::stdout().lock());
-    let (mut parser, mut log, mut size) = (Input::default(), EventLines::default(), [0; 4]);
+    let lines = || EventLines::<false>::new(Stop::Never);
+    let (mut parser, mut log, mut size) = (Input::default(), lines(), [0; 4]);
     while input.read_exact(&mut size).is_ok() {
         if size == [0xff; 4] {
             log.push(format_args!("end"));
-            output.write_all(log.0.as_bytes())?;
+            output.write_all(log.text.as_bytes())?;
             output.flush()?;
-            (parser, log) = (Input::default(), EventLines::default());
+            (parser, log) = (Input::default(), lines());
             continue;
         }
         let mut piece = vec![0; u32::from_le_bytes(size) as usize];

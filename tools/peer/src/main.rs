@@ -1,66 +1,128 @@
-//! The crate `vte` 0.15.0, or rust/vte (`--cfg runs`), behind a command line, for `tools/compare`
-//! and `bench/run`.
-//!
-//! ```text
-//! peer replay                     lines of events and handler calls (src/replay.rs)
-//! peer race KIND PIECE PASSES     a checksum, and the time of the fastest pass (src/race.rs)
-//! ```
-//!
-//! Both read standard input to its end. Status 2 for words that aren't understood.
+//! Times the parser or processor of the crate `vte` 0.15.0, or of rust/vte (`--cfg runs`), alone, as
+//! crates/race does ours, for bench/: `peer KIND PIECE PASSES` reads a stream from standard input.
+//! Standard output gets the checksum, standard error the nanoseconds of the fastest pass. The kinds
+//! are `parser` and `processor`, with a performer or handler that folds all into a checksum,
+//! `screen` and `terminal`, with a screen as the parser's performer or the processor's handler, and
+//! `strip` and `filter`, which put text into memory. Over rust/vte the last four are there with
+//! `_runs` too, and get text in runs. With `--cfg strippers` there are also what else strips, and a
+//! copy. Status 2 for words that aren't understood.
 
-mod event_lines;
-mod race;
-mod replay;
 mod text;
 
-// put beside these by tools/building: what crates/ and the tests of rust/vte have too
+// put beside these by tools/building: what crates/ has too
 mod by_call;
 mod call_checksum;
-mod call_lines;
 mod cell;
 mod checksum;
-mod frames;
 mod handler;
 mod hyperlink;
 mod performer;
 mod screen;
 mod screens;
-mod timeouts;
 mod until_cleared;
 mod variant;
 mod visitor;
 
+use std::hint::black_box;
 use std::io::Read;
+use std::num::NonZeroUsize;
 use std::process::exit;
+use std::time::{Duration, Instant};
 
-/// Ends the program for words or input that aren't understood.
+#[cfg(strippers)]
+use {console::strip_ansi_codes, simdutf8::basic::from_utf8};
+
+use vte::ansi::Processor;
+use vte::Parser;
+
+use by_call::ByCall;
+use call_checksum::CallChecksum;
+use checksum::Checksum;
+use screen::Screen;
+use screens::shown;
+use text::Text;
+use until_cleared::UntilCleared;
+
+/// Writes the function of each kind: what reads a stream, who receives it, by which call, the
+/// checksum of that, and what begins a pass. Its time is that of the fastest pass. `race_of`
+/// chooses one.
+macro_rules! races {
+    ($($(#[$runs:meta])? $kind:ident: $reader:expr, $receiver:expr, $advance:expr, $checksum:expr $(, $begin:expr)?;)*) => {
+        $(
+            $(#[$runs])?
+            fn $kind(stream: &[u8], piece: usize, passes: usize) -> (Checksum, Duration) {
+                let (mut reader, mut receiver) = ($reader, $receiver);
+                let pass = |_| {
+                    $($begin(&mut receiver);)?
+                    let start = Instant::now();
+                    black_box(stream).chunks(piece).for_each(|bytes| $advance(&mut reader, &mut receiver, bytes));
+                    start.elapsed()
+                };
+                let time = (0..passes).map(pass).min().unwrap_or_default();
+                ($checksum(receiver), time)
+            }
+        )*
+
+        fn race_of(kind: &str) -> fn(&[u8], usize, usize) -> (Checksum, Duration) {
+            match kind {
+                $($(#[$runs])? stringify!($kind) => $kind,)*
+                _ => usage(&format!("no such race here: {kind}")),
+            }
+        }
+    };
+}
+
+races! {
+    parser: Parser::<1024>::default(), Checksum::default(), Parser::advance, |checksum| checksum;
+    screen: Parser::<1024>::default(), Screen::new(), Parser::advance, |screen| shown(&screen);
+    strip: Parser::<1024>::default(), Text::default(), Parser::advance, Text::checksum, Text::clear;
+    processor: Processor::<UntilCleared>::new(), ByCall(CallChecksum::new()), Processor::advance, |calls: ByCall<CallChecksum>| calls.0.checksum;
+    terminal: Processor::<UntilCleared>::new(), ByCall(Screen::new()), Processor::advance, |calls: ByCall<Screen>| shown(&calls.0);
+    filter: Processor::<UntilCleared>::new(), ByCall(Text::default()), Processor::advance, |calls: ByCall<Text>| calls.0.checksum();
+    #[cfg(runs)]
+    screen_runs: Parser::<1024>::default(), Screen::new(), Parser::advance_text, |screen| shown(&screen);
+    #[cfg(runs)]
+    strip_runs: Parser::<1024>::default(), Text::default(), Parser::advance_text, Text::checksum, Text::clear;
+    #[cfg(runs)]
+    terminal_runs: Processor::<UntilCleared>::new(), ByCall(Screen::new()), Processor::advance_text, |calls: ByCall<Screen>| shown(&calls.0);
+    #[cfg(runs)]
+    filter_runs: Processor::<UntilCleared>::new(), ByCall(Text::default()), Processor::advance_text, |calls: ByCall<Text>| calls.0.checksum();
+    #[cfg(strippers)]
+    copy: (), Text::default(), |_, text: &mut Text, bytes| text.put(bytes), Text::checksum, Text::clear;
+    #[cfg(strippers)]
+    console: (), Text::default(), |_, text: &mut Text, bytes| text.put(strip_ansi_codes(from_utf8(bytes).expect("UTF-8")).as_bytes()),
+        Text::checksum, Text::clear;
+    #[cfg(strippers)]
+    strip_ansi_escapes: (), Text::default(), |_, text: &mut Text, bytes| text.put(&strip_ansi_escapes::strip(bytes)),
+        Text::checksum, Text::clear;
+}
+
+/// Ends the program for words that aren't understood.
 fn usage(message: &str) -> ! {
     eprintln!("peer: {message}");
     exit(2)
 }
 
-fn read_stream() -> Vec<u8> {
+/// A number from 1 on.
+fn positive(word: &str) -> usize {
+    word.parse().map_or_else(
+        |_| usage(&format!("a number from 1 on is wanted, not {word}")),
+        NonZeroUsize::get,
+    )
+}
+
+fn main() {
+    let words: Vec<String> = std::env::args().skip(1).collect();
+    let [kind, piece, passes] = &words[..] else {
+        usage("KIND, PIECE and PASSES are wanted")
+    };
+    let (race, piece, passes) = (race_of(kind), positive(piece), positive(passes));
     let mut stream = Vec::new();
     std::io::stdin()
         .lock()
         .read_to_end(&mut stream)
         .expect("the read failed");
-    stream
-}
-
-/// A number from 1 on.
-fn positive(word: &str) -> usize {
-    word.parse()
-        .ok()
-        .filter(|number| *number > 0)
-        .unwrap_or_else(|| usage(&format!("a number from 1 on is wanted, not {word}")))
-}
-
-fn main() {
-    let words: Vec<String> = std::env::args().skip(1).collect();
-    match words.split_first() {
-        Some((command, [])) if command == "replay" => replay::main(),
-        Some((command, words)) if command == "race" => race::main(words),
-        _ => usage("replay or race is expected"),
-    }
+    let (checksum, time) = race(&stream, piece, passes);
+    println!("{checksum}");
+    eprintln!("{}", time.as_nanos());
 }

@@ -1,5 +1,11 @@
-//! A stream in one call has the events and calls of the crate `vte`, but for listed differences.
+//! A stream has the events and calls of the crate `vte`, but for listed differences: in one call,
+//! and its calls also in pieces, with updates that are held, stopped and expire.
+//!
+//! The first two bytes of the input say where the stream, which follows them, is cut.
 #![no_main]
+
+#[path = "../cutting.rs"]
+mod cutting;
 
 use libfuzzer_sys::fuzz_target;
 
@@ -18,15 +24,43 @@ fn without_colors(calls: &str) -> Vec<&str> {
         .collect()
 }
 
-fuzz_target!(|stream: &[u8]| {
-    if stream.len() > MOST {
-        return;
-    }
-    assert_eq!(ours::events(stream), theirs::events(stream));
-    let (ours, theirs) = (ours::calls(stream), theirs::calls(stream));
+fn compare_calls(stream: &[u8], ours: &str, theirs: &str) {
     if may_have_other_color(stream) {
-        assert_eq!(without_colors(&ours), without_colors(&theirs));
+        assert_eq!(without_colors(ours), without_colors(theirs));
     } else {
         assert_eq!(ours, theirs);
+    }
+}
+
+/// Whether bytes end inside a character: `vte` can lose what follows it if it is cut there.
+fn end_inside_a_character(bytes: &[u8]) -> bool {
+    (1..=bytes.len().min(3)).any(|length| {
+        let tail = std::str::from_utf8(&bytes[bytes.len() - length..]);
+        matches!(tail, Err(fault) if fault.error_len().is_none())
+    })
+}
+
+/// The pieces of a stream, joined where a character is cut.
+fn pieces(stream: &[u8], size: u8, seed: u8) -> Vec<&[u8]> {
+    let (mut start, mut end, mut joined) = (0, 0, Vec::new());
+    for piece in cutting::pieces(stream, size, seed) {
+        end += piece.len();
+        if end == stream.len() || !end_inside_a_character(&stream[start..end]) {
+            joined.push(&stream[start..end]);
+            start = end;
+        }
+    }
+    joined
+}
+
+fuzz_target!(|input: &[u8]| {
+    if let [size, seed, stream @ ..] = input {
+        if stream.len() > MOST {
+            return;
+        }
+        assert_eq!(ours::events(stream), theirs::events(stream));
+        compare_calls(stream, &ours::calls(stream), &theirs::calls(stream));
+        let pieces = pieces(stream, *size, *seed);
+        compare_calls(stream, &ours::acts(&pieces), &theirs::acts(&pieces));
     }
 });

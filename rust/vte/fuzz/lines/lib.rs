@@ -4,38 +4,70 @@
 #[allow(dead_code)]
 #[path = "../../tests/rows/call_lines.rs"]
 mod call_lines;
-#[path = "../../../../tools/peer/src/event_lines.rs"]
+#[allow(dead_code)]
+#[path = "../../tests/rows/event_lines.rs"]
 mod event_lines;
 
+use std::cell::Cell;
+use std::fmt::Write;
 use std::time::Duration;
 
 use vte::ansi::{Processor, Timeout};
 use vte::Parser;
 
-/// A timeout that is never pending, so that no update is held.
+use call_lines::CallLines;
+use event_lines::{EventLines, Stop};
+
+/// A timeout that is pending until it is cleared or expires; or never, so that no update is held.
 #[derive(Default)]
-struct Never;
+struct Pending<const EVER: bool>(Cell<bool>);
 
-impl Timeout for Never {
-    fn set_timeout(&mut self, _: Duration) {}
+impl<const EVER: bool> Timeout for Pending<EVER> {
+    fn set_timeout(&mut self, _: Duration) {
+        self.0.set(EVER);
+    }
 
-    fn clear_timeout(&mut self) {}
+    fn clear_timeout(&mut self) {
+        self.0.set(false);
+    }
 
     fn pending_timeout(&self) -> bool {
-        false
+        self.0.get()
     }
 }
 
 /// The events of a stream that is read in one call.
 pub fn events(stream: &[u8]) -> String {
-    let mut lines = event_lines::EventLines::default();
+    let mut lines = EventLines::<false>::new(Stop::Never);
     Parser::<1024>::default().advance(&mut lines, stream);
-    lines.0
+    lines.text
 }
 
 /// The handler calls of a stream that is read in one call.
 pub fn calls(stream: &[u8]) -> String {
-    let mut lines = call_lines::CallLines::default();
-    Processor::<Never>::new().advance(&mut lines, stream);
+    let mut lines = CallLines::default();
+    Processor::<Pending<false>>::new().advance(&mut lines, stream);
     lines.take()
+}
+
+/// The handler calls of pieces, and what is held after each and after each stop. Updates are
+/// stopped after some pieces, half of these when their timeout has expired, and at the end.
+pub fn acts(pieces: &[&[u8]]) -> String {
+    let (mut processor, mut lines) = <(Processor<Pending<true>>, CallLines)>::default();
+    for (at, piece) in pieces.iter().enumerate() {
+        processor.advance(&mut lines, piece);
+        push_held(&lines, processor.sync_bytes_count());
+        if piece.len() % 8 == 3 {
+            processor.sync_timeout().0.set(false);
+        }
+        if piece.len() % 4 == 3 || at + 1 == pieces.len() {
+            processor.stop_sync(&mut lines);
+            push_held(&lines, processor.sync_bytes_count());
+        }
+    }
+    lines.take()
+}
+
+fn push_held(lines: &CallLines, count: usize) {
+    writeln!(lines.text.borrow_mut(), "held {count}").unwrap();
 }

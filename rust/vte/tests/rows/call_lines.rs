@@ -1,7 +1,7 @@
 //! One line per handler call: the method's name and its arguments, in the form of crates/call_rows.
 //!
-//! tools/peer has this file too, without features, over the crate `vte`, which knows neither lent
-//! texts nor runs.
+//! rust/vte/fuzz has this file too, without features, over the crate `vte`, which knows neither
+//! lent texts nor runs.
 
 use std::cell::RefCell;
 use std::fmt::{self, Write};

@@ -1,8 +1,13 @@
 //! One line per event.
+//!
+//! rust/vte/fuzz and tools/judging have this file too, without features, over the crate `vte`,
+//! which has no runs, and its version 0.10, which asks nobody where to stop.
 
 use std::fmt::Write;
 
-use vte::{Params, Perform, PerformText};
+#[cfg(any(test, feature = "ansi"))]
+use vte::PerformText;
+use vte::{Params, Perform};
 
 /// When a performer is terminated.
 #[derive(Clone, Copy, PartialEq, Eq)]
@@ -42,7 +47,7 @@ impl<const KEEPS: bool> EventLines<KEEPS> {
         }
     }
 
-    fn push(&mut self, line: std::fmt::Arguments<'_>) {
+    pub fn push(&mut self, line: std::fmt::Arguments<'_>) {
         writeln!(self.text, "{line}").unwrap();
     }
 
@@ -54,7 +59,10 @@ impl<const KEEPS: bool> EventLines<KEEPS> {
         ignore: bool,
         action: char,
     ) {
-        let groups: Vec<String> = params.iter().map(|group| join(group, ":")).collect();
+        // that of 0.10 can be endless
+        let groups = params.iter().take(33).map(|group| join(group, ":"));
+        let groups: Vec<String> = groups.collect();
+        assert!(groups.len() < 33, "the iterator gives more than 32 groups");
         let (groups, number) = (groups.join(";"), u32::from(action));
         self.push(format_args!(
             "{word} [{groups}] {} {ignore} {number:02x}",
@@ -119,12 +127,14 @@ impl<const KEEPS: bool> Perform for EventLines<KEEPS> {
         self.is_terminated |= self.stop == Stop::AfterEscape;
     }
 
+    #[cfg(any(test, feature = "ansi"))]
     fn terminated(&self) -> bool {
         self.is_terminated
     }
 }
 
 /// Checks what a run and a slice promise, and writes their characters and bytes one by one.
+#[cfg(any(test, feature = "ansi"))]
 impl<const KEEPS: bool> PerformText for EventLines<KEEPS> {
     fn keeps_layout(&self) -> bool {
         KEEPS
@@ -154,6 +164,7 @@ impl<const KEEPS: bool> PerformText for EventLines<KEEPS> {
 
 /// Whether `execute` receives the character, by rows 00 to 1F and 80 to 9F of Unicode. DEL is
 /// printed.
+#[cfg(any(test, feature = "ansi"))]
 fn is_control_character(c: char) -> bool {
     matches!(c, '\0'..='\u{1f}' | '\u{80}'..='\u{9f}')
 }

@@ -46,7 +46,8 @@ def write_crate(plan, read_files):
 
 
 def _named(plan):
-    by_file = (plan.under, plan.dropped, plan.added, plan.rules, plan.lines, plan.members, plan.inlined, plan.comments, plan.examples)
+    by_file = (plan.under, plan.renamed, plan.dropped, plan.added, plan.rules, plan.lines,
+               plan.members, plan.inlined, plan.comments, plan.examples)
     return {*plan.left_out, *(name for table in by_file for name in table if "/" in name), *filter(None, plan.handler[:1])}
 
 

@@ -10,7 +10,9 @@ sys.path.insert(0, str(TOOLS))
 
 from erasing import wording  # noqa: E402
 from erasing.crate import Failure, erase, write_crate  # noqa: E402
+from erasing.patterns import rewrite  # noqa: E402
 from erasing.plan import Plan  # noqa: E402
+from erasing.source import Source  # noqa: E402
 from rattle_text.tokens import COMMENT, Refused, split  # noqa: E402
 
 
@@ -161,8 +163,19 @@ class Erasing(unittest.TestCase):
     def test_failures_name_file_and_line(self):
         with self.assertRaisesRegex(Failure, r"^crates/a/src/x\.rt:2: unknown attribute: test$"):
             write_crate(plan(), lambda _crate: {"x.rt": "\n#[test]\nfn f() {}\n"})
-        with self.assertRaisesRegex(Failure, "a/gone"):
-            write_crate(plan(added={"a/gone": ""}), lambda _crate: {"x.rt": ""})
+
+    def test_each_table_names_files_that_exist(self):
+        for table in ("under", "renamed", "dropped", "added", "rules", "lines",
+                      "members", "inlined", "comments", "examples"):
+            given = plan(**{table: {"a/gone": {}}})
+            with self.subTest(table), self.assertRaisesRegex(Failure, "don't exist: a/gone"):
+                write_crate(given, lambda _crate: {"x.rt": ""})
+
+    def test_a_match_with_a_comment_stays(self):
+        for text, stays in ("f(// why\nalloc)\n", True), ("f(alloc)\n", False):
+            source = Source(text, "a/x")
+            rewrite(source, "(alloc)", "()")
+            self.assertEqual(source.written() == text, stays)
 
 
 if __name__ == "__main__":

@@ -1,7 +1,10 @@
 """Tests of the parts of the judge: the definition, shrinking, what is shown, and formats."""
 import json
+import mmap
+import os
 import re
 import time
+from types import SimpleNamespace
 
 import pytest
 from judging import candidate, definition, formats, house, reference, report, shrinking, views
@@ -18,6 +21,9 @@ from support import TOOLS, miss, program_in, run
     (b"\xc3\xa9\x80", "encoding=bytes", ["print 00c3", "print 00a9", "print 0080"]),
     (b"\xc3\xa9\x9b1m", "encoding=ascii malformed=drop c1-bytes=introduce", ["csi [1] - false 6d"]),
     (b"\x1b]a\xff\x07", "encoding=utf-8-first", ["osc true 1 61efbfbd"]),
+    (b"\x85\xff", "encoding=utf-8-first c1-bytes=drop", ["print fffd"]),
+    (b"\x85", "encoding=utf-8-first c1-bytes=replace malformed=drop", ["print fffd"]),
+    (b"\xff", "encoding=utf-8-first c1-bytes=replace malformed=drop", []),
     (b"\xc2\x84\xc2\x9b1m", "c1-characters=introduce", ["execute 84", "csi [1] - false 6d"]),
     (b"\x1b[1\xc2\x85m", "c1-characters=introduce", ["execute 85", "print 006d"]),
     (b"\x1b]0;a\xc2\x9cb", "c1-characters=introduce", ["osc false 2 30 61", "print 0062"]),
@@ -140,6 +146,13 @@ def test_a_retry_has_the_whole_time(whole):
 @pytest.mark.parametrize("whole", [(["sleep", "60"], 60, (), None, 0)], indirect=True)
 def test_memory_is_limited(whole):
     assert whole.answers([[b"a"]]) == [["(memory: more than 0 MiB)"]]
+
+
+def test_what_is_reserved_is_not_used():
+    this = SimpleNamespace(pid=os.getpid())
+    before = candidate.used_memory(this)
+    with mmap.mmap(-1, 1 << 29, mmap.MAP_PRIVATE | mmap.MAP_ANONYMOUS):
+        assert candidate.used_memory(this) - before < 1 << 28
 
 
 def test_lines_of_events():

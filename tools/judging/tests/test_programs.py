@@ -54,6 +54,13 @@ def test_a_finding_can_be_shown_again(judge, judge_toy, words, fault):
     assert f"NEW   {name}:" in judge(1, *again)
 
 
+def test_what_decides_is_in_the_command(judge, vtlog):
+    words = ["--timeout", "9.0", "--memory", "99", "--house", "delete=drop", "--house", "bell=drop",
+             "--untold", "groups,bell", "--leave-out", "colon", "--case", "61", "true"]
+    again = re.search(r"^  again +(.*)$", judge(1, "--pieces", *words), re.M)[1]
+    assert shlex.split(again) == ["tools/judge", "--pieces", "--vtlog", str(vtlog), *words]
+
+
 @pytest.mark.parametrize("status, words, how, told", [
     *((0, "", how, "40 streams, 0 differ; 0 classes")
       for how in ({}, {"once": True}, {"pieces": False})),

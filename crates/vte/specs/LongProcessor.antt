@@ -3,7 +3,7 @@ use Rattle.std.specs.Prelude.{◌≡◌, ℕ, ◌+◌, Bool, None, List, length,
 use Rattle.vte_core.specs.LongParser.{memory_of}
 use Rattle.vte_core.specs.declared.parser.long.LongParser.{LongParser}
 use Rattle.vte_core.specs.declared.parser.refused.Refused.{Refused}
-use Rattle.vte.specs.ProcessorCalls.{AreAt, HaveParsedAll, HaveTaken, LacksSome, Parts, ReadsSome, ReplaysAll, ReservesRoom, StopsUpdate, held_of, parts}
+use Rattle.vte.specs.ProcessorCalls.{AreAt, AreCopyOf, HaveParsedAll, HaveTaken, LacksSome, Parts, ReadsSome, ReplaysAll, ReservesRoom, StopsUpdate, held_of, parts}
 use Rattle.vte.specs.Processor.{Meaning, State}
 use Rattle.vte.specs.Rooms.{HasLongRoom, LacksLongRoom, long_reading}
 use Rattle.vte.specs.declared.ansi.growing_text.GrowingText.{GrowingText}
@@ -48,6 +48,12 @@ LacksMemoryFor timeout_of processor = LacksSome (unlimited timeout_of) processor
 abbrev pub HasNoMemory : {T A : Type 0} → LongProcessor T A → Type 0
 HasNoMemory processor =
     (memory_of processor.turns.parser ≡ 0) × (string_capacity processor.turns.state.text.text ≡ 0)
+
+-- `IsCopyOf`, for a processor without a limit.
+abbrev pub IsCopyOfLong : {T A W : Type 0} → (T → T → Type 0) → (T → W) → LongProcessor T A
+    → LongProcessor T A → Type 0
+IsCopyOfLong is_clone timeout_of processor copy =
+    AreCopyOf (unlimited timeout_of) is_clone processor.turns copy.turns
 
 abbrev pub ReservesLong : {T A W : Type 0} → (T → W) → LongProcessor T A → LongProcessor T A → ℕ
     → Bool → Type 0

@@ -174,6 +174,16 @@ LacksSome w turns left = (stream : List ℕ) → w.reading.has_read turns.parser
     → LacksPart (w.reading.lacks_room turns.parser (w.room_of turns.state.text) stream)
     (length (held_of turns.hold)) (length (held_of turns.hold) + left)
 
+-- `clone`: the copy stands where the others do, with as much memory, if the copy of the timeout has
+-- its value.
+pub record AreCopyOf {P J T A W : Type 0} (w : Parts P J T W) (is_clone : T → T → Type 0)
+    (turns copy : Turns P J T A) : Type 0 where
+  pub timeout : is_clone turns.state.timeout copy.state.timeout
+  pub stands : w.timeout_of copy.state.timeout ≡ w.timeout_of turns.state.timeout
+      → (parsed held : List ℕ) (timeout : W) → HaveTaken w turns parsed held timeout
+      → HaveTaken w copy parsed held timeout
+  pub memory : KeepsMemory w turns copy
+
 -- `reserve`: memory for the held bytes and for this many more
 pub record ReservesRoom {P J T A W : Type 0} (w : Parts P J T W) (old new : Turns P J T A)
     (more : ℕ) (result : Bool) : Type 0 where
@@ -229,6 +239,11 @@ pub record ReplaysAll {P J T A V W : Type 0} (w : Parts P J T W) (m : Meaning V 
   pub plain : AreAdvances steps → ParsesAll w m old new before value (bytes_of steps)
 
 -- The same of a processor.
+abbrev pub IsCopyOf : {T A W : Type 0} → (T → T → Type 0) → (T → W) → Processor T A → Processor T A
+    → Type 0
+IsCopyOf is_clone timeout_of processor copy =
+    AreCopyOf (limited timeout_of) is_clone processor.turns copy.turns
+
 abbrev pub StopsSync : {T A V W : Type 0} → (T → W) → Meaning V W → Processor T A → Processor T A
     → V → V → Type 0
 StopsSync timeout_of m old new = StopsUpdate (limited timeout_of) m old.turns new.turns

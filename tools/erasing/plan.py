@@ -413,8 +413,8 @@ RACE = Plan(
     }},
     rules={
         # places need no test
-        "examples/screen": [("for (place, byte) in bytes.iter().enumerate() { cells[place] = Cell $c; }",
-                                   "for (cell, byte) in cells.iter_mut().zip(bytes) { *cell = Cell $c; }")],
+        "examples/screen": [("for (place, byte) in bytes.iter().enumerate() { cells[place].show$x; }",
+                                   "for (cell, byte) in cells.iter_mut().zip(bytes) { cell.show$x; }")],
         "race/screens": [("fn shown", "pub(crate) fn shown")],
         "vte_handler/by_call": [
             ("title: Option<&str>", "title: Option<String>"), ("SetTitle(title)", "SetTitle(title.as_deref())"),

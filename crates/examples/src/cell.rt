@@ -10,6 +10,18 @@ pub struct Cell {
     pub style: Style,
 }
 
+impl Cell {
+    /// Shows a character in a style, part by part: a whole style would be read from memory again
+    /// for each of many cells.
+    #[inline]
+    pub(crate) fn show(&mut self, character: char, style: Style) {
+        self.character = character;
+        self.style.foreground = style.foreground;
+        self.style.background = style.background;
+        self.style.attributes = style.attributes;
+    }
+}
+
 /// How a cell looks. SGR n sets bit n of the attributes.
 #[derive(Clone, Copy, PartialEq)]
 pub struct Style {

@@ -46,7 +46,7 @@ impl TakeCall for Screen {
 }
 
 impl TakeText for Screen {
-    #[inline]
+    #[inline(always)]
     fn take_text(&mut self, text: &str) {
         self.draw_text(text);
     }

@@ -74,7 +74,7 @@ impl PerformText for Screen {
         false
     }
 
-    #[inline]
+    #[inline(always)]
     fn print_text(&mut self, text: &str) {
         self.draw_text(text);
     }

@@ -89,15 +89,24 @@ impl Screen {
         self.column += 1;
     }
 
-    /// Writes the characters of a text at the cursor, one after another. It is kept out of the
-    /// parser's loop, as `line_feed` is.
-    #[inline(never)]
+    /// Writes the characters of a text at the cursor, one after another. Much text comes as one
+    /// character, often one that the compiler knows where the parser prints it.
+    #[inline(always)]
     pub(crate) fn draw_text(&mut self, text: &str) {
-        match text.as_bytes() {
-            // ASCII; much text comes as one character
-            [byte] => self.draw(char::from(*byte)),
-            bytes if text.is_ascii() => self.draw_bytes(bytes),
-            _ => self.draw_characters(text),
+        let mut characters = text.chars();
+        match characters.next() {
+            Some(character) if characters.as_str().is_empty() => self.draw(character),
+            _ => self.draw_run(text),
+        }
+    }
+
+    /// Writes the characters of a text. It is kept out of the parser's loop, as `line_feed` is.
+    #[inline(never)]
+    fn draw_run(&mut self, text: &str) {
+        if text.is_ascii() {
+            self.draw_bytes(text.as_bytes());
+        } else {
+            self.draw_characters(text);
         }
     }
 
@@ -182,10 +191,7 @@ fn set_characters(cells: &mut [Cell], bytes: &[u8], style: Style)
     requires { length cells.old ≡ length bytes.now }
 {
     for (place, byte) in bytes.iter().enumerate() {
-        cells[place] = Cell {
-            character: char::from(*byte),
-            style,
-        };
+        cells[place].show(char::from(*byte), style);
     }
 }
 
@@ -198,7 +204,7 @@ fn take_characters(cells: &mut [Cell], characters: &mut Chars<'_>, style: Style)
     let count = cells.len();
     for (place, cell) in cells.iter_mut().enumerate() {
         match characters.next() {
-            Some(character) => *cell = Cell { character, style },
+            Some(character) => cell.show(character, style),
             None => return place,
         }
     }

@@ -1,7 +1,7 @@
 -- A hold turn by its parts: bytes join the hold, the timeout is set as often as they begin updates, and what the hold
 -- releases is parsed. Parsing a front of the held bytes and keeping the rest is `keep`.
 use Rattle.vte.proofs.Common.{◌≡◌, ℕ, ◌+◌, ◌-◌, ◌<◌, List, [], ◌∷◌, ◌++◌, length, length-append, length-take, take, refl, sym, ◌∙◌, arith, take_all, Turns, IsAdded}
-use Rattle.vte.proofs.Common.{held_of, released_of, kept_of, Meaning, set_times, AreAt, Parts, AreNextAt, IsParsed, IsParsedOn, IsReady, State, cut_at, extend, hold_turn, keep}
+use Rattle.vte.proofs.Common.{held_of, released_of, kept_of, Meaning, set_times, AreAt, TurnsMeaning, AreNextAt, IsParsed, IsParsedOn, IsReady, State, cut_at, extend, hold_turn, keep}
 use Rattle.vte.proofs.Common.{parse, stop}
 use Rattle.std.proofs.lemmas.List.{nil_from_length}
 use Rattle.vte.proofs.updates.Sequences.{stays_held, stays-is, suffix-length}
@@ -13,7 +13,7 @@ keeps_some m t [] some = absurd (omega arith)
 keeps_some m t (b ∷ kept) some = refl
 
 -- the hold has the new bytes, and the timeout was set as often as they begin updates
-module _ {P J T A V W : Type 0} {w : Parts P J T W} (m : Meaning V W) {s : State V W} {more : List ℕ}
+module _ {P J T A V W : Type 0} {w : TurnsMeaning P J T W} (m : Meaning V W) {s : State V W} {more : List ℕ}
     {old : Turns P J T A} {hold : SyncState A} {timeout : T} {begins : ℕ} {value : V}
     (at : AreAt w old value s) (added : IsAdded s.held more hold begins)
     (is_set : w.timeout_of timeout ≡ set_times m.timeout begins (w.timeout_of old.state.timeout))

@@ -4,38 +4,37 @@ use Rattle.vte_core.specs.declared.parser.refused.Refused.{Refused}
 use Rattle.vte_core.specs.Stream.{added}
 use Rattle.vte.specs.BeginUpdate.{begin_count}
 use Rattle.vte.specs.Processor.{Meaning, State, TakesSome, begin_front, open_turn, parse, turn}
-use Rattle.vte.specs.ProcessorCalls.{AreAt, HasParsed, KeepsMemory, Parts}
-use Rattle.vte.specs.Rooms.{KeepsRoom}
+use Rattle.vte.specs.machine.TurnsMeaning.{AreAt, HasParsed, KeepsRoom, KeepsTurnRoom, TurnsMeaning}
 use Rattle.vte.specs.declared.ansi.performer.ProcessorState.{ProcessorState}
 use Rattle.vte.specs.declared.ansi.turns.Turns.{Turns}
 
 -- The parser, the state lent to it and the handler's value are as the state says, whatever is held.
-pub record IsParsed {P J T V W : Type 0} (w : Parts P J T W) (parser : P)
+pub record IsParsed {P J T V W : Type 0} (w : TurnsMeaning P J T W) (parser : P)
     (lent : ProcessorState T J) (value : V) (s : State V W) : Type 0 where
   pub has_parsed : HasParsed w parser lent s.parsed s.timeout
   pub handler_is : value ≡ s.handler
 
 -- There is also memory for so many bytes.
-pub record IsReady {P J T V W : Type 0} (w : Parts P J T W) (parser : P) (lent : ProcessorState T J)
+pub record IsReady {P J T V W : Type 0} (w : TurnsMeaning P J T W) (parser : P) (lent : ProcessorState T J)
     (value : V) (s : State V W) (count : ℕ) : Type 0 where
   pub is_parsed : IsParsed w parser lent value s
   pub room : w.reading.has_room parser (w.room_of lent.text) s.parsed count
 
 -- They are at a state, with the memory that was there before.
-pub record IsParsedOn {P J T V W : Type 0} (w : Parts P J T W) (parser : P)
+pub record IsParsedOn {P J T V W : Type 0} (w : TurnsMeaning P J T W) (parser : P)
     (lent : ProcessorState T J) (next : P) (back : ProcessorState T J) (value : V) (s : State V W)
     : Type 0 where
   pub is_parsed : IsParsed w next back value s
   pub memory : KeepsRoom w.reading.has_room parser (w.room_of lent.text) next (w.room_of back.text)
 
 -- The turns are at a state, with the memory that was there before.
-pub record AreNextAt {P J T A V W : Type 0} (w : Parts P J T W) (old new : Turns P J T A)
+pub record AreNextAt {P J T A V W : Type 0} (w : TurnsMeaning P J T W) (old new : Turns P J T A)
     (value : V) (s : State V W) : Type 0 where
   pub are_at : AreAt w new value s
-  pub memory : KeepsMemory w old new
+  pub memory : KeepsTurnRoom w old new
 
 -- From each state that the turns are at, they lead on as it says.
-abbrev pub LeadOn : {P J T A V W : Type 0} → Parts P J T W → Turns P J T A → Turns P J T A → V → V
+abbrev pub LeadOn : {P J T A V W : Type 0} → TurnsMeaning P J T W → Turns P J T A → Turns P J T A → V → V
     → (State V W → (State V W → Type 0) → Type 0) → Type 0
 LeadOn w old new before value ends =
     (s : State _ _) → AreAt w old before s → ends s (AreNextAt w old new value)

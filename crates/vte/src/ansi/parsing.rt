@@ -4,9 +4,8 @@ ghost use Rattle.std.specs.Prelude.{◌≡◌, ◌≤◌, ◌+◌, ◌++◌, ℕ
 ghost use Rattle.vte.specs.machine.Lent.{ParsesLent, StopsLent, lent_of};
 ghost use Rattle.vte.specs.Processor.{State, meaning, parse, timeout_meaning};
 ghost use Rattle.vte.specs.machine.Performer.{with_event};
-ghost use Rattle.vte.specs.ProcessorCalls.{parts};
 ghost use Rattle.vte.specs.machine.Turns.{IsAtBegin, IsParsedOn, IsReady};
-ghost use Rattle.vte.specs.Rooms.{KeepsRoom, Reading, short_reading};
+ghost use Rattle.vte.specs.machine.TurnsMeaning.{KeepsRoom, ParserMeaning, short_meaning, turns_meaning};
 
 use crate::ansi::performer::{Performer, ProcessorState};
 use crate::ansi::text_buffer::TextBuffer;
@@ -28,7 +27,7 @@ pub(crate) trait EventParser {
     ghost limit: { Option ℕ };
 
     /// Which streams it has read, and for which bytes it has memory.
-    ghost reading: { Reading Self };
+    ghost reading: { ParserMeaning Self };
 
     /// Takes memory for held bytes and for more, and for the texts that are joined from them.
     /// Returns whether it is there.
@@ -46,7 +45,7 @@ pub(crate) trait EventParser {
 impl EventParser for ProcessorParser {
     ghost limit = { Some 1024 };
 
-    ghost reading = { short_reading };
+    ghost reading = { short_meaning };
 
     fn reserve<J: TextBuffer>(&mut self, text: &mut J, _held: usize, _more: usize) -> bool {
         text.reserve(TEXT_ROOM)
@@ -130,14 +129,14 @@ pub(crate) fn parse_all<
     G: ParseAs<H, T, B>,
 >(parser: &mut B, state: &mut ProcessorState<T, J>, handler: &mut H, bytes: &[u8])
     ensures parsed { (s : State H.Value T.Value) (n : ℕ)
-        → IsReady (parts B.limit B.reading J.room T.value_of) parser.old state.old
+        → IsReady (turns_meaning B.limit B.reading J.room T.value_of) parser.old state.old
         (H.value_of handler.old) s (length bytes.now + n) →
         IsParsedOn
-        (parts B.limit B.reading J.room T.value_of) parser.old state.old parser.new state.new
+        (turns_meaning B.limit B.reading J.room T.value_of) parser.old state.old parser.new state.new
         (H.value_of handler.new)
         (parse (meaning B.limit H.step T.set T.clear T.allows) s bytes.now) }
     ensures room { (s : State H.Value T.Value) (n : ℕ)
-        → IsReady (parts B.limit B.reading J.room T.value_of) parser.old state.old
+        → IsReady (turns_meaning B.limit B.reading J.room T.value_of) parser.old state.old
         (H.value_of handler.old) s (length bytes.now + n) →
         B.reading.has_room parser.new (J.room state.new.text) (s.parsed ++ bytes.now) n }
 {
@@ -161,11 +160,11 @@ pub(crate) fn parse_until_begin<
 >(parser: &mut B, state: &mut ProcessorState<T, J>, handler: &mut H, bytes: &[u8]) -> (usize, bool)
     ensures within { result.0 ≤ length bytes.now }
     ensures stops { (s : State H.Value T.Value) (n : ℕ)
-        → IsReady (parts B.limit B.reading J.room T.value_of) parser.old state.old
+        → IsReady (turns_meaning B.limit B.reading J.room T.value_of) parser.old state.old
         (H.value_of handler.old) s (length bytes.now + n) →
         IsAtBegin (meaning B.limit H.step T.set T.clear T.allows) s bytes.now result.0 result.1
         (IsParsedOn
-        (parts B.limit B.reading J.room T.value_of) parser.old state.old parser.new state.new
+        (turns_meaning B.limit B.reading J.room T.value_of) parser.old state.old parser.new state.new
         (H.value_of handler.new)) }
 {
     let mut performer = Performer {

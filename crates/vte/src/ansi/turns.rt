@@ -1,9 +1,10 @@
 //! Turns: each parses bytes of a call, or holds them back.
 ghost use Rattle.std.specs.Prelude.{◌≡◌, ℕ, ◌+◌, ◌≤◌, [], length, IfErr, IfOk, MatchResult, ◌-◌, ◌<◌, ◌++◌, nat_le};
-ghost use Rattle.vte.specs.ProcessorCalls.{HaveParsedAll, HaveTaken, LacksSome, ReadsSome, ReservesRoom, StopsUpdate, held_of, parts};
+ghost use Rattle.vte.specs.ProcessorCalls.{held_of};
 ghost use Rattle.vte.specs.machine.Hold.{released_of};
 ghost use Rattle.vte.specs.Processor.{State, hold_turn, meaning, most_held, parse, set_times, stop, timeout_meaning};
 ghost use Rattle.vte.specs.machine.Turns.{AreNextAt, EndsOpen, EndsTurn, IsParsed, IsParsedOn, IsReady, LeadOn};
+ghost use Rattle.vte.specs.machine.TurnsMeaning.{HaveTaken, LacksSome, ReadsSome, ReservesRoom, StopsUpdate, turns_meaning};
 
 use crate::ansi::hold::{MOST_HELD, SyncState};
 use crate::ansi::parsing::{EventParser, ParseAs, parse_all, parse_until_begin};
@@ -38,11 +39,9 @@ impl<B: EventParser + Drop, J: TextBuffer + Drop, T: Timeout + Drop, A: Allocato
     pub(crate) fn new(alloc: A, parser: B, text: J, timeout: T) -> Result<Self, T>
         requires reads { B.reading.has_read parser [] }
         ensures stands { MatchResult result
-            (λ turns. HaveTaken (parts B.limit B.reading J.room T.value_of) turns [] []
+            (λ turns. HaveTaken (turns_meaning B.limit B.reading J.room T.value_of) turns [] []
             (T.value_of timeout)) (λ back. back ≡ timeout) }
         ensures timeout { IfOk result (λ turns. turns.state.timeout ≡ timeout) }
-        ensures parses_all { IfOk result
-            (λ turns. HaveParsedAll (parts B.limit B.reading J.room T.value_of) turns []) }
     {
         laws::empty_stream();
         match SyncState::new(alloc) {
@@ -66,7 +65,7 @@ impl<B: EventParser + Drop, J: TextBuffer + Drop, T: Timeout + Drop, A: Allocato
         handler: &mut H,
         bytes: &[u8],
     ) -> Result<(), Refused>
-        ensures { ReadsSome (parts B.limit B.reading J.room T.value_of)
+        ensures { ReadsSome (turns_meaning B.limit B.reading J.room T.value_of)
             (meaning B.limit H.step T.set T.clear T.allows)
             self.old self.new (H.value_of handler.old) (H.value_of handler.new) bytes.now result }
     {
@@ -89,7 +88,7 @@ impl<B: EventParser + Drop, J: TextBuffer + Drop, T: Timeout + Drop, A: Allocato
 
     /// Stops the update, whatever is held: there is memory to parse it.
     pub(crate) fn stop<H: Handler, G: ParseAs<H, T, B>>(&mut self, handler: &mut H)
-        ensures stopped { StopsUpdate (parts B.limit B.reading J.room T.value_of)
+        ensures stopped { StopsUpdate (turns_meaning B.limit B.reading J.room T.value_of)
             (meaning B.limit H.step T.set T.clear T.allows) self.old self.new
             (H.value_of handler.old) (H.value_of handler.new) }
         ensures none { held_of self.new.hold ≡ [] }
@@ -102,13 +101,13 @@ impl<B: EventParser + Drop, J: TextBuffer + Drop, T: Timeout + Drop, A: Allocato
     /// update has ended.
     fn end_update<H: Handler, G: ParseAs<H, T, B>>(&mut self, handler: &mut H)
         ensures stops { (s : State H.Value T.Value) (n : ℕ)
-            → IsParsed (parts B.limit B.reading J.room T.value_of) self.old.parser self.old.state
+            → IsParsed (turns_meaning B.limit B.reading J.room T.value_of) self.old.parser self.old.state
             (H.value_of handler.old) s →
             released_of self.old.hold ≡ s.held → held_of self.old.hold ≡ []
             → (0 < length s.held
             → B.reading.has_room self.old.parser (J.room self.old.state.text) s.parsed
             (length s.held + n)) →
-            AreNextAt (parts B.limit B.reading J.room T.value_of) self.old self.new
+            AreNextAt (turns_meaning B.limit B.reading J.room T.value_of) self.old self.new
             (H.value_of handler.new) (stop (meaning B.limit H.step T.set T.clear T.allows) s) }
         ensures hold { self.new.hold ≡ self.old.hold }
     {
@@ -120,17 +119,17 @@ impl<B: EventParser + Drop, J: TextBuffer + Drop, T: Timeout + Drop, A: Allocato
     /// Parses the released bytes.
     fn parse_released<H: Handler, G: ParseAs<H, T, B>>(&mut self, handler: &mut H)
         ensures parsed { (s : State H.Value T.Value) (n : ℕ)
-            → IsParsed (parts B.limit B.reading J.room T.value_of) self.old.parser self.old.state
+            → IsParsed (turns_meaning B.limit B.reading J.room T.value_of) self.old.parser self.old.state
             (H.value_of handler.old) s →
             (0 < length (released_of self.old.hold)
             → B.reading.has_room self.old.parser (J.room self.old.state.text) s.parsed
             (length (released_of self.old.hold) + n)) →
             IsParsedOn
-            (parts B.limit B.reading J.room T.value_of) self.old.parser self.old.state
+            (turns_meaning B.limit B.reading J.room T.value_of) self.old.parser self.old.state
             self.new.parser self.new.state (H.value_of handler.new)
             (parse (meaning B.limit H.step T.set T.clear T.allows) s (released_of self.old.hold)) }
         ensures room { (s : State H.Value T.Value) (n : ℕ) →
-            IsReady (parts B.limit B.reading J.room T.value_of) self.old.parser self.old.state
+            IsReady (turns_meaning B.limit B.reading J.room T.value_of) self.old.parser self.old.state
             (H.value_of handler.old) s (length (released_of self.old.hold) + n) →
             B.reading.has_room self.new.parser (J.room self.new.state.text)
             (s.parsed ++ released_of self.old.hold) n }
@@ -154,11 +153,11 @@ impl<B: EventParser + Drop, J: TextBuffer + Drop, T: Timeout + Drop, A: Allocato
         requires some { 0 < length bytes.now }
         ensures within { MatchResult result (λ read. read ≤ length bytes.now)
             (λ refused. refused.read < length bytes.now) }
-        ensures turned { LeadOn (parts B.limit B.reading J.room T.value_of) self.old self.new
+        ensures turned { LeadOn (turns_meaning B.limit B.reading J.room T.value_of) self.old self.new
             (H.value_of handler.old) (H.value_of handler.new)
             (λ s. EndsTurn (meaning B.limit H.step T.set T.clear T.allows) s bytes.now result) }
         ensures lacks { IfErr result
-            (λ refused. LacksSome (parts B.limit B.reading J.room T.value_of) self.new
+            (λ refused. LacksSome (turns_meaning B.limit B.reading J.room T.value_of) self.new
             (length bytes.now - refused.read)) }
     {
         let pending = self.state.timeout.pending_timeout();
@@ -193,11 +192,11 @@ impl<B: EventParser + Drop, J: TextBuffer + Drop, T: Timeout + Drop, A: Allocato
         requires none { held_of self.old.hold ≡ [] }
         ensures within { MatchResult result (λ read. read ≤ length bytes.now)
             (λ refused. refused.read < length bytes.now) }
-        ensures opened { LeadOn (parts B.limit B.reading J.room T.value_of) self.old self.new
+        ensures opened { LeadOn (turns_meaning B.limit B.reading J.room T.value_of) self.old self.new
             (H.value_of handler.old) (H.value_of handler.new)
             (λ s. EndsOpen (meaning B.limit H.step T.set T.clear T.allows) s bytes.now result) }
         ensures lacks { IfErr result
-            (λ refused. LacksSome (parts B.limit B.reading J.room T.value_of) self.new
+            (λ refused. LacksSome (turns_meaning B.limit B.reading J.room T.value_of) self.new
             (length bytes.now - refused.read)) }
     {
         let mut read = 0;
@@ -225,7 +224,7 @@ impl<B: EventParser + Drop, J: TextBuffer + Drop, T: Timeout + Drop, A: Allocato
     /// Takes memory for the held bytes and for this many more, and returns whether it is there.
     pub(crate) fn reserve(&mut self, more: usize) -> bool
         ensures reserved { ReservesRoom
-            (parts B.limit B.reading J.room T.value_of) self.old self.new more result }
+            (turns_meaning B.limit B.reading J.room T.value_of) self.old self.new more result }
         ensures hold { self.new.hold ≡ self.old.hold }
     {
         self.parser
@@ -236,7 +235,7 @@ impl<B: EventParser + Drop, J: TextBuffer + Drop, T: Timeout + Drop, A: Allocato
     fn hold_bytes<H: Handler, G: ParseAs<H, T, B>>(&mut self, handler: &mut H, bytes: &[u8])
         requires some { 0 < length bytes.now }
         requires room { length (held_of self.old.hold) + length bytes.now ≤ most_held }
-        ensures { LeadOn (parts B.limit B.reading J.room T.value_of) self.old self.new
+        ensures { LeadOn (turns_meaning B.limit B.reading J.room T.value_of) self.old self.new
             (H.value_of handler.old) (H.value_of handler.new)
             (λ s there. B.reading.has_room self.old.parser (J.room self.old.state.text) s.parsed
             (length s.held + length bytes.now) →

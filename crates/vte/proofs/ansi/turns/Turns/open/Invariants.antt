@@ -1,10 +1,10 @@
-use Rattle.vte.proofs.Common.{◌<◌, ◌≤◌, length, meaning, AreAt, parts, AreNextAt, IsOpenAt, State}
+use Rattle.vte.proofs.Common.{◌<◌, ◌≤◌, length, meaning, AreAt, turns_meaning, AreNextAt, IsOpenAt, State}
 use Rattle.vte.proofs.ansi.turns.Turns.open.Given as goal
 
 abbrev pub invariant-loop-slice : goal.invariant-loop-slice
 invariant-loop-slice g l =
     let m = meaning g.B.EventParser.limit g.H.Handler.step g.T.Timeout.set g.T.Timeout.clear g.T.Timeout.allows in
-    let w = parts g.B.EventParser.limit g.B.EventParser.reading g.J.TextBuffer.room g.T.Timeout.value_of in
+    let w = turns_meaning g.B.EventParser.limit g.B.EventParser.reading g.J.TextBuffer.room g.T.Timeout.value_of in
     record {
       within : l.read ≤ length l.bytes;
       some : l._slice < length l.bytes → l.read < length l.bytes;

@@ -25,6 +25,16 @@ pub record HasParsedAndHoldsLong {T A W : Type 0} (timeout_of : T → W)
   pub holds : held_long processor ≡ held
   pub has_memory : 0 < length held → HasMemory processor parsed (length held)
 
+-- `IsCopyOf`, with as much memory.
+pub record IsCopyOfLong {T A W : Type 0} (is_clone : T → T → Type 0) (timeout_of : T → W)
+    (processor copy : LongProcessor T A) : Type 0 where
+  pub timeout : is_clone (timeout_long processor) (timeout_long copy)
+  pub stands : timeout_of (timeout_long copy) ≡ timeout_of (timeout_long processor)
+      → (parsed held : List ℕ) (timeout : W)
+      → HasParsedAndHoldsLong timeout_of processor parsed held timeout
+      → HasParsedAndHoldsLong timeout_of copy parsed held timeout
+  pub memory : KeepsMemory processor copy
+
 -- `reserve`: memory for the held bytes and for this many more
 pub record Reserves {T A W : Type 0} (timeout_of : T → W) (old new : LongProcessor T A)
     (more : ℕ) (result : Bool) : Type 0 where

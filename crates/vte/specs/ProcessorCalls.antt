@@ -118,6 +118,15 @@ pub record ParsesAll {V W : Type 0} (m : Meaning V W) (old new : Standing W) (be
   pub parses_all : IsNeverPending m.timeout.allows → (stream : List ℕ) → HasParsedAll old stream
       → HasParsedAll new (stream ++ bytes)
 
+-- `clone`: the copy stands where the processor does, if the copy of the timeout has its value.
+pub record IsCopyOf {T A W : Type 0} (is_clone : T → T → Type 0) (timeout_of : T → W)
+    (processor copy : Processor T A) : Type 0 where
+  pub timeout : is_clone (timeout_in processor) (timeout_in copy)
+  pub stands : timeout_of (timeout_in copy) ≡ timeout_of (timeout_in processor)
+      → (parsed held : List ℕ) (timeout : W)
+      → HasParsedAndHolds timeout_of processor parsed held timeout
+      → HasParsedAndHolds timeout_of copy parsed held timeout
+
 -- `sync_bytes_count`
 pub record CountsHeld (held : List ℕ) (result : ℕ) : Type 0 where
   pub count : result ≡ length held

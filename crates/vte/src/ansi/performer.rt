@@ -23,7 +23,7 @@ use vte_types::NamedPrivateMode;
 pub(crate) const UPDATE_TIMEOUT_MILLIS: u64 = 150;
 
 /// What a processor keeps between events.
-#[derive(Drop)]
+#[derive(Clone, Drop)]
 pub(crate) struct ProcessorState<T: Drop, J: Drop> {
     pub(crate) preceding_char: Option<char>,
     pub(crate) text: J,

@@ -21,7 +21,7 @@ const SLICE: usize = 65_536;
 
 /// What takes the turns of a processor: a parser, the bytes that are held back, and what is kept
 /// between events.
-#[derive(Drop)]
+#[derive(Clone, Drop)]
 pub(crate) struct Turns<B: Drop, J: Drop, T: Drop, A: Allocator> {
     pub(crate) parser: B,
     pub(crate) hold: SyncState<A>,

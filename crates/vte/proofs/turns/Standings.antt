@@ -1,7 +1,7 @@
 -- A processor stands where its turns do: with a limit there is always memory. So what the turns ensure is true of it.
-use Rattle.vte.proofs.Common.{◌<◌, ℕ, List, None, Some, length, Bool, Result, Ok, Err, arith, Bor, Refused, LongParser, Turns, TurnsMeaning, Meaning, State}
+use Rattle.vte.proofs.Common.{◌<◌, ℕ, List, None, Some, length, Bool, Result, Ok, Err, arith, Bor, Refused, LongParser, Turns, TurnsMeaning, Meaning, Stage}
 use Rattle.vte.proofs.Common.{HasParsedAndHolds, HasParsedAndHoldsLong, HasTaken, HaveTaken, IsAt, ReadsInTurns, ReadsSome, Reserves, ReservesRoom, Standing, StopsSync, StopsSyncLong}
-use Rattle.vte.proofs.Common.{StopsUpdate, ◌≡◌, refl, stop, long_meaning, short_meaning, turns_meaning}
+use Rattle.vte.proofs.Common.{StopsUpdate, ◌≡◌, refl, stop, long_meaning, short_meaning, of_turns}
 use Rattle.vte_core.specs.declared.parser.Parser.{Parser}
 use Rattle.vte.proofs.runs.PlainRuns.{plain_call}
 use Rattle.vte.proofs.turns.Turns.{has_advanced}
@@ -11,10 +11,10 @@ use Rattle.vte.specs.declared.ansi.processor.Processor.{Processor}
 use Rattle.vte.specs.declared.ansi.titles.TheConstants.{TEXT_ROOM}
 
 abbrev pub limited : {N : ℕ} {J T W : Type 0} → (T → W) → TurnsMeaning (Parser N) J T W
-limited timeout_of = turns_meaning (Some 1024) short_meaning (λ text. TEXT_ROOM) timeout_of
+limited timeout_of = of_turns (Some 1024) short_meaning (λ text. TEXT_ROOM) timeout_of
 
 abbrev pub unlimited : {A T W : Type 0} → (T → W) → TurnsMeaning (LongParser A) (GrowingText A) T W
-unlimited timeout_of = turns_meaning None long_meaning (λ text. text.size) timeout_of
+unlimited timeout_of = of_turns None long_meaning (λ text. text.size) timeout_of
 
 module _ {T A W : Type 0} {timeout_of : T → W} {parsed held : List ℕ} {timeout : W} where
   pub turns_stand : {processor : Processor T A} → HasParsedAndHolds timeout_of processor parsed held timeout
@@ -59,10 +59,10 @@ module _ {T A W : Type 0} {timeout_of : T → W} {parsed held : List ℕ} {timeo
 module _ {V W : Type 0} {m : Meaning V W} {old turns_old turns_new new : Standing W} {before value : V}
     (from : {parsed held : List ℕ} {timeout : W} → old parsed held timeout → turns_old parsed held timeout)
     (to : {parsed held : List ℕ} {timeout : W} → turns_new parsed held timeout → new parsed held timeout) where
-  pub at_from : (s : State V W) → IsAt old before s → IsAt turns_old before s
+  pub at_from : (s : Stage V W) → IsAt old before s → IsAt turns_old before s
   at_from s at = record { stands = from at.stands; handler_is = at.handler_is }
 
-  at_to : (s : State V W) → IsAt turns_new value s → IsAt new value s
+  at_to : (s : Stage V W) → IsAt turns_new value s → IsAt new value s
   at_to s at = record { stands = to at.stands; handler_is = at.handler_is }
 
   pub stops_so : StopsSync m turns_old turns_new before value → StopsSync m old new before value
@@ -74,8 +74,8 @@ module _ {V W : Type 0} {m : Meaning V W} {old turns_old turns_new new : Standin
       }
 
   module _ (bytes : Bor (List ℕ)) {read : ℕ}
-      (takes : (s : State V W) → IsAt turns_old before s → HasTaken m s bytes.now read (IsAt turns_new value)) where
-    pub takes_so : (s : State V W) → IsAt old before s → HasTaken m s bytes.now read (IsAt new value)
+      (takes : (s : Stage V W) → IsAt turns_old before s → HasTaken m s bytes.now read (IsAt turns_new value)) where
+    pub takes_so : (s : Stage V W) → IsAt old before s → HasTaken m s bytes.now read (IsAt new value)
     takes_so s at =
         let t = takes s (at_from s at) in
         record {
@@ -107,7 +107,8 @@ module _ {T A V W : Type 0} {timeout_of : T → W} {m : Meaning V W} {old new : 
       let t = r.takes s at in
       omega (arith, (r.lacks t.next.parsed t.is_at.stands.has_parsed.has_read).is_lacking))) refl
 
-module _ {T A V W : Type 0} {timeout_of : T → W} {m : Meaning V W} {old new : LongProcessor T A} {before value : V} where
+module _ {T A V W : Type 0} {timeout_of : T → W} {m : Meaning V W} {old new : LongProcessor T A}
+    {before value : V} where
   pub stops_sync_long : StopsUpdate (unlimited timeout_of) m old.turns new.turns before value
       → StopsSyncLong timeout_of m old new before value
   stops_sync_long r = record {

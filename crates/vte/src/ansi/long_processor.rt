@@ -55,7 +55,8 @@ impl<T: Timeout + Drop, A: Allocator + Copy> LongProcessor<T, A> {
             (IsKept m → AllowsAlone m (T.value_of timeout) false)
             → HoldsWell None m [] [] (T.value_of timeout) }
         ensures timeout { IfOk result (λ processor. timeout_long processor ≡ timeout) }
-        ensures parses_all { IfOk result (λ processor. HasParsedAll (HasParsedAndHoldsLong T.value_of processor) []) }
+        ensures parses_all { IfOk result
+            (λ processor. HasParsedAll (HasParsedAndHoldsLong T.value_of processor) []) }
     {
         let parser = LongParser::new(alloc);
         let text = GrowingText::new(alloc);

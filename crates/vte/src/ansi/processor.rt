@@ -65,7 +65,8 @@ impl<T: Timeout + Drop, A: Allocator> Processor<T, A> {
             (IsKept m → AllowsAlone m (T.value_of timeout) false)
             → HoldsWell (Some 1024) m [] [] (T.value_of timeout) }
         ensures timeout { IfOk result (λ processor. timeout_in processor ≡ timeout) }
-        ensures parses_all { IfOk result (λ processor. HasParsedAll (HasParsedAndHolds T.value_of processor) []) }
+        ensures parses_all { IfOk result
+            (λ processor. HasParsedAll (HasParsedAndHolds T.value_of processor) []) }
     {
         let turns = Turns::new(alloc, ProcessorParser::new(), ProcessorText::new(), timeout)?;
         Ok(Processor { turns })

@@ -115,7 +115,7 @@ module _ (last : Option ℕ) (intermediates : List ℕ) (groups : List (List ℕ
     for_both (λ path update. call.SetScp path update) (beside path_rows ps)
         (beside update_rows ps2),
   ) ∷  -- k: SCP
-      (0x71, for_some (λ style. call.SetCursorStyle style) (beside cursor_rows ps)) ∷  -- q: DECSCUSR
+      (0x71, for_some (λ kind. call.SetCursorStyle kind) (beside cursor_rows ps)) ∷  -- q: DECSCUSR
       []
 
   abbrev pub dollar_rows : List (Row (List Call))

@@ -2,7 +2,7 @@
 -- given bytes at the start leaves room for what is left, turn by turn.
 use Rattle.vte.proofs.Common.{◌≡◌, ℕ, ◌+◌, ◌-◌, ◌<◌, inl, inr, List, ◌++◌, length, Result, Ok, Err, refl, ap, arith, length-append, Refused, LongParser, counts_data}
 use Rattle.vte.proofs.Common.{AdvancesLong, Bor, HasParsedAndHoldsLong, IsAt, Turns, Meaning, AreAt, HasTaken, LacksSome, ReadsSome, HasRoom, Stage, drop, length-drop}
-use Rattle.vte.proofs.turns.Standings.{reads_so, stands_long, takes_so, turns_stand_long, unlimited}
+use Rattle.vte.proofs.turns.Standings.{at_same, reads_so, stands_long, takes_so, turns_stand_long, unlimited}
 use Rattle.vte.specs.declared.ansi.growing_text.GrowingText.{GrowingText}
 use Rattle.vte.specs.declared.ansi.long_processor.LongProcessor.{LongProcessor}
 use Rattle.vte.proofs.turns.Slices.{some_grow}
@@ -38,10 +38,6 @@ module _ {T A V W : Type 0} {timeout_of : T → W} {m : Meaning V W} {new : Turn
         ]
       ]
 
-at_turns : {T A V W : Type 0} {timeout_of : T → W} {processor : LongProcessor T A} {value : V} {s : Stage V W}
-    → IsAt (HasParsedAndHoldsLong timeout_of processor) value s → AreAt (unlimited timeout_of) processor.turns value s
-at_turns at = record { stands = turns_stand_long at.stands; handler_is = at.handler_is }
-
 pub advances_long : {T A V W : Type 0} {timeout_of : T → W} {m : Meaning V W} {old new : LongProcessor T A}
     {before value : V} (bytes : Bor (List ℕ)) (result : Result (Unit {0}) Refused)
     → ReadsSome (unlimited timeout_of) m old.turns new.turns before value bytes.now result
@@ -51,7 +47,7 @@ advances_long bytes (Ok all) r = record {
   takes = takes_so turns_stand_long stands_long bytes r.takes;
   within = tt;
   lacks = tt;
-  memory = λ s at. r.memory s (at_turns at);
+  memory = λ s at. r.memory s (at_same turns_stand_long s at);
   enough = λ s at room. refl;
 }
 advances_long bytes (Err refused) r = record {
@@ -59,8 +55,8 @@ advances_long bytes (Err refused) r = record {
   takes = takes_so turns_stand_long stands_long bytes r.takes;
   within = r.within;
   lacks = r.lacks;
-  memory = λ s at. r.memory s (at_turns at);
+  memory = λ s at. r.memory s (at_same turns_stand_long s at);
   enough = λ s at room. (
-      let there = at_turns at in
+      let there = at_same turns_stand_long s at in
       absurd (had_memory refused.read r.within (r.takes s there) r.lacks (r.memory s there _ _ room)));
 }

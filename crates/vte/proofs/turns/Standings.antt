@@ -1,6 +1,6 @@
 -- A processor stands where its turns do: with a limit there is always memory. So what the turns ensure is true of it.
-use Rattle.vte.proofs.Common.{◌<◌, ℕ, List, None, Some, length, Bool, Result, Ok, Err, arith, Bor, Refused, LongParser, Turns, TurnsMeaning, Meaning, Stage}
-use Rattle.vte.proofs.Common.{HasParsedAndHolds, HasParsedAndHoldsLong, HasTaken, HaveTaken, IsAt, ReadsInTurns, ReadsSome, Reserves, ReservesRoom, Standing, StopsSync, StopsSyncLong}
+use Rattle.vte.proofs.Common.{◌<◌, ◌≤◌, ℕ, List, None, Some, length, Bool, Result, Ok, Err, arith, Bor, Refused, LongParser, Turns, TurnsMeaning, Meaning, Stage}
+use Rattle.vte.proofs.Common.{Advanced, HasParsedAndHolds, HasParsedAndHoldsLong, HasTaken, HaveTaken, IsAt, ReadsInTurns, ReadsSome, Reserves, ReservesRoom, Standing, StopsSync, StopsSyncLong}
 use Rattle.vte.proofs.Common.{StopsUpdate, ◌≡◌, refl, stop, long_meaning, short_meaning, of_turns}
 use Rattle.vte_core.specs.declared.parser.Parser.{Parser}
 use Rattle.vte.proofs.runs.PlainRuns.{plain_call}
@@ -16,16 +16,16 @@ limited timeout_of = of_turns (Some 1024) short_meaning (λ text. TEXT_ROOM) tim
 abbrev pub unlimited : {A T W : Type 0} → (T → W) → TurnsMeaning (LongParser A) (GrowingText A) T W
 unlimited timeout_of = of_turns None long_meaning (λ text. text.size) timeout_of
 
-module _ {T A W : Type 0} {timeout_of : T → W} {parsed held : List ℕ} {timeout : W} where
-  pub turns_stand : {processor : Processor T A} → HasParsedAndHolds timeout_of processor parsed held timeout
+module _ {T A W : Type 0} {timeout_of : T → W} {processor : Processor T A} (parsed held : List ℕ) (timeout : W) where
+  pub turns_stand : HasParsedAndHolds timeout_of processor parsed held timeout
       → HaveTaken (limited timeout_of) processor.turns parsed held timeout
   turns_stand h = record {
     has_parsed = record { has_read = h.has_read; last = h.last; timeout_is = h.timeout_is };
     holds = h.holds;
-    has_room = λ some. omega arith;
+    has_room = λ some. (let enough : TEXT_ROOM ≤ TEXT_ROOM = omega arith in enough);
   }
 
-  pub stands : {processor : Processor T A} → HaveTaken (limited timeout_of) processor.turns parsed held timeout
+  pub stands : HaveTaken (limited timeout_of) processor.turns parsed held timeout
       → HasParsedAndHolds timeout_of processor parsed held timeout
   stands h = record {
     has_read = h.has_parsed.has_read;
@@ -34,8 +34,9 @@ module _ {T A W : Type 0} {timeout_of : T → W} {parsed held : List ℕ} {timeo
     holds = h.holds;
   }
 
-  pub turns_stand_long : {processor : LongProcessor T A}
-      → HasParsedAndHoldsLong timeout_of processor parsed held timeout
+module _ {T A W : Type 0} {timeout_of : T → W} {processor : LongProcessor T A} (parsed held : List ℕ)
+    (timeout : W) where
+  pub turns_stand_long : HasParsedAndHoldsLong timeout_of processor parsed held timeout
       → HaveTaken (unlimited timeout_of) processor.turns parsed held timeout
   turns_stand_long h = record {
     has_parsed = record { has_read = h.has_read; last = h.last; timeout_is = h.timeout_is };
@@ -43,8 +44,7 @@ module _ {T A W : Type 0} {timeout_of : T → W} {parsed held : List ℕ} {timeo
     has_room = h.has_memory;
   }
 
-  pub stands_long : {processor : LongProcessor T A}
-      → HaveTaken (unlimited timeout_of) processor.turns parsed held timeout
+  pub stands_long : HaveTaken (unlimited timeout_of) processor.turns parsed held timeout
       → HasParsedAndHoldsLong timeout_of processor parsed held timeout
   stands_long h = record {
     has_read = h.has_parsed.has_read;
@@ -56,19 +56,18 @@ module _ {T A W : Type 0} {timeout_of : T → W} {parsed held : List ℕ} {timeo
 
 -- ---- what is ensured of one standing, of another that is the same
 
+pub at_same : {V W : Type 0} {one other : Standing W} {value : V}
+    (same : (parsed held : List ℕ) (timeout : W) → one parsed held timeout → other parsed held timeout) (s : Stage V W)
+    → IsAt one value s → IsAt other value s
+at_same same s at = record { stands = same s.parsed s.held s.timeout at.stands; handler_is = at.handler_is }
+
 module _ {V W : Type 0} {m : Meaning V W} {old turns_old turns_new new : Standing W} {before value : V}
-    (from : {parsed held : List ℕ} {timeout : W} → old parsed held timeout → turns_old parsed held timeout)
-    (to : {parsed held : List ℕ} {timeout : W} → turns_new parsed held timeout → new parsed held timeout) where
-  pub at_from : (s : Stage V W) → IsAt old before s → IsAt turns_old before s
-  at_from s at = record { stands = from at.stands; handler_is = at.handler_is }
-
-  at_to : (s : Stage V W) → IsAt turns_new value s → IsAt new value s
-  at_to s at = record { stands = to at.stands; handler_is = at.handler_is }
-
+    (from : (parsed held : List ℕ) (timeout : W) → old parsed held timeout → turns_old parsed held timeout)
+    (to : (parsed held : List ℕ) (timeout : W) → turns_new parsed held timeout → new parsed held timeout) where
   pub stops_so : StopsSync m turns_old turns_new before value → StopsSync m old new before value
   stops_so r =
       record {
-        stops = λ s at. at_to (stop m s) (r.stops s (at_from s at));
+        stops = λ s at. at_same to (stop m s) (r.stops s (at_same from s at));
         each_once = r.each_once;
         holds_well = r.holds_well;
       }
@@ -77,27 +76,25 @@ module _ {V W : Type 0} {m : Meaning V W} {old turns_old turns_new new : Standin
       (takes : (s : Stage V W) → IsAt turns_old before s → HasTaken m s bytes.now read (IsAt turns_new value)) where
     pub takes_so : (s : Stage V W) → IsAt old before s → HasTaken m s bytes.now read (IsAt new value)
     takes_so s at =
-        let t = takes s (at_from s at) in
+        let t = takes s (at_same from s at) in
         record {
           next = t.next;
           takes = t.takes;
           each_once = t.each_once;
           holds_well = t.holds_well;
-          is_at = at_to t.next t.is_at;
+          is_at = at_same to t.next t.is_at;
         }
 
+    advances_so : read ≡ length bytes.now → (s : Stage V W) → IsAt old before s
+        → Advanced m s bytes.now (IsAt new value)
+    advances_so all s at = has_advanced m s bytes.now (takes_so s at) (omega (arith, all))
+
     pub reads_so : read ≡ length bytes.now → ReadsInTurns m old new before value bytes.now
-    reads_so all =
-        let advances = λ s at. has_advanced m s bytes.now (takes_so s at) (omega (arith, all)) in
-        record { advances = advances; plain = plain_call m bytes advances }
+    reads_so all = record { advances = advances_so all; plain = plain_call m bytes (advances_so all) }
 
 -- ---- of processors
 
 module _ {T A V W : Type 0} {timeout_of : T → W} {m : Meaning V W} {old new : Processor T A} {before value : V} where
-  pub stops_sync : StopsUpdate (limited timeout_of) m old.turns new.turns before value
-      → StopsSync m (HasParsedAndHolds timeout_of old) (HasParsedAndHolds timeout_of new) before value
-  stops_sync r = stops_so turns_stand stands r.stops
-
   pub never_refused : (bytes : Bor (List ℕ)) (result : Result (Unit {0}) Refused)
       → ReadsSome (limited timeout_of) m old.turns new.turns before value bytes.now result
       → ReadsInTurns m (HasParsedAndHolds timeout_of old) (HasParsedAndHolds timeout_of new) before value bytes.now
@@ -105,7 +102,9 @@ module _ {T A V W : Type 0} {timeout_of : T → W} {m : Meaning V W} {old new : 
   never_refused bytes (Err refused) r =
       reads_so turns_stand stands bytes {read = length bytes.now} (λ s at. absurd (
       let t = r.takes s at in
-      omega (arith, (r.lacks t.next.parsed t.is_at.stands.has_parsed.has_read).is_lacking))) refl
+      let lacking : TEXT_ROOM < TEXT_ROOM =
+      (r.lacks t.next.parsed t.is_at.stands.has_parsed.has_read).is_lacking in
+      omega (arith, lacking))) refl
 
 module _ {T A V W : Type 0} {timeout_of : T → W} {m : Meaning V W} {old new : LongProcessor T A}
     {before value : V} where
@@ -113,14 +112,14 @@ module _ {T A V W : Type 0} {timeout_of : T → W} {m : Meaning V W} {old new : 
       → StopsSyncLong timeout_of m old new before value
   stops_sync_long r = record {
     stops = stops_so turns_stand_long stands_long r.stops;
-    memory = λ s at. r.memory s (at_from turns_stand_long (λ h. h) s at);
+    memory = λ s at. r.memory s (at_same turns_stand_long s at);
   }
 
 pub reserves : {T A W : Type 0} {timeout_of : T → W} {old new : LongProcessor T A} {more : ℕ} {result : Bool}
     → ReservesRoom (unlimited timeout_of) old.turns new.turns more result → Reserves timeout_of old new more result
 reserves r = record {
-  same = λ parsed held timeout h. stands_long (r.same parsed held timeout (turns_stand_long h));
-  room = λ yes parsed held timeout h. r.room yes parsed held timeout (turns_stand_long h);
+  same = λ parsed held timeout h. stands_long _ _ _ (r.same parsed held timeout (turns_stand_long _ _ _ h));
+  room = λ yes parsed held timeout h. r.room yes parsed held timeout (turns_stand_long _ _ _ h);
   memory = r.memory;
   lacks = r.lacks;
 }

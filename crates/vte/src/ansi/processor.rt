@@ -109,7 +109,6 @@ impl<T: Timeout + Drop, A: Allocator> Processor<T, A> {
     ///
     /// If the timeout is never pending, all bytes are parsed: the handler of a new processor
     /// receives the calls of the whole stream, however it is split.
-    #[tactic(auto, using(crate::proofs::turns::Standings::never_refused))]
     pub fn advance<H: Handler>(&mut self, handler: &mut H, bytes: &[u8])
         ensures { ReadsInTurns (meaning (Some 1024) H.step T.set T.clear T.allows)
             (HasParsedAndHolds T.value_of self.old) (HasParsedAndHolds T.value_of self.new)
@@ -120,7 +119,6 @@ impl<T: Timeout + Drop, A: Allocator> Processor<T, A> {
     }
 
     /// Reads bytes as [`advance`](Self::advance) does. The handler receives text in runs.
-    #[tactic(auto, using(crate::proofs::turns::Standings::never_refused))]
     pub fn advance_text<H: HandlerText>(&mut self, handler: &mut H, bytes: &[u8])
         ensures { ReadsInTurns (meaning (Some 1024) H.step T.set T.clear T.allows)
             (HasParsedAndHolds T.value_of self.old) (HasParsedAndHolds T.value_of self.new)

@@ -160,8 +160,12 @@ VTE = Plan(
             "impl PartialEq for NamedColor", "impl Eq for NamedColor", "impl Ord for NamedColor", "impl PartialOrd for NamedColor"),
         # only proofs use it
         "vte_core/perform": ("trait PerformThroughText",),
-        # rustc derives it, with the same copies of the fields
+        # rustc derives it, with the same copies of the fields: of vectors and texts with as much memory
         "vte_core/parser": ("impl<const OSC_RAW_BUF_SIZE: usize> Clone for Parser",),
+        "vte/ansi/growing_text": ("impl<A: Allocator + Clone> Clone for GrowingText",),
+        "vte/ansi/hold": ("impl<A: Allocator + Clone> Clone for SyncState",),
+        "vte/ansi/long_processor": ("impl<T: Timeout + Clone + Drop, A: Allocator + Clone> Clone for LongProcessor",),
+        "vte/ansi/processor": ("impl<T: Timeout + Clone + Drop, A: Allocator + Clone> Clone for Processor",),
         # nobody asks
         "vte_core/parser/long": ("fn memory", "impl<A: Allocator + Clone> Clone for LongParser"),
         "vte_core/store": ("fn capacity", "impl<A: Allocator + Clone> Clone for Store"),
@@ -266,7 +270,6 @@ VTE = Plan(
         },
         # what a processor does per event, between those loops and the handler
         "vte/ansi/performer": {
-            CLONE: ["pub(crate) struct ProcessorState"],
             INLINE: ["fn print", "fn execute", "fn csi_dispatch", "fn terminated", "fn print_text"],
         },
         "vte/ansi/control_calls": {
@@ -282,7 +285,6 @@ VTE = Plan(
         "vte/ansi/numbers": {INLINE: ["fn next_or", "pub(crate) fn first_number"]},
         # what a processor does per call, which matters if a call has few bytes
         "vte/ansi/turns": {
-            CLONE: ["pub(crate) struct Turns"],
             INLINE: ["pub(crate) fn read<", "fn turn<", "fn hold_bytes"],
             # stops are rare: kept out of a turn, they leave its loop over bytes as it is
             "#[inline(never)]": ["pub(crate) fn stop<"],

@@ -6,7 +6,7 @@ use Rattle.vte_core.specs.Stream.{events}
 use Rattle.vte_core.specs.declared.parser.refused.Refused.{Refused}
 use Rattle.vte.specs.Calls.{last_printed}
 use Rattle.vte.specs.Memory.{HasMemory, KeepsMemory, LacksMemoryFor, LacksMemoryOnTheWay}
-use Rattle.vte.specs.Processor.{Meaning, State}
+use Rattle.vte.specs.Processor.{Meaning, Stage}
 use Rattle.vte.specs.ProcessorCalls.{HasTaken, IsAt, ReadsInTurns, StopsSync, held_of}
 use Rattle.vte.specs.declared.ansi.long_processor.LongProcessor.{LongProcessor}
 
@@ -24,6 +24,16 @@ pub record HasParsedAndHoldsLong {T A W : Type 0} (timeout_of : T → W)
   pub timeout_is : timeout_of (timeout_long processor) ≡ timeout
   pub holds : held_long processor ≡ held
   pub has_memory : 0 < length held → HasMemory processor parsed (length held)
+
+-- `IsCopyOf`, with as much memory.
+pub record IsCopyOfLong {T A W : Type 0} (is_clone : T → T → Type 0) (timeout_of : T → W)
+    (processor copy : LongProcessor T A) : Type 0 where
+  pub timeout : is_clone (timeout_long processor) (timeout_long copy)
+  pub stands : timeout_of (timeout_long copy) ≡ timeout_of (timeout_long processor)
+      → (parsed held : List ℕ) (timeout : W)
+      → HasParsedAndHoldsLong timeout_of processor parsed held timeout
+      → HasParsedAndHoldsLong timeout_of copy parsed held timeout
+  pub memory : KeepsMemory processor copy
 
 -- `reserve`: memory for the held bytes and for this many more
 pub record Reserves {T A W : Type 0} (timeout_of : T → W) (old new : LongProcessor T A)
@@ -43,7 +53,7 @@ pub record StopsSyncLong {T A V W : Type 0} (timeout_of : T → W) (m : Meaning 
     (old new : LongProcessor T A) (before value : V) : Type 0 where
   pub stops : StopsSync m (HasParsedAndHoldsLong timeout_of old)
       (HasParsedAndHoldsLong timeout_of new) before value
-  pub memory : (s : State V W) → IsAt (HasParsedAndHoldsLong timeout_of old) before s
+  pub memory : (s : Stage V W) → IsAt (HasParsedAndHoldsLong timeout_of old) before s
       → KeepsMemory old new
 
 -- How many bytes a call read.
@@ -59,12 +69,13 @@ pub record AdvancesLong {T A V W : Type 0} (timeout_of : T → W) (m : Meaning V
   pub all : IfOk result (λ all. ReadsInTurns m (HasParsedAndHoldsLong timeout_of old)
       (HasParsedAndHoldsLong timeout_of new) before value bytes)
   -- .. or those that the first turns of such a call read.
-  pub takes : (s : State V W) → IsAt (HasParsedAndHoldsLong timeout_of old) before s
-      → HasTaken m s bytes (read_of result bytes) (IsAt (HasParsedAndHoldsLong timeout_of new) value)
+  pub takes : (s : Stage V W) → IsAt (HasParsedAndHoldsLong timeout_of old) before s
+      → HasTaken m s bytes (read_of result bytes)
+      (IsAt (HasParsedAndHoldsLong timeout_of new) value)
   pub within : IfErr result (λ refused. refused.read < length bytes)
   pub lacks : IfErr result (λ refused. LacksMemoryOnTheWay new (length bytes - refused.read))
-  pub memory : (s : State V W) → IsAt (HasParsedAndHoldsLong timeout_of old) before s
+  pub memory : (s : Stage V W) → IsAt (HasParsedAndHoldsLong timeout_of old) before s
       → KeepsMemory old new
   -- If there was memory for all bytes, none is refused.
-  pub enough : (s : State V W) → IsAt (HasParsedAndHoldsLong timeout_of old) before s
+  pub enough : (s : Stage V W) → IsAt (HasParsedAndHoldsLong timeout_of old) before s
       → HasMemory old s.parsed (length s.held + length bytes) → IsOk result

@@ -6,7 +6,7 @@ use Rattle.vte_core.specs.Stream.{events}
 use Rattle.vte_handler.specs.Handler.{after}
 use Rattle.vte_handler.specs.Timeout.{IsKept}
 use Rattle.vte.specs.Calls.{last_printed, calls}
-use Rattle.vte.specs.Processor.{HoldsWellAt, Meaning, Run, State, TakesAllTurns, TakesSome, all_bytes, bytes_of, calls_with_stops, most_held, stop, stops_of}
+use Rattle.vte.specs.Processor.{HoldsWellAt, Meaning, TakesSteps, Stage, TakesAllTurns, TakesSome, all_bytes, given_bytes, calls_with_stops, most_held, stop, stops_of}
 use Rattle.vte.specs.Synchronized.{behind_last_end}
 use Rattle.vte.specs.declared.ansi.hold.SyncState.{SyncState}
 use Rattle.vte.specs.declared.ansi.laws.runs.Step.{Step}
@@ -37,15 +37,15 @@ abbrev pub Standing : Type 0 → Type 1
 Standing W = List ℕ → List ℕ → W → Type 0
 
 -- A processor that stands so and the handler's value are as the state says.
-pub record IsAt {V W : Type 0} (standing : Standing W) (value : V) (s : State V W) : Type 0 where
+pub record IsAt {V W : Type 0} (standing : Standing W) (value : V) (s : Stage V W) : Type 0 where
   pub stands : standing s.parsed s.held s.timeout
   pub handler_is : value ≡ s.handler
 
 -- A call led to a state by turns, and is there. Each given byte is parsed or held, once and in
 -- order. The facts about the hold stay true.
-pub record Advanced {V W : Type 0} (m : Meaning V W) (s : State V W) (bytes : List ℕ)
-    (there : State V W → Type 0) : Type 0 where
-  pub next : State V W
+pub record Advanced {V W : Type 0} (m : Meaning V W) (s : Stage V W) (bytes : List ℕ)
+    (there : Stage V W → Type 0) : Type 0 where
+  pub next : Stage V W
   pub advances : TakesAllTurns m s bytes next
   pub each_once : all_bytes next ≡ all_bytes s ++ bytes
   pub holds_well : HoldsWellAt m s → HoldsWellAt m next
@@ -54,39 +54,38 @@ pub record Advanced {V W : Type 0} (m : Meaning V W) (s : State V W) (bytes : Li
 -- A call has read so many of its bytes, by turns, of which the last may have been refused memory on
 -- the way, and is at the state to which they led. Each byte that was read is parsed or held, once
 -- and in order. The facts about the hold stay true.
-pub record HasTaken {V W : Type 0} (m : Meaning V W) (s : State V W) (bytes : List ℕ) (read : ℕ)
-    (there : State V W → Type 0) : Type 0 where
-  pub next : State V W
+pub record HasTaken {V W : Type 0} (m : Meaning V W) (s : Stage V W) (bytes : List ℕ) (read : ℕ)
+    (there : Stage V W → Type 0) : Type 0 where
+  pub next : Stage V W
   pub takes : TakesSome m s bytes next (drop read bytes)
   pub each_once : all_bytes next ≡ all_bytes s ++ take read bytes
   pub holds_well : HoldsWellAt m s → HoldsWellAt m next
   pub is_at : there next
 
--- The calls led to a state by a run, and are there. Each given byte is parsed or held, once and in
--- order. The facts about the hold stay true. If the timeout is kept, every run ends in the same
--- state.
-pub record Replayed {V W : Type 0} (m : Meaning V W) (s : State V W) (steps : List Step)
-    (there : State V W → Type 0) : Type 0 where
-  pub next : State V W
-  pub run : Run m s steps next
-  pub each_once : all_bytes next ≡ all_bytes s ++ bytes_of steps
+-- The calls led to a state, and are there. Each given byte is parsed or held, once and in order.
+-- The facts about the hold stay true. If the timeout is kept, they lead to no other state.
+pub record Replayed {V W : Type 0} (m : Meaning V W) (s : Stage V W) (steps : List Step)
+    (there : Stage V W → Type 0) : Type 0 where
+  pub next : Stage V W
+  pub takes : TakesSteps m s steps next
+  pub each_once : all_bytes next ≡ all_bytes s ++ given_bytes steps
   pub holds_well : HoldsWellAt m s → HoldsWellAt m next
-  pub alone : IsKept m.timeout → HoldsWellAt m s → (other : State V W) → Run m s steps other
+  pub alone : IsKept m.timeout → HoldsWellAt m s → (other : Stage V W) → TakesSteps m s steps other
       → other ≡ next
   pub is_at : there next
 
--- A run of the calls led to where the processor and the handler's value are (`replayed`). The bytes
--- held before and those given are those parsed and held now, each once and in order. The handler
--- has received the calls of the parsed bytes, and one more at each stop of that run.
-pub record IsTold {V W : Type 0} (m : Meaning V W) (s : State V W) (steps : List Step) (value : V)
-    (there : State V W → Type 0) : Type 0 where
+-- The calls led to where the processor and the handler's value are (`replayed`). The bytes held
+-- before and those given are those parsed and held now, each once and in order. The handler has
+-- received the calls of the parsed bytes, and one more at each stop on that way.
+pub record IsTold {V W : Type 0} (m : Meaning V W) (s : Stage V W) (steps : List Step) (value : V)
+    (there : Stage V W → Type 0) : Type 0 where
   pub replayed : Replayed m s steps there
   pub more : List ℕ
   pub parsed_is : replayed.next.parsed ≡ s.parsed ++ more
-  pub each_once : s.held ++ bytes_of steps ≡ more ++ replayed.next.held
+  pub each_once : s.held ++ given_bytes steps ≡ more ++ replayed.next.held
   pub is_told : value
       ≡ after m.step s.handler
-      (calls_with_stops m.limit s.parsed more (stops_of m s replayed.next steps replayed.run))
+      (calls_with_stops m.limit s.parsed more (stops_of m s replayed.next steps replayed.takes))
 
 -- No value allows the answer "pending".
 abbrev pub IsNeverPending : {W : Type 0} → (W → Bool → Type 0) → Type 0
@@ -118,6 +117,15 @@ pub record ParsesAll {V W : Type 0} (m : Meaning V W) (old new : Standing W) (be
   pub parses_all : IsNeverPending m.timeout.allows → (stream : List ℕ) → HasParsedAll old stream
       → HasParsedAll new (stream ++ bytes)
 
+-- `clone`: the copy stands where the processor does, if the copy of the timeout has its value.
+pub record IsCopyOf {T A W : Type 0} (is_clone : T → T → Type 0) (timeout_of : T → W)
+    (processor copy : Processor T A) : Type 0 where
+  pub timeout : is_clone (timeout_in processor) (timeout_in copy)
+  pub stands : timeout_of (timeout_in copy) ≡ timeout_of (timeout_in processor)
+      → (parsed held : List ℕ) (timeout : W)
+      → HasParsedAndHolds timeout_of processor parsed held timeout
+      → HasParsedAndHolds timeout_of copy parsed held timeout
+
 -- `sync_bytes_count`
 pub record CountsHeld (held : List ℕ) (result : ℕ) : Type 0 where
   pub count : result ≡ length held
@@ -127,19 +135,19 @@ pub record CountsHeld (held : List ℕ) (result : ℕ) : Type 0 where
 -- `stop_sync` and `stop_sync_text`, of a processor and a handler that stood so and stand so now
 pub record StopsSync {V W : Type 0} (m : Meaning V W) (old new : Standing W)
     (before value : V) : Type 0 where
-  pub stops : (s : State V W) → IsAt old before s → IsAt new value (stop m s)
-  pub each_once : (s : State V W) → all_bytes (stop m s) ≡ all_bytes s
-  pub holds_well : (s : State V W) → HoldsWellAt m (stop m s)
+  pub stops : (s : Stage V W) → IsAt old before s → IsAt new value (stop m s)
+  pub each_once : (s : Stage V W) → all_bytes (stop m s) ≡ all_bytes s
+  pub holds_well : (s : Stage V W) → HoldsWellAt m (stop m s)
 
 -- `advance` and `advance_text`, that read all bytes
 pub record ReadsInTurns {V W : Type 0} (m : Meaning V W) (old new : Standing W) (before value : V)
     (bytes : List ℕ) : Type 0 where
-  pub advances : (s : State V W) → IsAt old before s → Advanced m s bytes (IsAt new value)
+  pub advances : (s : Stage V W) → IsAt old before s → Advanced m s bytes (IsAt new value)
   pub plain : ParsesAll m old new before value bytes
 
 -- `replay`
 pub record Replays {V W : Type 0} (m : Meaning V W) (old new : Standing W) (before value : V)
     (steps : List Step) : Type 0 where
-  pub told : (s : State V W) → IsAt old before s → IsTold m s steps value (IsAt new value)
+  pub told : (s : Stage V W) → IsAt old before s → IsTold m s steps value (IsAt new value)
   -- calls of `advance` alone, with all their bytes
-  pub plain : AreAdvances steps → ParsesAll m old new before value (bytes_of steps)
+  pub plain : AreAdvances steps → ParsesAll m old new before value (given_bytes steps)

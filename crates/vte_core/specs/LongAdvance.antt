@@ -1,5 +1,5 @@
 -- What the calls of a `LongParser` ensure.
-use Rattle.std.specs.Prelude.{◌≡◌, ℕ, ◌+◌, ◌*◌, ◌<◌, ◌≤◌, Bool, false, None, List, [], ◌++◌, length, slice_index, Result, Ok, Err, IfErr, IfOk, IsOk}
+use Rattle.std.specs.Prelude.{◌≡◌, ℕ, ◌+◌, ◌*◌, ◌<◌, ◌≤◌, Bool, false, None, List, ◌++◌, length, slice_index, Result, Ok, Err, IfErr, IfOk, IsOk}
 use Rattle.vte_core.specs.AdvanceToRun.{ReturnsRun, run_bytes}
 use Rattle.vte_core.specs.declared.parser.long.LongParser.{LongParser}
 use Rattle.vte_core.specs.declared.parser.refused.Refused.{Refused}

@@ -1,10 +1,10 @@
 -- What a `LongParser` has read, and before which bytes it may be refused memory.
-use Rattle.std.specs.Prelude.{◌≡◌, ℕ, Bool, ◌+◌, ◌<◌, List, [], ◌∷◌, ◌++◌, length, take, None, Result, Ok, Err}
+use Rattle.std.specs.Prelude.{◌≡◌, ℕ, Bool, ◌+◌, ◌<◌, ◌≤◌, List, [], ◌∷◌, ◌++◌, length, take, None, Result, Ok, Err}
 use Rattle.std.specs.List.{concat}
 use Rattle.vte_core.specs.declared.parser.long.LongParser.{LongParser}
 use Rattle.vte_core.specs.declared.parser.refused.Refused.{Refused}
 use Rattle.vte_core.specs.machine.Parser.{IsBehind}
-use Rattle.vte_core.specs.machine.Store.{Keeps, LacksMemoryAt}
+use Rattle.vte_core.specs.machine.Store.{LacksMemoryAt}
 use Rattle.vte_core.specs.Outcome.{Open, OpenCommand}
 use Rattle.vte_core.specs.Stream.{outcome}
 use Rattle.vte_core.specs.SystemCommand.{IsCommandData, most_pieces}
@@ -13,18 +13,20 @@ use Rattle.vte_core.specs.SystemCommand.{IsCommandData, most_pieces}
 abbrev pub HasReadLong : {A : Type 0} → LongParser A → List ℕ → Type 0
 HasReadLong parser stream = IsBehind None parser.machine stream
 
--- It holds the command of these items: the one that is open, or else the one that ended last.
-abbrev pub HoldsCommandLong : {A : Type 0} → LongParser A → List ℕ → Type 0
-HoldsCommandLong parser items = Keeps None parser.machine.command items
-
--- It continues as the other does: it has read the same, and holds the same command.
-pub record IsCopyOfLong {A : Type 0} (parser copy : LongParser A) : Type 0 where
-  pub reads : (stream : List ℕ) → HasReadLong parser stream → HasReadLong copy stream
-  pub holds : (items : List ℕ) → HoldsCommandLong parser items → HoldsCommandLong copy items
+-- Whether it lost data of the operating system command that is open, or else ended last.
+abbrev pub lost_data_long : {A : Type 0} → LongParser A → Bool
+lost_data_long parser = parser.machine.command.dropped
 
 -- How many data bytes fit into its allocated memory.
 abbrev pub memory_of : {A : Type 0} → LongParser A → ℕ
 memory_of parser = parser.machine.command.capacity
+
+-- It continues as the other does: it has read the same, and lost data of the same command. It has
+-- as much memory.
+pub record IsCopyOfLong {A : Type 0} (parser copy : LongParser A) : Type 0 where
+  pub reads : (stream : List ℕ) → HasReadLong parser stream → HasReadLong copy stream
+  pub lost : lost_data_long copy ≡ lost_data_long parser
+  pub memory : memory_of parser ≤ memory_of copy
 
 -- Its memory doesn't suffice for the data bytes at `from`.
 abbrev pub LacksMemory : {A : Type 0} → LongParser A → List ℕ → ℕ → Type 0

@@ -1,8 +1,7 @@
 -- What a parser has read.
-use Rattle.std.specs.Prelude.{ℕ, Some, List}
+use Rattle.std.specs.Prelude.{◌≡◌, ℕ, Bool, Some, List}
 use Rattle.vte_core.specs.declared.parser.Parser.{Parser}
 use Rattle.vte_core.specs.machine.Parser.{IsBehind}
-use Rattle.vte_core.specs.machine.Store.{Keeps}
 
 -- The parser continues as one that has read the stream: more bytes give the events that they add to
 -- it. A new parser has read the empty stream, and each call preserves the relation. Callers need to
@@ -10,11 +9,11 @@ use Rattle.vte_core.specs.machine.Store.{Keeps}
 abbrev pub HasRead : {N : ℕ} → Parser N → List ℕ → Type 0
 HasRead {N} parser stream = IsBehind (Some N) parser.machine stream
 
--- It holds the command of these items: the one that is open, or else the one that ended last.
-abbrev pub HoldsCommand : {N : ℕ} → Parser N → List ℕ → Type 0
-HoldsCommand {N} parser items = Keeps (Some N) parser.machine.command items
+-- Whether it lost data of the operating system command that is open, or else ended last.
+abbrev pub lost_data : {N : ℕ} → Parser N → Bool
+lost_data parser = parser.machine.command.dropped
 
--- It continues as the other does: it has read the same, and holds the same command.
+-- It continues as the other does: it has read the same, and lost data of the same command.
 pub record IsCopyOf {N : ℕ} (parser copy : Parser N) : Type 0 where
   pub reads : (stream : List ℕ) → HasRead parser stream → HasRead copy stream
-  pub holds : (items : List ℕ) → HoldsCommand parser items → HoldsCommand copy items
+  pub lost : lost_data copy ≡ lost_data parser

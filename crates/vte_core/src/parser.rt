@@ -4,9 +4,8 @@ ghost use Rattle.vte_core.specs.Advance.{ReadsBytes};
 ghost use Rattle.vte_core.specs.AdvanceUntilTerminated.{ReadsUntilTerminated};
 ghost use Rattle.vte_core.specs.EarlyStop.{NoCharacterStops};
 ghost use Rattle.vte_core.specs.Outcome.{IsLoss};
-ghost use Rattle.vte_core.specs.Parser.{HasRead, HoldsCommand, IsCopyOf};
+ghost use Rattle.vte_core.specs.Parser.{HasRead, IsCopyOf, lost_data};
 ghost use Rattle.vte_core.specs.Stream.{IsFinished, IsUnfinished, outcome};
-ghost use Rattle.vte_core.specs.SystemCommand.{drops_data};
 
 mod character;
 mod control_sequence;
@@ -187,8 +186,7 @@ impl<const OSC_RAW_BUF_SIZE: usize> Parser<OSC_RAW_BUF_SIZE> {
     /// Returns whether data bytes are in no piece of the operating system command that is open, or
     /// else ended last: those that don't fit into the buffer, and those after the 16th piece.
     pub fn command_lost_data(&self) -> bool
-        ensures holds { (items : List ℕ) → HoldsCommand self.now items
-            → result ≡ drops_data (Some OSC_RAW_BUF_SIZE) items }
+        ensures lost { result ≡ lost_data self.now }
         ensures open { (stream : List ℕ) → HasRead self.now stream
             → IsLoss (outcome (Some OSC_RAW_BUF_SIZE) stream).left result }
     {

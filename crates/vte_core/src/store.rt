@@ -222,11 +222,14 @@ impl<A: Allocator> Store<Vec<u8, A>> {
 }
 
 impl<A: Allocator + Clone> Clone for Store<Vec<u8, A>> {
-    ghost is_clone = { SameItems };
+    ghost is_clone = { λ store clone. SameItems store clone × (store.capacity ≤ clone.capacity) };
 
     fn clone(&self) -> Result<Self, AllocError> {
+        let mut bytes = self.bytes.clone()?;
+        // as much memory
+        bytes.reserve(self.bytes.capacity() - bytes.len())?;
         Ok(Store {
-            bytes: self.bytes.clone()?,
+            bytes,
             ends: self.ends.clone()?,
             dropped: self.dropped,
         })

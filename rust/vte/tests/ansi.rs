@@ -125,6 +125,33 @@ fn updates_are_held_until_they_end() {
     assert_eq!(processor.sync_bytes_count(), 0);
 }
 
+/// A copy goes on from where the processor was, whatever that one reads meanwhile.
+#[test]
+fn copies_read_on() {
+    let stream = "é\x1b[b\x1b[3;4H\x1b]2;ab\x07\x1b[?2026hu\x1b[?2026l".as_bytes();
+    for at in 0..=stream.len() {
+        let (mut processor, mut calls) = (Processor::<Pending>::new(), Calls::default());
+        processor.advance(&mut calls, &stream[..at]);
+        let mut copy = processor.clone();
+        processor.stop_sync(&mut Calls::default());
+        processor.advance(&mut Calls::default(), b"\x18y\x1b]2;z");
+        copy.advance(&mut calls, &stream[at..]);
+        assert_eq!(
+            calls.0,
+            [
+                "input é",
+                "input é",
+                "goto 2 3",
+                "title Some(\"ab\")",
+                "input u",
+                "unset 2026",
+                "unset 2026"
+            ],
+            "copied at {at}"
+        );
+    }
+}
+
 #[cfg(feature = "std")]
 #[test]
 fn titles_and_links_have_no_limit() {

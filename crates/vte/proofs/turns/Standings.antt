@@ -1,7 +1,7 @@
 -- A processor stands where its turns do: with a limit there is always memory. So what the turns ensure is true of it.
-use Rattle.vte.proofs.Common.{◌<◌, ◌≤◌, ℕ, List, None, Some, length, Bool, Result, Ok, Err, arith, Bor, Refused, LongParser, Turns, TurnsMeaning, Meaning, State}
+use Rattle.vte.proofs.Common.{◌<◌, ◌≤◌, ℕ, List, None, Some, length, Bool, Result, Ok, Err, arith, Bor, Refused, LongParser, Turns, TurnsMeaning, Meaning, Stage}
 use Rattle.vte.proofs.Common.{Advanced, HasParsedAndHolds, HasParsedAndHoldsLong, HasTaken, HaveTaken, IsAt, ReadsInTurns, ReadsSome, Reserves, ReservesRoom, Standing, StopsSync, StopsSyncLong}
-use Rattle.vte.proofs.Common.{StopsUpdate, ◌≡◌, refl, stop, long_meaning, short_meaning, turns_meaning}
+use Rattle.vte.proofs.Common.{StopsUpdate, ◌≡◌, refl, stop, long_meaning, short_meaning, of_turns}
 use Rattle.vte_core.specs.declared.parser.Parser.{Parser}
 use Rattle.vte.proofs.runs.PlainRuns.{plain_call}
 use Rattle.vte.proofs.turns.Turns.{has_advanced}
@@ -11,10 +11,10 @@ use Rattle.vte.specs.declared.ansi.processor.Processor.{Processor}
 use Rattle.vte.specs.declared.ansi.titles.TheConstants.{TEXT_ROOM}
 
 abbrev pub limited : {N : ℕ} {J T W : Type 0} → (T → W) → TurnsMeaning (Parser N) J T W
-limited timeout_of = turns_meaning (Some 1024) short_meaning (λ text. TEXT_ROOM) timeout_of
+limited timeout_of = of_turns (Some 1024) short_meaning (λ text. TEXT_ROOM) timeout_of
 
 abbrev pub unlimited : {A T W : Type 0} → (T → W) → TurnsMeaning (LongParser A) (GrowingText A) T W
-unlimited timeout_of = turns_meaning None long_meaning (λ text. text.size) timeout_of
+unlimited timeout_of = of_turns None long_meaning (λ text. text.size) timeout_of
 
 module _ {T A W : Type 0} {timeout_of : T → W} {processor : Processor T A} (parsed held : List ℕ) (timeout : W) where
   pub turns_stand : HasParsedAndHolds timeout_of processor parsed held timeout
@@ -57,7 +57,7 @@ module _ {T A W : Type 0} {timeout_of : T → W} {processor : LongProcessor T A}
 -- ---- what is ensured of one standing, of another that is the same
 
 pub at_same : {V W : Type 0} {one other : Standing W} {value : V}
-    (same : (parsed held : List ℕ) (timeout : W) → one parsed held timeout → other parsed held timeout) (s : State V W)
+    (same : (parsed held : List ℕ) (timeout : W) → one parsed held timeout → other parsed held timeout) (s : Stage V W)
     → IsAt one value s → IsAt other value s
 at_same same s at = record { stands = same s.parsed s.held s.timeout at.stands; handler_is = at.handler_is }
 
@@ -73,8 +73,8 @@ module _ {V W : Type 0} {m : Meaning V W} {old turns_old turns_new new : Standin
       }
 
   module _ (bytes : Bor (List ℕ)) {read : ℕ}
-      (takes : (s : State V W) → IsAt turns_old before s → HasTaken m s bytes.now read (IsAt turns_new value)) where
-    pub takes_so : (s : State V W) → IsAt old before s → HasTaken m s bytes.now read (IsAt new value)
+      (takes : (s : Stage V W) → IsAt turns_old before s → HasTaken m s bytes.now read (IsAt turns_new value)) where
+    pub takes_so : (s : Stage V W) → IsAt old before s → HasTaken m s bytes.now read (IsAt new value)
     takes_so s at =
         let t = takes s (at_same from s at) in
         record {
@@ -85,7 +85,7 @@ module _ {V W : Type 0} {m : Meaning V W} {old turns_old turns_new new : Standin
           is_at = at_same to t.next t.is_at;
         }
 
-    advances_so : read ≡ length bytes.now → (s : State V W) → IsAt old before s
+    advances_so : read ≡ length bytes.now → (s : Stage V W) → IsAt old before s
         → Advanced m s bytes.now (IsAt new value)
     advances_so all s at = has_advanced m s bytes.now (takes_so s at) (omega (arith, all))
 

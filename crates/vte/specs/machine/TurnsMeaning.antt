@@ -9,7 +9,7 @@ use Rattle.vte_core.specs.declared.parser.refused.Refused.{Refused}
 use Rattle.vte.specs.Calls.{last_printed}
 use Rattle.vte.specs.LongProcessor.{read_of}
 use Rattle.vte.specs.Memory.{HasRoom, LacksPart, LacksRoom}
-use Rattle.vte.specs.Processor.{Meaning, State, stop}
+use Rattle.vte.specs.Processor.{Meaning, Stage, stop}
 use Rattle.vte.specs.ProcessorCalls.{HasTaken, IsAt, StopsSync, held_of}
 use Rattle.vte.specs.declared.ansi.performer.ProcessorState.{ProcessorState}
 use Rattle.vte.specs.declared.ansi.titles.TheConstants.{TEXT_ROOM}
@@ -50,9 +50,9 @@ pub record TurnsMeaning (P J T W : Type 0) : Type 1 where
   pub room_of : J → ℕ
   pub timeout_of : T → W
 
-abbrev pub turns_meaning : {P J T W : Type 0} → Option ℕ → ParserMeaning P → (J → ℕ) → (T → W)
+abbrev pub of_turns : {P J T W : Type 0} → Option ℕ → ParserMeaning P → (J → ℕ) → (T → W)
     → TurnsMeaning P J T W
-turns_meaning limit reading room_of timeout_of =
+of_turns limit reading room_of timeout_of =
     record { limit = limit; reading = reading; room_of = room_of; timeout_of = timeout_of }
 
 -- The parser has read the parsed bytes, and the state has the last printed character and the
@@ -72,7 +72,7 @@ pub record HaveTaken {P J T A W : Type 0} (w : TurnsMeaning P J T W) (turns : Tu
       → w.reading.has_room turns.parser (w.room_of turns.state.text) parsed (length held)
 
 -- The turns and the handler's value are as the state says.
-abbrev pub AreAt : {P J T A V W : Type 0} → TurnsMeaning P J T W → Turns P J T A → V → State V W
+abbrev pub AreAt : {P J T A V W : Type 0} → TurnsMeaning P J T W → Turns P J T A → V → Stage V W
     → Type 0
 AreAt w turns = IsAt (HaveTaken w turns)
 
@@ -106,14 +106,14 @@ pub record ReservesRoom {P J T A W : Type 0} (w : TurnsMeaning P J T W) (old new
 pub record StopsUpdate {P J T A V W : Type 0} (w : TurnsMeaning P J T W) (m : Meaning V W)
     (old new : Turns P J T A) (before value : V) : Type 0 where
   pub stops : StopsSync m (HaveTaken w old) (HaveTaken w new) before value
-  pub memory : (s : State V W) → AreAt w old before s → KeepsTurnRoom w old new
+  pub memory : (s : Stage V W) → AreAt w old before s → KeepsTurnRoom w old new
 
 -- Bytes are read: all, or those before memory is refused.
 pub record ReadsSome {P J T A V W : Type 0} (w : TurnsMeaning P J T W) (m : Meaning V W)
     (old new : Turns P J T A) (before value : V) (bytes : List ℕ)
     (result : Result (Unit {0}) Refused) : Type 0 where
-  pub takes : (s : State V W) → AreAt w old before s
+  pub takes : (s : Stage V W) → AreAt w old before s
       → HasTaken m s bytes (read_of result bytes) (AreAt w new value)
   pub within : IfErr result (λ refused. refused.read < length bytes)
   pub lacks : IfErr result (λ refused. LacksSome w new (length bytes - refused.read))
-  pub memory : (s : State V W) → AreAt w old before s → KeepsTurnRoom w old new
+  pub memory : (s : Stage V W) → AreAt w old before s → KeepsTurnRoom w old new

@@ -2,7 +2,7 @@
 ghost use Rattle.std.specs.Prelude.{◌≡◌, ◌≤◌, string_bytes, string_capacity};
 
 use crate::ansi::text_buffer::TextBuffer;
-use std::alloc::Allocator;
+use std::alloc::{AllocError, Allocator};
 
 /// A joined text, with as much room as was asked for.
 #[derive(Drop)]
@@ -11,6 +11,18 @@ pub(crate) struct GrowingText<A: Allocator> {
     // for how many bytes room was asked
     size: usize,
     ghost fits: { size ≤ string_capacity text },
+}
+
+impl<A: Allocator + Clone> Clone for GrowingText<A> {
+    ghost is_clone = { λ buffer clone. clone.size ≡ buffer.size };
+
+    fn clone(&self) -> Result<Self, AllocError> {
+        let mut text = self.text.clone()?;
+        // as much memory
+        text.reserve(self.text.capacity() - text.len())?;
+        let size = self.size;
+        Ok(GrowingText { text, size })
+    }
 }
 
 impl<A: Allocator> GrowingText<A> {

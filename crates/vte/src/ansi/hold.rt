@@ -26,6 +26,20 @@ pub(crate) struct SyncState<A: Allocator> {
     ghost room: { ROOM ≤ vec_capacity bytes },
 }
 
+impl<A: Allocator + Clone> Clone for SyncState<A> {
+    ghost use Rattle.vte.specs.ProcessorCalls.{held_of};
+
+    ghost is_clone = { λ hold clone. held_of clone ≡ held_of hold };
+
+    fn clone(&self) -> Result<Self, AllocError> {
+        let mut bytes = self.bytes.clone()?;
+        // as much memory
+        bytes.reserve(self.bytes.capacity() - bytes.len())?;
+        let released = self.released;
+        Ok(SyncState { bytes, released })
+    }
+}
+
 impl<A: Allocator> SyncState<A> {
     ghost use Rattle.vte.specs.machine.Hold.{IsAdded, released_of};
     ghost use Rattle.vte.specs.ProcessorCalls.{CountsHeld, held_of};

@@ -3,13 +3,13 @@ ghost use Rattle.std.specs.Prelude.{◌≡◌, ℕ, ◌+◌, false, List, [], le
 ghost use Rattle.vte_core.specs.LongParser.{open_size};
 ghost use Rattle.vte_handler.specs.Timeout.{AllowsAlone, IsKept};
 ghost use Rattle.vte.specs.Processor.{HoldsWell, meaning, timeout_meaning};
-ghost use Rattle.vte.specs.LongProcessor.{AdvancesLong, HasParsedAndHoldsLong, Reserves, StopsSyncLong, held_long, timeout_long};
+ghost use Rattle.vte.specs.LongProcessor.{AdvancesLong, HasParsedAndHoldsLong, IsCopyOfLong, Reserves, StopsSyncLong, held_long, timeout_long};
 ghost use Rattle.vte.specs.Memory.{HasNoMemory};
 ghost use Rattle.vte.specs.ProcessorCalls.{CountsHeld, HasParsedAll};
 
 use crate::ansi::growing_text::GrowingText;
 use crate::ansi::turns::Turns;
-use std::alloc::Allocator;
+use std::alloc::{AllocError, Allocator};
 use vte_core::{InRuns, LongParser, Refused, Singly};
 use vte_handler::{Handler, HandlerText, Timeout};
 
@@ -32,6 +32,16 @@ pub struct LongProcessor<T: Timeout + Drop, A: Allocator> {
     turns: Turns<LongParser<A>, GrowingText<A>, T, A>,
 }
 
+/// A clone goes on as the processor would, if so does that of its timeout.
+impl<T: Timeout + Clone + Drop, A: Allocator + Clone> Clone for LongProcessor<T, A> {
+    ghost is_clone = { IsCopyOfLong T.is_clone T.value_of };
+
+    fn clone(&self) -> Result<Self, AllocError> {
+        let turns = self.turns.clone()?;
+        Ok(LongProcessor { turns })
+    }
+}
+
 impl<T: Timeout + Drop, A: Allocator + Copy> LongProcessor<T, A> {
     /// Creates a processor that has read nothing, and allocates the 2,097,152 bytes for updates
     /// that are held back.
@@ -45,7 +55,8 @@ impl<T: Timeout + Drop, A: Allocator + Copy> LongProcessor<T, A> {
             (IsKept m → AllowsAlone m (T.value_of timeout) false)
             → HoldsWell None m [] [] (T.value_of timeout) }
         ensures timeout { IfOk result (λ processor. timeout_long processor ≡ timeout) }
-        ensures parses_all { IfOk result (λ processor. HasParsedAll (HasParsedAndHoldsLong T.value_of processor) []) }
+        ensures parses_all { IfOk result
+            (λ processor. HasParsedAll (HasParsedAndHoldsLong T.value_of processor) []) }
     {
         let parser = LongParser::new(alloc);
         let text = GrowingText::new(alloc);

@@ -2,11 +2,11 @@
 ghost use Rattle.std.specs.Prelude.{◌≡◌, [], IfOk, MatchResult, Some, false};
 ghost use Rattle.vte_handler.specs.Timeout.{AllowsAlone, IsKept};
 ghost use Rattle.vte.specs.Processor.{HoldsWell, meaning, timeout_meaning};
-ghost use Rattle.vte.specs.ProcessorCalls.{CountsHeld, HasParsedAll, HasParsedAndHolds, ReadsInTurns, StopsSync, held_in, timeout_in};
+ghost use Rattle.vte.specs.ProcessorCalls.{CountsHeld, HasParsedAll, HasParsedAndHolds, IsCopyOf, ReadsInTurns, StopsSync, held_in, timeout_in};
 
 use crate::ansi::parsing::{ProcessorParser, ProcessorText};
 use crate::ansi::turns::Turns;
-use std::alloc::Allocator;
+use std::alloc::{AllocError, Allocator};
 use vte_core::{InRuns, Singly};
 use vte_handler::{Handler, HandlerText, Timeout};
 
@@ -42,6 +42,16 @@ pub struct Processor<T: Timeout + Drop, A: Allocator> {
     turns: Turns<ProcessorParser, ProcessorText, T, A>,
 }
 
+/// A clone goes on as the processor would, if so does that of its timeout.
+impl<T: Timeout + Clone + Drop, A: Allocator + Clone> Clone for Processor<T, A> {
+    ghost is_clone = { IsCopyOf T.is_clone T.value_of };
+
+    fn clone(&self) -> Result<Self, AllocError> {
+        let turns = self.turns.clone()?;
+        Ok(Processor { turns })
+    }
+}
+
 impl<T: Timeout + Drop, A: Allocator> Processor<T, A> {
     /// Creates a processor that has read nothing, and allocates the 2,097,152 bytes for updates
     /// that are held back. No later call allocates memory.
@@ -55,7 +65,8 @@ impl<T: Timeout + Drop, A: Allocator> Processor<T, A> {
             (IsKept m → AllowsAlone m (T.value_of timeout) false)
             → HoldsWell (Some 1024) m [] [] (T.value_of timeout) }
         ensures timeout { IfOk result (λ processor. timeout_in processor ≡ timeout) }
-        ensures parses_all { IfOk result (λ processor. HasParsedAll (HasParsedAndHolds T.value_of processor) []) }
+        ensures parses_all { IfOk result
+            (λ processor. HasParsedAll (HasParsedAndHolds T.value_of processor) []) }
     {
         let turns = Turns::new(alloc, ProcessorParser::new(), ProcessorText::new(), timeout)?;
         Ok(Processor { turns })

@@ -5,6 +5,7 @@ ghost use Rattle.vte_handler.specs.Timeout.{AllowsAlone, IsKept};
 ghost use Rattle.vte.specs.StdSyncHandler.{ExpiresAfter, clock_in, expiry_in, is_pending, pending_meaning};
 
 use crate::ansi::clock::Clock;
+use std::alloc::AllocError;
 use std::time::Duration;
 use vte_handler::Timeout;
 
@@ -16,6 +17,16 @@ use vte_handler::Timeout;
 pub struct StdSyncHandler<C: Clock + Drop> {
     clock: C,
     expiry: Option<Duration>,
+}
+
+impl<C: Clock + Clone + Drop> Clone for StdSyncHandler<C> {
+    ghost is_clone = { λ timeout clone. (expiry_in clone ≡ expiry_in timeout)
+        × C.is_clone (clock_in timeout) (clock_in clone) };
+
+    fn clone(&self) -> Result<Self, AllocError> {
+        let (clock, expiry) = (self.clock.clone()?, self.expiry);
+        Ok(StdSyncHandler { clock, expiry })
+    }
 }
 
 impl<C: Clock + Drop> StdSyncHandler<C> {

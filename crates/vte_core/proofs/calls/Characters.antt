@@ -13,7 +13,7 @@ use Rattle.vte_core.proofs.calls.States.{between_characters}
 use Rattle.vte_core.proofs.places.PlaceLeads.{text-lone, text-unfinished, text-whole}
 use Rattle.vte_core.proofs.streams.Others.{longer, other_control}
 use Rattle.vte_core.proofs.calls.Telling.{added-inside, adds-reads, keep, keeps-inside, never, told-at}
-use Rattle.vte_core.proofs.Common.{added, All-cons, All-nil, IsOther, Execute, is_control_character, eqb, AddsOthers, IsAfter, stream_at, Reads, All, cases_Bool}
+use Rattle.vte_core.proofs.Common.{added, All-cons, All-nil, IsOther, Execute, is_control_character, AddsOthers, IsAfter, stream_at, Reads, All, cases_Bool}
 use Rattle.vte_core.proofs.streams.Performing.{carried_is_no_escape, open_truncated}
 use Rattle.vte_core.proofs.stops.Told.{breaks-broken, breaks-unfinished, breaks-whole}
 use Rattle.vte_core.proofs.calls.Places.{come-between, come-broken, come-carried}

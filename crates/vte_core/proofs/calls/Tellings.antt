@@ -1,5 +1,5 @@
 -- What a call tells before a run.
-use Rattle.vte_core.proofs.Common.{◌≡◌, ℕ, ◌+◌, inl, inr, Option, List, [], ◌++◌, take, refl, ap, sym, subst, ◌∙◌, append-nil, false, All, All-append, All-nil, Event, Machine, IsBehind, IsSettled, added, told, open_end}
+use Rattle.vte_core.proofs.Common.{◌≡◌, ℕ, inl, inr, Option, List, [], ◌++◌, ap, sym, subst, ◌∙◌, false, All, All-append, All-nil, Event, Machine, IsBehind, IsSettled, told, open_end}
 use Rattle.vte_core.proofs.Common.{AddsOthers, IsOther, IsWide, TellsOthers}
 use Rattle.vte_core.specs.machine.Completes.{AddsCharacter}
 use Rattle.vte_core.proofs.calls.Runs.{starts-at}

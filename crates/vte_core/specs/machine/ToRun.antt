@@ -1,5 +1,5 @@
 -- How far a call has come that returns a run.
-use Rattle.std.specs.Prelude.{◌≡◌, ℕ, ◌-◌, ◌<◌, ◌≤◌, Bool, true, false, List, [], ◌++◌, length, map, take, drop, Option, Result, Ok, Err, slice_index}
+use Rattle.std.specs.Prelude.{◌≡◌, ℕ, ◌-◌, ◌<◌, Bool, true, false, List, [], ◌++◌, length, map, take, drop, Option, Result, Ok, Err, slice_index}
 use Rattle.std.specs.Str.{chars}
 use Rattle.vte_core.specs.declared.looks.taken.RunKind.{RunKind}
 use Rattle.vte_core.specs.declared.looks.taken.RunKind.TheVariants.{OfText, OfData, Empty}

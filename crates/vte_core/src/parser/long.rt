@@ -1,12 +1,11 @@
 //! The parser that keeps operating system commands of any length.
 ghost use Rattle.std.specs.Prelude.{◌≡◌, ◌+◌, ◌<◌, ◌≤◌, ℕ, true, false, List, [], None, length};
 ghost use Rattle.vte_core.specs.LongAdvance.{ReadsBytesLong, ReadsToRunLong, ReadsUntilTerminatedLong};
-ghost use Rattle.vte_core.specs.LongParser.{HasReadLong, HoldsCommandLong, IsCopyOfLong, LacksRoom, memory_of};
+ghost use Rattle.vte_core.specs.LongParser.{HasReadLong, IsCopyOfLong, LacksRoom, lost_data_long, memory_of};
 ghost use Rattle.vte_core.specs.LongParser.{open_size};
 ghost use Rattle.vte_core.specs.Looks.{looks_long};
 ghost use Rattle.vte_core.specs.Outcome.{IsLoss};
 ghost use Rattle.vte_core.specs.Stream.{IsFinished, IsUnfinished, outcome};
-ghost use Rattle.vte_core.specs.SystemCommand.{drops_data};
 
 use crate::looks::{InRuns, Input, Looks, Run, Singly};
 use crate::parser::{Machine, Refused, State};
@@ -84,8 +83,7 @@ impl<A: Allocator> LongParser<A> {
     ///
     /// [`reserve`](Self::reserve) and [`shrink`](Self::shrink) forget it if the command has ended.
     pub fn command_lost_data(&self) -> bool
-        ensures holds { (items : List ℕ) → HoldsCommandLong self.now items
-            → result ≡ drops_data None items }
+        ensures lost { result ≡ lost_data_long self.now }
         ensures open { (stream : List ℕ) → HasReadLong self.now stream
             → IsLoss (outcome None stream).left result }
     {

@@ -1,7 +1,6 @@
 //! The state of a parser, and what it has collected.
 ghost use Rattle.std.specs.Prelude.{◌≡◌, true, false, ℕ, List, []};
-ghost use Rattle.vte_core.specs.machine.Words.{IsBehind, IsFinished, IsLoss, IsUnfinished, Keeps};
-ghost use Rattle.vte_core.specs.machine.Words.{drops_data, outcome};
+ghost use Rattle.vte_core.specs.machine.Words.{IsBehind, IsFinished, IsLoss, IsUnfinished, outcome};
 
 use crate::buffer::Buffer;
 use crate::head::Collected;
@@ -34,8 +33,7 @@ impl<B: Buffer> Machine<B> {
     /// Returns whether data bytes are in no piece of the operating system command that is open, or
     /// else ended last.
     pub(crate) fn command_lost_data(&self) -> bool
-        ensures holds { (items : List ℕ) → Keeps B.limit self.now.command items
-            → result ≡ drops_data B.limit items }
+        ensures lost { result ≡ self.now.command.dropped }
         ensures open { (stream : List ℕ) → IsBehind B.limit self.now stream
             → IsLoss (outcome B.limit stream).left result }
     {

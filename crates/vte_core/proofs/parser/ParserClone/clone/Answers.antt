@@ -1,7 +1,6 @@
 use Rattle.std.proofs.lemmas.List.Elements.{same_from_all_zip}
 use Rattle.vte_core.proofs.Common.{◌≡◌, refl, rules, SameItems}
 use Rattle.vte_core.proofs.fields.Cloned.{reads_cloned}
-use Rattle.vte_core.proofs.fields.Standing.{keeps-same}
 use Rattle.vte_core.proofs.parser.ParserClone.clone.Goals as goal
 
 pub returns : goal.returns
@@ -15,6 +14,6 @@ returns g c =
     record {
       cases = record {
         reads = reads_cloned _ _ _ refl same items;
-        holds = λ command. keeps-same _ _ _ command items;
+        lost = items.dropped;
       };
     }

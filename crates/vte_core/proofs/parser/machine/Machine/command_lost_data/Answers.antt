@@ -1,4 +1,4 @@
-use Rattle.vte_core.proofs.Common.{ℕ, Option, List, [], ◌∷◌, sym, subst, ◌∙◌, Machine, State, SystemCommand, Stands, StandsBy, Place, InText, InSystemCommand, Keeps, IsLoss, left_at}
+use Rattle.vte_core.proofs.Common.{ℕ, Option, List, [], ◌∷◌, sym, subst, Machine, State, SystemCommand, Stands, StandsBy, Place, InText, InSystemCommand, Keeps, IsLoss, left_at}
 use Rattle.vte_core.proofs.fields.Standing.{stands-place}
 use Rattle.vte_core.proofs.fields.StoreLemmas.{drops_held}
 use Rattle.vte_core.proofs.streams.After.{after-left}
@@ -16,9 +16,6 @@ by_place limit parser (InText (a ∷ u)) s = tt
 by_place limit parser (InSystemCommand items) s =
     sym (drops_held limit parser.command items (by_state limit parser.state parser items s.by))
 by_place limit parser _ s = tt
-
-pub returns-clause-holds : goal.returns-clause-holds
-returns-clause-holds g c = λ items keeps. c.has_dropped.ensures ∙ sym (drops_held _ _ items keeps)
 
 pub returns-clause-open : goal.returns-clause-open
 returns-clause-open g c = λ stream h.

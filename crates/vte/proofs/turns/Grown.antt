@@ -1,7 +1,7 @@
 -- A call adds to what is parsed, and is refused no memory that was there for all its bytes: room for the held and the
 -- given bytes at the start leaves room for what is left, turn by turn.
 use Rattle.vte.proofs.Common.{◌≡◌, ℕ, ◌+◌, ◌-◌, ◌<◌, inl, inr, List, ◌++◌, length, Result, Ok, Err, refl, ap, arith, length-append, Refused, LongParser, counts_data}
-use Rattle.vte.proofs.Common.{AdvancesLong, Bor, HasParsedAndHoldsLong, IsAt, Turns, Meaning, AreAt, HasTaken, LacksSome, ReadsSome, HasRoom, Stage, drop, length-drop}
+use Rattle.vte.proofs.Common.{AdvancesLong, Bor, Turns, Meaning, AreAt, HasTaken, LacksSome, ReadsSome, HasRoom, Stage, drop, length-drop}
 use Rattle.vte.proofs.turns.Standings.{at_same, reads_so, stands_long, takes_so, turns_stand_long, unlimited}
 use Rattle.vte.specs.declared.ansi.growing_text.GrowingText.{GrowingText}
 use Rattle.vte.specs.declared.ansi.long_processor.LongProcessor.{LongProcessor}

@@ -1,5 +1,5 @@
 -- A processor stands where its turns do: with a limit there is always memory. So what the turns ensure is true of it.
-use Rattle.vte.proofs.Common.{◌<◌, ◌≤◌, ℕ, List, None, Some, length, Bool, Result, Ok, Err, arith, Bor, Refused, LongParser, Turns, TurnsMeaning, Meaning, Stage}
+use Rattle.vte.proofs.Common.{◌<◌, ◌≤◌, ℕ, List, None, Some, length, Bool, Result, Ok, Err, arith, Bor, Refused, LongParser, TurnsMeaning, Meaning, Stage}
 use Rattle.vte.proofs.Common.{Advanced, HasParsedAndHolds, HasParsedAndHoldsLong, HasTaken, HaveTaken, IsAt, ReadsInTurns, ReadsSome, Reserves, ReservesRoom, Standing, StopsSync, StopsSyncLong}
 use Rattle.vte.proofs.Common.{StopsUpdate, ◌≡◌, refl, stop, long_meaning, short_meaning, of_turns}
 use Rattle.vte_core.specs.declared.parser.Parser.{Parser}

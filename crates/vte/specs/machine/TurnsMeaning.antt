@@ -9,7 +9,7 @@ use Rattle.vte_core.specs.declared.parser.refused.Refused.{Refused}
 use Rattle.vte.specs.Calls.{last_printed}
 use Rattle.vte.specs.LongProcessor.{read_of}
 use Rattle.vte.specs.Memory.{HasRoom, LacksPart, LacksRoom}
-use Rattle.vte.specs.Processor.{Meaning, Stage, stop}
+use Rattle.vte.specs.Processor.{Meaning, Stage}
 use Rattle.vte.specs.ProcessorCalls.{HasTaken, IsAt, StopsSync, held_of}
 use Rattle.vte.specs.declared.ansi.performer.ProcessorState.{ProcessorState}
 use Rattle.vte.specs.declared.ansi.titles.TheConstants.{TEXT_ROOM}

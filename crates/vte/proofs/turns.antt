@@ -5,3 +5,4 @@ pub mod HoldFacts
 pub mod HoldTurns
 pub mod Slices
 pub mod Turns
+pub mod Standings

@@ -3,7 +3,7 @@ use Rattle.std.specs.Prelude.{ℕ, Bool, true, false, List, [], ◌∷◌, ◌++
 use Rattle.std.specs.Fmt.{decimal}
 use Rattle.std.specs.List.{filter_map, range_with_len}
 use Rattle.vte.specs.ColorText.{xparse_color_of}
-use Rattle.vte.specs.Maybe.{those}
+use Rattle.vte.specs.Maybe.{for_some}
 use Rattle.vte.specs.Parts.{first_behind, parts_of}
 use Rattle.vte_types.specs.Rows.{Row, beside}
 use Rattle.vte.specs.Titles.{decimal_number, joined_texts, text_in, title_calls}
@@ -24,7 +24,7 @@ terminator_of false = 0x1b ∷ 0x5c ∷ []
 abbrev pub color_calls : List ℕ → ℕ → List ℕ → List ℕ → List Call
 color_calls prefix index terminator text =
     if is_word text (codes "?") then call.DynamicColorSequence prefix index terminator ∷ []
-    else those (λ color. call.SetColor index color) (xparse_color_of text)
+    else for_some (λ color. call.SetColor index color) (xparse_color_of text)
 
 -- 4: an index and a colour
 abbrev pub pair_calls : List ℕ → Option ℕ → List ℕ → List Call
@@ -76,7 +76,7 @@ dynamic_calls code terminator (text ∷ texts) =
 
 -- 22
 abbrev pub pointer_calls : List (List ℕ) → List Call
-pointer_calls (name ∷ []) = those (λ icon. call.SetMouseCursorIcon icon) (icon_of name)
+pointer_calls (name ∷ []) = for_some (λ icon. call.SetMouseCursorIcon icon) (icon_of name)
 pointer_calls _ = []
 
 -- 50: anything after the number is ignored
@@ -91,7 +91,7 @@ shape_behind (Some (byte ∷ bytes)) = beside shapes byte
 abbrev pub shape_calls : List (List ℕ) → List Call
 shape_calls [] = []
 shape_calls (text ∷ texts) =
-    those (λ shape. call.SetCursorShape shape)
+    for_some (λ shape. call.SetCursorShape shape)
     (shape_behind (behind_word (codes "CursorShape=") text))
 
 -- 52: the first byte selects the clipboard, `c` if there is none

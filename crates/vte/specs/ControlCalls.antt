@@ -4,7 +4,7 @@ use Rattle.vte.specs.declared.ansi.control_calls.Change.TheVariants as change
 use Rattle.vte.specs.Change.{changes}
 use Rattle.vte.specs.Numbers.{first_of, first_or, first_numbers, is_four}
 use Rattle.vte.specs.Rendition.{attribute_calls}
-use Rattle.vte.specs.Maybe.{both, or_none, those}
+use Rattle.vte.specs.Maybe.{for_both, or_none, for_some}
 use Rattle.vte_types.specs.Rows.{Row, beside}
 use Rattle.vte.specs.Values.{behavior_of, bottom_of, cursor_rows, keyboard_modes, keys_rows, line_rows, path_rows, screen_rows, tab_rows, update_rows}
 use Rattle.vte_handler.specs.Call.{Call}
@@ -58,14 +58,14 @@ module _ (last : Option ℕ) (intermediates : List ℕ) (groups : List (List ℕ
       (0x46, call.MoveUpAndCr pn ∷ []) ∷  -- F: CPL
       (0x47, call.GotoCol (pn - 1) ∷ []) ∷  -- G: CHA
       (0x60, call.GotoCol (pn - 1) ∷ []) ∷  -- `: HPA
-      (0x67, those (λ which. call.ClearTabs which) (beside tab_rows ps)) ∷  -- g: TBC
+      (0x67, for_some (λ which. call.ClearTabs which) (beside tab_rows ps)) ∷  -- g: TBC
       (0x48, call.Goto (pos (pn - 1)) (pn2 - 1) ∷ []) ∷  -- H: CUP
       (0x66, call.Goto (pos (pn - 1)) (pn2 - 1) ∷ []) ∷  -- f: HVP
       (0x68, changes change.Set (first_numbers groups)) ∷  -- h: SM
       (0x6d, attribute_calls groups) ∷  -- m: SGR
       (0x49, call.MoveForwardTabs pn ∷ []) ∷  -- I: CHT
-      (0x4a, those (λ part. call.ClearScreen part) (beside screen_rows ps)) ∷  -- J: ED
-      (0x4b, those (λ part. call.ClearLine part) (beside line_rows ps)) ∷  -- K: EL
+      (0x4a, for_some (λ part. call.ClearScreen part) (beside screen_rows ps)) ∷  -- J: ED
+      (0x4b, for_some (λ part. call.ClearLine part) (beside line_rows ps)) ∷  -- K: EL
       (0x4c, call.InsertBlankLines pn ∷ []) ∷  -- L: IL
       (0x6c, changes change.Reset (first_numbers groups)) ∷  -- l: RM
       (0x4d, call.DeleteLines pn ∷ []) ∷  -- M: DL
@@ -93,7 +93,7 @@ module _ (last : Option ℕ) (intermediates : List ℕ) (groups : List (List ℕ
   abbrev pub greater_rows : List (Row (List Call))
   greater_rows = (
     0x6d,
-    if pn == 4 then those (λ keys. call.SetModifyOtherKeys keys) (beside keys_rows ps2)
+    if pn == 4 then for_some (λ keys. call.SetModifyOtherKeys keys) (beside keys_rows ps2)
         else [],
   ) ∷  -- m: XTMODKEYS
       (0x75, call.PushKeyboardMode (keyboard_modes ps) ∷ []) ∷  -- u: kitty
@@ -112,10 +112,10 @@ module _ (last : Option ℕ) (intermediates : List ℕ) (groups : List (List ℕ
   abbrev pub blank_rows : List (Row (List Call))
   blank_rows = (
     0x6b,
-    both (λ path update. call.SetScp path update) (beside path_rows ps)
+    for_both (λ path update. call.SetScp path update) (beside path_rows ps)
         (beside update_rows ps2),
   ) ∷  -- k: SCP
-      (0x71, those (λ style. call.SetCursorStyle style) (beside cursor_rows ps)) ∷  -- q: DECSCUSR
+      (0x71, for_some (λ kind. call.SetCursorStyle kind) (beside cursor_rows ps)) ∷  -- q: DECSCUSR
       []
 
   abbrev pub dollar_rows : List (Row (List Call))

@@ -10,13 +10,13 @@ pub mod EscapeCalls
 pub mod LongProcessor
 pub mod machine
 pub mod Maybe
+pub mod Memory
 pub mod Numbers
 pub mod Parts
 pub mod Processor
 pub mod ProcessorCalls
 pub mod RefusedStep
 pub mod Rendition
-pub mod Rooms
 pub mod StdSyncHandler
 pub mod Synchronized
 pub mod TextRoom

@@ -1,13 +1,13 @@
--- What a processor without a limit has parsed and holds, and where it is refused memory.
-use Rattle.std.specs.Prelude.{◌≡◌, ℕ, ◌+◌, Bool, None, List, length, IsOk, Result, string_capacity}
-use Rattle.vte_core.specs.LongParser.{memory_of}
-use Rattle.vte_core.specs.declared.parser.long.LongParser.{LongParser}
+-- What calls of a processor without a limit ensure: the same as those of `Processor`, unless memory
+-- is refused.
+use Rattle.std.specs.Prelude.{◌≡◌, ℕ, ◌+◌, ◌-◌, ◌<◌, Bool, true, false, None, List, length, IsOk, IfErr, IfOk, Result, Ok, Err}
+use Rattle.vte_core.specs.LongParser.{HasReadLong}
+use Rattle.vte_core.specs.Stream.{events}
 use Rattle.vte_core.specs.declared.parser.refused.Refused.{Refused}
-use Rattle.vte.specs.ProcessorCalls.{AreAt, AreCopyOf, HaveParsedAll, HaveTaken, LacksSome, Parts, ReadsSome, ReplaysAll, ReservesRoom, StopsUpdate, held_of, parts}
-use Rattle.vte.specs.Processor.{Meaning, State}
-use Rattle.vte.specs.Rooms.{HasLongRoom, LacksLongRoom, long_reading}
-use Rattle.vte.specs.declared.ansi.growing_text.GrowingText.{GrowingText}
-use Rattle.vte.specs.declared.ansi.laws.runs.Step.{Step}
+use Rattle.vte.specs.Calls.{last_printed}
+use Rattle.vte.specs.Memory.{HasMemory, KeepsMemory, LacksMemoryFor, LacksMemoryOnTheWay}
+use Rattle.vte.specs.Processor.{Meaning, Stage}
+use Rattle.vte.specs.ProcessorCalls.{HasTaken, IsAt, ReadsInTurns, StopsSync, held_of}
 use Rattle.vte.specs.declared.ansi.long_processor.LongProcessor.{LongProcessor}
 
 abbrev pub held_long : {T A : Type 0} → LongProcessor T A → List ℕ
@@ -16,67 +16,66 @@ held_long processor = held_of processor.turns.hold
 abbrev pub timeout_long : {T A : Type 0} → LongProcessor T A → T
 timeout_long processor = processor.turns.state.timeout
 
-abbrev pub unlimited : {A T W : Type 0} → (T → W) → Parts (LongParser A) (GrowingText A) T W
-unlimited timeout_of = parts None long_reading (λ text. text.size) timeout_of
+-- `HasParsedAndHolds`, with memory to parse the held bytes.
+pub record HasParsedAndHoldsLong {T A W : Type 0} (timeout_of : T → W)
+    (processor : LongProcessor T A) (parsed held : List ℕ) (timeout : W) : Type 0 where
+  pub has_read : HasReadLong processor.turns.parser parsed
+  pub last : processor.turns.state.preceding_char ≡ last_printed (events None parsed)
+  pub timeout_is : timeout_of (timeout_long processor) ≡ timeout
+  pub holds : held_long processor ≡ held
+  pub has_memory : 0 < length held → HasMemory processor parsed (length held)
 
--- `HasParsedAndHolds`, for a processor without a limit.
-abbrev pub HasParsedAndHoldsLong : {T A W : Type 0} → (T → W) → LongProcessor T A → List ℕ
-    → List ℕ → W → Type 0
-HasParsedAndHoldsLong timeout_of processor = HaveTaken (unlimited timeout_of) processor.turns
+-- `IsCopyOf`, with as much memory.
+pub record IsCopyOfLong {T A W : Type 0} (is_clone : T → T → Type 0) (timeout_of : T → W)
+    (processor copy : LongProcessor T A) : Type 0 where
+  pub timeout : is_clone (timeout_long processor) (timeout_long copy)
+  pub stands : timeout_of (timeout_long copy) ≡ timeout_of (timeout_long processor)
+      → (parsed held : List ℕ) (timeout : W)
+      → HasParsedAndHoldsLong timeout_of processor parsed held timeout
+      → HasParsedAndHoldsLong timeout_of copy parsed held timeout
+  pub memory : KeepsMemory processor copy
 
--- `IsAt`, for a processor without a limit.
-abbrev pub IsAtLong : {T A V W : Type 0} → (T → W) → LongProcessor T A → V → State V W → Type 0
-IsAtLong timeout_of processor = AreAt (unlimited timeout_of) processor.turns
+-- `reserve`: memory for the held bytes and for this many more
+pub record Reserves {T A W : Type 0} (timeout_of : T → W) (old new : LongProcessor T A)
+    (more : ℕ) (result : Bool) : Type 0 where
+  pub same : (parsed held : List ℕ) (timeout : W)
+      → HasParsedAndHoldsLong timeout_of old parsed held timeout
+      → HasParsedAndHoldsLong timeout_of new parsed held timeout
+  pub room : result ≡ true → (parsed held : List ℕ) (timeout : W)
+      → HasParsedAndHoldsLong timeout_of new parsed held timeout
+      → HasMemory new parsed (length held + more)
+  pub memory : KeepsMemory old new
+  pub lacks : result ≡ false → (stream : List ℕ) → HasReadLong new.turns.parser stream
+      → LacksMemoryFor new stream (length (held_long new) + more)
 
--- `HasParsedAll`, for a processor without a limit.
-abbrev pub HasParsedAllLong : {T A W : Type 0} → (T → W) → LongProcessor T A → List ℕ → Type 0
-HasParsedAllLong timeout_of processor = HaveParsedAll (unlimited timeout_of) processor.turns
+-- `stop_sync` and `stop_sync_text`
+pub record StopsSyncLong {T A V W : Type 0} (timeout_of : T → W) (m : Meaning V W)
+    (old new : LongProcessor T A) (before value : V) : Type 0 where
+  pub stops : StopsSync m (HasParsedAndHoldsLong timeout_of old)
+      (HasParsedAndHoldsLong timeout_of new) before value
+  pub memory : (s : Stage V W) → IsAt (HasParsedAndHoldsLong timeout_of old) before s
+      → KeepsMemory old new
 
--- Behind a stream it has memory for so many bytes: to keep them with an open command, and to join a
--- text from these.
-abbrev pub HasMemory : {T A : Type 0} → LongProcessor T A → List ℕ → ℕ → Type 0
-HasMemory processor = HasLongRoom processor.turns.parser processor.turns.state.text.size
-
-abbrev pub LacksMemory : {T A : Type 0} → LongProcessor T A → List ℕ → ℕ → Type 0
-LacksMemory processor = LacksLongRoom processor.turns.parser processor.turns.state.text.size
-
--- Of the held bytes and so many that a call left, it has no memory for a part.
-abbrev pub LacksMemoryFor : {T A W : Type 0} → (T → W) → LongProcessor T A → ℕ → Type 0
-LacksMemoryFor timeout_of processor = LacksSome (unlimited timeout_of) processor.turns
-
--- It has no memory for data of a command, or to join a text.
-abbrev pub HasNoMemory : {T A : Type 0} → LongProcessor T A → Type 0
-HasNoMemory processor =
-    (memory_of processor.turns.parser ≡ 0) × (string_capacity processor.turns.state.text.text ≡ 0)
-
--- `IsCopyOf`, for a processor without a limit.
-abbrev pub IsCopyOfLong : {T A W : Type 0} → (T → T → Type 0) → (T → W) → LongProcessor T A
-    → LongProcessor T A → Type 0
-IsCopyOfLong is_clone timeout_of processor copy =
-    AreCopyOf (unlimited timeout_of) is_clone processor.turns copy.turns
-
-abbrev pub ReservesLong : {T A W : Type 0} → (T → W) → LongProcessor T A → LongProcessor T A → ℕ
-    → Bool → Type 0
-ReservesLong timeout_of old new = ReservesRoom (unlimited timeout_of) old.turns new.turns
-
--- `StopsSync`, `ReadsInTurns` and `Replays`, for a processor without a limit.
-abbrev pub StopsSyncLong : {T A V W : Type 0} → (T → W) → Meaning V W → LongProcessor T A
-    → LongProcessor T A → V → V → Type 0
-StopsSyncLong timeout_of m old new = StopsUpdate (unlimited timeout_of) m old.turns new.turns
-
-abbrev pub ReadsInTurnsLong : {T A V W : Type 0} → (T → W) → Meaning V W → LongProcessor T A
-    → LongProcessor T A → V → V → List ℕ → Result (Unit {0}) Refused → Type 0
-ReadsInTurnsLong timeout_of m old new = ReadsSome (unlimited timeout_of) m old.turns new.turns
-
-abbrev pub ReplaysLong : {T A V W : Type 0} → (T → W) → Meaning V W → LongProcessor T A
-    → LongProcessor T A → V → V → List Step → Type 0
-ReplaysLong timeout_of m old new = ReplaysAll (unlimited timeout_of) m old.turns new.turns
+-- How many bytes a call read.
+abbrev pub read_of : Result (Unit {0}) Refused → List ℕ → ℕ
+read_of (Ok _) bytes = length bytes
+read_of (Err refused) bytes = refused.read
 
 -- `advance` and `advance_text`
 pub record AdvancesLong {T A V W : Type 0} (timeout_of : T → W) (m : Meaning V W)
     (old new : LongProcessor T A) (before value : V) (bytes : List ℕ)
     (result : Result (Unit {0}) Refused) : Type 0 where
-  pub reads : ReadsInTurnsLong timeout_of m old new before value bytes result
+  -- All bytes are read, ..
+  pub all : IfOk result (λ all. ReadsInTurns m (HasParsedAndHoldsLong timeout_of old)
+      (HasParsedAndHoldsLong timeout_of new) before value bytes)
+  -- .. or those that the first turns of such a call read.
+  pub takes : (s : Stage V W) → IsAt (HasParsedAndHoldsLong timeout_of old) before s
+      → HasTaken m s bytes (read_of result bytes)
+      (IsAt (HasParsedAndHoldsLong timeout_of new) value)
+  pub within : IfErr result (λ refused. refused.read < length bytes)
+  pub lacks : IfErr result (λ refused. LacksMemoryOnTheWay new (length bytes - refused.read))
+  pub memory : (s : Stage V W) → IsAt (HasParsedAndHoldsLong timeout_of old) before s
+      → KeepsMemory old new
   -- If there was memory for all bytes, none is refused.
-  pub enough : (s : State V W) → IsAtLong timeout_of old before s
+  pub enough : (s : Stage V W) → IsAt (HasParsedAndHoldsLong timeout_of old) before s
       → HasMemory old s.parsed (length s.held + length bytes) → IsOk result

@@ -41,14 +41,15 @@ set_times m (suc n) value = set_times m n (m.set value update_nanos)
 abbrev pub calls_added : Option ℕ → List ℕ → List ℕ → List Call
 calls_added limit stream more = added_calls (events limit stream) (events limit (stream ++ more))
 
--- The bytes parsed so far, those held after them, and the values of the timeout and the handler.
-pub record State (H W : Type 0) : Type 0 where
+-- The state between calls: the bytes parsed so far, those held after them, and the values of the
+-- timeout and the handler.
+pub record Stage (H W : Type 0) : Type 0 where
   pub parsed : List ℕ
   pub held : List ℕ
   pub timeout : W
   pub handler : H
 
-abbrev pub all_bytes : {H W : Type 0} → State H W → List ℕ
+abbrev pub all_bytes : {H W : Type 0} → Stage H W → List ℕ
 all_bytes s = s.parsed ++ s.held
 
 -- The maximum number of held bytes.
@@ -57,7 +58,7 @@ most_held = 2097150
 
 -- Bytes are parsed: the handler receives the calls that they add, and each update that they begin
 -- sets the timeout.
-abbrev pub parse : {H W : Type 0} → Meaning H W → State H W → List ℕ → State H W
+abbrev pub parse : {H W : Type 0} → Meaning H W → Stage H W → List ℕ → Stage H W
 parse m s bytes = record {
   parsed = s.parsed ++ bytes;
   held = s.held;
@@ -65,13 +66,13 @@ parse m s bytes = record {
   handler = after m.step s.handler (calls_added m.limit s.parsed bytes);
 }
 
-abbrev pub with_held : {H W : Type 0} → State H W → List ℕ → State H W
+abbrev pub with_held : {H W : Type 0} → Stage H W → List ℕ → Stage H W
 with_held s bytes =
     record { parsed = s.parsed; held = bytes; timeout = s.timeout; handler = s.handler }
 
 -- A stop: the whole hold is parsed, the handler receives the call that reports the end of an
 -- update, and the timeout is cleared.
-abbrev pub stop : {H W : Type 0} → Meaning H W → State H W → State H W
+abbrev pub stop : {H W : Type 0} → Meaning H W → Stage H W → Stage H W
 stop m s = let p = parse m s s.held in record {
   parsed = p.parsed;
   held = [];
@@ -81,7 +82,7 @@ stop m s = let p = parse m s s.held in record {
 
 -- The result of a turn: a state, and the unread bytes of the call.
 pub record Turn (H W : Type 0) : Type 0 where
-  pub state : State H W
+  pub state : Stage H W
   pub rest : List ℕ
 
 -- The shortest prefix whose last byte begins an update, or all bytes if there is none.
@@ -92,14 +93,14 @@ begin_front limit parsed (b ∷ rest) =
     else b ∷ begin_front limit (parsed ++ b ∷ []) rest
 
 -- An open turn: bytes are parsed up to the one that begins an update.
-abbrev pub open_turn : {H W : Type 0} → Meaning H W → State H W → List ℕ → Turn H W
+abbrev pub open_turn : {H W : Type 0} → Meaning H W → Stage H W → List ℕ → Turn H W
 open_turn m s bytes =
     let front = begin_front m.limit s.parsed bytes in
     record { state = parse m s front; rest = drop (length front) bytes }
 
 -- The bytes join the hold. Each begin-update that ends among them, and after the last end-update,
 -- sets the timeout.
-abbrev pub extend : {H W : Type 0} → Meaning H W → State H W → List ℕ → State H W
+abbrev pub extend : {H W : Type 0} → Meaning H W → Stage H W → List ℕ → Stage H W
 extend m s bytes = let all = s.held ++ bytes in record {
   parsed = s.parsed;
   held = all;
@@ -108,55 +109,55 @@ extend m s bytes = let all = s.held ++ bytes in record {
 }
 
 -- The held bytes before a place are parsed, and the others stay.
-abbrev pub cut_at : {H W : Type 0} → Meaning H W → State H W → ℕ → State H W
+abbrev pub cut_at : {H W : Type 0} → Meaning H W → Stage H W → ℕ → Stage H W
 cut_at m s place = with_held (parse m s (take place s.held)) (drop place s.held)
 
 -- Bytes at the end of the hold are kept, and those before them parsed. If none are kept, the update
 -- is stopped.
-abbrev pub keep : {H W : Type 0} → Meaning H W → State H W → List ℕ → State H W
+abbrev pub keep : {H W : Type 0} → Meaning H W → Stage H W → List ℕ → Stage H W
 keep m s [] = stop m s
 keep m s (b ∷ kept) = cut_at m s (length s.held - length (b ∷ kept))
 
 -- A hold turn. Without an end-update everything stays held; after the last one, what the next
 -- begin-update begins.
-abbrev pub hold_turn : {H W : Type 0} → Meaning H W → State H W → List ℕ → State H W
+abbrev pub hold_turn : {H W : Type 0} → Meaning H W → Stage H W → List ℕ → Stage H W
 hold_turn m s bytes = keep m (extend m s bytes) (kept_of (s.held ++ bytes))
 
 -- While the timeout is pending, the bytes of a turn are held if there is room.
-abbrev pub is_held : {H W : Type 0} → Bool → State H W → List ℕ → Bool
+abbrev pub is_held : {H W : Type 0} → Bool → Stage H W → List ℕ → Bool
 is_held answer s bytes = answer && nat_le (length (s.held ++ bytes)) most_held
 
 -- Otherwise they are parsed. If the timeout is pending, or bytes are held whose update has expired,
 -- the update is stopped first.
-abbrev pub is_stopped : {H W : Type 0} → Bool → State H W → Bool
+abbrev pub is_stopped : {H W : Type 0} → Bool → Stage H W → Bool
 is_stopped answer s = answer || nat_lt 0 (length s.held)
 
-abbrev pub opened : {H W : Type 0} → Meaning H W → Bool → State H W → State H W
+abbrev pub opened : {H W : Type 0} → Meaning H W → Bool → Stage H W → Stage H W
 opened m answer s = if is_stopped answer s then stop m s else s
 
 -- A turn, by the timeout's answer.
-abbrev pub turn : {H W : Type 0} → Meaning H W → Bool → State H W → List ℕ → Turn H W
+abbrev pub turn : {H W : Type 0} → Meaning H W → Bool → Stage H W → List ℕ → Turn H W
 turn m answer s bytes =
     if is_held answer s bytes then record { state = hold_turn m s bytes; rest = [] }
     else open_turn m (opened m answer s) bytes
 
 -- Turns of a call that led to a state and left these bytes, each with an answer that the timeout's
 -- value allows.
-pub data TakesTurns {H W : Type 0} (m : Meaning H W) : State H W → List ℕ → State H W → List ℕ
+pub data TakesTurns {H W : Type 0} (m : Meaning H W) : Stage H W → List ℕ → Stage H W → List ℕ
     → Type 0 where
-  done : {s : State H W} {bytes : List ℕ} → TakesTurns m s bytes s bytes
-  turns : {s t : State H W} {b : ℕ} {rest left : List ℕ} → (answer : Bool)
+  done : {s : Stage H W} {bytes : List ℕ} → TakesTurns m s bytes s bytes
+  turns : {s t : Stage H W} {b : ℕ} {rest left : List ℕ} → (answer : Bool)
       → m.timeout.allows s.timeout answer
       → TakesTurns m (turn m answer s (b ∷ rest)).state (turn m answer s (b ∷ rest)).rest t left
       → TakesTurns m s (b ∷ rest) t left
 
 -- A call of `advance`: turns until all bytes are read.
-abbrev pub TakesAllTurns : {H W : Type 0} → Meaning H W → State H W → List ℕ → State H W → Type 0
+abbrev pub TakesAllTurns : {H W : Type 0} → Meaning H W → Stage H W → List ℕ → Stage H W → Type 0
 TakesAllTurns m s bytes t = TakesTurns m s bytes t []
 
 -- An open turn that was refused memory: it has parsed a front of its bytes, in which no update
 -- begins, and left some.
-pub record Halts {H W : Type 0} (m : Meaning H W) (s : State H W) (bytes : List ℕ) (t : State H W)
+pub record Halts {H W : Type 0} (m : Meaning H W) (s : Stage H W) (bytes : List ℕ) (t : Stage H W)
     (left : List ℕ) : Type 0 where
   pub front : List ℕ
   pub bytes_are : front ++ left ≡ bytes
@@ -165,16 +166,16 @@ pub record Halts {H W : Type 0} (m : Meaning H W) (s : State H W) (bytes : List 
   pub state_is : t ≡ parse m s front
 
 -- The same of a turn, by the timeout's answer. A turn that holds bytes takes its memory before.
-abbrev pub TurnHalts : {H W : Type 0} → Meaning H W → Bool → State H W → List ℕ → State H W
+abbrev pub TurnHalts : {H W : Type 0} → Meaning H W → Bool → Stage H W → List ℕ → Stage H W
     → List ℕ → Type 0
 TurnHalts m answer s bytes t left =
     (is_held answer s bytes ≡ false) × Halts m (opened m answer s) bytes t left
 
 -- Turns of a call, after which a further one may have been refused memory on the way.
-pub data TakesSome {H W : Type 0} (m : Meaning H W) (s : State H W) (bytes : List ℕ) (t : State H W)
+pub data TakesSome {H W : Type 0} (m : Meaning H W) (s : Stage H W) (bytes : List ℕ) (t : Stage H W)
     (left : List ℕ) : Type 0 where
   between : TakesTurns m s bytes t left → TakesSome m s bytes t left
-  within : {u : State H W} {rest : List ℕ} → TakesTurns m s bytes u rest → (answer : Bool)
+  within : {u : Stage H W} {rest : List ℕ} → TakesTurns m s bytes u rest → (answer : Bool)
       → m.timeout.allows u.timeout answer
       → TurnHalts m answer u rest t left → TakesSome m s bytes t left
 
@@ -206,21 +207,22 @@ pub record HoldsWell {W : Type 0} (limit : Option ℕ) (m : TimeoutMeaning W) (p
   pub kept : IsKept m → IsOutsideUpdate m held timeout ⊎ IsInsideUpdate limit m parsed held timeout
 
 -- The facts about the hold at a state.
-abbrev pub HoldsWellAt : {H W : Type 0} → Meaning H W → State H W → Type 0
+abbrev pub HoldsWellAt : {H W : Type 0} → Meaning H W → Stage H W → Type 0
 HoldsWellAt m s = HoldsWell m.limit m.timeout s.parsed s.held s.timeout
 
--- `Advance` takes turns until all bytes are read; `StopSync` is one stop.
-abbrev pub Run : {H W : Type 0} → Meaning H W → State H W → List Step → State H W → Type 0
-Run m s [] t = s ≡ t
-Run m s (Advance bytes ∷ steps) t =
-    (next : State _ _) × (TakesAllTurns m s bytes.now next × Run m next steps t)
-Run m s (StopSync ∷ steps) t = Run m (stop m s) steps t
+-- Calls one after another lead from a state to another. `Advance` takes turns until all bytes are
+-- read; `StopSync` is one stop.
+abbrev pub TakesSteps : {H W : Type 0} → Meaning H W → Stage H W → List Step → Stage H W → Type 0
+TakesSteps m s [] t = s ≡ t
+TakesSteps m s (Advance bytes ∷ steps) t =
+    (next : Stage _ _) × (TakesAllTurns m s bytes.now next × TakesSteps m next steps t)
+TakesSteps m s (StopSync ∷ steps) t = TakesSteps m (stop m s) steps t
 
 -- The bytes that the calls pass.
-abbrev pub bytes_of : List Step → List ℕ
-bytes_of [] = []
-bytes_of (Advance bytes ∷ steps) = bytes.now ++ bytes_of steps
-bytes_of (StopSync ∷ steps) = bytes_of steps
+abbrev pub given_bytes : List Step → List ℕ
+given_bytes [] = []
+given_bytes (Advance bytes ∷ steps) = bytes.now ++ given_bytes steps
+given_bytes (StopSync ∷ steps) = given_bytes steps
 
 -- The calls that more bytes add to those of a stream, if updates are stopped at these places of the
 -- joined bytes: after the calls of the bytes up to a place comes the one that reports the end of an
@@ -232,31 +234,31 @@ calls_with_stops limit stream more (place ∷ places) = let count = place - leng
     ++ update_ended ∷ calls_with_stops limit (stream ++ take count more) (drop count more) places
 
 -- A stop parses the whole hold, so this is its place.
-abbrev pub place_of_stop : {H W : Type 0} → State H W → ℕ
+abbrev pub place_of_stop : {H W : Type 0} → Stage H W → ℕ
 place_of_stop s = length (all_bytes s)
 
 -- A hold turn that keeps nothing is one.
-abbrev pub stops_in_hold : {H W : Type 0} → State H W → List ℕ → List ℕ → List ℕ
+abbrev pub stops_in_hold : {H W : Type 0} → Stage H W → List ℕ → List ℕ → List ℕ
 stops_in_hold s bytes [] = length (all_bytes s ++ bytes) ∷ []
 stops_in_hold s bytes (b ∷ kept) = []
 
 -- The stops of a turn, by the timeout's answer: there is at most one.
-abbrev pub stops_of_turn : {H W : Type 0} → Bool → State H W → List ℕ → List ℕ
+abbrev pub stops_of_turn : {H W : Type 0} → Bool → Stage H W → List ℕ → List ℕ
 stops_of_turn answer s bytes =
     if is_held answer s bytes then stops_in_hold s bytes (kept_of (s.held ++ bytes))
     else (if is_stopped answer s then place_of_stop s ∷ [] else [])
 
 -- The stops of a call of `advance`, by the answers of its turns.
-abbrev pub stops_of_advance : {H W : Type 0} (m : Meaning H W) (s t : State H W) (bytes : List ℕ)
+abbrev pub stops_of_advance : {H W : Type 0} (m : Meaning H W) (s t : Stage H W) (bytes : List ℕ)
     → TakesAllTurns m s bytes t → List ℕ
 stops_of_advance m s t [] done = []
 stops_of_advance m s t (b ∷ rest) (turns answer allowed more) =
     stops_of_turn answer s (b ∷ rest) ++ stops_of_advance m _ t _ more
 
--- The stops of a run. `StopSync` is always one.
-abbrev pub stops_of : {H W : Type 0} (m : Meaning H W) (s t : State H W) (steps : List Step)
-    → Run m s steps t → List ℕ
-stops_of m s t [] run = []
-stops_of m s t (Advance bytes ∷ steps) (next, (advances, run)) =
-    stops_of_advance m s next bytes.now advances ++ stops_of m next t steps run
-stops_of m s t (StopSync ∷ steps) run = place_of_stop s ∷ stops_of m (stop m s) t steps run
+-- The stops of calls one after another. `StopSync` is always one.
+abbrev pub stops_of : {H W : Type 0} (m : Meaning H W) (s t : Stage H W) (steps : List Step)
+    → TakesSteps m s steps t → List ℕ
+stops_of m s t [] taken = []
+stops_of m s t (Advance bytes ∷ steps) (next, (advances, taken)) =
+    stops_of_advance m s next bytes.now advances ++ stops_of m next t steps taken
+stops_of m s t (StopSync ∷ steps) taken = place_of_stop s ∷ stops_of m (stop m s) t steps taken

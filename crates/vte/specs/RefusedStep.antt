@@ -1,26 +1,26 @@
 -- What a list of calls has led to if memory for one of them is refused.
 use Rattle.std.specs.Prelude.{ℕ, ◌-◌, ◌<◌, List, [], ◌∷◌, length, take, drop}
-use Rattle.vte.specs.Processor.{Meaning, State}
+use Rattle.vte.specs.Processor.{Meaning, Stage}
 use Rattle.vte.specs.ProcessorCalls.{HasTaken, Replayed}
 use Rattle.vte.specs.declared.ansi.laws.runs.RefusedStep.{RefusedStep}
 use Rattle.vte.specs.declared.ansi.laws.runs.Step.{Step}
 use Rattle.vte.specs.declared.ansi.laws.runs.Step.TheVariants.{Advance, StopSync}
 
 -- A refused `Advance` has read so many bytes, by its first turns. `StopSync` is never refused.
-abbrev pub IsRefused : {V W : Type 0} → Meaning V W → State V W → Step → ℕ
-    → (State V W → Type 0) → Type 0
+abbrev pub IsRefused : {V W : Type 0} → Meaning V W → Stage V W → Step → ℕ
+    → (Stage V W → Type 0) → Type 0
 IsRefused m s (Advance bytes) read there =
     (read < length bytes.now) × HasTaken m s bytes.now read there
 IsRefused m s StopSync read there = ⊥
 
-abbrev pub IsFirstRefused : {V W : Type 0} → Meaning V W → State V W → List Step → ℕ
-    → (State V W → Type 0) → Type 0
+abbrev pub IsFirstRefused : {V W : Type 0} → Meaning V W → Stage V W → List Step → ℕ
+    → (Stage V W → Type 0) → Type 0
 IsFirstRefused m s [] read there = ⊥
 IsFirstRefused m s (step ∷ steps) read there = IsRefused m s step read there
 
--- The calls before the refused one led to a state by a run, and there it was refused.
-abbrev pub ReplayedUntil : {V W : Type 0} → Meaning V W → State V W → List Step → RefusedStep
-    → (State V W → Type 0) → Type 0
+-- The calls before the refused one led to a state, and there it was refused.
+abbrev pub ReplayedUntil : {V W : Type 0} → Meaning V W → Stage V W → List Step → RefusedStep
+    → (Stage V W → Type 0) → Type 0
 ReplayedUntil m s steps refused there =
     Replayed m s (take refused.index steps)
     (λ next. IsFirstRefused m next (drop refused.index steps) refused.read there)

@@ -3,3 +3,4 @@ pub mod Hold
 pub mod Lent
 pub mod Performer
 pub mod Turns
+pub mod TurnsMeaning

@@ -3,7 +3,7 @@
 use Rattle.vte.proofs.Common.{◌≡◌, ℕ, ◌+◌, ◌<◌, inl, inr, Bool, false, ◌||◌, nat_lt, All, List, [], ◌∷◌, ◌++◌, length, take, refl, ap, sym, ◌∙◌, arith, or-false}
 use Rattle.vte.proofs.Common.{cases_lt, false≢true, nat_tests, All-head, All-tail, told, stream_at, StopsExactly, Event, added, events, starts-between, stream_at-between, told-between, events_grow}
 use Rattle.vte.proofs.Common.{after, ProcessorState, begin_count, begins_of, calls_of, calls_behind, last_behind, last_printed, last_printed_behind, lent_of, Meaning, set_times, FitsText, Lent}
-use Rattle.vte.proofs.Common.{with_event, parts, IsParsed, IsParsedOn, KeepsRoom, State, parse, begin_front, Reading}
+use Rattle.vte.proofs.Common.{with_event, of_turns, IsParsed, IsParsedOn, KeepsRoom, Stage, parse, begin_front, ParserMeaning}
 use Rattle.vte_core.specs.Perform.{after as performed}
 use Rattle.vte.specs.declared.ansi.performer.Performer.{Performer}
 use Rattle.vte.proofs.performing.CallLists.{after-append, calls_added-events, last-append, set_times-add}
@@ -42,7 +42,7 @@ performed-events m lent (event ∷ events) fit =
 -- ---- the performer gives back what it was lent
 
 module _ {H T J G V W : Type 0} (handler_of : H → V) (timeout_of : T → W) (room_of : J → ℕ) (m : Meaning V W)
-    (s : State V W) (f : List ℕ)
+    (s : Stage V W) (f : List ℕ)
     (old : Lent V W) (new : Performer H T J G) {state : ProcessorState T J}
     (fit : All (FitsText old.room) (added m.limit s.parsed f))
     (made : lent_of handler_of timeout_of room_of new
@@ -58,14 +58,15 @@ module _ {H T J G V W : Type 0} (handler_of : H → V) (timeout_of : T → W) (r
   pub room_back : room_of state.text ≡ old.room
   room_back = rw is_state (ap (λ lent. lent.room) all_made)
 
-  pub given_back : {P : Type 0} {reading : Reading P} {parser next : P} {lent : ProcessorState T J} {value : V}
-      {handler : H} → IsParsed (parts m.limit reading room_of timeout_of) parser lent value s
+  pub given_back : {P : Type 0} {reading : ParserMeaning P} {parser next : P} {lent : ProcessorState T J} {value : V}
+      {handler : H} → IsParsed (of_turns m.limit reading room_of timeout_of) parser lent value s
       → old.last ≡ lent.preceding_char → old.timeout ≡ timeout_of lent.timeout → old.handler ≡ value
       → old.room ≡ room_of lent.text
       → reading.has_read next (s.parsed ++ f)
       → (old.handler_name ≡ new.handler.ghost_name → handler ≡ new.handler.now)
       → ((size : ℕ) → KeepsRoom reading.has_room parser size next size)
-      → IsParsedOn (parts m.limit reading room_of timeout_of) parser lent next state (handler_of handler) (parse m s f)
+      → IsParsedOn (of_turns m.limit reading room_of timeout_of) parser lent next state (handler_of handler)
+      (parse m s f)
   given_back {lent = lent} at at_last at_timeout at_handler at_room read back_handler keeps =
       let all = all_made in
       let is_handler = back_handler (sym (ap (λ lent. lent.handler_name) all)) in

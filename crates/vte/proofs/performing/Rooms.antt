@@ -1,9 +1,9 @@
 -- With room for all bytes, a parser reads them all, and each command's joined text fits. No command has more data than
--- was stored and read, nor more separators than 16; so the contracts of both parsers become those of one `Reading`.
+-- was stored and read, nor more separators than 16; so the contracts of both parsers become those of one.
 use Rattle.vte.proofs.Common.{◌≡◌, ℕ, ◌+◌, ◌≤◌, true, All, Option, Some, None, List, [], ◌∷◌, ◌++◌, length, Result, Ok, Err, refl, arith, concat, take-append_seam}
 use Rattle.vte.proofs.Common.{false≢true, nat_tests, All-cons, All-drop, All-head, All-nil, All-tail, All-take, Event, OscDispatch}
-use Rattle.vte.proofs.Common.{added, events, LongParser, Refused, added_both, counts_data, events_are_bounded, ParsesLent, StopsLent, FitsText, Lent, HasLongRoom, KeepsRoom, fits_room, short_reading}
-use Rattle.vte.proofs.Common.{long_reading}
+use Rattle.vte.proofs.Common.{added, events, LongParser, Refused, added_both, counts_data, events_are_bounded, ParsesLent, StopsLent, FitsText, Lent, HasRoom, KeepsRoom, fits_room, short_meaning}
+use Rattle.vte.proofs.Common.{long_meaning}
 use Rattle.vte_core.specs.Brief.{IsBounded}
 use Rattle.vte_core.specs.LongAdvance.{ReadsBytesLong, ReadsUntilTerminatedLong}
 use Rattle.vte_core.specs.LongParser.{memory_of, open_size, read_count}
@@ -53,7 +53,7 @@ short_fits size stream bytes room =
 module _ {V W : Type 0} {step : Lent V W → Event → Lent V W} {old new : Lent V W} {bytes : List ℕ}
     {parser next : Parser 1024} where
   pub short_parses : ReadsBytes step old new bytes parser next
-      → ParsesLent short_reading (Some 1024) step parser next old new bytes
+      → ParsesLent short_meaning (Some 1024) step parser next old new bytes
   short_parses r = record {
     parses =
         λ stream n read room. record {
@@ -66,7 +66,7 @@ module _ {V W : Type 0} {step : Lent V W → Event → Lent V W} {old new : Lent
   }
 
   pub short_stops : {read : ℕ} → ReadsUntilTerminated step (λ lent. lent.terminated) old new bytes read parser next
-      → StopsLent short_reading (Some 1024) step parser next old new bytes read
+      → StopsLent short_meaning (Some 1024) step parser next old new bytes read
   short_stops r = record {
     within = r.within;
     stops =
@@ -82,7 +82,7 @@ module _ {V W : Type 0} {step : Lent V W → Event → Lent V W} {old new : Lent
 
 -- memory that is there stays
 pub keeps_room : {A : Type 0} {parser next : LongParser A} {size room : ℕ} → memory_of parser ≤ memory_of next
-    → size ≤ room → KeepsRoom HasLongRoom parser size next room
+    → size ≤ room → KeepsRoom HasRoom parser size next room
 keeps_room more larger =
     λ stream count had. record {
       kept = omega (arith, had.kept, more);
@@ -91,7 +91,7 @@ keeps_room more larger =
     }
 
 module _ {A : Type 0} {parser : LongParser A} {size : ℕ} (stream bytes : List ℕ) (n : ℕ)
-    (room : HasLongRoom parser size stream (length bytes + n)) where
+    (room : HasRoom parser size stream (length bytes + n)) where
   enough : open_size stream + length bytes ≤ memory_of parser
   enough = omega (arith, room.kept)
 
@@ -100,7 +100,7 @@ module _ {A : Type 0} {parser : LongParser A} {size : ℕ} (stream bytes : List 
       events_fit size (open_size stream + length bytes) (added None stream bytes) (omega (arith, room.joined))
       (let counts = counts_data stream bytes in counts.told)
 
-  room_left : (next : LongParser A) → memory_of parser ≤ memory_of next → HasLongRoom next size (stream ++ bytes) n
+  room_left : (next : LongParser A) → memory_of parser ≤ memory_of next → HasRoom next size (stream ++ bytes) n
   room_left next kept =
       let counts = counts_data stream bytes in
       record {
@@ -113,7 +113,7 @@ module _ {A : Type 0} {parser : LongParser A} {size : ℕ} (stream bytes : List 
 module _ {A V W : Type 0} {step : Lent V W → Event → Lent V W} {old new : Lent V W} {bytes : List ℕ}
     {parser next : LongParser A} where
   pub long_parses : (result : Result (Unit {0}) Refused) → ReadsBytesLong step old new bytes result parser next
-      → ParsesLent long_reading None step parser next old new bytes
+      → ParsesLent long_meaning None step parser next old new bytes
   long_parses (Ok _) r = record {
     parses = λ stream n read room. record {
       performs = r.performs stream read;
@@ -130,7 +130,7 @@ module _ {A V W : Type 0} {step : Lent V W → Event → Lent V W} {old new : Le
 
   pub long_stops : (result : Result ℕ Refused)
       → ReadsUntilTerminatedLong step (λ lent. lent.terminated) old new bytes result parser next
-      → StopsLent long_reading None step parser next old new bytes (read_count result)
+      → StopsLent long_meaning None step parser next old new bytes (read_count result)
   long_stops (Ok read) r = record {
     within = r.within;
     stops =

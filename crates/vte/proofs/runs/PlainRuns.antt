@@ -1,21 +1,21 @@
 -- With a timeout that is never pending nothing is ever held, so a run has no stops and its calls are those of the
 -- whole stream. By induction over turns: each one is open, and ends with nothing held.
-use Rattle.vte.proofs.Common.{◌≡◌, ℕ, true, false, List, [], ◌∷◌, ◌++◌, refl, ap, sym, ◌∙◌, Bor, append-nil, events, after, Step, Advance, StopSync, Turns, calls_added, calls}
-use Rattle.vte.proofs.Common.{Meaning, Advanced, AreAt, Parts, Replayed, Run, bytes_of, IsTold, calls_with_stops, stops_of, stops_of_advance, stops_of_turn, State, TakesAllTurns, done, turns}
+use Rattle.vte.proofs.Common.{◌≡◌, ℕ, true, false, List, [], ◌∷◌, ◌++◌, refl, ap, sym, ◌∙◌, Bor, append-nil, events, after, Step, Advance, StopSync, calls_added, calls}
+use Rattle.vte.proofs.Common.{Meaning, Advanced, HasParsedAll, IsAt, Replayed, Replays, TakesSteps, Standing, given_bytes, IsTold, calls_with_stops, stops_of, stops_of_advance, stops_of_turn, Stage, TakesAllTurns, done, turns}
 use Rattle.vte_core.proofs.streams.Performing.{events-empty}
-use Rattle.vte.specs.ProcessorCalls.{AreAdvances, HaveParsedAll, IsNeverPending, ParsesAll, ReplaysAll}
+use Rattle.vte.specs.ProcessorCalls.{AreAdvances, IsNeverPending, ParsesAll}
 use Rattle.vte.proofs.performing.CallLists.{after-append, calls_whole}
 use Rattle.vte.proofs.runs.EachOnce.{opened_none}
 use Rattle.vte.proofs.runs.Runs.{advance_runs}
 use Rattle.vte.proofs.runs.Tellings.{told_run}
 
 -- nothing is held, and there was no stop
-record IsPlain {V W : Type 0} (t : State V W) (stops : List ℕ) : Type 0 where
+record IsPlain {V W : Type 0} (t : Stage V W) (stops : List ℕ) : Type 0 where
   pub none_held : t.held ≡ []
   pub no_stop : stops ≡ []
 
 module _ {V W : Type 0} (m : Meaning V W) (never : IsNeverPending m.timeout.allows) where
-  plain_advances : (s t : State V W) (r : List ℕ) (a : TakesAllTurns m s r t) → s.held ≡ []
+  plain_advances : (s t : Stage V W) (r : List ℕ) (a : TakesAllTurns m s r t) → s.held ≡ []
       → IsPlain t (stops_of_advance m s t r a)
   plain_advances s t [] done none = record { none_held = none; no_stop = refl }
   plain_advances s t (b ∷ r) (turns true allowed more) none =
@@ -28,7 +28,7 @@ module _ {V W : Type 0} (m : Meaning V W) (never : IsNeverPending m.timeout.allo
         no_stop = ap (λ stops. stops ++ stops_of_advance m _ t _ more) no_stop ∙ rest.no_stop;
       }
 
-  plain_run : (s t : State V W) (steps : List Step) (r : Run m s steps t) → AreAdvances steps → s.held ≡ []
+  plain_run : (s t : Stage V W) (steps : List Step) (r : TakesSteps m s steps t) → AreAdvances steps → s.held ≡ []
       → IsPlain t (stops_of m s t steps r)
   plain_run s t [] same only none = record { none_held = rw (← same) none; no_stop = refl }
   plain_run s t (Advance bytes ∷ steps) (next, (a, r)) only none =
@@ -39,35 +39,35 @@ module _ {V W : Type 0} (m : Meaning V W) (never : IsNeverPending m.timeout.allo
 
 -- ---- from the beginning of the stream on
 
-module _ {P J T A V W : Type 0} {w : Parts P J T W} {old : Turns P J T A} (before : V) {stream : List ℕ}
-    (all : HaveParsedAll w old stream) where
-  abbrev here : State V W
+module _ {V W : Type 0} {old : Standing W} (before : V) {stream : List ℕ} (all : HasParsedAll old stream) where
+  abbrev here : Stage V W
   here = record { parsed = stream; held = []; timeout = all.timeout; handler = before }
 
-  is_here : AreAt w old before here
+  is_here : IsAt old before here
   is_here = record { stands = all.stands; handler_is = refl }
 
-  module _ (m : Meaning V W) (never : IsNeverPending m.timeout.allows) {new : Turns P J T A} {next : V}
+  module _ (m : Meaning V W) (never : IsNeverPending m.timeout.allows) {new : Standing W} {next : V}
       (steps : List Step) (only : AreAdvances steps)
-      (told : IsTold m here steps next (AreAt w new next)) where
-    plain : IsPlain told.replayed.next (stops_of m here told.replayed.next steps told.replayed.run)
-    plain = plain_run m never here told.replayed.next steps told.replayed.run only refl
+      (told : IsTold m here steps next (IsAt new next)) where
+    plain : IsPlain told.replayed.next (stops_of m here told.replayed.next steps told.replayed.takes)
+    plain = plain_run m never here told.replayed.next steps told.replayed.takes only refl
 
-    more_is : told.more ≡ bytes_of steps
+    more_is : told.more ≡ given_bytes steps
     more_is = sym (told.each_once ∙ ap (λ held. told.more ++ held) plain.none_held ∙ append-nil told.more)
 
     plain_follows : (start : V) → before ≡ after m.step start (calls (events m.limit stream))
-        → next ≡ after m.step start (calls (events m.limit (stream ++ bytes_of steps)))
+        → next ≡ after m.step start (calls (events m.limit (stream ++ given_bytes steps)))
     plain_follows start was =
         told.is_told
         ∙ ap (λ stops. after m.step before (calls_with_stops m.limit stream told.more stops)) plain.no_stop
         ∙ rw (more_is, was)
-        (sym (after-append m.step start (calls (events m.limit stream)) (calls_added m.limit stream (bytes_of steps))))
-        ∙ ap (after m.step start) (sym (calls_whole m.limit stream (bytes_of steps)))
+        (sym
+        (after-append m.step start (calls (events m.limit stream)) (calls_added m.limit stream (given_bytes steps))))
+        ∙ ap (after m.step start) (sym (calls_whole m.limit stream (given_bytes steps)))
 
-    plain_parses : HaveParsedAll w new (stream ++ bytes_of steps)
+    plain_parses : HasParsedAll new (stream ++ given_bytes steps)
     plain_parses =
-        let parsed : told.replayed.next.parsed ≡ stream ++ bytes_of steps =
+        let parsed : told.replayed.next.parsed ≡ stream ++ given_bytes steps =
         told.parsed_is ∙ ap (λ more. stream ++ more) more_is in
         record {
           timeout = told.replayed.next.timeout;
@@ -75,17 +75,17 @@ module _ {P J T A V W : Type 0} {w : Parts P J T W} {old : Turns P J T A} (befor
         }
 
     -- of a new stream
-    plain_tells : stream ≡ [] → next ≡ after m.step before (calls (events m.limit (bytes_of steps)))
+    plain_tells : stream ≡ [] → next ≡ after m.step before (calls (events m.limit (given_bytes steps)))
     plain_tells new =
         rw new at (plain_follows before
         (rw new (sym (ap (λ es. after m.step before (calls es)) (events-empty m.limit)))))
 
 -- ---- what calls ensure then
 
-module _ {P J T A V W : Type 0} {w : Parts P J T W} (m : Meaning V W) {old new : Turns P J T A} {before value : V} where
+module _ {V W : Type 0} (m : Meaning V W) {old new : Standing W} {before value : V} where
   plain_calls : (steps : List Step)
-      → ((s : State V W) → AreAt w old before s → IsTold m s steps value (AreAt w new value)) → AreAdvances steps
-      → ParsesAll w m old new before value (bytes_of steps)
+      → ((s : Stage V W) → IsAt old before s → IsTold m s steps value (IsAt new value)) → AreAdvances steps
+      → ParsesAll m old new before value (given_bytes steps)
   plain_calls steps told only = record {
     follows = λ never start stream all. plain_follows before all m never steps only (told _ (is_here before all)) start;
     tells_all = λ never all. plain_tells before all m never steps only (told _ (is_here before all)) refl;
@@ -93,16 +93,16 @@ module _ {P J T A V W : Type 0} {w : Parts P J T W} (m : Meaning V W) {old new :
   }
 
   pub replays_all : (steps : List Step)
-      → ((s : State V W) → AreAt w old before s → Replayed m s steps (AreAt w new value))
-      → ReplaysAll w m old new before value steps
+      → ((s : Stage V W) → IsAt old before s → Replayed m s steps (IsAt new value))
+      → Replays m old new before value steps
   replays_all steps replays =
-      let told : (s : State V W) → AreAt w old before s → IsTold m s steps value (AreAt w new value) =
+      let told : (s : Stage V W) → IsAt old before s → IsTold m s steps value (IsAt new value) =
       λ s at. told_run m s value (λ t there. there.handler_is) steps (replays s at) in
       record { told = told; plain = plain_calls steps told }
 
   -- a call is a run of one step
   pub plain_call : (bytes : Bor (List ℕ))
-      → ((s : State V W) → AreAt w old before s → Advanced m s bytes.now (AreAt w new value))
-      → ParsesAll w m old new before value bytes.now
+      → ((s : Stage V W) → IsAt old before s → Advanced m s bytes.now (IsAt new value))
+      → ParsesAll m old new before value bytes.now
   plain_call bytes advances =
       rw append-nil at ((replays_all (Advance bytes ∷ []) (λ s at. advance_runs m s bytes (advances s at))).plain tt)

@@ -3,15 +3,14 @@
 use Rattle.vte.proofs.Common.{◌≡◌, ℕ, ◌+◌, ◌-◌, ◌<◌, ◌≤◌, Bool, true, List, [], ◌++◌, length, take, drop, refl, ap, sym, ◌∙◌, arith, length-drop}
 use Rattle.vte.proofs.Common.{append_assoc, Result, Ok, Err, append_cancel_right, drop_all, drop-drop, take_all, take-append-drop, Refused, ProcessorState, Turns, Meaning}
 use Rattle.vte.proofs.Common.{held_of, false, MatchResult, EndsTurn, within}
-use Rattle.vte.proofs.Common.{Advanced, AreAt, HasTaken, Parts, KeepsMemory, ReadsAll, ReadsSome, StopsUpdate, AreNextAt, EndsOpen, Halted, IsAtBegin, IsOpenAt, IsParsed, IsParsedOn}
-use Rattle.vte.proofs.Common.{IsReady, Turned, State, TakesSome, TakesTurns, all_bytes, turn, hold_turn, parse, stop, between, done, Bor, LacksSome, ReservesRoom, is_held, opened}
+use Rattle.vte.proofs.Common.{Advanced, AreAt, HasTaken, TurnsMeaning, KeepsTurnRoom, ReadsSome, StopsUpdate, AreNextAt, EndsOpen, Halted, IsAtBegin, IsOpenAt, IsParsed, IsParsedOn}
+use Rattle.vte.proofs.Common.{IsReady, Turned, Stage, TakesSome, TakesTurns, all_bytes, turn, hold_turn, parse, stop, between, done, LacksSome, ReservesRoom, is_held, opened}
 use Rattle.vte.proofs.runs.EachOnce.{grown_bytes, stop_bytes}
-use Rattle.vte.proofs.runs.PlainRuns.{plain_call}
 use Rattle.vte.proofs.turns.HoldFacts.{stop_well}
 use Rattle.vte.proofs.turns.Slices.{all_taken, halts, one_taken, some_grow, some_on, some_well, taken_on}
 
 -- turns stand where their parts do
-module _ {P J T A V W : Type 0} {w : Parts P J T W} {turns : Turns P J T A} {value : V} {s : State V W} where
+module _ {P J T A V W : Type 0} {w : TurnsMeaning P J T W} {turns : Turns P J T A} {value : V} {s : Stage V W} where
   pub parts-at : AreAt w turns value s → IsParsed w turns.parser turns.state value s
   parts-at at = record { has_parsed = at.stands.has_parsed; handler_is = at.handler_is }
 
@@ -29,11 +28,11 @@ module _ {P J T A V W : Type 0} {w : Parts P J T W} {turns : Turns P J T A} {val
   }
 
 -- turns that go on, with the memory that was there before
-module _ {P J T A V W : Type 0} {w : Parts P J T W} {value : V} {s : State V W} where
+module _ {P J T A V W : Type 0} {w : TurnsMeaning P J T W} {value : V} {s : Stage V W} where
   pub next-at : {turns : Turns P J T A} → AreAt w turns value s → AreNextAt w turns turns value s
   next-at at = record { are_at = at; memory = λ stream count had. had }
 
-  pub behind-next : {old mid new : Turns P J T A} → KeepsMemory w old mid → AreNextAt w mid new value s
+  pub behind-next : {old mid new : Turns P J T A} → KeepsTurnRoom w old mid → AreNextAt w mid new value s
       → AreNextAt w old new value s
   behind-next keeps next =
       record { are_at = next.are_at; memory = λ stream count had. next.memory stream count (keeps stream count had) }
@@ -47,12 +46,12 @@ module _ {P J T A V W : Type 0} {w : Parts P J T W} {value : V} {s : State V W} 
   }
 
 -- a slice is parsed with the memory that was taken for it
-module _ {P J T A V W : Type 0} {w : Parts P J T W} {m : Meaning V W} {s : State V W} {bytes slice : List ℕ}
+module _ {P J T A V W : Type 0} {w : TurnsMeaning P J T W} {m : Meaning V W} {s : Stage V W} {bytes slice : List ℕ}
     {read count n : ℕ} {b : Bool}
     {first old taken : Turns P J T A} {parser : P} {state : ProcessorState T J} {before value : V} where
   pub slice_parsed : IsOpenAt m s bytes read (AreNextAt w first old before) → ReservesRoom w old taken count true
       → length slice ≡ count → s.held ≡ []
-      → ((t : State V W) (k : ℕ) → IsReady w taken.parser taken.state before t (length slice + k)
+      → ((t : Stage V W) (k : ℕ) → IsReady w taken.parser taken.state before t (length slice + k)
       → IsAtBegin m t slice n b (IsParsedOn w taken.parser taken.state parser state value))
       → IsAtBegin m (parse m s (take read bytes)) slice n b
       (AreNextAt w first (record taken { parser = parser; state = state }) value)
@@ -73,26 +72,24 @@ module _ {P J T A V W : Type 0} {w : Parts P J T W} {m : Meaning V W} {s : State
       }
 
 -- behind a stop
-pub stops_update : {P J T A V W : Type 0} {w : Parts P J T W} {m : Meaning V W} {old mid new : Turns P J T A}
-    {before value : V} → KeepsMemory w old mid
-    → ((s : State V W) → AreAt w old before s → AreNextAt w mid new value (stop m s))
+pub stops_update : {P J T A V W : Type 0} {w : TurnsMeaning P J T W} {m : Meaning V W} {old mid new : Turns P J T A}
+    {before value : V} → KeepsTurnRoom w old mid
+    → ((s : Stage V W) → AreAt w old before s → AreNextAt w mid new value (stop m s))
     → StopsUpdate w m old new before value
 stops_update {m = m} keeps ends = record {
-  stops = λ s at. (ends s at).are_at;
-  each_once = stop_bytes m;
-  holds_well = stop_well m;
+  stops = record { stops = λ s at. (ends s at).are_at; each_once = stop_bytes m; holds_well = stop_well m };
   memory = λ s at stream count had. (ends s at).memory stream count (keeps stream count had);
 }
 
-pub stops-next : {P J T A V W : Type 0} {w : Parts P J T W} {m : Meaning V W} {old new : Turns P J T A}
-    {before value : V} {s : State V W} → StopsUpdate w m old new before value
+pub stops-next : {P J T A V W : Type 0} {w : TurnsMeaning P J T W} {m : Meaning V W} {old new : Turns P J T A}
+    {before value : V} {s : Stage V W} → StopsUpdate w m old new before value
     → AreAt w old before s → AreNextAt w old new value (stop m s)
-stops-next stopped at = record { are_at = stopped.stops _ at; memory = stopped.memory _ at }
+stops-next stopped at = record { are_at = stopped.stops.stops _ at; memory = stopped.memory _ at }
 
 -- a turn that parses bytes, after a stop if need be
-pub ends_turn : {P J T A V W : Type 0} {w : Parts P J T W} {m : Meaning V W} {old mid new : Turns P J T A} {value : V}
-    {s : State V W} {bytes : List ℕ} (answer : Bool)
-    → m.timeout.allows s.timeout answer → is_held answer s bytes ≡ false → KeepsMemory w old mid
+pub ends_turn : {P J T A V W : Type 0} {w : TurnsMeaning P J T W} {m : Meaning V W} {old mid new : Turns P J T A}
+    {value : V} {s : Stage V W} {bytes : List ℕ} (answer : Bool)
+    → m.timeout.allows s.timeout answer → is_held answer s bytes ≡ false → KeepsTurnRoom w old mid
     → (result : Result ℕ Refused)
     → MatchResult result (λ read. read ≤ length bytes) (λ refused. refused.read < length bytes)
     → EndsOpen m (opened m answer s) bytes result (AreNextAt w mid new value)
@@ -119,7 +116,7 @@ ends_turn {m = m} {s = s} {bytes = bytes} answer allowed parses keeps (Err refus
 
 -- ---- one turn
 
-module _ {V W : Type 0} (m : Meaning V W) {s : State V W} {bytes : List ℕ} {n : ℕ} {there : State V W → Type 0} where
+module _ {V W : Type 0} (m : Meaning V W) {s : Stage V W} {bytes : List ℕ} {n : ℕ} {there : Stage V W → Type 0} where
   pub turned_hold : {answer : Bool} → m.timeout.allows s.timeout answer → is_held answer s bytes ≡ true
       → n ≡ length bytes → there (hold_turn m s bytes) → Turned m s bytes n there
   turned_hold {answer} allowed held all at =
@@ -142,18 +139,18 @@ pub rest_size : (bytes : List ℕ) (read : ℕ) → read ≤ length bytes
     → length (take (length bytes - read) (drop read bytes)) ≡ length bytes - read
 rest_size bytes read inside = rw (rest_is bytes read inside, length-drop)
 
-module _ {V W : Type 0} (m : Meaning V W) (s : State V W) (bytes : List ℕ) where
+module _ {V W : Type 0} (m : Meaning V W) (s : Stage V W) (bytes : List ℕ) where
   -- So many bytes were read, by so many turns at most.
-  pub record HasReached (count read : ℕ) (there : State V W → Type 0) : Type 0 where
-    pub here : State V W
+  pub record HasReached (count read : ℕ) (there : Stage V W → Type 0) : Type 0 where
+    pub here : Stage V W
     pub enough : count ≤ read
     pub takes : TakesTurns m s bytes here (drop read bytes)
     pub is_at : there here
 
-  pub reaches-nothing : {there : State V W → Type 0} → there s → HasReached 0 0 there
+  pub reaches-nothing : {there : Stage V W → Type 0} → there s → HasReached 0 0 there
   reaches-nothing at = record { here = s; enough = omega arith; takes = done; is_at = at }
 
-  pub reaches-more : {P J T A : Type 0} {w : Parts P J T W} {first mid new : Turns P J T A} {before value : V}
+  pub reaches-more : {P J T A : Type 0} {w : TurnsMeaning P J T W} {first mid new : Turns P J T A} {before value : V}
       {count read n : ℕ}
       → (r : HasReached count read (AreNextAt w first mid before)) → read < length bytes
       → Turned m r.here (take (length bytes - read) (drop read bytes)) n (AreNextAt w mid new value)
@@ -171,7 +168,7 @@ module _ {V W : Type 0} (m : Meaning V W) (s : State V W) (bytes : List ℕ) whe
         is_at = behind-next r.is_at.memory u.is_at;
       }
 
-  taken : {read : ℕ} {there : State V W → Type 0} (t : State V W) → TakesSome m s bytes t (drop read bytes) → there t
+  taken : {read : ℕ} {there : Stage V W → Type 0} (t : Stage V W) → TakesSome m s bytes t (drop read bytes) → there t
       → HasTaken m s bytes read there
   taken {read = read} t takes at = record {
     next = t;
@@ -184,12 +181,12 @@ module _ {V W : Type 0} (m : Meaning V W) (s : State V W) (bytes : List ℕ) whe
     is_at = at;
   }
 
-  pub has_taken : {count read : ℕ} {there : State V W → Type 0} → HasReached count read there
+  pub has_taken : {count read : ℕ} {there : Stage V W → Type 0} → HasReached count read there
       → HasTaken m s bytes read there
   has_taken r = taken r.here (between r.takes) r.is_at
 
   -- a turn was refused memory
-  pub has_halted : {P J T A : Type 0} {w : Parts P J T W} {first mid new : Turns P J T A} {before value : V}
+  pub has_halted : {P J T A : Type 0} {w : TurnsMeaning P J T W} {first mid new : Turns P J T A} {before value : V}
       {count read n : ℕ}
       → (r : HasReached count read (AreNextAt w first mid before)) → read ≤ length bytes
       → Halted m r.here (take (length bytes - read) (drop read bytes)) n (AreNextAt w mid new value)
@@ -202,7 +199,7 @@ module _ {V W : Type 0} (m : Meaning V W) (s : State V W) (bytes : List ℕ) whe
       (behind-next r.is_at.memory h.is_at)
 
   -- a call that has read all its bytes
-  pub has_advanced : {read : ℕ} {there : State V W → Type 0} → HasTaken m s bytes read there → length bytes ≤ read
+  pub has_advanced : {read : ℕ} {there : Stage V W → Type 0} → HasTaken m s bytes read there → length bytes ≤ read
       → Advanced m s bytes there
   has_advanced {read} h all = record {
     next = h.next;
@@ -213,8 +210,8 @@ module _ {V W : Type 0} (m : Meaning V W) (s : State V W) (bytes : List ℕ) whe
   }
 
 -- what is true where a call is, of which more is known
-pub taken-at : {P J T A V W : Type 0} {w : Parts P J T W} {m : Meaning V W} {s : State V W} {bytes : List ℕ} {read : ℕ}
-    {old new : Turns P J T A} {value : V}
+pub taken-at : {P J T A V W : Type 0} {w : TurnsMeaning P J T W} {m : Meaning V W} {s : Stage V W} {bytes : List ℕ}
+    {read : ℕ} {old new : Turns P J T A} {value : V}
     → HasTaken m s bytes read (AreNextAt w old new value) → HasTaken m s bytes read (AreAt w new value)
 taken-at h =
     record {
@@ -226,46 +223,27 @@ taken-at h =
     }
 
 -- what a call ensures by its turns
-module _ {P J T A V W : Type 0} {w : Parts P J T W} {m : Meaning V W} {old new : Turns P J T A} {before value : V}
-    (bytes : Bor (List ℕ)) where
-  pub reads_all : ((s : State V W) → AreAt w old before s → Advanced m s bytes.now (AreAt w new value))
-      → ReadsAll w m old new before value bytes.now
-  reads_all advances = record { advances = advances; plain = plain_call m bytes advances }
-
-  pub never_refused : (result : Result (Unit {0}) Refused) → ReadsSome w m old new before value bytes.now result
-      → ((stream : List ℕ) (count : ℕ) → w.reading.lacks_room new.parser (w.room_of new.state.text) stream count → ⊥)
-      → ReadsAll w m old new before value bytes.now
-  never_refused (Ok all) r never = r.all
-  never_refused (Err refused) r never =
-      reads_all
-      (λ s at.
-      absurd (let t = r.takes s at in
-      never t.next.parsed _ (r.lacks s at t.next.parsed t.is_at.stands.has_parsed.has_read).is_lacking))
-
+module _ {P J T A V W : Type 0} {w : TurnsMeaning P J T W} {m : Meaning V W} {old new : Turns P J T A}
+    {before value : V} (bytes : List ℕ) where
   pub all_read : {count read : ℕ}
-      → ((s : State V W) → AreAt w old before s → HasReached m s bytes.now count read (AreNextAt w old new value))
-      → ((s : State V W) → AreAt w old before s → read ≡ length bytes.now)
-      → ReadsSome w m old new before value bytes.now (Ok tt)
+      → ((s : Stage V W) → AreAt w old before s → HasReached m s bytes count read (AreNextAt w old new value))
+      → ((s : Stage V W) → AreAt w old before s → read ≡ length bytes)
+      → ReadsSome w m old new before value bytes (Ok tt)
   all_read reaches is = record {
-    all =
-        reads_all
-        (λ s at. has_advanced m s bytes.now (taken-at (has_taken m s bytes.now (reaches s at)))
-        (omega (arith, is s at)));
-    takes = λ s at. rw (is s at) at (taken-at (has_taken m s bytes.now (reaches s at)));
+    takes = λ s at. rw (is s at) at (taken-at (has_taken m s bytes (reaches s at)));
     within = tt;
     lacks = tt;
     memory = λ s at. (reaches s at).is_at.memory;
   }
 
   pub read_until : {refused : Refused}
-      → ((s : State V W) → AreAt w old before s → HasTaken m s bytes.now refused.read (AreNextAt w old new value))
-      → refused.read < length bytes.now → LacksSome w new (length bytes.now - refused.read)
-      → ReadsSome w m old new before value bytes.now (Err refused)
+      → ((s : Stage V W) → AreAt w old before s → HasTaken m s bytes refused.read (AreNextAt w old new value))
+      → refused.read < length bytes → LacksSome w new (length bytes - refused.read)
+      → ReadsSome w m old new before value bytes (Err refused)
   read_until taken less lacks =
       record {
-        all = tt;
         takes = λ s at. taken-at (taken s at);
         within = less;
-        lacks = λ s at. lacks;
+        lacks = lacks;
         memory = λ s at. (taken s at).is_at.memory;
       }

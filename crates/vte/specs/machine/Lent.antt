@@ -7,7 +7,7 @@ use Rattle.vte.specs.Change.{change_call, changes}
 use Rattle.vte.specs.Processor.{set_times}
 use Rattle.vte.specs.Numbers.{first_numbers}
 use Rattle.vte.specs.machine.Performer.{FitsText, Lent}
-use Rattle.vte.specs.Rooms.{KeepsRoom, Reading}
+use Rattle.vte.specs.machine.TurnsMeaning.{KeepsRoom, ParserMeaning}
 use Rattle.vte.specs.declared.ansi.control_calls.Change.TheVariants.{SetPrivate}
 use Rattle.vte.specs.declared.ansi.performer.Performer.{Performer}
 use Rattle.vte_core.specs.EarlyStop.{StopsExactly, stream_at}
@@ -50,7 +50,7 @@ with_private_modes step timeout lent groups = record lent {
 
 -- A parser has read bytes behind a stream, and performed what they add. It still has memory for so
 -- many.
-pub record HasPerformed {P V W : Type 0} (reading : Reading P) (limit : Option ℕ)
+pub record HasPerformed {P V W : Type 0} (reading : ParserMeaning P) (limit : Option ℕ)
     (step : Lent V W → Event → Lent V W) (next : P) (old new : Lent V W)
     (stream bytes : List ℕ) (n : ℕ) : Type 0 where
   pub performs : new ≡ performed step old (added limit stream bytes)
@@ -59,7 +59,7 @@ pub record HasPerformed {P V W : Type 0} (reading : Reading P) (limit : Option �
   pub room : reading.has_room next old.room (stream ++ bytes) n
 
 -- It has read so many, up to an event that terminates the performer.
-pub record HasStopped {P V W : Type 0} (reading : Reading P) (limit : Option ℕ)
+pub record HasStopped {P V W : Type 0} (reading : ParserMeaning P) (limit : Option ℕ)
     (step : Lent V W → Event → Lent V W) (next : P) (old new : Lent V W)
     (stream bytes : List ℕ) (read : ℕ) : Type 0 where
   pub stops : StopsExactly step (λ lent. lent.terminated) old new limit stream bytes read
@@ -68,7 +68,7 @@ pub record HasStopped {P V W : Type 0} (reading : Reading P) (limit : Option ℕ
 
 -- So it does behind each stream that it has read, if it has memory for all bytes. Memory that was
 -- there stays.
-pub record ParsesLent {P V W : Type 0} (reading : Reading P) (limit : Option ℕ)
+pub record ParsesLent {P V W : Type 0} (reading : ParserMeaning P) (limit : Option ℕ)
     (step : Lent V W → Event → Lent V W) (parser next : P) (old new : Lent V W)
     (bytes : List ℕ) : Type 0 where
   pub parses : (stream : List ℕ) (n : ℕ) → reading.has_read parser stream
@@ -76,7 +76,7 @@ pub record ParsesLent {P V W : Type 0} (reading : Reading P) (limit : Option ℕ
       → HasPerformed reading limit step next old new stream bytes n
   pub memory : (size : ℕ) → KeepsRoom reading.has_room parser size next size
 
-pub record StopsLent {P V W : Type 0} (reading : Reading P) (limit : Option ℕ)
+pub record StopsLent {P V W : Type 0} (reading : ParserMeaning P) (limit : Option ℕ)
     (step : Lent V W → Event → Lent V W) (parser next : P) (old new : Lent V W)
     (bytes : List ℕ) (read : ℕ) : Type 0 where
   pub within : read ≤ length bytes

@@ -3,7 +3,7 @@ ghost use Rattle.std.specs.Prelude.{◌≡◌, ◌≢◌, [], ◌∷◌};
 ghost use Rattle.vte.specs.ControlCalls.{control_calls, repeated, window_rows};
 ghost use Rattle.vte.specs.ControlCalls.{rows_without_intermediates};
 ghost use Rattle.vte.specs.Numbers.{first_numbers};
-ghost use Rattle.vte.specs.Maybe.{or_none, those};
+ghost use Rattle.vte.specs.Maybe.{or_none, for_some};
 ghost use Rattle.vte.specs.Values.{cursor_rows, keys_rows, line_rows, screen_rows, tab_rows};
 ghost use Rattle.vte_handler.specs.Call as call;
 ghost use Rattle.vte_types.specs.Rows.{beside};
@@ -13,7 +13,9 @@ ghost use Rattle.vte_handler.specs.Handler.{after};
 use crate::ansi::input::InputAs;
 use crate::ansi::numbers::{NumberIterator, first_number};
 use crate::ansi::rendition::perform_attributes;
-use crate::ansi::values::{behavior, bottom, character_path, keyboard_modes, update_mode};
+use crate::ansi::values::{
+    character_path, keyboard_behavior, keyboard_modes, scrolling_bottom, update_mode,
+};
 use vte_core::Params;
 use vte_handler::Handler;
 use vte_types::{
@@ -71,7 +73,7 @@ pub(crate) fn perform_control<H: InputAs<G>, G>(
         ([b'<'], 'u') => handler.pop_keyboard_modes(numbers.next_or(1)),
         ([b'='], 'u') => {
             let modes = keyboard_modes(numbers.next_or(0));
-            handler.set_keyboard_mode(modes, behavior(numbers.next_or(1)));
+            handler.set_keyboard_mode(modes, keyboard_behavior(numbers.next_or(1)));
         }
         ([b'?'], 'u') => handler.report_keyboard_mode(),
         _ => {}
@@ -118,7 +120,7 @@ fn perform_plain<H: InputAs<G>, G>(
         'T' => handler.scroll_down(usize::from(numbers.next_or(1))),
         'r' => {
             let top = usize::from(numbers.next_or(1));
-            handler.set_scrolling_region(top, bottom(numbers.next_or(0)));
+            handler.set_scrolling_region(top, scrolling_bottom(numbers.next_or(0)));
         }
         's' => handler.save_cursor_position(),
         'u' => handler.restore_cursor_position(),
@@ -160,7 +162,7 @@ fn operate_window<H: Handler>(handler: &mut H, number: u16)
 /// Clears the tab stops that TBC selects.
 fn clear_tabs<H: Handler>(handler: &mut H, number: u16)
     ensures { H.value_of handler.new ≡ after H.step (H.value_of handler.old)
-        (those (λ x. call.ClearTabs x) (beside tab_rows number)) }
+        (for_some (λ x. call.ClearTabs x) (beside tab_rows number)) }
 {
     match number {
         0 => handler.clear_tabs(TabulationClearMode::Current),
@@ -172,7 +174,7 @@ fn clear_tabs<H: Handler>(handler: &mut H, number: u16)
 /// Clears the part of the screen that ED selects.
 fn clear_screen<H: Handler>(handler: &mut H, number: u16)
     ensures { H.value_of handler.new ≡ after H.step (H.value_of handler.old)
-        (those (λ x. call.ClearScreen x) (beside screen_rows number)) }
+        (for_some (λ x. call.ClearScreen x) (beside screen_rows number)) }
 {
     match number {
         0 => handler.clear_screen(ClearMode::Below),
@@ -186,7 +188,7 @@ fn clear_screen<H: Handler>(handler: &mut H, number: u16)
 /// Clears the part of the line that EL selects.
 fn clear_line<H: Handler>(handler: &mut H, number: u16)
     ensures { H.value_of handler.new ≡ after H.step (H.value_of handler.old)
-        (those (λ x. call.ClearLine x) (beside line_rows number)) }
+        (for_some (λ x. call.ClearLine x) (beside line_rows number)) }
 {
     match number {
         0 => handler.clear_line(LineClearMode::Right),
@@ -199,7 +201,7 @@ fn clear_line<H: Handler>(handler: &mut H, number: u16)
 /// Sets how modified keys are sent.
 fn set_other_keys<H: Handler>(handler: &mut H, number: u16)
     ensures { H.value_of handler.new ≡ after H.step (H.value_of handler.old)
-        (those (λ x. call.SetModifyOtherKeys x) (beside keys_rows number)) }
+        (for_some (λ x. call.SetModifyOtherKeys x) (beside keys_rows number)) }
 {
     match number {
         0 => handler.set_modify_other_keys(ModifyOtherKeys::Reset),
@@ -212,7 +214,7 @@ fn set_other_keys<H: Handler>(handler: &mut H, number: u16)
 /// Sets the cursor style of DECSCUSR. `None` is the terminal's own style.
 fn set_cursor_style<H: Handler>(handler: &mut H, number: u16)
     ensures { H.value_of handler.new ≡ after H.step (H.value_of handler.old)
-        (those (λ x. call.SetCursorStyle x) (beside cursor_rows number)) }
+        (for_some (λ x. call.SetCursorStyle x) (beside cursor_rows number)) }
 {
     let shape = match number {
         0 => return handler.set_cursor_style(None),

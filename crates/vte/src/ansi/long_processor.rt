@@ -3,8 +3,9 @@ ghost use Rattle.std.specs.Prelude.{◌≡◌, ℕ, ◌+◌, false, List, [], le
 ghost use Rattle.vte_core.specs.LongParser.{open_size};
 ghost use Rattle.vte_handler.specs.Timeout.{AllowsAlone, IsKept};
 ghost use Rattle.vte.specs.Processor.{HoldsWell, meaning, timeout_meaning};
-ghost use Rattle.vte.specs.LongProcessor.{AdvancesLong, HasNoMemory, HasParsedAllLong, IsCopyOfLong, ReservesLong, HasParsedAndHoldsLong, StopsSyncLong, held_long, timeout_long};
-ghost use Rattle.vte.specs.ProcessorCalls.{CountsHeld};
+ghost use Rattle.vte.specs.LongProcessor.{AdvancesLong, HasParsedAndHoldsLong, IsCopyOfLong, Reserves, StopsSyncLong, held_long, timeout_long};
+ghost use Rattle.vte.specs.Memory.{HasNoMemory};
+ghost use Rattle.vte.specs.ProcessorCalls.{CountsHeld, HasParsedAll};
 
 use crate::ansi::growing_text::GrowingText;
 use crate::ansi::turns::Turns;
@@ -54,7 +55,8 @@ impl<T: Timeout + Drop, A: Allocator + Copy> LongProcessor<T, A> {
             (IsKept m → AllowsAlone m (T.value_of timeout) false)
             → HoldsWell None m [] [] (T.value_of timeout) }
         ensures timeout { IfOk result (λ processor. timeout_long processor ≡ timeout) }
-        ensures parses_all { IfOk result (λ processor. HasParsedAllLong T.value_of processor []) }
+        ensures parses_all { IfOk result
+            (λ processor. HasParsedAll (HasParsedAndHoldsLong T.value_of processor) []) }
     {
         let parser = LongParser::new(alloc);
         let text = GrowingText::new(alloc);
@@ -81,7 +83,7 @@ impl<T: Timeout + Drop, A: Allocator> LongProcessor<T, A> {
     /// Takes memory for the bytes that are held back and for this many more, and returns whether it
     /// is there. Calls with no more bytes than that are then never refused memory.
     pub fn reserve(&mut self, more: usize) -> bool
-        ensures { ReservesLong T.value_of self.old self.new more result }
+        ensures { Reserves T.value_of self.old self.new more result }
     {
         self.turns.reserve(more)
     }

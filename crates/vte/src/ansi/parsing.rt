@@ -2,11 +2,10 @@
 //! fields of one struct, so that the performer can borrow each.
 ghost use Rattle.std.specs.Prelude.{◌≡◌, ◌≤◌, ◌+◌, ◌++◌, ℕ, List, Option, Some, true, false, length};
 ghost use Rattle.vte.specs.machine.Lent.{ParsesLent, StopsLent, lent_of};
-ghost use Rattle.vte.specs.Processor.{State, meaning, parse, timeout_meaning};
+ghost use Rattle.vte.specs.Processor.{Stage, meaning, parse, timeout_meaning};
 ghost use Rattle.vte.specs.machine.Performer.{with_event};
-ghost use Rattle.vte.specs.ProcessorCalls.{parts};
 ghost use Rattle.vte.specs.machine.Turns.{IsAtBegin, IsParsedOn, IsReady};
-ghost use Rattle.vte.specs.Rooms.{KeepsRoom, Reading, short_reading};
+ghost use Rattle.vte.specs.machine.TurnsMeaning.{KeepsRoom, ParserMeaning, short_meaning, of_turns};
 
 use crate::ansi::performer::{Performer, ProcessorState};
 use crate::ansi::text_buffer::TextBuffer;
@@ -28,7 +27,7 @@ pub(crate) trait EventParser {
     ghost limit: { Option ℕ };
 
     /// Which streams it has read, and for which bytes it has memory.
-    ghost reading: { Reading Self };
+    ghost reading: { ParserMeaning Self };
 
     /// Takes memory for held bytes and for more, and for the texts that are joined from them.
     /// Returns whether it is there.
@@ -46,7 +45,7 @@ pub(crate) trait EventParser {
 impl EventParser for ProcessorParser {
     ghost limit = { Some 1024 };
 
-    ghost reading = { short_reading };
+    ghost reading = { short_meaning };
 
     fn reserve<J: TextBuffer>(&mut self, text: &mut J, _held: usize, _more: usize) -> bool {
         text.reserve(TEXT_ROOM)
@@ -54,26 +53,26 @@ impl EventParser for ProcessorParser {
 }
 
 /// Parses for a handler that receives text in a grain: `Singly` or `InRuns`.
-pub(crate) trait ParseAs<H: Handler, T: Timeout + Drop, B: EventParser>: Sized {
+pub(crate) trait ParseAs<H: Handler, T: Timeout + Drop, P: EventParser>: Sized {
     /// Parses all bytes.
     fn advance<J: TextBuffer + Drop>(
-        parser: &mut B,
+        parser: &mut P,
         performer: &mut Performer<'_, '_, H, T, J, Self>,
         bytes: &[u8],
     )
         ensures { let lent_of = lent_of H.value_of T.value_of J.room in
-            ParsesLent B.reading B.limit
+            ParsesLent P.reading P.limit
             (with_event H.step (timeout_meaning T.set T.clear T.allows))
             parser.old parser.new (lent_of performer.old) (lent_of performer.new) bytes.now };
 
     /// Parses bytes until an update begins, and returns how many it parsed.
     fn advance_until_begin<J: TextBuffer + Drop>(
-        parser: &mut B,
+        parser: &mut P,
         performer: &mut Performer<'_, '_, H, T, J, Self>,
         bytes: &[u8],
     ) -> usize
         ensures { let lent_of = lent_of H.value_of T.value_of J.room in
-            StopsLent B.reading B.limit
+            StopsLent P.reading P.limit
             (with_event H.step (timeout_meaning T.set T.clear T.allows))
             parser.old parser.new (lent_of performer.old) (lent_of performer.new)
             bytes.now result };
@@ -126,20 +125,20 @@ pub(crate) fn parse_all<
     H: Handler,
     J: TextBuffer + Drop,
     T: Timeout + Drop,
-    B: EventParser,
-    G: ParseAs<H, T, B>,
->(parser: &mut B, state: &mut ProcessorState<T, J>, handler: &mut H, bytes: &[u8])
-    ensures parsed { (s : State H.Value T.Value) (n : ℕ)
-        → IsReady (parts B.limit B.reading J.room T.value_of) parser.old state.old
+    P: EventParser,
+    G: ParseAs<H, T, P>,
+>(parser: &mut P, state: &mut ProcessorState<T, J>, handler: &mut H, bytes: &[u8])
+    ensures parsed { (s : Stage H.Value T.Value) (n : ℕ)
+        → IsReady (of_turns P.limit P.reading J.room T.value_of) parser.old state.old
         (H.value_of handler.old) s (length bytes.now + n) →
         IsParsedOn
-        (parts B.limit B.reading J.room T.value_of) parser.old state.old parser.new state.new
+        (of_turns P.limit P.reading J.room T.value_of) parser.old state.old parser.new state.new
         (H.value_of handler.new)
-        (parse (meaning B.limit H.step T.set T.clear T.allows) s bytes.now) }
-    ensures room { (s : State H.Value T.Value) (n : ℕ)
-        → IsReady (parts B.limit B.reading J.room T.value_of) parser.old state.old
+        (parse (meaning P.limit H.step T.set T.clear T.allows) s bytes.now) }
+    ensures room { (s : Stage H.Value T.Value) (n : ℕ)
+        → IsReady (of_turns P.limit P.reading J.room T.value_of) parser.old state.old
         (H.value_of handler.old) s (length bytes.now + n) →
-        B.reading.has_room parser.new (J.room state.new.text) (s.parsed ++ bytes.now) n }
+        P.reading.has_room parser.new (J.room state.new.text) (s.parsed ++ bytes.now) n }
 {
     let mut performer = Performer {
         state,
@@ -156,16 +155,16 @@ pub(crate) fn parse_until_begin<
     H: Handler,
     J: TextBuffer + Drop,
     T: Timeout + Drop,
-    B: EventParser,
-    G: ParseAs<H, T, B>,
->(parser: &mut B, state: &mut ProcessorState<T, J>, handler: &mut H, bytes: &[u8]) -> (usize, bool)
+    P: EventParser,
+    G: ParseAs<H, T, P>,
+>(parser: &mut P, state: &mut ProcessorState<T, J>, handler: &mut H, bytes: &[u8]) -> (usize, bool)
     ensures within { result.0 ≤ length bytes.now }
-    ensures stops { (s : State H.Value T.Value) (n : ℕ)
-        → IsReady (parts B.limit B.reading J.room T.value_of) parser.old state.old
+    ensures stops { (s : Stage H.Value T.Value) (n : ℕ)
+        → IsReady (of_turns P.limit P.reading J.room T.value_of) parser.old state.old
         (H.value_of handler.old) s (length bytes.now + n) →
-        IsAtBegin (meaning B.limit H.step T.set T.clear T.allows) s bytes.now result.0 result.1
+        IsAtBegin (meaning P.limit H.step T.set T.clear T.allows) s bytes.now result.0 result.1
         (IsParsedOn
-        (parts B.limit B.reading J.room T.value_of) parser.old state.old parser.new state.new
+        (of_turns P.limit P.reading J.room T.value_of) parser.old state.old parser.new state.new
         (H.value_of handler.new)) }
 {
     let mut performer = Performer {

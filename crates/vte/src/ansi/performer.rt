@@ -68,7 +68,7 @@ impl<'s, 'h, H: InputAs<G>, T: Timeout + Drop, J: TextBuffer + Drop, G> Perform
     fn unhook(&mut self) {}
 
     fn osc_dispatch(&mut self, params: &[&[u8]], bell_terminated: bool) {
-        if fit(params, self.state.text.capacity()) {
+        if pieces_fit(params, self.state.text.capacity()) {
             perform_system_command(self.handler, &mut self.state.text, params, bell_terminated);
         }
     }
@@ -155,7 +155,7 @@ fn last_char(text: &str, before: Option<char>) -> Option<char>
 }
 
 /// Returns whether the joined pieces fit a buffer of this size.
-fn fit(pieces: &[&[u8]], size: usize) -> bool
+fn pieces_fit(pieces: &[&[u8]], size: usize) -> bool
     ensures { result ≡ fits_room size (map (λ piece. piece.now) pieces.now) }
 {
     let mut room = size;

@@ -65,7 +65,8 @@ impl<T: Timeout + Drop, A: Allocator> Processor<T, A> {
             (IsKept m → AllowsAlone m (T.value_of timeout) false)
             → HoldsWell (Some 1024) m [] [] (T.value_of timeout) }
         ensures timeout { IfOk result (λ processor. timeout_in processor ≡ timeout) }
-        ensures parses_all { IfOk result (λ processor. HasParsedAll T.value_of processor []) }
+        ensures parses_all { IfOk result
+            (λ processor. HasParsedAll (HasParsedAndHolds T.value_of processor) []) }
     {
         let turns = Turns::new(alloc, ProcessorParser::new(), ProcessorText::new(), timeout)?;
         Ok(Processor { turns })
@@ -88,8 +89,8 @@ impl<T: Timeout + Drop, A: Allocator> Processor<T, A> {
     /// Stops an update: parses the bytes that are held back, tells the handler that the update has
     /// ended, and clears the timeout.
     pub fn stop_sync<H: Handler>(&mut self, handler: &mut H)
-        ensures { StopsSync T.value_of
-            (meaning (Some 1024) H.step T.set T.clear T.allows) self.old self.new
+        ensures { StopsSync (meaning (Some 1024) H.step T.set T.clear T.allows)
+            (HasParsedAndHolds T.value_of self.old) (HasParsedAndHolds T.value_of self.new)
             (H.value_of handler.old) (H.value_of handler.new) }
     {
         self.turns.stop::<H, Singly>(handler);
@@ -97,8 +98,8 @@ impl<T: Timeout + Drop, A: Allocator> Processor<T, A> {
 
     /// Stops an update as [`stop_sync`](Self::stop_sync) does. The handler receives text in runs.
     pub fn stop_sync_text<H: HandlerText>(&mut self, handler: &mut H)
-        ensures { StopsSync T.value_of
-            (meaning (Some 1024) H.step T.set T.clear T.allows) self.old self.new
+        ensures { StopsSync (meaning (Some 1024) H.step T.set T.clear T.allows)
+            (HasParsedAndHolds T.value_of self.old) (HasParsedAndHolds T.value_of self.new)
             (H.value_of handler.old) (H.value_of handler.new) }
     {
         self.turns.stop::<H, InRuns>(handler);
@@ -108,10 +109,9 @@ impl<T: Timeout + Drop, A: Allocator> Processor<T, A> {
     ///
     /// If the timeout is never pending, all bytes are parsed: the handler of a new processor
     /// receives the calls of the whole stream, however it is split.
-    #[tactic(auto, using(crate::proofs::turns::Turns::never_refused))]
     pub fn advance<H: Handler>(&mut self, handler: &mut H, bytes: &[u8])
-        ensures { ReadsInTurns T.value_of
-            (meaning (Some 1024) H.step T.set T.clear T.allows) self.old self.new
+        ensures { ReadsInTurns (meaning (Some 1024) H.step T.set T.clear T.allows)
+            (HasParsedAndHolds T.value_of self.old) (HasParsedAndHolds T.value_of self.new)
             (H.value_of handler.old) (H.value_of handler.new) bytes.now }
     {
         // The memory is there, so all bytes are read.
@@ -119,10 +119,9 @@ impl<T: Timeout + Drop, A: Allocator> Processor<T, A> {
     }
 
     /// Reads bytes as [`advance`](Self::advance) does. The handler receives text in runs.
-    #[tactic(auto, using(crate::proofs::turns::Turns::never_refused))]
     pub fn advance_text<H: HandlerText>(&mut self, handler: &mut H, bytes: &[u8])
-        ensures { ReadsInTurns T.value_of
-            (meaning (Some 1024) H.step T.set T.clear T.allows) self.old self.new
+        ensures { ReadsInTurns (meaning (Some 1024) H.step T.set T.clear T.allows)
+            (HasParsedAndHolds T.value_of self.old) (HasParsedAndHolds T.value_of self.new)
             (H.value_of handler.old) (H.value_of handler.new) bytes.now }
     {
         // The memory is there, so all bytes are read.

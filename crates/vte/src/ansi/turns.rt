@@ -1,9 +1,10 @@
 //! Turns: each parses bytes of a call, or holds them back.
 ghost use Rattle.std.specs.Prelude.{◌≡◌, ℕ, ◌+◌, ◌≤◌, [], length, IfErr, IfOk, MatchResult, ◌-◌, ◌<◌, ◌++◌, nat_le};
-ghost use Rattle.vte.specs.ProcessorCalls.{HaveParsedAll, HaveTaken, LacksSome, ReadsSome, ReservesRoom, StopsUpdate, held_of, parts};
+ghost use Rattle.vte.specs.ProcessorCalls.{held_of};
 ghost use Rattle.vte.specs.machine.Hold.{released_of};
-ghost use Rattle.vte.specs.Processor.{State, hold_turn, meaning, most_held, parse, set_times, stop, timeout_meaning};
+ghost use Rattle.vte.specs.Processor.{Stage, hold_turn, meaning, most_held, parse, set_times, stop, timeout_meaning};
 ghost use Rattle.vte.specs.machine.Turns.{AreNextAt, EndsOpen, EndsTurn, IsParsed, IsParsedOn, IsReady, LeadOn};
+ghost use Rattle.vte.specs.machine.TurnsMeaning.{HaveTaken, LacksSome, ReadsSome, ReservesRoom, StopsUpdate, of_turns};
 
 use crate::ansi::hold::{MOST_HELD, SyncState};
 use crate::ansi::parsing::{EventParser, ParseAs, parse_all, parse_until_begin};
@@ -21,28 +22,26 @@ const SLICE: usize = 65_536;
 /// What takes the turns of a processor: a parser, the bytes that are held back, and what is kept
 /// between events.
 #[derive(Clone, Drop)]
-pub(crate) struct Turns<B: Drop, J: Drop, T: Drop, A: Allocator> {
-    pub(crate) parser: B,
+pub(crate) struct Turns<P: Drop, J: Drop, T: Drop, A: Allocator> {
+    pub(crate) parser: P,
     pub(crate) hold: SyncState<A>,
     pub(crate) state: ProcessorState<T, J>,
 }
 
-impl<B: EventParser + Drop, J: TextBuffer + Drop, T: Timeout + Drop, A: Allocator> Turns<
-    B,
+impl<P: EventParser + Drop, J: TextBuffer + Drop, T: Timeout + Drop, A: Allocator> Turns<
+    P,
     J,
     T,
     A,
 > {
     /// Creates turns of a parser that has read nothing, with the memory for a hold. Returns the
     /// timeout if memory runs out.
-    pub(crate) fn new(alloc: A, parser: B, text: J, timeout: T) -> Result<Self, T>
-        requires reads { B.reading.has_read parser [] }
+    pub(crate) fn new(alloc: A, parser: P, text: J, timeout: T) -> Result<Self, T>
+        requires reads { P.reading.has_read parser [] }
         ensures stands { MatchResult result
-            (λ turns. HaveTaken (parts B.limit B.reading J.room T.value_of) turns [] []
+            (λ turns. HaveTaken (of_turns P.limit P.reading J.room T.value_of) turns [] []
             (T.value_of timeout)) (λ back. back ≡ timeout) }
         ensures timeout { IfOk result (λ turns. turns.state.timeout ≡ timeout) }
-        ensures parses_all { IfOk result
-            (λ turns. HaveParsedAll (parts B.limit B.reading J.room T.value_of) turns []) }
     {
         laws::empty_stream();
         match SyncState::new(alloc) {
@@ -61,13 +60,13 @@ impl<B: EventParser + Drop, J: TextBuffer + Drop, T: Timeout + Drop, A: Allocato
 
     /// Reads bytes, and parses them or holds them back: all of them, or as many as there is memory
     /// for. The grain decides how the handler receives text.
-    pub(crate) fn read<H: Handler, G: ParseAs<H, T, B>>(
+    pub(crate) fn read<H: Handler, G: ParseAs<H, T, P>>(
         &mut self,
         handler: &mut H,
         bytes: &[u8],
     ) -> Result<(), Refused>
-        ensures { ReadsSome (parts B.limit B.reading J.room T.value_of)
-            (meaning B.limit H.step T.set T.clear T.allows)
+        ensures { ReadsSome (of_turns P.limit P.reading J.room T.value_of)
+            (meaning P.limit H.step T.set T.clear T.allows)
             self.old self.new (H.value_of handler.old) (H.value_of handler.new) bytes.now result }
     {
         let mut read = 0;
@@ -88,9 +87,9 @@ impl<B: EventParser + Drop, J: TextBuffer + Drop, T: Timeout + Drop, A: Allocato
     }
 
     /// Stops the update, whatever is held: there is memory to parse it.
-    pub(crate) fn stop<H: Handler, G: ParseAs<H, T, B>>(&mut self, handler: &mut H)
-        ensures stopped { StopsUpdate (parts B.limit B.reading J.room T.value_of)
-            (meaning B.limit H.step T.set T.clear T.allows) self.old self.new
+    pub(crate) fn stop<H: Handler, G: ParseAs<H, T, P>>(&mut self, handler: &mut H)
+        ensures stopped { StopsUpdate (of_turns P.limit P.reading J.room T.value_of)
+            (meaning P.limit H.step T.set T.clear T.allows) self.old self.new
             (H.value_of handler.old) (H.value_of handler.new) }
         ensures none { held_of self.new.hold ≡ [] }
     {
@@ -100,16 +99,16 @@ impl<B: EventParser + Drop, J: TextBuffer + Drop, T: Timeout + Drop, A: Allocato
 
     /// Parses the released bytes, after which nothing is held, and tells the handler that the
     /// update has ended.
-    fn end_update<H: Handler, G: ParseAs<H, T, B>>(&mut self, handler: &mut H)
-        ensures stops { (s : State H.Value T.Value) (n : ℕ)
-            → IsParsed (parts B.limit B.reading J.room T.value_of) self.old.parser self.old.state
+    fn end_update<H: Handler, G: ParseAs<H, T, P>>(&mut self, handler: &mut H)
+        ensures stops { (s : Stage H.Value T.Value) (n : ℕ)
+            → IsParsed (of_turns P.limit P.reading J.room T.value_of) self.old.parser self.old.state
             (H.value_of handler.old) s →
             released_of self.old.hold ≡ s.held → held_of self.old.hold ≡ []
             → (0 < length s.held
-            → B.reading.has_room self.old.parser (J.room self.old.state.text) s.parsed
+            → P.reading.has_room self.old.parser (J.room self.old.state.text) s.parsed
             (length s.held + n)) →
-            AreNextAt (parts B.limit B.reading J.room T.value_of) self.old self.new
-            (H.value_of handler.new) (stop (meaning B.limit H.step T.set T.clear T.allows) s) }
+            AreNextAt (of_turns P.limit P.reading J.room T.value_of) self.old self.new
+            (H.value_of handler.new) (stop (meaning P.limit H.step T.set T.clear T.allows) s) }
         ensures hold { self.new.hold ≡ self.old.hold }
     {
         self.parse_released::<H, G>(handler);
@@ -118,21 +117,21 @@ impl<B: EventParser + Drop, J: TextBuffer + Drop, T: Timeout + Drop, A: Allocato
     }
 
     /// Parses the released bytes.
-    fn parse_released<H: Handler, G: ParseAs<H, T, B>>(&mut self, handler: &mut H)
-        ensures parsed { (s : State H.Value T.Value) (n : ℕ)
-            → IsParsed (parts B.limit B.reading J.room T.value_of) self.old.parser self.old.state
+    fn parse_released<H: Handler, G: ParseAs<H, T, P>>(&mut self, handler: &mut H)
+        ensures parsed { (s : Stage H.Value T.Value) (n : ℕ)
+            → IsParsed (of_turns P.limit P.reading J.room T.value_of) self.old.parser self.old.state
             (H.value_of handler.old) s →
             (0 < length (released_of self.old.hold)
-            → B.reading.has_room self.old.parser (J.room self.old.state.text) s.parsed
+            → P.reading.has_room self.old.parser (J.room self.old.state.text) s.parsed
             (length (released_of self.old.hold) + n)) →
             IsParsedOn
-            (parts B.limit B.reading J.room T.value_of) self.old.parser self.old.state
+            (of_turns P.limit P.reading J.room T.value_of) self.old.parser self.old.state
             self.new.parser self.new.state (H.value_of handler.new)
-            (parse (meaning B.limit H.step T.set T.clear T.allows) s (released_of self.old.hold)) }
-        ensures room { (s : State H.Value T.Value) (n : ℕ) →
-            IsReady (parts B.limit B.reading J.room T.value_of) self.old.parser self.old.state
+            (parse (meaning P.limit H.step T.set T.clear T.allows) s (released_of self.old.hold)) }
+        ensures room { (s : Stage H.Value T.Value) (n : ℕ) →
+            IsReady (of_turns P.limit P.reading J.room T.value_of) self.old.parser self.old.state
             (H.value_of handler.old) s (length (released_of self.old.hold) + n) →
-            B.reading.has_room self.new.parser (J.room self.new.state.text)
+            P.reading.has_room self.new.parser (J.room self.new.state.text)
             (s.parsed ++ released_of self.old.hold) n }
         ensures hold { self.new.hold ≡ self.old.hold }
     {
@@ -140,13 +139,13 @@ impl<B: EventParser + Drop, J: TextBuffer + Drop, T: Timeout + Drop, A: Allocato
         if released.is_empty() {
             return;
         }
-        parse_all::<H, J, T, B, G>(&mut self.parser, &mut self.state, handler, released);
+        parse_all::<H, J, T, P, G>(&mut self.parser, &mut self.state, handler, released);
     }
 
     /// Takes one turn, and returns how many bytes it read, or how many until memory was refused. It
     /// asks the timeout once: while an update is pending, the bytes are held, or the update is
     /// stopped if there is no room for them.
-    fn turn<H: Handler, G: ParseAs<H, T, B>>(
+    fn turn<H: Handler, G: ParseAs<H, T, P>>(
         &mut self,
         handler: &mut H,
         bytes: &[u8],
@@ -154,11 +153,11 @@ impl<B: EventParser + Drop, J: TextBuffer + Drop, T: Timeout + Drop, A: Allocato
         requires some { 0 < length bytes.now }
         ensures within { MatchResult result (λ read. read ≤ length bytes.now)
             (λ refused. refused.read < length bytes.now) }
-        ensures turned { LeadOn (parts B.limit B.reading J.room T.value_of) self.old self.new
+        ensures turned { LeadOn (of_turns P.limit P.reading J.room T.value_of) self.old self.new
             (H.value_of handler.old) (H.value_of handler.new)
-            (λ s. EndsTurn (meaning B.limit H.step T.set T.clear T.allows) s bytes.now result) }
+            (λ s. EndsTurn (meaning P.limit H.step T.set T.clear T.allows) s bytes.now result) }
         ensures lacks { IfErr result
-            (λ refused. LacksSome (parts B.limit B.reading J.room T.value_of) self.new
+            (λ refused. LacksSome (of_turns P.limit P.reading J.room T.value_of) self.new
             (length bytes.now - refused.read)) }
     {
         let pending = self.state.timeout.pending_timeout();
@@ -185,7 +184,7 @@ impl<B: EventParser + Drop, J: TextBuffer + Drop, T: Timeout + Drop, A: Allocato
 
     /// Parses bytes up to the one that begins an update, a slice at a time, and returns how many.
     /// Memory is taken before each slice.
-    fn open<H: Handler, G: ParseAs<H, T, B>>(
+    fn open<H: Handler, G: ParseAs<H, T, P>>(
         &mut self,
         handler: &mut H,
         bytes: &[u8],
@@ -193,11 +192,11 @@ impl<B: EventParser + Drop, J: TextBuffer + Drop, T: Timeout + Drop, A: Allocato
         requires none { held_of self.old.hold ≡ [] }
         ensures within { MatchResult result (λ read. read ≤ length bytes.now)
             (λ refused. refused.read < length bytes.now) }
-        ensures opened { LeadOn (parts B.limit B.reading J.room T.value_of) self.old self.new
+        ensures opened { LeadOn (of_turns P.limit P.reading J.room T.value_of) self.old self.new
             (H.value_of handler.old) (H.value_of handler.new)
-            (λ s. EndsOpen (meaning B.limit H.step T.set T.clear T.allows) s bytes.now result) }
+            (λ s. EndsOpen (meaning P.limit H.step T.set T.clear T.allows) s bytes.now result) }
         ensures lacks { IfErr result
-            (λ refused. LacksSome (parts B.limit B.reading J.room T.value_of) self.new
+            (λ refused. LacksSome (of_turns P.limit P.reading J.room T.value_of) self.new
             (length bytes.now - refused.read)) }
     {
         let mut read = 0;
@@ -208,7 +207,7 @@ impl<B: EventParser + Drop, J: TextBuffer + Drop, T: Timeout + Drop, A: Allocato
                 return Err(Refused { read });
             }
             let slice = &bytes[read..read + count];
-            let (parsed, begins) = parse_until_begin::<H, J, T, B, G>(
+            let (parsed, begins) = parse_until_begin::<H, J, T, P, G>(
                 &mut self.parser,
                 &mut self.state,
                 handler,
@@ -225,7 +224,7 @@ impl<B: EventParser + Drop, J: TextBuffer + Drop, T: Timeout + Drop, A: Allocato
     /// Takes memory for the held bytes and for this many more, and returns whether it is there.
     pub(crate) fn reserve(&mut self, more: usize) -> bool
         ensures reserved { ReservesRoom
-            (parts B.limit B.reading J.room T.value_of) self.old self.new more result }
+            (of_turns P.limit P.reading J.room T.value_of) self.old self.new more result }
         ensures hold { self.new.hold ≡ self.old.hold }
     {
         self.parser
@@ -233,14 +232,14 @@ impl<B: EventParser + Drop, J: TextBuffer + Drop, T: Timeout + Drop, A: Allocato
     }
 
     /// Holds all bytes, and parses those that the end of an update among them releases.
-    fn hold_bytes<H: Handler, G: ParseAs<H, T, B>>(&mut self, handler: &mut H, bytes: &[u8])
+    fn hold_bytes<H: Handler, G: ParseAs<H, T, P>>(&mut self, handler: &mut H, bytes: &[u8])
         requires some { 0 < length bytes.now }
         requires room { length (held_of self.old.hold) + length bytes.now ≤ most_held }
-        ensures { LeadOn (parts B.limit B.reading J.room T.value_of) self.old self.new
+        ensures { LeadOn (of_turns P.limit P.reading J.room T.value_of) self.old self.new
             (H.value_of handler.old) (H.value_of handler.new)
-            (λ s there. B.reading.has_room self.old.parser (J.room self.old.state.text) s.parsed
+            (λ s there. P.reading.has_room self.old.parser (J.room self.old.state.text) s.parsed
             (length s.held + length bytes.now) →
-            there (hold_turn (meaning B.limit H.step T.set T.clear T.allows) s bytes.now)) }
+            there (hold_turn (meaning P.limit H.step T.set T.clear T.allows) s bytes.now)) }
     {
         let begins = self.hold.add(bytes);
         set_timeout(&mut self.state.timeout, begins);

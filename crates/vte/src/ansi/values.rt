@@ -6,7 +6,7 @@ ghost use Rattle.vte.specs.Values.{behavior_of, bottom_of, keyboard_modes as mod
 use vte_types::{KeyboardModes, KeyboardModesApplyBehavior, ScpCharPath, ScpUpdateMode};
 
 /// Returns the bottom of a scrolling region, if there is one.
-pub(crate) fn bottom(number: u16) -> Option<usize>
+pub(crate) fn scrolling_bottom(number: u16) -> Option<usize>
     ensures { result ≡ bottom_of number }
 {
     match number {
@@ -16,7 +16,7 @@ pub(crate) fn bottom(number: u16) -> Option<usize>
 }
 
 /// Returns how keyboard modes are applied.
-pub(crate) fn behavior(number: u16) -> KeyboardModesApplyBehavior
+pub(crate) fn keyboard_behavior(number: u16) -> KeyboardModesApplyBehavior
     ensures { result ≡ behavior_of number }
 {
     match number {

@@ -1,8 +1,9 @@
 //! Whole runs of processors.
 ghost use Rattle.std.specs.Prelude.{Some, None, IfOk, IfErr};
-ghost use Rattle.vte.specs.LongProcessor.{IsAtLong, LacksMemoryFor, ReplaysLong};
-ghost use Rattle.vte.specs.Processor.{State, meaning};
-ghost use Rattle.vte.specs.ProcessorCalls.{Replays};
+ghost use Rattle.vte.specs.LongProcessor.{HasParsedAndHoldsLong};
+ghost use Rattle.vte.specs.Memory.{LacksMemoryOnTheWay};
+ghost use Rattle.vte.specs.Processor.{Stage, meaning};
+ghost use Rattle.vte.specs.ProcessorCalls.{HasParsedAndHolds, IsAt, Replays};
 ghost use Rattle.vte.specs.RefusedStep.{ReplayedUntil, left_by};
 
 use crate::ansi::long_processor::LongProcessor;
@@ -38,8 +39,8 @@ pub fn replay<H: Handler, T: Timeout + Drop, A: Allocator>(
     handler: &mut H,
     steps: &[Step<'_>],
 )
-    ensures { Replays T.value_of
-        (meaning (Some 1024) H.step T.set T.clear T.allows) processor.old processor.new
+    ensures { Replays (meaning (Some 1024) H.step T.set T.clear T.allows)
+        (HasParsedAndHolds T.value_of processor.old) (HasParsedAndHolds T.value_of processor.new)
         (H.value_of handler.old) (H.value_of handler.new) steps.now }
 {
     for step in steps {
@@ -58,17 +59,16 @@ pub fn replay_long<H: Handler, T: Timeout + Drop, A: Allocator>(
     steps: &[Step<'_>],
 ) -> Result<(), RefusedStep>
     ensures replays { IfOk result
-        (λ all.
-        ReplaysLong T.value_of
-        (meaning None H.step T.set T.clear T.allows) processor.old processor.new
+        (λ all. Replays (meaning None H.step T.set T.clear T.allows)
+        (HasParsedAndHoldsLong T.value_of processor.old)
+        (HasParsedAndHoldsLong T.value_of processor.new)
         (H.value_of handler.old) (H.value_of handler.new) steps.now) }
-    ensures refuses { IfErr result (λ refused. (s : State H.Value T.Value)
-        → IsAtLong T.value_of processor.old (H.value_of handler.old) s →
+    ensures refuses { IfErr result (λ refused. (s : Stage H.Value T.Value)
+        → IsAt (HasParsedAndHoldsLong T.value_of processor.old) (H.value_of handler.old) s →
         ReplayedUntil (meaning None H.step T.set T.clear T.allows) s steps.now refused
-        (IsAtLong T.value_of processor.new (H.value_of handler.new))) }
-    ensures lacks { IfErr result (λ refused. (s : State H.Value T.Value)
-        → IsAtLong T.value_of processor.old (H.value_of handler.old) s →
-        LacksMemoryFor T.value_of processor.new (left_by steps.now refused)) }
+        (IsAt (HasParsedAndHoldsLong T.value_of processor.new) (H.value_of handler.new))) }
+    ensures lacks { IfErr result
+        (λ refused. LacksMemoryOnTheWay processor.new (left_by steps.now refused)) }
 {
     for (index, step) in steps.iter().enumerate() {
         match step {

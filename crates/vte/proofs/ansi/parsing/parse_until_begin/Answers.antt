@@ -6,14 +6,14 @@ use Rattle.vte.proofs.ansi.parsing.parse_until_begin.Goals as goal
 
 pub returns-clause-stops : goal.returns-clause-stops
 returns-clause-stops g c = λ s n ready.
-    let m = meaning g.B.EventParser.limit g.H.Handler.step g.T.Timeout.set g.T.Timeout.clear g.T.Timeout.allows in
+    let m = meaning g.P.EventParser.limit g.H.Handler.step g.T.Timeout.set g.T.Timeout.clear g.T.Timeout.allows in
     let bytes = c.args.bytes.now in
-    let front = begin_front g.B.EventParser.limit s.parsed bytes in
+    let front = begin_front g.P.EventParser.limit s.parsed bytes in
     let p = c.advance_until_begin-read.ensures.stops s.parsed n ready.is_parsed.has_parsed.has_read ready.room in
     let fit =
-    front_fits (g.J.TextBuffer.room c.args.state.now.text) g.B.EventParser.limit s.parsed front
+    front_fits (g.J.TextBuffer.room c.args.state.now.text) g.P.EventParser.limit s.parsed front
     (drop (length front) bytes)
-    (rw (front_rest g.B.EventParser.limit s.parsed bytes) p.fits) in
+    (rw (front_rest g.P.EventParser.limit s.parsed bytes) p.fits) in
     record {
       count = stops_at_front m refl p.stops;
       begins_is = stop_terminated m refl p.stops;

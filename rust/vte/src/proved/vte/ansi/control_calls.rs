@@ -5,7 +5,7 @@ use crate::proved::vte::ansi::input::InputAs;
 use crate::proved::vte::ansi::numbers::{first_number, NumberIterator};
 use crate::proved::vte::ansi::rendition::perform_attributes;
 use crate::proved::vte::ansi::values::{
-    behavior, bottom, character_path, keyboard_modes, update_mode,
+    character_path, keyboard_behavior, keyboard_modes, scrolling_bottom, update_mode,
 };
 use crate::proved::vte_core::Params;
 use crate::proved::vte_handler::Handler;
@@ -62,7 +62,7 @@ pub(crate) fn perform_control<H: InputAs<G>, G>(
         ([b'<'], 'u') => handler.pop_keyboard_modes(numbers.next_or(1)),
         ([b'='], 'u') => {
             let modes = keyboard_modes(numbers.next_or(0));
-            handler.set_keyboard_mode(modes, behavior(numbers.next_or(1)));
+            handler.set_keyboard_mode(modes, keyboard_behavior(numbers.next_or(1)));
         }
         ([b'?'], 'u') => handler.report_keyboard_mode(),
         _ => {}
@@ -107,7 +107,7 @@ fn perform_plain<H: InputAs<G>, G>(
         'T' => handler.scroll_down(usize::from(numbers.next_or(1))),
         'r' => {
             let top = usize::from(numbers.next_or(1));
-            handler.set_scrolling_region(top, bottom(numbers.next_or(0)));
+            handler.set_scrolling_region(top, scrolling_bottom(numbers.next_or(0)));
         }
         's' => handler.save_cursor_position(),
         'u' => handler.restore_cursor_position(),

@@ -38,17 +38,17 @@ impl EventParser for ProcessorParser {
 }
 
 /// Parses for a handler that receives text in a grain: `Singly` or `InRuns`.
-pub(crate) trait ParseAs<H: Handler, T: Timeout, B: EventParser>: Sized {
+pub(crate) trait ParseAs<H: Handler, T: Timeout, P: EventParser>: Sized {
     /// Parses all bytes.
     fn advance<J: TextBuffer>(
-        parser: &mut B,
+        parser: &mut P,
         performer: &mut Performer<'_, '_, H, T, J, Self>,
         bytes: &[u8],
     );
 
     /// Parses bytes until an update begins, and returns how many it parsed.
     fn advance_until_begin<J: TextBuffer>(
-        parser: &mut B,
+        parser: &mut P,
         performer: &mut Performer<'_, '_, H, T, J, Self>,
         bytes: &[u8],
     ) -> usize;
@@ -101,10 +101,10 @@ pub(crate) fn parse_all<
     H: Handler,
     J: TextBuffer,
     T: Timeout,
-    B: EventParser,
-    G: ParseAs<H, T, B>,
+    P: EventParser,
+    G: ParseAs<H, T, P>,
 >(
-    parser: &mut B,
+    parser: &mut P,
     state: &mut ProcessorState<T, J>,
     handler: &mut H,
     bytes: &[u8],
@@ -124,10 +124,10 @@ pub(crate) fn parse_until_begin<
     H: Handler,
     J: TextBuffer,
     T: Timeout,
-    B: EventParser,
-    G: ParseAs<H, T, B>,
+    P: EventParser,
+    G: ParseAs<H, T, P>,
 >(
-    parser: &mut B,
+    parser: &mut P,
     state: &mut ProcessorState<T, J>,
     handler: &mut H,
     bytes: &[u8],

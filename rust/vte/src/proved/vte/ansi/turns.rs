@@ -16,16 +16,16 @@ const SLICE: usize = 65_536;
 /// What takes the turns of a processor: a parser, the bytes that are held back, and what is kept
 /// between events.
 #[derive(Clone)]
-pub(crate) struct Turns<B, J, T> {
-    pub(crate) parser: B,
+pub(crate) struct Turns<P, J, T> {
+    pub(crate) parser: P,
     pub(crate) hold: SyncState,
     pub(crate) state: ProcessorState<T, J>,
 }
 
-impl<B: EventParser, J: TextBuffer, T: Timeout> Turns<B, J, T> {
+impl<P: EventParser, J: TextBuffer, T: Timeout> Turns<P, J, T> {
     /// Creates turns of a parser that has read nothing, with the memory for a hold. Returns the
     /// timeout if memory runs out.
-    pub(crate) fn new(parser: B, text: J, timeout: T) -> Result<Self, T> {
+    pub(crate) fn new(parser: P, text: J, timeout: T) -> Result<Self, T> {
         match SyncState::new() {
             Ok(hold) => Ok(Turns {
                 parser,
@@ -43,7 +43,7 @@ impl<B: EventParser, J: TextBuffer, T: Timeout> Turns<B, J, T> {
     /// Reads bytes, and parses them or holds them back: all of them, or as many as there is memory
     /// for. The grain decides how the handler receives text.
     #[inline]
-    pub(crate) fn read<H: Handler, G: ParseAs<H, T, B>>(
+    pub(crate) fn read<H: Handler, G: ParseAs<H, T, P>>(
         &mut self,
         handler: &mut H,
         bytes: &[u8],
@@ -67,33 +67,33 @@ impl<B: EventParser, J: TextBuffer, T: Timeout> Turns<B, J, T> {
 
     /// Stops the update, whatever is held: there is memory to parse it.
     #[inline(never)]
-    pub(crate) fn stop<H: Handler, G: ParseAs<H, T, B>>(&mut self, handler: &mut H) {
+    pub(crate) fn stop<H: Handler, G: ParseAs<H, T, P>>(&mut self, handler: &mut H) {
         self.hold.release_all();
         self.end_update::<H, G>(handler);
     }
 
     /// Parses the released bytes, after which nothing is held, and tells the handler that the
     /// update has ended.
-    fn end_update<H: Handler, G: ParseAs<H, T, B>>(&mut self, handler: &mut H) {
+    fn end_update<H: Handler, G: ParseAs<H, T, P>>(&mut self, handler: &mut H) {
         self.parse_released::<H, G>(handler);
         handler.unset_private_mode(PrivateMode::Named(NamedPrivateMode::SyncUpdate));
         self.state.timeout.clear_timeout();
     }
 
     /// Parses the released bytes.
-    fn parse_released<H: Handler, G: ParseAs<H, T, B>>(&mut self, handler: &mut H) {
+    fn parse_released<H: Handler, G: ParseAs<H, T, P>>(&mut self, handler: &mut H) {
         let released = self.hold.released();
         if released.is_empty() {
             return;
         }
-        parse_all::<H, J, T, B, G>(&mut self.parser, &mut self.state, handler, released);
+        parse_all::<H, J, T, P, G>(&mut self.parser, &mut self.state, handler, released);
     }
 
     /// Takes one turn, and returns how many bytes it read, or how many until memory was refused. It
     /// asks the timeout once: while an update is pending, the bytes are held, or the update is
     /// stopped if there is no room for them.
     #[inline]
-    fn turn<H: Handler, G: ParseAs<H, T, B>>(
+    fn turn<H: Handler, G: ParseAs<H, T, P>>(
         &mut self,
         handler: &mut H,
         bytes: &[u8],
@@ -120,7 +120,7 @@ impl<B: EventParser, J: TextBuffer, T: Timeout> Turns<B, J, T> {
 
     /// Parses bytes up to the one that begins an update, a slice at a time, and returns how many.
     /// Memory is taken before each slice.
-    fn open<H: Handler, G: ParseAs<H, T, B>>(
+    fn open<H: Handler, G: ParseAs<H, T, P>>(
         &mut self,
         handler: &mut H,
         bytes: &[u8],
@@ -133,7 +133,7 @@ impl<B: EventParser, J: TextBuffer, T: Timeout> Turns<B, J, T> {
                 return Err(Refused { read });
             }
             let slice = &bytes[read..read + count];
-            let (parsed, begins) = parse_until_begin::<H, J, T, B, G>(
+            let (parsed, begins) = parse_until_begin::<H, J, T, P, G>(
                 &mut self.parser,
                 &mut self.state,
                 handler,
@@ -155,7 +155,7 @@ impl<B: EventParser, J: TextBuffer, T: Timeout> Turns<B, J, T> {
 
     /// Holds all bytes, and parses those that the end of an update among them releases.
     #[inline]
-    fn hold_bytes<H: Handler, G: ParseAs<H, T, B>>(&mut self, handler: &mut H, bytes: &[u8]) {
+    fn hold_bytes<H: Handler, G: ParseAs<H, T, P>>(&mut self, handler: &mut H, bytes: &[u8]) {
         let begins = self.hold.add(bytes);
         set_timeout(&mut self.state.timeout, begins);
         if self.hold.len() == 0 {

@@ -6,7 +6,7 @@ use crate::proved::vte_types::{
 };
 
 /// Returns the bottom of a scrolling region, if there is one.
-pub(crate) fn bottom(number: u16) -> Option<usize> {
+pub(crate) fn scrolling_bottom(number: u16) -> Option<usize> {
     match number {
         0 => None,
         _ => Some(usize::from(number)),
@@ -14,7 +14,7 @@ pub(crate) fn bottom(number: u16) -> Option<usize> {
 }
 
 /// Returns how keyboard modes are applied.
-pub(crate) fn behavior(number: u16) -> KeyboardModesApplyBehavior {
+pub(crate) fn keyboard_behavior(number: u16) -> KeyboardModesApplyBehavior {
     match number {
         3 => KeyboardModesApplyBehavior::Difference,
         2 => KeyboardModesApplyBehavior::Union,

@@ -1,4 +1,4 @@
-use Rattle.vte.proofs.Common.{[], refl, take_all, LacksMemoryFor}
+use Rattle.vte.proofs.Common.{[], refl, take_all, LacksMemoryOnTheWay}
 use Rattle.vte.proofs.runs.PlainRuns.{replays_all}
 use Rattle.vte.proofs.runs.Runs.{advance_refused, advance_taken, first_lacks, replayed, stop_taken}
 use Rattle.vte.proofs.ansi.laws.runs.replay_long.Goals as goal
@@ -13,25 +13,22 @@ loop-index-preserved g c = λ s at.
     elim c.match-step.branch [
       | in-Advance+in_default w ↦ rw (w.processor-is, w.handler-is)
           (advance_taken _ s c.args.steps.now _ _ c.loop-index-test.true r w.in-Advance.is
-          (w.in_default.ensures.reads.all.advances r.next r.is_at))
+          (w.in_default.ensures.all.advances r.next r.is_at))
       | in-StopSync w ↦ rw (w.processor-is, w.handler-is)
           (stop_taken _ s c.args.steps.now _ _ c.loop-index-test.true r w.in-StopSync.is
-          (w.stop_sync.ensures.stops r.next r.is_at))
+          (w.stop_sync.ensures.stops.stops r.next r.is_at))
     ]
 
 pub returns-in-Err-clause-refuses : goal.returns-in-Err-clause-refuses
 returns-in-Err-clause-refuses g c = λ s at.
     let r = c.loop-index.invariant s at in
-    let reads = c.in-Err.ensures.reads in
-    advance_refused _ s c.args.steps.now _ _ c.loop-index-test.true r c.in-Advance.is reads.within
-    (reads.takes r.next r.is_at)
+    advance_refused _ s c.args.steps.now _ _ c.loop-index-test.true r c.in-Advance.is c.in-Err.ensures.within
+    (c.in-Err.ensures.takes r.next r.is_at)
 
 pub returns-in-Err-clause-lacks : goal.returns-in-Err-clause-lacks
-returns-in-Err-clause-lacks g c = λ s at.
-    let r = c.loop-index.invariant s at in
-    first_lacks
-    (LacksMemoryFor g.T.Timeout.value_of c.advance.new.self) c.args.steps.now _ _ c.loop-index-test.true c.in-Advance.is
-    (c.in-Err.ensures.reads.lacks r.next r.is_at)
+returns-in-Err-clause-lacks g c =
+    first_lacks (LacksMemoryOnTheWay c.advance.new.self) c.args.steps.now _ _ c.loop-index-test.true c.in-Advance.is
+    c.in-Err.ensures.lacks
 
 pub returns-clause-replays : goal.returns-clause-replays
 returns-clause-replays g c =

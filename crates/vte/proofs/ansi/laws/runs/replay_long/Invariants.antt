@@ -1,9 +1,10 @@
-use Rattle.vte.proofs.Common.{None, take, IsAtLong, meaning, Replayed, State}
+use Rattle.vte.proofs.Common.{None, take, HasParsedAndHoldsLong, IsAt, meaning, Replayed, Stage}
 use Rattle.vte.proofs.ansi.laws.runs.replay_long.Given as goal
 
 abbrev pub invariant-loop-index : goal.invariant-loop-index
 invariant-loop-index g l =
     let m = meaning None g.H.Handler.step g.T.Timeout.set g.T.Timeout.clear g.T.Timeout.allows in
-    (s : State g.H.Handler.Value g.T.Timeout.Value)
-    → IsAtLong g.T.Timeout.value_of l.initial.processor (g.H.Handler.value_of l.initial.handler) s
-    → Replayed m s (take l.index l.steps) (IsAtLong g.T.Timeout.value_of l.processor (g.H.Handler.value_of l.handler))
+    (s : Stage g.H.Handler.Value g.T.Timeout.Value)
+    → IsAt (HasParsedAndHoldsLong g.T.Timeout.value_of l.initial.processor) (g.H.Handler.value_of l.initial.handler) s
+    → Replayed m s (take l.index l.steps)
+    (IsAt (HasParsedAndHoldsLong g.T.Timeout.value_of l.processor) (g.H.Handler.value_of l.handler))

@@ -2,4 +2,4 @@ use Rattle.vte.proofs.turns.Grown.{advances_long}
 use Rattle.vte.proofs.ansi.long_processor.LongProcessor.advance.Goals as goal
 
 pub returns : goal.returns
-returns g c = advances_long c.read.result c.read.ensures
+returns g c = advances_long c.args.bytes c.read.result c.read.ensures

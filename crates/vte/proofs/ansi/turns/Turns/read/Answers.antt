@@ -33,7 +33,7 @@ turn-requires g c =
 pub returns-then-read-bytes : goal.returns-then-read-bytes
 returns-then-read-bytes g c =
     let before = c.loop-turn.invariant in
-    all_read c.args.bytes (λ s at. (
+    all_read c.args.bytes.now (λ s at. (
     let r =
     before.reaches s at in
     reaches-more _ s c.args.bytes.now r (before.some c.loop-turn-test.true)
@@ -47,7 +47,7 @@ returns-in-Err g c =
     let size = rest_size b read c.loop-turn.invariant.within in
     let left : length (take (length b - read) (drop read b)) - c.in-Err.refused.read
     ≡ length b - (read + c.in-Err.refused.read) = omega (arith, size) in
-    read_until c.args.bytes
+    read_until c.args.bytes.now
     (λ s at.
     (let r = c.loop-turn.invariant.reaches s at in
     has_halted _ s b r c.loop-turn.invariant.within (c.in-Err.ensures.turned r.here r.is_at.are_at).halted))
@@ -56,5 +56,5 @@ returns-in-Err g c =
 
 pub returns : goal.returns
 returns g c =
-    all_read c.args.bytes c.loop-turn.invariant.reaches (λ s at. let r = c.loop-turn.invariant.reaches s at in
+    all_read c.args.bytes.now c.loop-turn.invariant.reaches (λ s at. let r = c.loop-turn.invariant.reaches s at in
     omega (arith, r.enough, c.loop-turn-test.false, c.loop-turn.invariant.within))

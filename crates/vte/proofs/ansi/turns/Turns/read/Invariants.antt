@@ -1,15 +1,15 @@
-use Rattle.vte.proofs.Common.{◌<◌, ◌≤◌, length, meaning, AreAt, parts, AreNextAt, State}
+use Rattle.vte.proofs.Common.{◌<◌, ◌≤◌, length, meaning, AreAt, of_turns, AreNextAt, Stage}
 use Rattle.vte.proofs.turns.Turns.{HasReached}
 use Rattle.vte.proofs.ansi.turns.Turns.read.Given as goal
 
 abbrev pub invariant-loop-turn : goal.invariant-loop-turn
 invariant-loop-turn g l =
-    let m = meaning g.B.EventParser.limit g.H.Handler.step g.T.Timeout.set g.T.Timeout.clear g.T.Timeout.allows in
-    let w = parts g.B.EventParser.limit g.B.EventParser.reading g.J.TextBuffer.room g.T.Timeout.value_of in
+    let m = meaning g.P.EventParser.limit g.H.Handler.step g.T.Timeout.set g.T.Timeout.clear g.T.Timeout.allows in
+    let w = of_turns g.P.EventParser.limit g.P.EventParser.reading g.J.TextBuffer.room g.T.Timeout.value_of in
     record {
       within : l.read ≤ length l.bytes;
       some : l._turn < length l.bytes → l.read < length l.bytes;
-      reaches : (s : State g.H.Handler.Value g.T.Timeout.Value)
+      reaches : (s : Stage g.H.Handler.Value g.T.Timeout.Value)
           → AreAt w l.initial.self (g.H.Handler.value_of l.initial.handler) s
           → HasReached m s l.bytes l._turn l.read (AreNextAt w l.initial.self l.self (g.H.Handler.value_of l.handler));
     }

@@ -1,5 +1,5 @@
 use Rattle.vte.proofs.Common.{◌≡◌, ◌<◌, ◌++◌, length, length-append, refl, sym, ◌∙◌, arith, nat_tests, nat_le, most_held, true, false, and-false, is_held}
-use Rattle.vte.proofs.Common.{is_stopped, meaning, parts, AreNextAt, opened}
+use Rattle.vte.proofs.Common.{is_stopped, meaning, of_turns, AreNextAt, opened}
 use Rattle.vte.proofs.turns.Slices.{halted_nothing}
 use Rattle.vte.proofs.turns.Turns.{behind-next, ends_turn, kept-next, next-at, stops-next, turned_hold}
 use Rattle.vte.proofs.ansi.turns.Turns.turn.Goals as goal
@@ -16,8 +16,8 @@ returns-clause-turned g c = λ s at.
           rw (full, and-false) refl
       | else-pending-via-else-pending w ↦ rw w.if-pending.false refl
     ] in
-    let m = meaning g.B.EventParser.limit g.H.Handler.step g.T.Timeout.set g.T.Timeout.clear g.T.Timeout.allows in
-    let w = parts g.B.EventParser.limit g.B.EventParser.reading g.J.TextBuffer.room g.T.Timeout.value_of in
+    let m = meaning g.P.EventParser.limit g.H.Handler.step g.T.Timeout.set g.T.Timeout.clear g.T.Timeout.allows in
+    let w = of_turns g.P.EventParser.limit g.P.EventParser.reading g.J.TextBuffer.room g.T.Timeout.value_of in
     let here : AreNextAt w c.args.self.now c.if-pending-2.self (g.H.Handler.value_of c.if-pending-2.handler)
     (opened m pending s) = elim c.if-pending-2.branch [
       | then-pending-2 w ↦

@@ -1,0 +1,5 @@
+use Rattle.vte.proofs.turns.Standings.{reserves}
+use Rattle.vte.proofs.ansi.long_processor.LongProcessor.reserve.Goals as goal
+
+pub returns : goal.returns
+returns g c = reserves c.reserve.ensures.reserved

@@ -1,0 +1,5 @@
+use Rattle.vte.proofs.turns.Standings.{never_refused}
+use Rattle.vte.proofs.ansi.processor.Processor.advance.Goals as goal
+
+pub returns : goal.returns
+returns g c = never_refused c.args.bytes c.read.result c.read.ensures

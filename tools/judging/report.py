@@ -98,7 +98,7 @@ def shown_finding(finding, again):
         lines += [f"  rule       {rule.says} (docs/EVENTS.md#{rule.heading})",
                   f"  source     {rule.source}"]
     return "\n".join([*lines, f"  level      {level_of(finding.name)}",
-                      f"  known      {'yes' if finding.is_known else 'no'}",
+                      f"  known      {'no' if finding.is_new else 'yes'}",
                       f"  again      {again(shown_case(finding.difference))}"])
 
 
@@ -110,10 +110,9 @@ def shown_sum(result, seed):
         lines.append(f"{'class':{width}}  level    streams  smallest  known")
         for finding in sorted(result.findings.values(), key=lambda each: -each.streams):
             size = sum(map(len, finding.difference.pieces))
-            limit = f" (in {finding.allowed})" if finding.allowed is not None else ""
             level = level_of(finding.name)
             lines.append(f"{finding.name:{width}}  {level:7}  {finding.streams:7}  {size:8}  "
-                         f"{'yes' if finding.is_known else 'no'}{limit}")
+                         f"{'no' if finding.is_new else 'yes'}")
     if result.unexplained:
         lines.append(f"{result.unexplained} of the streams that differ weren't assigned to a class")
     if result.ended_early:

@@ -17,16 +17,7 @@ from support import TOOLS, miss, program_in, run
 
 # streams, house rules, and the events under them
 @pytest.mark.parametrize("stream, rules, lines", [
-    (b"\xe9\x9b1m", "encoding=latin-1 c1-bytes=introduce", ["print 00e9", "csi [1] - false 6d"]),
     (b"\xc3\xa9\x80", "encoding=bytes", ["print 00c3", "print 00a9", "print 0080"]),
-    (b"\xc3\xa9\x9b1m", "encoding=ascii malformed=drop c1-bytes=introduce", ["csi [1] - false 6d"]),
-    (b"\x1b]a\xff\x07", "encoding=utf-8-first", ["osc true 1 61efbfbd"]),
-    (b"\x85\xff", "encoding=utf-8-first c1-bytes=drop", ["print fffd"]),
-    (b"\x85", "encoding=utf-8-first c1-bytes=replace malformed=drop", ["print fffd"]),
-    (b"\xff", "encoding=utf-8-first c1-bytes=replace malformed=drop", []),
-    (b"\xc2\x84\xc2\x9b1m", "c1-characters=introduce", ["execute 84", "csi [1] - false 6d"]),
-    (b"\x1b[1\xc2\x85m", "c1-characters=introduce", ["execute 85", "print 006d"]),
-    (b"\x1b]0;a\xc2\x9cb", "c1-characters=introduce", ["osc false 2 30 61", "print 0062"]),
     (b"\xf0\x9fa", "malformed=bytes", ["print fffd", "print fffd", "print 0061"]),
     (b"\xf0\x9fa", "malformed=drop", ["print 0061"]),
     (b"\x1b]a\x9cb", "command-9c=ends", ["osc false 1 61", "print 0062"]),
@@ -172,23 +163,23 @@ def test_lines_that_are_none(wrong):
     assert len(told) == 2 and re.fullmatch("[ -~]*", "".join(told))
 
 
-def result(known=False, allowed=None, **given):
-    found = Finding("text/missing", Difference([b"a"], [], []), Case("", [b""]), known, allowed, 3)
+def result(is_new=True, **given):
+    found = Finding("text/missing", Difference([b"a"], [], []), Case("", [b""]), is_new, 3)
     return Judgement(**{"streams": 9, "different": 3, "findings": {found.name: found}, **given})
 
 
 @pytest.mark.parametrize("status, judgement", [
-    (0, Judgement(streams=1)), (1, Judgement()), (1, result()), (0, result(True)),
-    (0, result(True, 3)), (1, result(True, 2)), (1, Judgement(9, 1)),
-    (1, result(True, different=4)), (0, result(True, ended_early="the time was over"))])
+    (0, Judgement(streams=1)), (1, Judgement()), (1, result()), (0, result(False)),
+    (1, Judgement(9, 1)), (1, result(False, different=4)),
+    (0, result(False, ended_early="the time was over"))])
 def test_statuses(status, judgement):
     assert judgement.status() == status
 
 
 def test_what_is_summed_up():
     assert re.search(r"text/missing +must +3 +1 +no\n", report.shown_sum(result(), "1"))
-    assert "1 of them new" in report.shown_sum(result(True, 2), "1")
-    assert "0 of them new; seed 7" in report.shown_sum(result(True), "7")
+    assert "1 classes, 1 of them new; seed 7" in report.shown_sum(result(), "7")
+    assert re.search("(?s) yes\n.*1 classes, 0 of them new", report.shown_sum(result(False), "1"))
     found = {kind: Finding(f"text/{kind}", Difference([b""], [], []), Case("", []), streams=streams)
              for streams, kind in ((2, "extra"), (5, "other"))}
     assert re.search("(?s)text/other.*text/extra", report.shown_sum(Judgement(9, 7, found), "1"))
@@ -202,10 +193,10 @@ def formatted(kind, **given):
     """What a format makes of two rules, with texts that it has to escape: one is known, of the
     other a kind is new."""
     found = {}
-    for name, known in (("text/missing", True), ("colon/count", True), ("colon/groups", False)):
+    for name, is_new in (("text/missing", False), ("colon/count", False), ("colon/groups", True)):
         lines = ["print 0061", "(protocol: this is no event line: '<&#\">')"]
         difference, case = Difference([b"a#"], ["unhook"], lines), Case("x # y", [b"ab"])
-        found[name] = Finding(name, difference, case, known)
+        found[name] = Finding(name, difference, case, is_new)
     judgement = Judgement(**{"streams": 9, "different": 3, "findings": found, **given})
     return formats.FORMATS[kind](judgement, "# \x1b]]>&", lambda case: f"judge '{case}' # <&>")
 

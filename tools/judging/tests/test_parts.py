@@ -60,12 +60,11 @@ def test_cases_are_read_as_shown():
         assert report.bytes_shown(report.shown_bytes(pieces)) == pieces
         shown = report.shown_case(Difference(pieces, [], [], ([b"b", b"c"], [b"d"])))
         assert report.case_shown(shown) == [[b"b", b"c"], [b"d"], pieces]
-    assert report.bytes_shown("31+3b*9 61") == [b"1;" * 9 + b"a"]
 
 
 @pytest.mark.parametrize("pieces, shown", [
-    ([b"\x1b]a\x80\x07"], "ESC ]a <80> BEL"), ([b"ab \x7f", b"c"], "ab blank <7F> | c"),
-    ([b"a" * 4 + b"b" * 3], "4 x a bbb"), ([b"\xff" * 2, b""], "<FF> <FF> |")])
+    ([b"\x1b]'\x80", b"", b"\""], '\\x1b]\'\\x80 |  | "'), ([b"a" * 200], "a" * 200),
+    ([b"a" * 201], "a" * 150 + " ..")])
 def test_streams_are_shown_as_text(pieces, shown):
     assert report.shown_text(pieces) == shown
 

@@ -2,6 +2,7 @@
 """Tests of tools/erase: python3 tools/erasing/test_erasing.py"""
 import sys
 import unittest
+from dataclasses import fields, replace
 from pathlib import Path
 
 sys.dont_write_bytecode = True
@@ -17,7 +18,8 @@ from rattle_text.tokens import COMMENT, Refused, split  # noqa: E402
 
 
 def plan(**given):
-    return Plan(out="o", modules={"a": "crate::a", "b": "crate::b"}, of_std={"alloc": "crate::prelude"}, **given)
+    return Plan(out="o", modules={"a": "crate::a", "b": "crate::b"},
+                of_std={"alloc": "crate::prelude"}, **given)
 
 
 TRAPS = '''//! Head.
@@ -106,12 +108,17 @@ def words(text):
 
 # what is told of a file, its text, and what is left of it, as crates/ have no such case
 TEXTS = [
-    ({}, "use c::Kept; use c::Gone; fn f(k: u8) {} #[cfg(test)] mod tests { fn g() { Gone } }", "use c::Kept; use c::Gone; fn f(k: u8) {}"),
+    ({}, "use c::Kept; use c::Gone; fn f(k: u8) {} #[cfg(test)] mod tests { fn g() { Gone } }",
+     "use c::Kept; use c::Gone; fn f(k: u8) {}"),
     ({}, "use b::laws; pub use laws::Step; mod laws; mod c;", "mod c;"),
-    ({}, "fn f() { match a { 1..0x10 => 2, _ => 3 } }", "fn f() { match a { 1..=0xf => 2, _ => 3 } }"),
-    (dict(dropped={"a/x": ("fn f",)}), "const A: u8 = 1; // one\nfn f() {} fn ff() {}", "const A: u8 = 1; // one\nfn ff() {}"),
-    (dict(homes={"a": {"q": "find g"}}), "use c::D; fn g() { find(x.find()) }", "use q::find; use c::D; fn g() { find(x.find()) }"),
-    (dict(imports={"a": {"c::D": "e::D", "f::": ""}}), "use c::D; use c::{I as J, K}; use f::{G, H};", "use e::D; use c::{I as J, K};"),
+    ({}, "fn f() { match a { 1..0x10 => 2, _ => 3 } }",
+     "fn f() { match a { 1..=0xf => 2, _ => 3 } }"),
+    (dict(dropped={"a/x": ("fn f",)}), "const A: u8 = 1; // one\nfn f() {} fn ff() {}",
+     "const A: u8 = 1; // one\nfn ff() {}"),
+    (dict(homes={"a": {"q": "find g"}}), "use c::D; fn g() { find(x.find()) }",
+     "use q::find; use c::D; fn g() { find(x.find()) }"),
+    (dict(imports={"a": {"c::D": "e::D", "f::": ""}}),
+     "use c::D; use c::{I as J, K}; use f::{G, H};", "use e::D; use c::{I as J, K};"),
     # bodies that stay as they are
     *(({}, text, text) for text in (
         "fn f() -> Option<u8> { let x = *g(); h()?; Some(x) }", "fn f() { !x >= 1 && x <= 5 }",
@@ -134,7 +141,8 @@ class Erasing(unittest.TestCase):
                 self.assertEqual(words(erased(text, plan(**given))), words(wanted))
 
     def test_comments_are_reworded(self):
-        self.assertEqual(wording.reword("    // One. Two\n    // goes. Three.\n    f();\n", {"Two goes.": "Too."}), "    // One. Too. Three.\n    f();\n")
+        self.assertEqual(wording.reword("    // One. Two\n    // goes. Three.\n    f();\n", {
+            "Two goes.": "Too."}), "    // One. Too. Three.\n    f();\n")
         for text in "/// One.\nfn f() {}\n", "/// Two.\nfn f() {}\n/// Two.\nfn g() {}\n":
             with self.assertRaisesRegex(Refused, "Two"):
                 wording.reword(text, {"Two": "Three"})
@@ -165,10 +173,10 @@ class Erasing(unittest.TestCase):
             write_crate(plan(), lambda _crate: {"x.rt": "\n#[test]\nfn f() {}\n"})
 
     def test_each_table_names_files_that_exist(self):
-        for table in ("under", "renamed", "dropped", "added", "rules", "lines",
-                      "members", "inlined", "comments", "examples"):
-            given = plan(**{table: {"a/gone": {}}})
-            with self.subTest(table), self.assertRaisesRegex(Failure, "don't exist: a/gone"):
+        tables = {it.name: {"a/gone": {}} for it in fields(Plan) if it.default_factory is dict}
+        for name, table in {**tables, "left_out": {"a/gone"}, "handler": ("a/gone", ())}.items():
+            given = replace(plan(), **{name: table})
+            with self.subTest(name), self.assertRaisesRegex(Failure, "don't exist: a/gone"):
                 write_crate(given, lambda _crate: {"x.rt": ""})
 
     def test_a_match_with_a_comment_stays(self):

@@ -6,7 +6,7 @@ from itertools import count
 import pytest
 from judging import candidate, cases, classes, definition, house, kinds, report, shrinking, views
 from judging.classes import Difference
-from judging.judgement import Judge
+from judging.judgement import Judge, is_alike
 from judging.rules import LEVELS, RULES
 from support import FILES
 
@@ -129,12 +129,13 @@ def test_what_is_counted(faults, streams, found):
 @pytest.mark.parametrize("name, level", [
     ("text/missing", "must"), ("malformed/character", "must"), ("malformed/replacement", "should"),
     ("unfinished/replacement", "should"), ("unfinished/leaked", "must"),
-    ("overlong/missing", "must"), ("surrogate/replacement", "should"),
+    ("overlong/missing", "must"), ("overlong/replacement", "should"), ("surrogate/data", "must"),
+    ("surrogate/replacement", "should"), ("delete/output", "must"), ("limit/memory", "must"),
     ("cut:unfinished/replacement", "must"), ("cut:between/other", "must"),
     ("parameters/count", "must"), ("empty-number/smaller", "differs"), ("colon/leaked", "should"),
     ("ignored-string/leaked", "should"), ("device-end/missing", "should"),
     ("largest/smaller", "differs"), ("largest/crash", "must"), ("numbers/hang", "must"),
-    ("not-deterministic", "must"), ("kept-state", "must")])
+    ("not-deterministic", "must"), ("kept-state", "must"), ("protocol", "must")])
 def test_levels(name, level):
     assert classes.level_of(name) == level
 
@@ -145,6 +146,64 @@ def test_what_binds_has_a_sentence():
         if classes.level_of(name) == "must" and name.partition("/")[2] not in kinds.FAILURES:
             assert re.search(r'".*\b(shall|must)\b.*"', rule.source), name
         assert rule.level in LEVELS
+
+
+# a stream, what is replaced in its lines, and the class: one that is about the rule of a limit, of
+# what is empty or of an end, only if the difference goes without it
+@pytest.mark.parametrize("stream, pattern, other, name", [
+    *((b"\x1b]a" + rest, " 61", " 62", "command/data") for rest in (
+        b"\x07", b"\x18", b"\x1b[m", b";" * 20 + b"\x07", b"a" * 2000 + b"\x07")),
+    *((b"\x1b]ab\x07", "1 6162", answer, f"command/{kind}") for answer, kind in (
+        ("1 61", "shorter"), ("2 61 62", "pieces"), ("1 616262", "longer"))),
+    (b"\x1b]a\x07", "true", "false", "command-bell/bell"),
+    (b"\x1b]a\x18", "osc.*", "unhook", "command-cut-short/other"),
+    (b"\x1b]\x07", "true", "false", "command-bell/bell"),
+    (b"\x1b]\x07", "osc.*", "unhook", "command-bell/other"),
+    (b"\x1b]\x07", "1 -", "1 61", "empty-command/longer"),
+    (b"\x1b[m", "6d", "6e", "control-sequence/final"), (b"\x1b[m", "0", "1", "empty-number/larger"),
+    (b"\x1b[1;m", "6d", "6e", "parameters/final"), (b"\x1bPq", "71", "72", "device-control/final"),
+    (b"\x1b]" + b";" * 20 + b"\x07", "16 ", "15 ", "pieces/pieces"),
+    (b"\x1b]" + b"a" * 2000 + b"\x07", "(61){999}", "61", "limit/shorter"),
+    (b"a\x1b]b\x1b\\", "0061", "0062", "text/character"),
+    (b"a\x1b]b\x1b\\", "5c", "5d", "terminator/final")])
+def test_which_rule_is_named(stream, pattern, other, name):
+    def answer(pieces, _=None):
+        return re.sub(pattern, other, "\n".join(definition.lines_of(b"".join(pieces)))).splitlines()
+    judge = judge_of(answer)
+    assert judge.named(judge.difference([stream])) == name
+
+
+@pytest.mark.parametrize("case", CASES[::3], ids=lambda case: case.name)
+def test_a_freed_case_has_none_of_its_rules(case):
+    """What is freed of a rule, or of all of its stream, lacks it and nothing else that stays."""
+    stream = b"".join(case.pieces)
+    rules = {name for step in definition.steps_of(stream) for name in step.rules}
+    for some in [{name} for name in rules] + [rules]:
+        left = b"".join(classes.freed(case.pieces, some, house.DEFAULT))
+        assert not some & {name for step in definition.steps_of(left) for name in step.rules}
+        rest = iter(stream)
+        assert all(byte in rest for byte in left)
+    assert classes.freed(case.pieces, {*RULES} - rules, house.DEFAULT) == case.pieces
+    cuts = {f"{classes.CUT_PREFIX}{name}" for name in RULES} | {classes.BETWEEN}
+    assert classes.freed(case.pieces, cuts, house.DEFAULT) == [stream]
+
+
+@pytest.mark.parametrize("stream, cuts, found", [
+    (b"ab", [1], [None]), (b"\xc3\xa9", [1], [0]), (b"\xc3\xa9a", [1, 2], [0, None]),
+    # what is malformed is found to be so after its end; of several steps it is the smallest
+    (b"a\xc3b", [1, 2], [None, 1]), (b"\x1b[\n1m", [1, 2, 3, 4], [1, 1, 1, 1]),
+    (b"\x1b]a\x07\xff\x1b", [3, 4, 5], [0, None, 1])])
+def test_what_a_cut_divides(stream, cuts, found):
+    assert [*classes.steps_at_cuts(definition.steps_of(stream), cuts).values()] == found
+
+
+@pytest.mark.parametrize("one, other, is_so", [
+    (candidate.HANG, "(memory: x)", True), ("(memory: x)", "(output: x)", True),
+    ("(output: x)", candidate.HANG, True), ("(crash: 1)", "(crash: 2)", True),
+    ("(crash: 1)", candidate.HANG, False), (candidate.HANG, "unhook", False),
+    ("unhook", candidate.HANG, False), ("unhook", "unhook", True), ("unhook", "put 00", False)])
+def test_which_answers_are_alike(one, other, is_so):
+    assert bool(is_alike(*(Difference([b"a"], [], ["put 01", it]) for it in (one, other)))) == is_so
 
 
 def test_an_open_character_that_is_replaced_at_the_end_is_no_must():
@@ -245,6 +304,8 @@ def test_left_out_and_known():
     (["esc - false 41"], ["esc - true 41"], "ignore"),
     (["esc 28 - 41"], ["esc - - 41"], "intermediates"),
     (["hook [1] - - 71"], ["hook [1] - - 70"], "final"),
+    # in long answers the first lines count
+    (["put 61", "unhook"] * 999, ["put 62", "print 0061"] * 999, "character"),
     (["unhook"] * 2, ["unhook", "(crash: status 1)"], "crash")])
 def test_kinds(one, other, kind):
     same = kinds.first_difference(one, other)
@@ -270,3 +331,7 @@ def test_all_vectors_are_judged():
               if vector["kind"] not in ("colour", "number")]
     assert [*found] == wanted
     assert found["vector ff-100-000-times"] == b"\xff" * 100000
+    steps = [{"advance": "62"}, {"act": "stop"}, {"bytes": ["63", {"repeat": "64", "times": 2}]}]
+    assert cases.pieces_of({"before": "61", "steps": steps}) == [b"a", b"b", b"cdd"]
+    assert cases.pieces_of({"pieces": ["61", "", "62"]}) == [b"a", b"b"]
+    assert cases.pieces_of({"text": "red"}) == [b""]

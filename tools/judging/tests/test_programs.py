@@ -99,6 +99,12 @@ def test_a_program_that_fails_is_a_difference(judge, pieces, command, seconds, t
     assert told in judge(1, *pieces.split(), "--timeout", seconds, "--case", "61", *command)
 
 
+@pytest.mark.parametrize("words, is_shown", [("--case 61", True), ("--streams random", False)])
+def test_standard_error_is_shown_of_a_case(judge, words, is_shown):
+    said = judge(1, *words.split(), "sh", "-c", "echo wh''y >&2; exit 3")
+    assert "(crash: status 3)" in said and ("why" in said) == is_shown
+
+
 def test_programs_that_never_answer_fail(judge):
     judge(1, "--pieces", "--seconds", 0.5, "sleep", "9")
     judge(1, "--pieces", "--timeout", 0.5, "--case", "61*100000", "yes", "end")

@@ -29,8 +29,8 @@ def write_crate(plan, read_files):
     by their places below its `src`."""
     files, names, tests = {"mod.rs": _root(plan)}, set(), set()
     for crate in plan.modules:
-        # parents first
-        for place, text in sorted(read_files(crate).items(), key=_by_depth):
+        # those that declare modules of tests come first
+        for place, text in sorted(read_files(crate).items(), key=_depth):
             name = f"{crate}/{PurePosixPath(place).with_suffix('')}"
             names.add(name)
             folders = {str(it) for it in PurePosixPath(name, "_").parents}
@@ -48,8 +48,8 @@ def write_crate(plan, read_files):
     return files
 
 
-def _by_depth(file):
-    return file[0] != "lib.rt", file[0].count("/"), file[0]
+def _depth(file):
+    return file[0] not in ("lib.rt", "main.rt"), file[0].count("/")
 
 
 def _named(plan):
@@ -60,9 +60,8 @@ def _named(plan):
 
 def target(plan, name):
     """Where a file of crates/ is written."""
-    folder, _, last = plan.renamed.get(name, name).rpartition("/")
-    is_root = last in ("lib", "main") and "/" not in folder
-    return f"{folder}/mod.rs" if is_root else f"{folder}/{last}.rs"
+    crate, _, rest = plan.renamed.get(name, name).partition("/")
+    return f"{crate}/mod.rs" if rest in ("lib", "main") else f"{crate}/{rest}.rs"
 
 
 def _root(plan):

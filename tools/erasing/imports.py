@@ -6,15 +6,14 @@ from erasing.passes import add_above
 from rattle_text.tokens import WORD
 
 # Modules of std that Rust's `core` has with the same meaning.
-OF_CORE = {"cmp", "fmt", "hash", "iter", "marker", "mem", "ops", "str", "time"}
+OF_CORE = {"cmp", "fmt", "iter", "marker", "mem", "ops", "str", "time"}
 
 
 def words_of_code(source):
     """How often each word stands in a file outside its imports."""
     imports = {place for at, end in source.items()
                if source.is_word(source.without_visibility(at), "use") for place in range(at, end)}
-    return Counter(token.text for place, token in enumerate(source.tokens)
-                   if token.kind == WORD and place not in imports)
+    return Counter(token.text for place, token in enumerate(source.tokens) if place not in imports)
 
 
 def renamed(source, at, path, crate, plan):
@@ -38,7 +37,7 @@ def rename_paths(source, crate, plan):
         before = source.before(at)
         is_inner = source.is_sign(before, ":") and source.is_sign(before - 1, ":")
         if source.kind(at) != WORD or source.words(at, 3)[1:] != [":", ":"] or is_inner \
-                or source.is_word(before, "use") or source.is_sign(before, "."):
+                or source.is_word(before, "use"):
             continue
         if source.text(at) == "str" and not imports_str:
             # as a method of the type it is newer than our oldest Rust
@@ -55,7 +54,7 @@ def imported(source, at, end):
     texts = (token.text for token in source.tokens[word + 1:end] if not token.is_blank)
     path = "".join(" as " if text == "as" else text for text in texts)
     root, _, listed = path.rstrip("},").partition("{")
-    return [(source.between(at, word - 1), root + name) for name in listed.split(",") or [""]]
+    return [(source.between(at, word - 1), root + name) for name in listed.split(",")]
 
 
 def settle_imports(source, crate, plan, before):
@@ -69,7 +68,7 @@ def settle_imports(source, crate, plan, before):
             name = path.rpartition("::")[2]
             elsewhere = plan.imported_from(source.name, path)
             is_needed = visibility or used[name] or not before[name]
-            if name != "laws" and elsewhere != "" and is_needed:
+            if elsewhere != "" and is_needed:
                 paths.append(elsewhere or renamed(source, at, path, crate, plan))
                 known.add(name)
         if paths:

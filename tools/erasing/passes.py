@@ -150,9 +150,8 @@ def complete_examples(source, lines):
             source.cut(opened - 2 * (source.text(opened - 2) == front), closed)
             continue
         for at in range(opened, closed):
-            if source.kind(at) == COMMENT:
-                text = source.text(at).replace("(alloc)", "()")
-                source.tokens[at] = source.tokens[at]._replace(text=text)
+            text = source.text(at).replace("(alloc)", "()")
+            source.tokens[at] = source.tokens[at]._replace(text=text)
         source.insert(closed, "".join(f"{front} # {line}\n" for line in lines[shown + 1 :]))
         source.insert(opened + 1, "".join(f"\n{front} # {line}" for line in lines[:shown]))
 

@@ -119,6 +119,8 @@ TEXTS = [
      "use q::find; use c::D; fn g() { find(x.find()) }"),
     (dict(imports={"a": {"c::D": "e::D", "f::": ""}}),
      "use c::D; use c::{I as J, K}; use f::{G, H};", "use e::D; use c::{I as J, K};"),
+    ({}, "fn f(k: b::K) { b::g(b::h::<b::I>(), c::b::J) }",
+     "fn f(k: crate::b::K) { crate::b::g(crate::b::h::<crate::b::I>(), c::b::J) }"),
     # bodies that stay as they are
     *(({}, text, text) for text in (
         "fn f() -> Option<u8> { let x = *g(); h()?; Some(x) }", "fn f() { !x >= 1 && x <= 5 }",
@@ -167,6 +169,23 @@ class Erasing(unittest.TestCase):
             with self.subTest(text=text), self.assertRaises(Refused) as caught:
                 erased(text, plan(**given))
             self.assertEqual(caught.exception.line or 1, line, caught.exception)
+
+    def test_which_files_are_written(self):
+        made = {"a": {"y/tests.rt": "#[x]", "x.rt": "#[x]", "y.rt": "#[cfg(test)] mod tests;",
+                      "lib.rt": "#[cfg(test)] mod x; mod y; mod z; mod left;", "z/lib.rt": "",
+                      "z/laws/b.rt": "#[x]",
+                      "left.rt": "#[x]", "left/over.rt": "#[x]", "leftover.rt": ""},
+                "b": {"main.rt": "#[cfg(test)] mod x;", "x.rt": "#[x]", "old.rt": "fn f() {}"}}
+        given = plan(left_out={"a/left"}, renamed={"b/old": "b/new"}, conditions={"b": "x"},
+                     allowed=("y", "z"))
+        files = write_crate(given, lambda crate: dict(sorted(made[crate].items(), reverse=True)))
+        self.assertEqual(sorted(files), ["a/leftover.rs", "a/mod.rs", "a/y.rs", "a/z/lib.rs",
+                                         "b/mod.rs", "b/new.rs", "mod.rs"])
+        self.assertEqual(files["b/new.rs"], "// Written by tools/erase from crates/b/src/old.rt: "
+                                            "edit that one.\nfn f() {}\n")
+        self.assertIn("#![allow(y, z)]\n", files["mod.rs"])
+        self.assertEqual(files["mod.rs"].splitlines()[-3:], [
+            "pub(crate) mod a;", "#[cfg(x)]", "pub(crate) mod b;"])
 
     def test_failures_name_file_and_line(self):
         with self.assertRaisesRegex(Failure, r"^crates/a/src/x\.rt:2: unknown attribute: test$"):

@@ -1,6 +1,8 @@
 #!/usr/bin/env python3
 """Tests of tools/erase: python3 tools/erasing/test_erasing.py"""
+import os
 import sys
+import tempfile
 import unittest
 from dataclasses import fields, replace
 from pathlib import Path
@@ -9,6 +11,7 @@ sys.dont_write_bytecode = True
 TOOLS = Path(__file__).resolve().parent.parent
 sys.path.insert(0, str(TOOLS))
 
+from building import rust_builds  # noqa: E402
 from erasing import wording  # noqa: E402
 from erasing.crate import Failure, erase, write_crate  # noqa: E402
 from erasing.patterns import rewrite  # noqa: E402
@@ -186,6 +189,11 @@ class Erasing(unittest.TestCase):
         self.assertIn("#![allow(y, z)]\n", files["mod.rs"])
         self.assertEqual(files["mod.rs"].splitlines()[-3:], [
             "pub(crate) mod a;", "#[cfg(x)]", "pub(crate) mod b;"])
+
+    @unittest.skipUnless(os.environ.get("HAS_CRATES") == "yes", "without the crates of rust/vte")
+    def test_what_the_benchmark_shares_compiles(self):
+        with tempfile.TemporaryDirectory() as folder:
+            rust_builds.placed_peers(True, folder, "checked", 1)
 
     def test_failures_name_file_and_line(self):
         with self.assertRaisesRegex(Failure, r"^crates/a/src/x\.rt:2: unknown attribute: test$"):

@@ -75,26 +75,6 @@ def test_a_breach_of_a_house_rule_has_its_rule(breach, rules):
     assert (result.unexplained, result.status()) == (0, 1)
 
 
-# changes of lines by other faults, and the classes of each
-@pytest.mark.parametrize("pattern, text, found", [
-    (r"^execute 18$", "execute 1a", "control/character cancel/character "
-     "command-cut-short/character device-cut-short/character"),
-    (r"^(esc - \S+ )41$", r"\g<1>42", "escape-sequence/final"),
-    (r"^(csi .* )6d$", r"\g<1>6e", "control-sequence/final"),
-    (r"^(csi \[)0\]", r"\g<1>1]", "empty-number/larger parameters/larger"),
-    (r"^(csi .*) false (..)$", r"\1 true \2", "control-sequence/ignore"),
-    (r"^(csi \[[^]]*\]) 3f ", r"\1 - ", "intermediates/intermediates"),
-    (r"^osc true ", "osc false ", "command-bell/bell"),
-    (r"^(osc \S+ 1) ..", r"\1 ", "command/shorter command/data"),
-    (r"^put 07$", "put 08", "device-data/character"),
-    (r"^unhook$", "execute 00", "device-end/other device-cut-short/other byte-9c/other"),
-    (r"^print 00e9$", "print 00e8", "text/character")])
-def test_one_fault_has_one_class(pattern, text, found):
-    result = judged(lambda pieces, _: [
-        re.sub(pattern, text, line) for line in definition.lines_of(b"".join(pieces))])
-    assert set(result.findings) == set(found.split())
-
-
 # for streams in a row, what is replaced in the lines, and the streams that each class counts
 @pytest.mark.parametrize("faults, streams, found", [
     # what isn't shrunk any more counts for the class to which such a case was shrunk last
@@ -132,9 +112,9 @@ def test_what_is_counted(faults, streams, found):
     ("overlong/missing", "must"), ("overlong/replacement", "should"), ("surrogate/data", "must"),
     ("surrogate/replacement", "should"), ("delete/output", "must"), ("limit/memory", "must"),
     ("cut:unfinished/replacement", "must"), ("cut:between/other", "must"),
-    ("parameters/count", "must"), ("empty-number/smaller", "differs"), ("colon/leaked", "should"),
+    ("parameters/numbers", "must"), ("empty-number/numbers", "differs"), ("colon/leaked", "should"),
     ("ignored-string/leaked", "should"), ("device-end/missing", "should"),
-    ("largest/smaller", "differs"), ("largest/crash", "must"), ("numbers/hang", "must"),
+    ("largest/numbers", "differs"), ("largest/crash", "must"), ("numbers/hang", "must"),
     ("not-deterministic", "must"), ("kept-state", "must"), ("protocol", "must")])
 def test_levels(name, level):
     assert classes.level_of(name) == level
@@ -153,17 +133,17 @@ def test_what_binds_has_a_sentence():
 @pytest.mark.parametrize("stream, pattern, other, name", [
     *((b"\x1b]a" + rest, " 61", " 62", "command/data") for rest in (
         b"\x07", b"\x18", b"\x1b[m", b";" * 20 + b"\x07", b"a" * 2000 + b"\x07")),
-    *((b"\x1b]ab\x07", "1 6162", answer, f"command/{kind}") for answer, kind in (
-        ("1 61", "shorter"), ("2 61 62", "pieces"), ("1 616262", "longer"))),
+    (b"\x1b]ab\x07", "1 6162", "2 61 62", "command/pieces"),
     (b"\x1b]a\x07", "true", "false", "command-bell/bell"),
     (b"\x1b]a\x18", "osc.*", "unhook", "command-cut-short/other"),
     (b"\x1b]\x07", "true", "false", "command-bell/bell"),
     (b"\x1b]\x07", "osc.*", "unhook", "command-bell/other"),
-    (b"\x1b]\x07", "1 -", "1 61", "empty-command/longer"),
-    (b"\x1b[m", "6d", "6e", "control-sequence/final"), (b"\x1b[m", "0", "1", "empty-number/larger"),
+    (b"\x1b]\x07", "1 -", "1 61", "empty-command/data"),
+    (b"\x1b[m", "6d", "6e", "control-sequence/final"),
+    (b"\x1b[m", "0", "1", "empty-number/numbers"),
     (b"\x1b[1;m", "6d", "6e", "parameters/final"), (b"\x1bPq", "71", "72", "device-control/final"),
     (b"\x1b]" + b";" * 20 + b"\x07", "16 ", "15 ", "pieces/pieces"),
-    (b"\x1b]" + b"a" * 2000 + b"\x07", "(61){999}", "61", "limit/shorter"),
+    (b"\x1b]" + b"a" * 2000 + b"\x07", "(61){999}", "61", "limit/data"),
     (b"a\x1b]b\x1b\\", "0061", "0062", "text/character"),
     (b"a\x1b]b\x1b\\", "5c", "5d", "terminator/final")])
 def test_which_rule_is_named(stream, pattern, other, name):
@@ -288,19 +268,19 @@ def test_left_out_and_known():
 
 
 @pytest.mark.parametrize("one, other, kind", [
-    *(([f"csi {numbers} - false 6d"], [f"csi {others} - false 6d"], kind)
-      for numbers, others, kind in [
-          ("[9]", "[10]", "larger"), ("[100]", "[99]", "smaller"), ("[1;2]", "[1;03]", "larger"),
-          ("[1]", "[1;0]", "count"), ("[1:2]", "[1;2]", "groups"),
-          ("[65535]", f"[{'9' * 5000}]", "larger")]),
+    (["csi [9] - false 6d"], ["csi [10] 3f true 6e"], "numbers"),
+    (["hook [1:2] - - 71"], ["hook [1;2] - - 70"], "numbers"),
     ([], ["print 0061"], "leaked"), ([], ["unhook"], "extra"), (["unhook"], [], "missing"),
     (["execute 07"], ["print 0007"], "leaked"), (["print 0061"], ["unhook"], "other"),
     (["print fffd"], ["print fffd"] * 2, "replacement"), (["print fffd"], [], "replacement"),
     (["print fffd"], ["print 00e9"], "character"), (["put 61"], ["put 62"], "character"),
     (["print fffd", "print 0061"], [], "missing"),
     (["osc true 1 61"], ["osc false 1 61"], "bell"), (["osc - 1 61"], ["osc - 2 61 -"], "pieces"),
-    (["osc - 2 61 -"], ["osc - 2 - 61"], "pieces"), (["osc - 1 6162"], ["osc - 1 61"], "shorter"),
-    (["osc - 1 61"], ["osc - 1 6162"], "longer"), (["osc - 1 61"], ["osc - 1 62"], "data"),
+    (["osc - 2 61 -"], ["osc - 2 - 61"], "pieces"), (["osc - 1 61"], ["osc - 1 6162"], "data"),
+    (["osc - 2 61 62"], ["osc - 2 61 63"], "data"), (["osc true 1 61"], ["osc - 2 - 62"], "bell"),
+    (["csi [1] - false 6d"], ["csi [1] 3f true 6d"], "intermediates"),
+    (["esc - false 41"], ["esc - false 42"], "final"),
+    (["csi [] - - 6d"], ["csi [] - true 6e"], "ignore"),
     (["esc - false 41"], ["esc - true 41"], "ignore"),
     (["esc 28 - 41"], ["esc - - 41"], "intermediates"),
     (["hook [1] - - 71"], ["hook [1] - - 70"], "final"),

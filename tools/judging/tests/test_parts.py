@@ -121,7 +121,7 @@ def test_the_example_of_the_page():
     answers = ["csi [65535] - false 61"], ["csi [91111] - false 61"]
     difference = Difference([b"\x1b[91111a"], *answers)
     case = Case("vector number-far-past-the-limit", [b"a" * 20, b"bc"])
-    shown = report.shown_finding(Finding("largest/larger", difference, case),
+    shown = report.shown_finding(Finding("largest/numbers", difference, case),
                                  "tools/judge --case '{}' python3 /tmp/my_parser.py".format)
     page = (TOOLS.parent / "docs" / "JUDGE.md").read_text()
     assert "".join(f"    {line}\n" for line in shown.splitlines()) in page
@@ -319,7 +319,7 @@ def formatted(kind, **given):
     """What a format makes of two rules, with texts that it has to escape: one is known, of the
     other a kind is new."""
     found = {}
-    for name, is_new in (("text/missing", False), ("colon/count", False), ("colon/groups", True)):
+    for name, is_new in (("text/missing", False), ("colon/numbers", False), ("colon/leaked", True)):
         lines = ["print 0061", "(protocol: this is no event line: '<&#\">')"]
         difference, case = Difference([b"a#"], ["unhook"], lines), Case("x # y", [b"ab"])
         found[name] = Finding(name, difference, case, is_new)

@@ -171,7 +171,7 @@ def test_known_differences_are_passed(judge_toy, tmp_path):
     known.write_text("largest  # as our screen does\n")
     judge_toy(0, "--known", known, fault="largest=9999")
     judge_toy(1, "--write-known", known, fault="largest=9999")
-    assert known.read_text() == "largest/smaller\n"
+    assert known.read_text() == "largest/numbers\n"
     judge_toy(0, "--known", known, fault="largest=9999")
 
 
@@ -179,7 +179,7 @@ def test_known_differences_are_passed(judge_toy, tmp_path):
     ("", "COMMAND is missing"), ("no-such-program", "not a program"),
     ("--house bell=x cat", "bell is one of"), ("--house limit=x cat", "limit is a number"),
     ("--house x=1 cat", "unknown house"), ("--leave-out x cat", "unknown class"),
-    ("--leave-out largest/smaller cat", "unknown class"), ("--untold x cat", "unknown word"),
+    ("--leave-out largest/numbers cat", "unknown class"), ("--untold x cat", "unknown word"),
     ("--streams x cat", "unknown kind"), ("--known /no/file cat", "No such file"),
     ("--case 6 cat", "invalid case"), ("--vtlog /no/vtlog cat", "not a program")])
 def test_usage(judge, words, message):

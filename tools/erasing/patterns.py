@@ -6,7 +6,7 @@ don't count.
 """
 from functools import lru_cache
 
-from erasing.source import CLOSING, OPENING
+from erasing.source import CLOSING
 from rattle_text.tokens import COMMENT, split
 
 
@@ -72,7 +72,7 @@ def _element_end(source, at):
     """The last place of one token, or of a bracket; None at the end of what is around it."""
     if source.kind(at) is None or source.is_sign(at, CLOSING):
         return None
-    return source.match(at) if source.is_sign(at, OPENING) else at
+    return source.match(at)
 
 
 def rewrite(source, pattern, by, holds=lambda names: True):

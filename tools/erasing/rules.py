@@ -95,7 +95,7 @@ PARAMETERS = [
 OLDER = [
     ("let $v($$p) = $$e else { $$$body };", lambda names: _match(**names)),
     ("$a..$b =>", lambda names: f"{names['a']}..={_before(names['b'])} =>",
-     lambda names: names["b"].isalnum() and names["b"][0].isdigit()),
+     lambda names: names["b"][0].isdigit()),
 ]
 
 

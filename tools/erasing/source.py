@@ -29,7 +29,7 @@ class Source:
         return self.kind(at) == MARK and self.text(at) in signs
 
     def is_word(self, at, *words):
-        return self.kind(at) == WORD and self.text(at) in words
+        return self.text(at) in words
 
     def refuse(self, message, at=0):
         last = min(at, len(self.tokens) - 1)
@@ -65,7 +65,7 @@ class Source:
         return at
 
     def match(self, at):
-        """The bracket that belongs to the one at a place."""
+        """The bracket that belongs to the one at a place, or the place if there is none."""
         depth, step = 0, 1 if self.text(at) in OPENING else -1
         for place in range(at, len(self.tokens) if step > 0 else -1, step):
             depth += self.is_sign(place, OPENING) - self.is_sign(place, CLOSING)
@@ -95,7 +95,7 @@ class Source:
 
     def with_visibility(self, at):
         before = self.before(at)
-        if self.is_sign(before, ")") and self.text(self.before(self.match(before))) == "pub":
+        if self.is_sign(before, ")"):
             return self.before(self.match(before))
         return before if self.text(before) == "pub" else at
 
@@ -163,7 +163,7 @@ class Source:
                                         for token in split(text)]
 
     def insert(self, at, text):
-        line = self.tokens[min(at, len(self.tokens) - 1)].line
+        line = self.tokens[at].line
         self.tokens[at:at] = [Token(token.kind, token.text, line) for token in split(text)]
 
     def written(self):

@@ -1,6 +1,7 @@
 #!/usr/bin/env python3
 """Tests of tools/erase: python3 tools/erasing/test_erasing.py"""
 import os
+import subprocess
 import sys
 import tempfile
 import unittest
@@ -122,6 +123,12 @@ TEXTS = [
      "use q::find; use c::D; fn g() { find(x.find()) }"),
     (dict(imports={"a": {"c::D": "e::D", "f::": ""}}),
      "use c::D; use c::{I as J, K}; use f::{G, H};", "use e::D; use c::{I as J, K};"),
+    (dict(dropped={"a/x": ("fn f",)}), "// goes\n#[inline] pub(crate) fn f() {}\nconst A: u8 = 1;",
+     "const A: u8 = 1;"),
+    (dict(members={"a/x": {"enum E {": {"*": "{words} {snake} {name}.", "Four": "4."}}}),
+     "enum E { #[default] One, TwoWords(u8),\n/// Said.\nThree, Four { a: u8 } }",
+     "enum E {\n/// One one One.\n#[default] One,\n/// Two words two_words TwoWords.\n"
+     "TwoWords(u8),\n/// Said.\nThree,\n/// 4.\nFour { a: u8 } }"),
     ({}, "fn f(k: b::K) { b::g(b::h::<b::I>(), c::b::J) }",
      "fn f(k: crate::b::K) { crate::b::g(crate::b::h::<crate::b::I>(), c::b::J) }"),
     # bodies that stay as they are
@@ -192,24 +199,31 @@ class Erasing(unittest.TestCase):
 
     @unittest.skipUnless(os.environ.get("HAS_CRATES") == "yes", "without the crates of rust/vte")
     def test_what_the_benchmark_shares_compiles(self):
+        if "2024" not in subprocess.check_output(["rustc", "--help"], text=True):
+            self.skipTest("with an older Rust")
         with tempfile.TemporaryDirectory() as folder:
             rust_builds.placed_peers(True, folder, "checked", 1)
 
     def test_failures_name_file_and_line(self):
         with self.assertRaisesRegex(Failure, r"^crates/a/src/x\.rt:2: unknown attribute: test$"):
             write_crate(plan(), lambda _crate: {"x.rt": "\n#[test]\nfn f() {}\n"})
+        with self.assertRaisesRegex(Failure, r"^crates/a/src/x\.rt:1: wording.json expects one"):
+            write_crate(plan(comments={"a/x": {"One": ""}}), lambda _crate: {"x.rt": "fn f() {}"})
 
     def test_each_table_names_files_that_exist(self):
         tables = {it.name: {"a/gone": {}} for it in fields(Plan) if it.default_factory is dict}
-        for name, table in {**tables, "left_out": {"a/gone"}, "handler": ("a/gone", ())}.items():
+        tables.update(left_out={"a/gone"}, handler=("a/gone", ()))
+        for name, table in tables.items():
             given = replace(plan(), **{name: table})
             with self.subTest(name), self.assertRaisesRegex(Failure, "don't exist: a/gone"):
                 write_crate(given, lambda _crate: {"x.rt": ""})
 
     def test_a_match_with_a_comment_stays(self):
-        for text, stays in ("f(// why\nalloc)\n", True), ("f(alloc)\n", False):
+        for text, pattern, stays in (
+                ("f(// why\nalloc)\n", "(alloc)", True), ("f(alloc)\n", "(alloc)", False),
+                ("f(a; b)\n", "($$x)", True), ("f(a; b)\n", "($$$x)", False)):
             source = Source(text, "a/x")
-            rewrite(source, "(alloc)", "()")
+            rewrite(source, pattern, "()")
             self.assertEqual(source.written() == text, stays)
 
 

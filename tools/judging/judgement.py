@@ -88,8 +88,8 @@ class Judge:
         self.left_out, self.known, self.report = frozenset(left_out), known, report
         self.result = Judgement()
         self.again, self.is_over, self.end = 0, False, candidate.deadline
-        # for a rule and a kind: the number of tries to find their class, and the class found last
-        self.tries, self.resolved = Counter(), {}
+        # for a rule and a kind, the number of tries to find their class
+        self.tries = Counter()
 
     def run(self, cases):
         """Judges cases until there are none left or the time is over."""
@@ -227,18 +227,11 @@ class Judge:
             excluded = self.excluded(of_step)
             if left := self.left(difference, excluded, kind):
                 self.tries[rule, kind] += 1
-                self.resolved[rule, kind] = self.find(case, left, excluded, kind)
+                self.find(case, left, excluded, kind)
         if signatures and self.result.unexplained == before:
             rule, _, kind = signatures[0]
-            self.count(self.class_found(rule, kind))
-
-    def class_found(self, rule, kind):
-        """The class for which a difference counts: of the rule and the kind, or that to which such
-        a one was shrunk, or the rule's first."""
-        if f"{rule}/{kind}" in self.result.findings:
-            return f"{rule}/{kind}"
-        of_rule = [it for it, finding in self.result.findings.items() if finding.rule == rule]
-        return self.resolved.get((rule, kind)) or next(iter(of_rule), None)
+            of_rule = (it for it, finding in self.result.findings.items() if finding.rule == rule)
+            self.count(f"{rule}/{kind}") or self.count(next(of_rule, None))
 
     def find(self, case, left, excluded, kind=None):
         """Shrinks a difference without some rules, and reports its class if it is new. The name of

@@ -77,9 +77,9 @@ def test_a_breach_of_a_house_rule_has_its_rule(breach, rules):
 
 # for streams in a row, what is replaced in the lines, and the streams that each class counts
 @pytest.mark.parametrize("faults, streams, found", [
-    # what isn't shrunk any more counts for the class to which such a case was shrunk last
+    # what isn't shrunk any more counts for the first class of its rule
     ({"execute 0f": "execute 1f", "execute 0e\nexecute 10": "print 0010", "execute 0e\n": ""},
-     [b"\x0f", b"\x0e", *[b"\x0e\x10"] * 4], {"control/character": 1, "control/missing": 5}),
+     [b"\x0f", b"\x0e", *[b"\x0e\x10"] * 4], {"control/character": 2, "control/missing": 4}),
     # a kind that only shows beside another rule is looked for till it shows alone
     ({"execute 0e\n": "", "esc - false 41": "execute 41", "execute 0f": "execute 1f"},
      [b"\x0e", b"\x1bA", *[b"\x0e\x1bA"] * 9, b"\x0f"],

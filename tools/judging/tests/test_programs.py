@@ -70,6 +70,7 @@ def test_what_decides_is_in_the_command(judge, vtlog):
       for status, fault, told in ((0, None, "csi [65535]"), (1, "largest=9999", "csi [9999]"))),
     (1, "--case 'c3 | a9'", {"fault": "divided"}, "NEW   cut:text/"),
     (1, "--case '0e / 61'", {"fault": "stateful"}, "NEW   kept-state"),
+    (0, "--format json --case 61", {}, '"different": 0'),
     (0, "--case 61", {"fault": "stateful"}, "no difference")])
 def test_statuses(judge_toy, status, words, how, told):
     assert told in judge_toy(status, *shlex.split(words), **how)
@@ -181,6 +182,6 @@ def test_known_differences_are_passed(judge_toy, tmp_path):
     ("--house x=1 cat", "unknown house"), ("--leave-out x cat", "unknown class"),
     ("--leave-out largest/numbers cat", "unknown class"), ("--untold x cat", "unknown word"),
     ("--streams x cat", "unknown kind"), ("--known /no/file cat", "No such file"),
-    ("--case 6 cat", "invalid case"), ("--vtlog /no/vtlog cat", "not a program")])
+    ("--write-known /no/file cat", "No such file"), ("--case 6 cat", "invalid case"), ("--vtlog /no/vtlog cat", "not a program")])
 def test_usage(judge, words, message):
     assert message in judge(2, *words.split())

@@ -182,6 +182,7 @@ def test_known_differences_are_passed(judge_toy, tmp_path):
     ("--house x=1 cat", "unknown house"), ("--leave-out x cat", "unknown class"),
     ("--leave-out largest/numbers cat", "unknown class"), ("--untold x cat", "unknown word"),
     ("--streams x cat", "unknown kind"), ("--known /no/file cat", "No such file"),
-    ("--write-known /no/file cat", "No such file"), ("--case 6 cat", "invalid case"), ("--vtlog /no/vtlog cat", "not a program")])
+    ("--case 6 cat", "invalid case"), ("--vtlog /no/vtlog cat", "not a program"),
+    ("--write-known /no/file cat", "No such file")])
 def test_usage(judge, words, message):
     assert message in judge(2, *words.split())

@@ -292,6 +292,13 @@ def test_kinds(one, other, kind):
     assert kinds.differences_of(one, other) == [(same, kind)] and kind in kinds.KINDS
 
 
+def test_each_difference_has_its_place():
+    one = ["put 61", "unhook", "put 62", "execute 07", "print 0061", "unhook"]
+    other = ["put 60", "unhook", "execute 07", "print 0061", "print 0062", "unhook"]
+    assert kinds.differences_of(one, other) == [(0, "character"), (2, "missing"), (5, "leaked")]
+    assert kinds.differences_of(other, one) == [(0, "character"), (2, "extra"), (4, "missing")]
+
+
 def test_which_streams_are_judged():
     some = [*cases.all_cases(["random"], "7", 40)]
     assert some == [*cases.all_cases(["random"], "7", 400)][:40]

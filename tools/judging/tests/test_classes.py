@@ -7,7 +7,7 @@ import pytest
 from judging import candidate, cases, classes, definition, house, kinds, report, shrinking, views
 from judging.classes import Difference
 from judging.judgement import Judge, is_alike
-from judging.rules import LEVELS, RULES
+from judging.rules import CUT, LEVELS, RULES
 from support import FILES
 
 
@@ -118,6 +118,15 @@ def test_what_is_counted(faults, streams, found):
     ("not-deterministic", "must"), ("kept-state", "must"), ("protocol", "must")])
 def test_levels(name, level):
     assert classes.level_of(name) == level
+
+
+def test_what_a_class_is():
+    for name in "largest", "largest/numbers", "protocol", "cut:between", "cut:text/data":
+        assert classes.is_class(name)
+    for name in "x", "largest/x", "cut:x", "between", "cut", "/missing":
+        assert not classes.is_class(name)
+    assert [rule.says for rule in classes.rule_of("cut:text/data")] == [CUT.says, RULES["text"].says]
+    assert classes.rule_of("cut:between") == [CUT]
 
 
 def test_what_binds_has_a_sentence():

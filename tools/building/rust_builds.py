@@ -17,9 +17,6 @@ from erasing.plan import RACE
 
 TOOLS = Path(__file__).resolve().parent.parent
 OURS = TOOLS.parent / "rust" / "vte"
-# for cargo: crates of packages that are installed
-INSTALLED = ["--config", 'source.crates-io.replace-with="installed"',
-             "--config", 'source.installed.directory="/usr/share/cargo/registry"']
 PROFILES = {
     "fat": {"LTO": "fat", "CODEGEN_UNITS": "1"},
     "release": {"LTO": "false", "CODEGEN_UNITS": "16"},
@@ -65,7 +62,6 @@ class Workshop:
         for name, value in PROFILES[profile].items():
             self.environment[f"CARGO_PROFILE_RELEASE_{name}"] = value
         self.dependencies = "".join(f'{name} = "*"\n' for name in ("arrayvec", *others))
-        self.options = []
 
     def vte(self, features, folder=None):
         """Lets programs depend on the crate `vte`, or on that of a folder."""
@@ -79,7 +75,7 @@ class Workshop:
         manifest.write_text('[package]\nname = "built"\nversion = "0.0.0"\nedition = "2024"\n'
                             f'[[bin]]\nname = "{name}"\npath = "{Path(source).resolve()}"\n'
                             f'[workspace]\n[dependencies]\n{self.dependencies}')
-        words = ["cargo", "rustc", "--release", *self.options, "--manifest-path", manifest, "--"]
+        words = ["cargo", "rustc", "--release", "--manifest-path", manifest, "--"]
         run([*words, "--cap-lints", "allow", *flags], f"{name} of {source}", self.environment)
         return self.built / name
 
@@ -118,13 +114,6 @@ def peer_sources(folder):
         text = (TOOLS.parent / "crates" / crate / "src" / f"{name}.rt").read_text()
         (folder / f"{name}.rs").write_text(erase(text, crate, f"{crate}/{name}", RACE)[0])
     return folder / "main.rs"
-
-
-def by_cargo(folder, source, dependencies, flags):
-    """Builds a program by cargo over crates that are installed, and returns its path."""
-    workshop = Workshop(folder)
-    workshop.dependencies, workshop.options = dependencies, INSTALLED
-    return workshop.program("built", source, flags=flags)
 
 
 def run(words, what, environment=None, folder=None):

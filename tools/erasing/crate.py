@@ -25,36 +25,43 @@ class Failure(Exception):
 
 
 def write_crate(plan, read_files):
-    """The files of a crate, by path below its folder. `read_files` answers the files of a Rattle crate, by their places below its `src`."""
+    """The files of a crate, by path below its folder. `read_files` answers those of a Rattle crate,
+    by their places below its `src`."""
     files, names, tests = {"mod.rs": _root(plan)}, set(), set()
     for crate in plan.modules:
-        # parents first
-        for place, text in sorted(read_files(crate).items(), key=lambda file: (file[0] != "lib.rt", file[0].count("/"), file[0])):
+        # those that declare modules of tests come first
+        for place, text in sorted(read_files(crate).items(), key=_depth):
             name = f"{crate}/{PurePosixPath(place).with_suffix('')}"
             names.add(name)
-            if "laws" in PurePosixPath(name).parts or any(name == it or name.startswith(f"{it}/") for it in tests | plan.left_out):
+            folders = {str(it) for it in PurePosixPath(name, "_").parents}
+            if "laws" in name.split("/") or folders & (tests | plan.left_out):
                 continue
             try:
                 erased, its_tests = erase(text, crate, name, plan)
             except Refused as refused:
-                raise Failure(f"crates/{crate}/src/{place}:{refused.line or 1}: {refused}") from None
+                where = f"crates/{crate}/src/{place}:{refused.line or 1}"
+                raise Failure(f"{where}: {refused}") from None
             files[target(plan, name)] = MARK.format(origin=f"crates/{crate}/src/{place}") + erased
             tests |= its_tests
     if unknown := _named(plan) - names:
-        raise Failure(f"tools/erasing/plan.py names files that don't exist: {', '.join(sorted(unknown))}")
+        raise Failure(f"plan.py names files that don't exist: {', '.join(sorted(unknown))}")
     return files
 
 
+def _depth(file):
+    return file[0] not in ("lib.rt", "main.rt"), file[0].count("/")
+
+
 def _named(plan):
-    by_file = (plan.under, plan.renamed, plan.dropped, plan.added, plan.rules, plan.lines,
-               plan.members, plan.inlined, plan.comments, plan.examples)
-    return {*plan.left_out, *(name for table in by_file for name in table if "/" in name), *filter(None, plan.handler[:1])}
+    """The files that a plan names: whatever has such keys is by file."""
+    keys = {name for table in vars(plan).values() if isinstance(table, dict) for name in table}
+    return {name for name in {*keys, *plan.left_out, plan.handler[0]} if "/" in name}
 
 
 def target(plan, name):
     """Where a file of crates/ is written."""
-    folder, _, last = plan.renamed.get(name, name).rpartition("/")
-    return f"{folder}/mod.rs" if last in ("lib", "main") and "/" not in folder else f"{folder}/{last}.rs"
+    crate, _, rest = plan.renamed.get(name, name).partition("/")
+    return f"{crate}/mod.rs" if rest in ("lib", "main") else f"{crate}/{rest}.rs"
 
 
 def _root(plan):
@@ -100,7 +107,8 @@ def _leave_out(source, name, plan):
         if inside in (name, name.removesuffix("/lib")):
             modules.append(module)
     for module in modules:
-        passes.drop_items(source, [f"mod {module}"] + [f"use {module}"] * bool(source.places(f"use {module}")))
+        exports = [f"use {module}"] * bool(source.places(f"use {module}"))
+        passes.drop_items(source, [f"mod {module}", *exports])
 
 
 def _apply_rules(source, crate, name, plan):

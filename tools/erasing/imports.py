@@ -1,4 +1,4 @@
-"""Imports, and the roots of paths: those of a crate's own modules, of Rust's std and of the prelude."""
+"""Imports, and the roots of paths: a crate's own modules, Rust's std and the prelude."""
 import re
 from collections import Counter
 
@@ -6,13 +6,14 @@ from erasing.passes import add_above
 from rattle_text.tokens import WORD
 
 # Modules of std that Rust's `core` has with the same meaning.
-OF_CORE = {"cmp", "fmt", "hash", "iter", "marker", "mem", "ops", "str", "time"}
+OF_CORE = {"cmp", "fmt", "iter", "marker", "mem", "ops", "str", "time"}
 
 
 def words_of_code(source):
     """How often each word stands in a file outside its imports."""
-    imports = {place for at, end in source.items() if source.is_word(source.without_visibility(at), "use") for place in range(at, end)}
-    return Counter(token.text for place, token in enumerate(source.tokens) if token.kind == WORD and place not in imports)
+    imports = {place for at, end in source.items()
+               if source.is_word(source.without_visibility(at), "use") for place in range(at, end)}
+    return Counter(token.text for place, token in enumerate(source.tokens) if place not in imports)
 
 
 def renamed(source, at, path, crate, plan):
@@ -29,12 +30,14 @@ def renamed(source, at, path, crate, plan):
 
 
 def rename_paths(source, crate, plan):
-    """Renames the roots of paths outside of imports. Links in docs stay: they name what the root exports."""
-    imports_str = any(path.endswith("std::str") for at, end in source.items() for _, path in imported(source, at, end))
+    """Renames the roots of paths outside of imports. Links in docs stay."""
+    imports_str = any(path.endswith("std::str") for at, end in source.items()
+                      for _, path in imported(source, at, end))
     for at in reversed(range(len(source.tokens))):
         before = source.before(at)
-        if source.kind(at) != WORD or source.words(at, 3)[1:] != [":", ":"] or source.is_word(before, "use") or source.is_sign(before, ".") \
-                or source.is_sign(before, ":") and source.is_sign(before - 1, ":"):
+        is_inner = source.is_sign(before, ":") and source.is_sign(before - 1, ":")
+        if source.kind(at) != WORD or source.words(at, 3)[1:] != [":", ":"] or is_inner \
+                or source.is_word(before, "use"):
             continue
         if source.text(at) == "str" and not imports_str:
             # as a method of the type it is newer than our oldest Rust
@@ -44,18 +47,18 @@ def rename_paths(source, crate, plan):
 
 
 def imported(source, at, end):
-    """The names that an item imports: pairs of a visibility and a path, or none if it is another item."""
+    """The names that an item imports, if it does: pairs of a visibility and a path."""
     word = source.without_visibility(at)
     if not source.is_word(word, "use"):
         return []
-    texts = (source.text(place) for place in range(word + 1, end) if not source.tokens[place].is_blank)
+    texts = (token.text for token in source.tokens[word + 1:end] if not token.is_blank)
     path = "".join(" as " if text == "as" else text for text in texts)
     root, _, listed = path.rstrip("},").partition("{")
-    return [(source.between(at, word - 1), root + name) for name in listed.split(",") or [""]]
+    return [(source.between(at, word - 1), root + name) for name in listed.split(",")]
 
 
 def settle_imports(source, crate, plan, before):
-    """Imports of names that were used before, and aren't now, go; what is used now is imported from its home."""
+    """Imports of names that aren't used any more go; what is used now is imported from its home."""
     used, known = words_of_code(source), set()
     for at, end in source.items():
         if not (names := imported(source, at, end)):
@@ -64,17 +67,19 @@ def settle_imports(source, crate, plan, before):
         for visibility, path in names:
             name = path.rpartition("::")[2]
             elsewhere = plan.imported_from(source.name, path)
-            if name != "laws" and elsewhere != "" and (visibility or used[name] or not before[name]):
+            is_needed = visibility or used[name] or not before[name]
+            if elsewhere != "" and is_needed:
                 paths.append(elsewhere or renamed(source, at, path, crate, plan))
                 known.add(name)
         if paths:
             source.replace(at, end, _lines(source, names[0][0], paths, plan))
         else:
             source.cut(source.attached(at), end)
-    homes = [f"{home}::{name}" for name, home in plan.homes_of(crate) if name not in known and _uses(source, name)]
+    homes = [f"{home}::{name}" for name, home in plan.homes_of(crate)
+             if name not in known and _uses(source, name)]
     homes = _join(source, homes, plan)
     if homes:
-        first = next((at for at, end in reversed([*source.items()]) if imported(source, at, end)), None)
+        *_, first = None, *(at for at, end in source.items() if imported(source, at, end))
         if first is None:
             add_above(source, _lines(source, "", homes, plan))
         else:
@@ -101,7 +106,8 @@ def _uses(source, name):
         return False
     for at in places:
         before, following = source.text(source.before(at)), source.text(source.after(at))
-        if before != "." and (name[0].isupper() or following in ("(", "!") or following == ":" and source.words(at, 4)[3] == "<"):
+        is_generic = following == ":" and source.words(at, 4)[3] == "<"
+        if before != "." and (name[0].isupper() or following in ("(", "!") or is_generic):
             return True
     return False
 

@@ -1,4 +1,4 @@
-"""What patterns can't say: contracts, ghosts, attributes, items that go, and what the text for cargo has more."""
+"""What patterns can't say: contracts, ghosts, attributes, items that go, and what is added."""
 import re
 
 from erasing.rules import apply
@@ -13,17 +13,20 @@ INLINE = "#[inline]"
 
 
 def drop_ghosts(source):
-    """Removes contracts, with the comments above them, and ghost members and imports, with their docs."""
+    """Removes contracts, with the comments above them, ghost members and imports, with their docs.
+    """
     for at in reversed(range(len(source.tokens))):
         if source.kind(at) == CLAUSE:
             start = source.before(at) + 1
-            source.replace(start, at + (source.kind(at + 1) == SPACE), "" if source.is_sign(source.after(at), ";") else " ")
+            source.replace(start, at + (source.kind(at + 1) == SPACE),
+                           "" if source.is_sign(source.after(at), ";") else " ")
         elif source.kind(at) == GHOST:
             source.cut(source.attached(source.with_visibility(at)), at)
 
 
 def sort_attributes(source):
-    """Tactics go, tests go with their items, derives keep what Rust can derive. Any other attribute is refused.
+    """Tactics go, tests go with their items, derives keep what Rust can derive. Any other attribute
+    is refused.
 
     Returns the names of the modules of tests.
     """
@@ -49,8 +52,10 @@ def sort_attributes(source):
 def _derive(source, at, end, names):
     if unknown := set(names) - DERIVES - SERDE - {"Drop"}:
         source.refuse(f"unknown derive: {', '.join(unknown)}", at)
-    plain, serde = (", ".join(name for name in names if name in known) for known in (DERIVES, SERDE))
-    lines = [f"#[derive({plain})]"] * bool(plain) + [f'#[cfg_attr(feature = "serde", derive({serde}))]'] * bool(serde)
+    plain, serde = (", ".join(name for name in names if name in known)
+                    for known in (DERIVES, SERDE))
+    lines = [f"#[derive({plain})]"] * bool(plain)
+    lines += [f'#[cfg_attr(feature = "serde", derive({serde}))]'] * bool(serde)
     if lines:
         source.replace(at, end, "\n".join(lines))
     else:
@@ -74,17 +79,20 @@ def give_bodies(source, traits):
         if source.is_word(first, "trait") and source.text(source.after(first)) in traits:
             for place in range(end, at, -1):
                 if source.is_sign(place, ";"):
-                    source.replace(place, place, " {\nfalse\n}" if source.text(source.before(place)) == "bool" else " {}")
+                    answers = source.text(source.before(place)) == "bool"
+                    source.replace(place, place, " {\nfalse\n}" if answers else " {}")
             source.insert(at, "#[allow(unused_variables)]\n")
 
 
 def add_lines(source, lines):
-    """Attributes that Rattle hasn't, or has with another meaning, above what begins with the given words. A derive joins another."""
+    """Puts attributes above what begins with the given words. A derive joins another."""
     for line, front in ((line, front) for line, fronts in lines.items() for front in fronts):
         at = source.place(front)
-        derive = next((place for place in range(source.attached(at), at) if source.words(place, 3) == ["#", "[", "derive"]), None)
+        derive = next((place for place in range(source.attached(at), at)
+                       if source.words(place, 3) == ["#", "[", "derive"]), None)
         if line.startswith("#[derive(") and derive is not None:
-            source.insert(source.before(source.attribute_end(derive)), f", {line[len('#[derive('):-2]}")
+            source.insert(source.before(source.attribute_end(derive)),
+                          f", {line[len('#[derive('):-2]}")
         else:
             source.insert(at, f"{line}\n")
 
@@ -94,8 +102,9 @@ def inline(source, front):
     at = source.place(front)
     for place in range(source.item_end(at), at, -1):
         start = source.with_visibility(place)
-        if source.is_word(place, "fn") and not source.is_sign(source.after(source.after(place)), "<") \
-                and "inline" not in source.between(source.attached(start), start):
+        is_generic = source.is_sign(source.after(source.after(place)), "<")
+        is_said = "inline" in source.between(source.attached(start), start)
+        if source.is_word(place, "fn") and not is_generic and not is_said:
             source.insert(start, f"{INLINE}\n")
 
 
@@ -104,11 +113,12 @@ def set_conditions(source, conditions_of):
     for at, end in source.items():
         if not source.is_word(source.without_visibility(at), "use"):
             words = {source.text(place) for place in range(at, end) if source.kind(place) == WORD}
-            source.insert(at, "".join(f"#[cfg({condition})]\n" for condition in conditions_of(source.name, words)))
+            found = conditions_of(source.name, words)
+            source.insert(at, "".join(f"#[cfg({condition})]\n" for condition in found))
 
 
 def document_members(source, docs):
-    """Gives docs to members of these types that have none: by name, or for all others with `{name}`, `{words}` and `{snake}`."""
+    """Gives docs to members of these types that have none: by name, or for all others by `*`."""
     for front, texts in docs.items():
         opened, depth = source.next_sign(source.place(front), "{"), 0
         at = source.match(opened)
@@ -116,20 +126,23 @@ def document_members(source, docs):
             depth += source.is_sign(at, "([{") - source.is_sign(at, ")]}")
             first = source.with_visibility(at)
             name, start = source.text(at), source.attached(first)
-            if depth == -1 and source.kind(at) == WORD and name != "pub" and source.text(source.before(first)) in ("{", ",", "]") \
+            begins = source.text(source.before(first)) in ("{", ",", "]") and name != "pub"
+            if depth == -1 and source.kind(at) == WORD and begins \
                     and source.kind(start) != COMMENT and (text := texts.get(name, texts.get("*"))):
-                words = re.sub(r"(?<!^)(?=[A-Z])", " ", name)
-                source.insert(start, f"/// {text.format(name=name, words=words.capitalize(), snake=words.lower().replace(' ', '_'))}\n")
+                words = re.sub(r"(?<!^)(?=[A-Z])", " ", name).capitalize()
+                snake = words.lower().replace(" ", "_")
+                source.insert(start, f"/// {text.format(name=name, words=words, snake=snake)}\n")
                 at = start
             at -= 1
 
 
 def complete_examples(source, lines):
-    """Examples in docs become whole programs, by lines that rustdoc doesn't show: those up to ".." before it, the others after it. Where the
-    lines are None the examples go, with the empty line before them."""
-    fences = [at for at, token in enumerate(source.tokens) if token.kind == COMMENT and token.text[3:].strip() == "```"]
+    """Examples in docs become whole programs, by hidden lines: those up to ".." before it, the
+    others after it. If the lines are None the examples go, with the empty line before them."""
+    fences = [at for at, token in enumerate(source.tokens) if token.kind == COMMENT
+              and token.text[3:].strip() == "```"]
     if len(fences) % 2 or fences and lines == ():
-        source.refuse("an example that isn't closed, or for which tools/erasing/plan.py has no lines", fences[0])
+        source.refuse("an example that isn't closed, or has no lines in plan.py", fences[0])
     shown = lines.index("..") if lines and ".." in lines else len(lines or ())
     for opened, closed in reversed([*zip(fences[::2], fences[1::2])]):
         front = source.text(opened)[:3]
@@ -137,16 +150,16 @@ def complete_examples(source, lines):
             source.cut(opened - 2 * (source.text(opened - 2) == front), closed)
             continue
         for at in range(opened, closed):
-            if source.kind(at) == COMMENT:
-                source.tokens[at] = source.tokens[at]._replace(text=source.text(at).replace("(alloc)", "()"))
+            text = source.text(at).replace("(alloc)", "()")
+            source.tokens[at] = source.tokens[at]._replace(text=text)
         source.insert(closed, "".join(f"{front} # {line}\n" for line in lines[shown + 1 :]))
         source.insert(opened + 1, "".join(f"\n{front} # {line}" for line in lines[:shown]))
 
 
 def wrap_handler(source, copies):
-    """`trait Handler { .. }` becomes `handlers! { trait Handler; .. }`: the adapter's macro writes two traits from its methods."""
+    """`trait Handler { .. }` becomes `handlers! { trait Handler; .. }`, a macro of the adapter."""
     at = source.place("pub trait Handler {")
-    docs = [source.text(place) for place in range(source.attached(at), at) if source.kind(place) == COMMENT]
+    docs = [it.text for it in source.tokens[source.attached(at):at] if it.kind == COMMENT]
     head = "\n".join(f"    {line}" for line in (*docs, "pub trait Handler;"))
     source.replace(source.attached(at), source.next_sign(at, "{"), f"handlers! {{\n{head}")
     apply(source, copies)
@@ -155,4 +168,5 @@ def wrap_handler(source, copies):
 def add_above(source, lines):
     """Puts lines above the first item."""
     at = [*source.items()][-1][0]
-    source.insert(source.attached(at), lines + "\n" * (1 + (not source.is_word(source.without_visibility(at), "use", "mod"))))
+    is_apart = not source.is_word(source.without_visibility(at), "use", "mod")
+    source.insert(source.attached(at), lines + "\n" * (1 + is_apart))

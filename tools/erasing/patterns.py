@@ -1,11 +1,12 @@
 """Patterns over the tokens of a file, and what stands in their place.
 
-A pattern is Rust in which `$x` stands for one token, or for a bracket with what is in it; `$$x` for any number of these without `;`, and
-`$$$x` for any number, the fewest that fit. Blanks and comments don't count.
+A pattern is Rust in which `$x` stands for one token, or for a bracket with what is in it; `$$x` for
+any number of these without `;`, and `$$$x` for any number, the fewest that fit. Blanks and comments
+don't count.
 """
 from functools import lru_cache
 
-from erasing.source import CLOSING, OPENING
+from erasing.source import CLOSING
 from rattle_text.tokens import COMMENT, split
 
 
@@ -23,7 +24,8 @@ def _parts(pattern):
 
 
 def find(source, at, pattern):
-    """Whether a pattern fits at a place: the last place, and the texts of names; or None. It doesn't if a comment would be lost."""
+    """The last place of a pattern that begins at a place, and the texts of its names; None if it
+    doesn't fit, or a comment would be lost."""
     found = None if source.tokens[at].is_blank else _fit(source, at, _parts(pattern), {})
     if found is None:
         return None
@@ -70,17 +72,19 @@ def _element_end(source, at):
     """The last place of one token, or of a bracket; None at the end of what is around it."""
     if source.kind(at) is None or source.is_sign(at, CLOSING):
         return None
-    return source.match(at) if source.is_sign(at, OPENING) else at
+    return source.match(at)
 
 
 def rewrite(source, pattern, by, holds=lambda names: True):
-    """Puts `by`, a text with names or a function of them, in the place of each match, from the last on, if it holds of its names. Returns how
-    many there were.
+    """Puts `by`, a text with names or a function of them, in the place of each match, from the last
+    on, if it holds of its names. Returns how many there were.
 
     An empty text takes out the comments above, too.
     """
     count, (first, *_) = 0, _parts(pattern)
-    for at in [at for at, token in enumerate(source.tokens) if not isinstance(first, str) or token.text == first][::-1]:
+    places = [at for at, token in enumerate(source.tokens)
+              if not isinstance(first, str) or token.text == first]
+    for at in places[::-1]:
         if (found := find(source, at, pattern)) and holds(found[1]):
             made = by(found[1]) if callable(by) else filled(by, found[1])
             if made:

@@ -1,4 +1,4 @@
-"""What becomes of expressions and signatures, as patterns (patterns.py) and what stands in their place."""
+"""What becomes of expressions and signatures: patterns (patterns.py) and what replaces them."""
 import re
 
 from erasing.patterns import rewrite
@@ -35,11 +35,13 @@ def _as_functions(names):
     return re.sub(r"\bself\b", "looks", names["b"].replace("&mut self", "looks: &mut Looks<B>"))
 
 
-# In the proved text of the parser whatever reads input bytes or reports events does so by way of a `Looks`, which contracts count with. At
-# run time it is nothing. The input is a slice, a performer that counts is a performer, and a search is a function.
+# In the proved text of the parser whatever reads input bytes or reports events does so by way of a
+# `Looks`, which contracts count with. At run time it is nothing. The input is a slice, a performer
+# that counts is a performer, and a search is a function.
 COUNTS = [
     ("mod looks;", "mod grain;\nmod scan;"),
-    ("pub use looks::{InRuns, Run, Singly, Taken};", "pub use grain::{InRuns, Singly};\npub use scan::{Run, Taken};"),
+    ("pub use looks::{InRuns, Run, Singly, Taken};",
+     "pub use grain::{InRuns, Singly};\npub use scan::{Run, Taken};"),
     ("impl<B> Looks<B> { $$$b }", _as_functions),
     ("looks: Looks::$f(),", ""),
     ("looks: &mut Looks<B>,", ""),
@@ -66,12 +68,14 @@ COUNTS = [
 ]
 
 # The functions that may stop: the others only pass this parameter on.
-ASKING = {"drive", "end_data", "read_device_data", "read_end", "read_ignored_string", "read_by_state",
+ASKING = {"drive", "end_data", "read_device_data", "read_end", "read_ignored_string",
+          "read_by_state",
           "read_system_command", "read_text", "read_until_terminated"}
 
 
 def _head(names):
-    return f"fn {names['f']}<P: PerformAs<G>, G: Grain{', const ASKS: bool' * (names['f'] in ASKING)}>("
+    asks = ", const ASKS: bool" * (names["f"] in ASKING)
+    return f"fn {names['f']}<P: PerformAs<G>, G: Grain{asks}>("
 
 
 def _call(names):
@@ -87,15 +91,17 @@ PARAMETERS = [
     ("$f::<P, $g, $a>(", _call),
 ]
 
-# What the oldest Rust has otherwise: `let .. else`, and ranges of patterns without their last number.
+# What the oldest Rust lacks: `let .. else`, and ranges of patterns without their last number.
 OLDER = [
     ("let $v($$p) = $$e else { $$$body };", lambda names: _match(**names)),
-    ("$a..$b =>", lambda names: f"{names['a']}..={_before(names['b'])} =>", lambda names: names["b"].isalnum() and names["b"][0].isdigit()),
+    ("$a..$b =>", lambda names: f"{names['a']}..={_before(names['b'])} =>",
+     lambda names: names["b"][0].isdigit()),
 ]
 
 
 def _match(v, p, e, body):
-    arm = f"{body.rstrip(' ;')}," if re.fullmatch(r"(return|break)\b[^;{}]*;?", body) else f"{{ {body} }}"
+    is_short = re.fullmatch(r"(return|break)\b[^;{}]*;?", body)
+    arm = f"{body.rstrip(' ;')}," if is_short else f"{{ {body} }}"
     return f"let {p} = match {e} {{\n{v}({p}) => {p},\n_ => {arm}\n}};"
 
 

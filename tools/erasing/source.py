@@ -25,14 +25,15 @@ class Source:
         return "".join(token.text for token in self.tokens[first : last + 1])
 
     def is_sign(self, at, signs):
-        """Whether one of these punctuation marks stands at a place, and not the same text in a string or comment."""
+        """Whether one of these marks stands at a place, and not in a string or comment."""
         return self.kind(at) == MARK and self.text(at) in signs
 
     def is_word(self, at, *words):
-        return self.kind(at) == WORD and self.text(at) in words
+        return self.text(at) in words
 
     def refuse(self, message, at=0):
-        raise Refused(message, self.tokens[min(at, len(self.tokens) - 1)].line if self.tokens else 1)
+        last = min(at, len(self.tokens) - 1)
+        raise Refused(message, self.tokens[last].line if self.tokens else 1)
 
     # Finding
 
@@ -64,7 +65,7 @@ class Source:
         return at
 
     def match(self, at):
-        """The bracket that belongs to the one at a place."""
+        """The bracket that belongs to the one at a place, or the place if there is none."""
         depth, step = 0, 1 if self.text(at) in OPENING else -1
         for place in range(at, len(self.tokens) if step > 0 else -1, step):
             depth += self.is_sign(place, OPENING) - self.is_sign(place, CLOSING)
@@ -75,7 +76,8 @@ class Source:
     def item_end(self, at):
         """The end of the item at a place: its `;`, or the brace that closes its block."""
         start, word = at, self.without_visibility(at)
-        has_block = self.text(word) not in ("use", "static", "const", "type") or self.text(self.after(word)) == "fn"
+        has_block = self.text(self.after(word)) == "fn" or not self.is_word(
+            word, "use", "static", "const", "type")
         while at < len(self.tokens):
             if has_block and self.is_sign(at, "{"):
                 return self.match(at)
@@ -93,7 +95,7 @@ class Source:
 
     def with_visibility(self, at):
         before = self.before(at)
-        if self.is_sign(before, ")") and self.text(self.before(self.match(before))) == "pub":
+        if self.is_sign(before, ")"):
             return self.before(self.match(before))
         return before if self.text(before) == "pub" else at
 
@@ -107,7 +109,7 @@ class Source:
         return self.match(bracket) if self.is_sign(bracket, "[") else None
 
     def items(self):
-        """The items at the top of the file, the last one first: the places of their first words and of their ends."""
+        """The first and last places of the items at the top of the file, the last one first."""
         found, at = [], self.solid(0)
         while at < len(self.tokens):
             if (end := self.attribute_end(at)) is None:
@@ -119,7 +121,8 @@ class Source:
     def places(self, front):
         """The places of what begins with these words, the last one first."""
         wanted = [token.text for token in split(front) if not token.is_blank]
-        found = [at for at, token in enumerate(self.tokens) if token.text == wanted[0] and self.words(at, len(wanted)) == wanted]
+        found = [at for at, token in enumerate(self.tokens) if token.text == wanted[0]
+                 and self.words(at, len(wanted)) == wanted]
         return found[::-1]
 
     def place(self, front):
@@ -129,14 +132,15 @@ class Source:
         return found[0]
 
     def attached(self, at):
-        """Where the comments, docs and attributes begin that stand right above what is at a place."""
+        """Where the comments and attributes begin that stand right above what is at a place."""
         start = at
         while True:
             place = start - 1
             if self.kind(place) == SPACE and self.text(place).count("\n") <= 1:
                 place -= 1
             begins_line = place == 0 or "\n" in self.text(place - 1)
-            if self.kind(place) == COMMENT and not self.text(place).startswith("//!") and begins_line:
+            is_of_file = self.text(place).startswith("//!")
+            if self.kind(place) == COMMENT and not is_of_file and begins_line:
                 start = place
             elif self.is_sign(place, "]") and self.is_sign(self.match(place) - 1, "#"):
                 start = self.match(place) - 1
@@ -149,15 +153,17 @@ class Source:
         """Takes tokens out. Of the blank lines on both sides the greater number stays."""
         del self.tokens[start : end + 1]
         if self.kind(start - 1) == SPACE and self.kind(start) == SPACE:
-            del self.tokens[start - 1 if self.text(start - 1).count("\n") < self.text(start).count("\n") else start]
+            counts = [self.text(at).count("\n") for at in (start - 1, start)]
+            del self.tokens[start - 1 if counts[0] < counts[1] else start]
 
     def replace(self, start, end, text):
         """Puts other text in the place of tokens."""
         line = self.tokens[start].line
-        self.tokens[start : end + 1] = [Token(token.kind, token.text, line) for token in split(text)]
+        self.tokens[start : end + 1] = [Token(token.kind, token.text, line)
+                                        for token in split(text)]
 
     def insert(self, at, text):
-        line = self.tokens[min(at, len(self.tokens) - 1)].line
+        line = self.tokens[at].line
         self.tokens[at:at] = [Token(token.kind, token.text, line) for token in split(text)]
 
     def written(self):

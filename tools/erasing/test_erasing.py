@@ -1,13 +1,18 @@
 #!/usr/bin/env python3
 """Tests of tools/erase: python3 tools/erasing/test_erasing.py"""
+import os
+import subprocess
 import sys
+import tempfile
 import unittest
+from dataclasses import fields, replace
 from pathlib import Path
 
 sys.dont_write_bytecode = True
 TOOLS = Path(__file__).resolve().parent.parent
 sys.path.insert(0, str(TOOLS))
 
+from building import rust_builds  # noqa: E402
 from erasing import wording  # noqa: E402
 from erasing.crate import Failure, erase, write_crate  # noqa: E402
 from erasing.patterns import rewrite  # noqa: E402
@@ -17,7 +22,8 @@ from rattle_text.tokens import COMMENT, Refused, split  # noqa: E402
 
 
 def plan(**given):
-    return Plan(out="o", modules={"a": "crate::a", "b": "crate::b"}, of_std={"alloc": "crate::prelude"}, **given)
+    return Plan(out="o", modules={"a": "crate::a", "b": "crate::b"},
+                of_std={"alloc": "crate::prelude"}, **given)
 
 
 TRAPS = '''//! Head.
@@ -106,12 +112,25 @@ def words(text):
 
 # what is told of a file, its text, and what is left of it, as crates/ have no such case
 TEXTS = [
-    ({}, "use c::Kept; use c::Gone; fn f(k: u8) {} #[cfg(test)] mod tests { fn g() { Gone } }", "use c::Kept; use c::Gone; fn f(k: u8) {}"),
+    ({}, "use c::Kept; use c::Gone; fn f(k: u8) {} #[cfg(test)] mod tests { fn g() { Gone } }",
+     "use c::Kept; use c::Gone; fn f(k: u8) {}"),
     ({}, "use b::laws; pub use laws::Step; mod laws; mod c;", "mod c;"),
-    ({}, "fn f() { match a { 1..0x10 => 2, _ => 3 } }", "fn f() { match a { 1..=0xf => 2, _ => 3 } }"),
-    (dict(dropped={"a/x": ("fn f",)}), "const A: u8 = 1; // one\nfn f() {} fn ff() {}", "const A: u8 = 1; // one\nfn ff() {}"),
-    (dict(homes={"a": {"q": "find g"}}), "use c::D; fn g() { find(x.find()) }", "use q::find; use c::D; fn g() { find(x.find()) }"),
-    (dict(imports={"a": {"c::D": "e::D", "f::": ""}}), "use c::D; use c::{I as J, K}; use f::{G, H};", "use e::D; use c::{I as J, K};"),
+    ({}, "fn f() { match a { 1..0x10 => 2, _ => 3 } }",
+     "fn f() { match a { 1..=0xf => 2, _ => 3 } }"),
+    (dict(dropped={"a/x": ("fn f",)}), "const A: u8 = 1; // one\nfn f() {} fn ff() {}",
+     "const A: u8 = 1; // one\nfn ff() {}"),
+    (dict(homes={"a": {"q": "find g"}}), "use c::D; fn g() { find(x.find()) }",
+     "use q::find; use c::D; fn g() { find(x.find()) }"),
+    (dict(imports={"a": {"c::D": "e::D", "f::": ""}}),
+     "use c::D; use c::{I as J, K}; use f::{G, H};", "use e::D; use c::{I as J, K};"),
+    (dict(dropped={"a/x": ("fn f",)}), "// goes\n#[inline] pub(crate) fn f() {}\nconst A: u8 = 1;",
+     "const A: u8 = 1;"),
+    (dict(members={"a/x": {"enum E {": {"*": "{words} {snake} {name}.", "Four": "4."}}}),
+     "enum E { #[default] One, TwoWords(u8),\n/// Said.\nThree, Four { a: u8 } }",
+     "enum E {\n/// One one One.\n#[default] One,\n/// Two words two_words TwoWords.\n"
+     "TwoWords(u8),\n/// Said.\nThree,\n/// 4.\nFour { a: u8 } }"),
+    ({}, "fn f(k: b::K) { b::g(b::h::<b::I>(), c::b::J) }",
+     "fn f(k: crate::b::K) { crate::b::g(crate::b::h::<crate::b::I>(), c::b::J) }"),
     # bodies that stay as they are
     *(({}, text, text) for text in (
         "fn f() -> Option<u8> { let x = *g(); h()?; Some(x) }", "fn f() { !x >= 1 && x <= 5 }",
@@ -134,7 +153,8 @@ class Erasing(unittest.TestCase):
                 self.assertEqual(words(erased(text, plan(**given))), words(wanted))
 
     def test_comments_are_reworded(self):
-        self.assertEqual(wording.reword("    // One. Two\n    // goes. Three.\n    f();\n", {"Two goes.": "Too."}), "    // One. Too. Three.\n    f();\n")
+        self.assertEqual(wording.reword("    // One. Two\n    // goes. Three.\n    f();\n", {
+            "Two goes.": "Too."}), "    // One. Too. Three.\n    f();\n")
         for text in "/// One.\nfn f() {}\n", "/// Two.\nfn f() {}\n/// Two.\nfn g() {}\n":
             with self.assertRaisesRegex(Refused, "Two"):
                 wording.reword(text, {"Two": "Three"})
@@ -160,21 +180,50 @@ class Erasing(unittest.TestCase):
                 erased(text, plan(**given))
             self.assertEqual(caught.exception.line or 1, line, caught.exception)
 
+    def test_which_files_are_written(self):
+        made = {"a": {"y/tests.rt": "#[x]", "x.rt": "#[x]", "y.rt": "#[cfg(test)] mod tests;",
+                      "lib.rt": "#[cfg(test)] mod x; mod y; mod z; mod left;", "z/lib.rt": "",
+                      "z/laws/b.rt": "#[x]",
+                      "left.rt": "#[x]", "left/over.rt": "#[x]", "leftover.rt": ""},
+                "b": {"main.rt": "#[cfg(test)] mod x;", "x.rt": "#[x]", "old.rt": "fn f() {}"}}
+        given = plan(left_out={"a/left"}, renamed={"b/old": "b/new"}, conditions={"b": "x"},
+                     allowed=("y", "z"))
+        files = write_crate(given, lambda crate: dict(sorted(made[crate].items(), reverse=True)))
+        self.assertEqual(sorted(files), ["a/leftover.rs", "a/mod.rs", "a/y.rs", "a/z/lib.rs",
+                                         "b/mod.rs", "b/new.rs", "mod.rs"])
+        self.assertEqual(files["b/new.rs"], "// Written by tools/erase from crates/b/src/old.rt: "
+                                            "edit that one.\nfn f() {}\n")
+        self.assertIn("#![allow(y, z)]\n", files["mod.rs"])
+        self.assertEqual(files["mod.rs"].splitlines()[-3:], [
+            "pub(crate) mod a;", "#[cfg(x)]", "pub(crate) mod b;"])
+
+    @unittest.skipUnless(os.environ.get("HAS_CRATES") == "yes", "without the crates of rust/vte")
+    def test_what_the_benchmark_shares_compiles(self):
+        if "2024" not in subprocess.check_output(["rustc", "--help"], text=True):
+            self.skipTest("with an older Rust")
+        with tempfile.TemporaryDirectory() as folder:
+            rust_builds.placed_peers(True, folder, "checked", 1)
+
     def test_failures_name_file_and_line(self):
         with self.assertRaisesRegex(Failure, r"^crates/a/src/x\.rt:2: unknown attribute: test$"):
             write_crate(plan(), lambda _crate: {"x.rt": "\n#[test]\nfn f() {}\n"})
+        with self.assertRaisesRegex(Failure, r"^crates/a/src/x\.rt:1: wording.json expects one"):
+            write_crate(plan(comments={"a/x": {"One": ""}}), lambda _crate: {"x.rt": "fn f() {}"})
 
     def test_each_table_names_files_that_exist(self):
-        for table in ("under", "renamed", "dropped", "added", "rules", "lines",
-                      "members", "inlined", "comments", "examples"):
-            given = plan(**{table: {"a/gone": {}}})
-            with self.subTest(table), self.assertRaisesRegex(Failure, "don't exist: a/gone"):
+        tables = {it.name: {"a/gone": {}} for it in fields(Plan) if it.default_factory is dict}
+        tables.update(left_out={"a/gone"}, handler=("a/gone", ()))
+        for name, table in tables.items():
+            given = replace(plan(), **{name: table})
+            with self.subTest(name), self.assertRaisesRegex(Failure, "don't exist: a/gone"):
                 write_crate(given, lambda _crate: {"x.rt": ""})
 
     def test_a_match_with_a_comment_stays(self):
-        for text, stays in ("f(// why\nalloc)\n", True), ("f(alloc)\n", False):
+        for text, pattern, stays in (
+                ("f(// why\nalloc)\n", "(alloc)", True), ("f(alloc)\n", "(alloc)", False),
+                ("f(a; b)\n", "($$x)", True), ("f(a; b)\n", "($$$x)", False)):
             source = Source(text, "a/x")
-            rewrite(source, "(alloc)", "()")
+            rewrite(source, pattern, "()")
             self.assertEqual(source.written() == text, stays)
 
 

@@ -10,19 +10,21 @@ WIDTH = 96
 # lines of a comment that follow each other
 PARAGRAPH = re.compile(r"^( *)(//[/!]?) +(\S.*(?:\n\1\2 +\S.*)*)", re.M)
 
-# wording.json has, by file, words of comments with what replaces them, with an empty line between paragraphs, and nothing where they go; and
-# the docs of members that have none, by type: those of a member, or of all others with `{words}`, `{snake}` for its name
+# wording.json has, by file, words of comments with what replaces them, and the docs of members that
+# have none, by type: those of a member, or of all others with `{words}`, `{snake}` for its name
 VTE, VTLOG, MEMBERS = json.loads(Path(__file__).with_suffix(".json").read_text()).values()
 
 
 def reword(text, changes):
-    """Changes the words of comments; " .." stands for the rest of a paragraph. Each must be in exactly one of the file."""
+    """Changes words of comments; " .." is the rest of a paragraph. Each must be in one of the file.
+    """
     for words, new in changes.items():
         old = words.removesuffix(" ..")
         found = [it for it in PARAGRAPH.finditer(text) if old in _joined(it)]
         if len(found) != 1:
-            raise Refused(f"tools/erasing/wording.json expects one comment with these words, found {len(found)}: {old}")
-        start, end, (before, after) = found[0].start(), found[0].end(), _joined(found[0]).split(old, 1)
+            raise Refused(f"wording.json expects one comment with these words, found {len(found)}: "
+                          f"{old}")
+        (start, end), (before, after) = found[0].span(), _joined(found[0]).split(old, 1)
         made = f"{before}{new}{after * (old == words)}".strip()
         front = "".join(found[0].groups()[:2])
         if not made:

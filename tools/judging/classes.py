@@ -19,7 +19,7 @@ CUT_PREFIX = "cut:"
 # a cut that divides nothing
 BETWEEN = "cut:between"
 # the rules of what ends a command, and the kinds of its data, which aren't about these
-ENDS, DATA = {"command-bell", "command-cut-short"}, {"pieces", "shorter", "longer", "data"}
+ENDS, DATA = {"command-bell", "command-cut-short"}, {"pieces", "data"}
 # rules of what isn't there or is too much, and what re.sub makes a case of others by: a digit for
 # what is empty, and one byte for each run
 EMPTY = (rb"(\x1b[\[P][<-?]?|[:;])(?![0-9])|(\x1b\])(?=[\x07\x18\x1a\x1b])", rb"\g<1>\g<2>1")

@@ -10,13 +10,10 @@ from typing import NamedTuple
 
 from judging.house import DEFAULT
 
-# A stream is read as a text with a character for each byte. A C1 control that a house recognises is
-# read as ESC and another byte if it introduces something, and else as 100 more.
-ESC, BEL, ST, C1 = "\x1b", "\x07", "\x9c", 0x100
-INTRODUCERS = "\x90\x98\x9b\x9d\x9e\x9f"
-C1_ST = chr(C1 + ord(ST))
-# what ends any sequence and string, beside ESC: CAN, SUB and C1 controls
-ENDS = "\x18\x1a\u0180-\u019f"
+# a stream is read as a text with a character for each byte
+ESC, BEL, ST = "\x1b", "\x07", "\x9c"
+# what ends any sequence and string, beside ESC: CAN and SUB
+ENDS = "\x18\x1a"
 WELL_SHAPED = re.compile("([<-?]?)([0-;]*)([ -/]*)")
 # Unicode's table of well-formed sequences, and the fronts of these; or any byte
 PIECE = re.compile("[\xc2-\xdf][\x80-\xbf]?|[\xe1-\xec\xee\xef][\x80-\xbf]{0,2}"
@@ -43,51 +40,15 @@ def lines_of(stream, house=DEFAULT):
 
 
 def steps_of(stream, house=DEFAULT):
-    text = stream.decode("latin-1")
-    if house.encoding != "utf-8-first" and "introduce" not in (house.c1_bytes, house.c1_characters):
-        return Reader(text, house).steps
-    read, places = as_read(text, house)
-    steps = []
-    for step in Reader(read, house).steps:
-        start, end = places[step.start], places[step.end]
-        is_replaced = step.lines == ("print fffd",) and text[start:end] != "\xef\xbf\xbd"
-        rules = ("malformed",) if is_replaced and step.rules == ("text",) else step.rules
-        steps.append(Step(rules, start, end, step.lines))
-    return steps
-
-
-def as_read(text, house):
-    """A text as a parser of the house reads it, and the place in the text of each character."""
-    read, places, place = "", [], 0
-    while place < len(text):
-        piece, whole = piece_at(text, place, house)
-        last = place + len(piece) - 1
-        shown = piece_as_read(piece, whole, last + 1 == len(text), house)
-        read += shown
-        places += [min(place + index, last) for index in range(len(shown))]
-        place = last + 1
-    return read, [*places, len(text)]
-
-
-def piece_as_read(piece, whole, is_last, house):
-    is_byte = "\x80" <= piece < "\xa0" and (not whole or house.encoding == "latin-1")
-    is_c1 = is_byte or len(piece) == 2 and whole and piece < "\xc2\xa0"
-    if is_c1 and "introduce" == (house.c1_bytes if is_byte else house.c1_characters):
-        code = ord(piece[-1])
-        return ESC + chr(code - 0x40) if piece[-1] in INTRODUCERS else chr(C1 + code)
-    if whole or house.encoding != "utf-8-first" or is_byte and house.c1_bytes == "execute":
-        return piece
-    if is_last and is_begun(piece) or "drop" == (house.c1_bytes if is_byte else house.malformed):
-        return ""
-    return "\xef\xbf\xbd" * (len(piece) if house.malformed == "bytes" else 1)
+    return Reader(stream.decode("latin-1"), house).steps
 
 
 def piece_at(text, place, house):
     """The piece of text at a place, and whether it is a well-formed character."""
     first = text[place]
-    if first < "\x80" or ord(first) >= C1 or house.encoding in ("latin-1", "bytes"):
+    if first < "\x80" or house.encoding == "bytes":
         return first, True
-    piece = first if house.encoding == "ascii" else PIECE.match(text, place)[0]
+    piece = PIECE.match(text, place)[0]
     return piece, len(piece) == length_by(first)
 
 
@@ -96,17 +57,13 @@ def length_by(first):
     return 2 + (first >= "\xe0") + (first >= "\xf0")
 
 
-def is_begun(piece):
-    return "\xc2" <= piece[0] <= "\xf4"
-
-
 def execute(character):
-    return f"execute {ord(character) % C1:02x}"
+    return f"execute {ord(character):02x}"
 
 
 def executed(end):
-    """The lines of what ended a sequence: a string terminator has none."""
-    return () if end in (ST, C1_ST) else (execute(end),)
+    """The lines of what ended a sequence: CAN and SUB have one."""
+    return (execute(end),) if end and end in ENDS else ()
 
 
 def hex_of(text):
@@ -138,31 +95,28 @@ class Reader:
     # ---- text
 
     def character(self, start):
-        piece, whole = piece_at(self.text, start, self.house)
+        piece, is_whole = piece_at(self.text, start, self.house)
         house, end = self.house, start + len(piece)
-        if ord(piece[0]) >= C1:
-            self.add(["c1-character"], start, end, *executed(piece))
-        elif "\x80" <= piece < "\xa0" and house.encoding != "bytes":
-            lines = {"execute": [execute(piece)], "replace": ["print fffd"], "drop": []}
-            self.add(["c1-byte"], start, end, *lines[house.c1_bytes])
-        elif not whole:
-            self.malformed(start, piece)
+        if not is_whole:
+            if "\x80" <= piece < "\xa0":
+                lines = {"execute": [execute(piece)], "replace": ["print fffd"], "drop": []}
+                return self.add(["c1-byte"], start, end, *lines[house.c1_bytes])
+            return self.malformed(start, piece)
+        code = ord(piece if len(piece) == 1 else piece.encode("latin-1").decode())
+        shown = f"print {code:04x}"
+        if code < 0x20:
+            self.add(["control"], start, end, execute(piece))
+        elif code == 0x7F:
+            self.add(["delete"], start, end, *[shown] * (house.delete == "print"))
+        elif len(piece) == 2 and code < 0xA0:
+            lines = {"execute": [execute(chr(code))], "print": [shown], "drop": []}
+            self.add(["c1-character"], start, end, *lines[house.c1_characters])
         else:
-            code = ord(piece if len(piece) == 1 else piece.encode("latin-1").decode())
-            shown = f"print {code:04x}"
-            if code == 0x7F:
-                self.add(["delete"], start, end, *[shown] * (house.delete == "print"))
-            elif 0x80 <= code < 0xA0 and house.encoding != "bytes":
-                lines = {"execute": [execute(chr(code))], "print": [shown], "drop": []}
-                self.add(["c1-character"], start, end, *lines[house.c1_characters])
-            elif code < 0x20:
-                self.add(["control"], start, end, execute(piece))
-            else:
-                self.add(["text"], start, end, shown)
+            self.add(["text"], start, end, shown)
 
     def malformed(self, start, piece):
         end = start + len(piece)
-        begun = is_begun(piece) and self.house.encoding != "ascii"
+        begun = "\xc2" <= piece[0] <= "\xf4"
         # whether its bytes are those of a character but for their values
         length = length_by(piece)
         is_formed = "\xc0" <= piece[0] < "\xf8" and re.fullmatch(
@@ -199,11 +153,11 @@ class Reader:
             elif not " " <= byte < "\x7f":
                 self.add([dropped], place, place + 1)
         last = self.at(end)
-        if last and re.fullmatch(f"[{ENDS}]", last):
-            self.add(["cancel"], escape, end + 1, *executed(last))
-        elif last in ("", ESC):
+        if last in ("", ESC):
             self.add(["restart"], escape, end)
             self.is_open = dropped != "dropped-in-sequence"
+        elif last in ENDS:
+            self.add(["cancel"], escape, end + 1, execute(last))
         else:
             return end
         return None
@@ -263,11 +217,10 @@ class Reader:
                 rule = "byte-9c" if byte == ST else "dropped-in-device-data"
                 self.add([rule], place, place + 1)
         last = self.at(stop)
-        is_ended = last == C1_ST or last == ESC and self.at(stop + 1) == "\\"
+        is_ended = last == ESC and self.at(stop + 1) == "\\"
         if last:
             rule = "byte-9c" if last == ST else "device-end" if is_ended else "device-cut-short"
-            ended = executed(last) if last != ESC else ()
-            self.add([rule], stop, stop + 1, "unhook", *ended)
+            self.add([rule], stop, stop + 1, "unhook", *executed(last))
         if last == ESC:
             self.place, self.is_open = stop, True
 
@@ -294,7 +247,7 @@ class Reader:
                 self.add([rule], place, place + 1)
         items, last = re.sub("[\0-\x1f]", "", self.text[key + 1:stop]), self.at(stop)
         kept, pieces = command_pieces(items, house)
-        is_cut_short = self.at(stop + 1) != "\\" if last == ESC else last not in (BEL, ST, C1_ST)
+        is_cut_short = self.at(stop + 1) != "\\" if last == ESC else last in ENDS
         data = len(items) - items.count(";")
         rules = {"limit": kept < len(items) or data > 1024,
                  "pieces": len(pieces) > (16 if house.pieces is None else min(house.pieces, 16)),
@@ -309,9 +262,8 @@ class Reader:
                 house.escaped_commands if last == ESC else house.cancelled_commands))
         shown = pieces[:house.pieces]
         line = f"osc {str(last == BEL).lower()} {len(shown)} {' '.join(map(hex_of, shown))}"
-        ended = executed(last) if last not in ("", ESC, BEL) else ()
         self.add(["command", *filter(rules.get, rules)], escape, stop + (last not in ("", ESC)),
-                 *[line] * (not is_dropped), *ended)
+                 *[line] * (not is_dropped), *executed(last))
         self.is_open = last == ESC
 
 

@@ -5,10 +5,10 @@ from collections import namedtuple
 # for each rule what it may be, the default first; a number stands for any number or none;
 # docs/JUDGE.md says what they are about
 CHOICES = {
-    "encoding": ("utf-8", "utf-8-first", "latin-1", "bytes", "ascii"),
+    "encoding": ("utf-8", "bytes"),
     "malformed": ("subparts", "bytes", "drop"),
-    "c1-bytes": ("execute", "replace", "drop", "introduce"),
-    "c1-characters": ("execute", "print", "drop", "introduce"),
+    "c1-bytes": ("execute", "replace", "drop"),
+    "c1-characters": ("execute", "print", "drop"),
     "delete": ("print", "drop"),
     "bell": ("ends", "drop"),
     "command-9c": ("data", "ends"),

@@ -5,7 +5,6 @@ import time
 from collections import Counter
 from dataclasses import dataclass, field
 from itertools import count, islice
-from typing import Optional
 
 from judging.candidate import OutOfTime, mark_of
 from judging.cases import Case
@@ -32,24 +31,18 @@ LIMITS = {"hang", "memory", "output"}
 @dataclass
 class Finding:
     """A class of differences: its smallest example, the case in which it was found, whether it is
-    known, and in how many streams it is."""
+    new, and in how many streams it is."""
 
     name: str
     difference: Difference
     found_in: Case
-    is_known: bool = False
-    # the most streams in which it is known
-    allowed: Optional[int] = None
+    is_new: bool = True
     streams: int = 1
     is_smallest: bool = True
 
     @property
     def rule(self):
         return self.name.partition("/")[0]
-
-    @property
-    def is_new(self):
-        return not self.is_known or self.allowed is not None and self.streams > self.allowed
 
 
 @dataclass
@@ -67,7 +60,7 @@ class Judgement:
         return self.different - sum(finding.streams for finding in self.findings.values())
 
     def new(self):
-        """The findings that aren't known, or show in more streams than is known."""
+        """The findings that aren't known."""
         return [finding for finding in self.findings.values() if finding.is_new]
 
     def status(self):
@@ -89,14 +82,14 @@ def kinds_of(difference):
 class Judge:
     """Both sides, and what is to be left out."""
 
-    def __init__(self, reference, candidate, view, house, left_out=(), known=None,
+    def __init__(self, reference, candidate, view, house, left_out=(), known=(),
                  report=lambda finding: None):
         self.reference, self.candidate, self.view, self.house = reference, candidate, view, house
-        self.left_out, self.known, self.report = frozenset(left_out), known or {}, report
+        self.left_out, self.known, self.report = frozenset(left_out), known, report
         self.result = Judgement()
         self.again, self.is_over, self.end = 0, False, candidate.deadline
-        # for a rule and a kind: the number of tries to find their class, and the class found last
-        self.tries, self.resolved = Counter(), {}
+        # for a rule and a kind, the number of tries to find their class
+        self.tries = Counter()
 
     def run(self, cases):
         """Judges cases until there are none left or the time is over."""
@@ -205,9 +198,8 @@ class Judge:
         return name in self.result.findings
 
     def add(self, name, difference, case, is_smallest=True):
-        listed = name if name in self.known else name.partition("/")[0]
-        known = (listed in self.known, self.known.get(listed))
-        finding = Finding(name, difference, case, *known, is_smallest=is_smallest)
+        is_new = name not in self.known and name.partition("/")[0] not in self.known
+        finding = Finding(name, difference, case, is_new, is_smallest=is_smallest)
         self.result.findings[name] = finding
         self.report(finding)
 
@@ -235,18 +227,11 @@ class Judge:
             excluded = self.excluded(of_step)
             if left := self.left(difference, excluded, kind):
                 self.tries[rule, kind] += 1
-                self.resolved[rule, kind] = self.find(case, left, excluded, kind)
+                self.find(case, left, excluded, kind)
         if signatures and self.result.unexplained == before:
             rule, _, kind = signatures[0]
-            self.count(self.class_found(rule, kind))
-
-    def class_found(self, rule, kind):
-        """The class for which a difference counts: of the rule and the kind, or that to which such
-        a one was shrunk, or the rule's first."""
-        if f"{rule}/{kind}" in self.result.findings:
-            return f"{rule}/{kind}"
-        of_rule = [it for it, finding in self.result.findings.items() if finding.rule == rule]
-        return self.resolved.get((rule, kind)) or next(iter(of_rule), None)
+            of_rule = (it for it, finding in self.result.findings.items() if finding.rule == rule)
+            self.count(f"{rule}/{kind}") or self.count(next(of_rule, None))
 
     def find(self, case, left, excluded, kind=None):
         """Shrinks a difference without some rules, and reports its class if it is new. The name of

@@ -1,6 +1,5 @@
 """The kind of a difference between two answers, the second half of the name of its class."""
 import os
-import re
 from difflib import SequenceMatcher
 
 from judging.candidate import mark_of
@@ -8,12 +7,10 @@ from judging.candidate import mark_of
 # the same event comes with another field
 FIELDS = {
     "character": "an event has another character or byte",
-    "count": "a sequence has more or fewer numbers", "groups": "numbers are grouped otherwise",
-    "larger": "a number is larger", "smaller": "a number is smaller",
-    "intermediates": "a sequence has other intermediates", "ignore": "the field ignore differs",
-    "final": "a sequence has another final byte", "bell": "the field bell_terminated differs",
-    "pieces": "a command has other pieces", "shorter": "the data of a command are shorter",
-    "longer": "the data of a command are longer", "data": "the data of a command differ"}
+    "numbers": "a sequence has other numbers", "ignore": "the field ignore differs",
+    "intermediates": "a sequence has other intermediates", "final": "it has another final byte",
+    "bell": "the field bell_terminated differs", "pieces": "a command has other pieces",
+    "data": "the data of a command differ"}
 # there is no right answer
 FAILURES = {
     "crash": "the program failed", "hang": "it gave no answer in time",
@@ -68,32 +65,11 @@ def field_kind(one, other):
     """Which field of two lines of a method differs first."""
     method, *fields = one.split(" ")
     others = other.split(" ")[1:]
-    if method == "osc" and len(fields) > 2 < len(others):
-        return command_kind(fields, others)
-    if method in ("csi", "hook", "esc") and len(fields) == len(others):
+    if method == "osc":
+        data = ["".join(pieces[2:]).replace("-", "") for pieces in (fields, others)]
+        is_data = len(fields) == len(others) and data[0] != data[1]
+        return "bell" if fields[0] != others[0] else "data" if is_data else "pieces"
+    if method in ("csi", "hook", "esc"):
         names = ["numbers", "intermediates", "ignore", "final"][method == "esc":]
-        pairs = zip(names, fields, others)
-        name = next((name for name, here, there in pairs if here != there), "other")
-        return numbers_kind(fields[0], others[0]) if name == "numbers" else name
+        return next(it for it, here, there in zip(names, fields, others) if here != there)
     return "character"
-
-
-def numbers_kind(one, other):
-    """How numbers differ. They may have more digits than int() takes."""
-    numbers, others = ([(len(digits), digits) for digits in re.findall(r"0*(\d+)", field)]
-                       for field in (one, other))
-    if len(numbers) != len(others):
-        return "count"
-    larger = [here < there for here, there in zip(numbers, others) if here != there]
-    return "groups" if not larger else "larger" if larger[0] else "smaller"
-
-
-def command_kind(fields, others):
-    if fields[0] != others[0]:
-        return "bell"
-    if len(fields) != len(others):
-        return "pieces"
-    data, other = ("".join(pieces[2:]).replace("-", "") for pieces in (fields, others))
-    if data == other:
-        return "pieces"
-    return "shorter" if data.startswith(other) else "longer" if other.startswith(data) else "data"

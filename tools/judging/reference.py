@@ -65,9 +65,8 @@ def built_by_cargo():
              CARGO_CRATE / "target", "--manifest-path", CARGO_CRATE / "Cargo.toml"]
     if not shutil.which("cargo"):
         return None
-    for more in (["--offline"], []):
-        done = subprocess.run([*words, *more], stdin=subprocess.DEVNULL, capture_output=True)
-        if done.returncode == 0:
-            return CARGO_CRATE / "target" / "release" / "vtlog"
+    done = subprocess.run(words, stdin=subprocess.DEVNULL, capture_output=True)
+    if done.returncode == 0:
+        return CARGO_CRATE / "target" / "release" / "vtlog"
     sys.stderr.buffer.write(done.stderr[-2000:])
     return None

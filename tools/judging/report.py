@@ -8,23 +8,19 @@ from judging.kinds import KINDS, first_difference
 MOST_LINES, LONGEST = 6, 120
 
 
-def runs_of(piece):
-    return [(byte, len(list(run))) for byte, run in groupby(piece)]
-
-
 def shown_bytes(pieces):
     """The pieces in hex, with `|` at each cut and `*` after a byte that is repeated, as --case
     reads."""
-    return " | ".join(" ".join(f"{byte:02x}" + f"*{times}" * (times > 1)
-                               for byte, times in runs_of(piece)) for piece in pieces)
+    runs = [[(byte, len(list(run))) for byte, run in groupby(piece)] for piece in pieces]
+    return " | ".join(" ".join(f"{byte:02x}" + f"*{times}" * (times > 1) for byte, times in piece)
+                      for piece in runs)
 
 
 def bytes_shown(text):
-    """The pieces that shown_bytes shows; also several bytes joined by `+` may be repeated. Raises
-    ValueError."""
-    runs = [[word.partition("*") for word in piece.split()] for piece in text.split("|")]
-    return [b"".join(bytes.fromhex(word.replace("+", "")) * int(times or 1)
-                     for word, _, times in piece) for piece in runs]
+    """The pieces that shown_bytes shows. Raises ValueError."""
+    words = [[word.partition("*") for word in piece.split()] for piece in text.split("|")]
+    return [b"".join(bytes.fromhex(byte) * int(times or 1) for byte, _, times in piece)
+            for piece in words]
 
 
 def shown_case(difference):
@@ -38,21 +34,9 @@ def case_shown(text):
 
 
 def shown_text(pieces):
-    """The pieces: text as it is, controls by their names, and other bytes in hex, as in `ESC ] <80>
-    BEL`."""
-    names = {0x07: "BEL", 0x0A: "LF", 0x0D: "CR", 0x18: "CAN", 0x1A: "SUB", 0x1B: "ESC",
-             0x20: "blank"}
-    words, text = [], ""
-    for piece in pieces:
-        for byte, times in runs_of(piece):
-            if 0x20 < byte < 0x7F and times < 4:
-                text += chr(byte) * times
-                continue
-            name = chr(byte) if 0x20 < byte < 0x7F else names.get(byte, f"<{byte:02X}>")
-            shown = [name] * times if times < 4 else [f"{times} x {name}"]
-            words, text = [*words, text, *shown], ""
-        words, text = [*words, text, "|"], ""
-    return " ".join(word for word in words[:-1] if word)
+    """The front of the pieces, as Python shows bytes."""
+    text = " | ".join(repr(piece)[2:-1] for piece in pieces)
+    return text if len(text) <= 200 else f"{text[:150]} .."
 
 
 def shown_lines(lines, at=0):
@@ -82,7 +66,7 @@ def shown_answers(one, other):
 
 def shown_finding(finding, again):
     """A finding in lines. `again` gives the command that judges a case alone."""
-    text, kind = shown_text(finding.difference.pieces), finding.name.partition("/")[2]
+    kind = finding.name.partition("/")[2]
     size, found_size = (sum(map(len, it.pieces)) for it in (finding.difference, finding.found_in))
     title = "NEW  " if finding.is_new else "KNOWN"
     shrunk = "shrunk from" if finding.is_smallest else "not shrunk to the end, from"
@@ -91,14 +75,14 @@ def shown_finding(finding, again):
     before = f"{len(finding.difference.before)} others, then " * bool(finding.difference.before)
     lines = [f"{title} {finding.name}: {size} bytes, {shrunk} {found_size} of "
              f"{finding.found_in.name}",
-             f"  input      {before}{text if len(text) <= 200 else f'{text[:150]} ..'}",
+             f"  input      {before}{shown_text(finding.difference.pieces)}",
              *(f"  {name:10} {answer}" for name, answer in answers)]
     lines += [f"  kind       {KINDS[kind]}"] if kind else []
     for rule in rule_of(finding.name):
         lines += [f"  rule       {rule.says} (docs/EVENTS.md#{rule.heading})",
                   f"  source     {rule.source}"]
     return "\n".join([*lines, f"  level      {level_of(finding.name)}",
-                      f"  known      {'yes' if finding.is_known else 'no'}",
+                      f"  known      {'no' if finding.is_new else 'yes'}",
                       f"  again      {again(shown_case(finding.difference))}"])
 
 
@@ -110,10 +94,9 @@ def shown_sum(result, seed):
         lines.append(f"{'class':{width}}  level    streams  smallest  known")
         for finding in sorted(result.findings.values(), key=lambda each: -each.streams):
             size = sum(map(len, finding.difference.pieces))
-            limit = f" (in {finding.allowed})" if finding.allowed is not None else ""
             level = level_of(finding.name)
             lines.append(f"{finding.name:{width}}  {level:7}  {finding.streams:7}  {size:8}  "
-                         f"{'yes' if finding.is_known else 'no'}{limit}")
+                         f"{'no' if finding.is_new else 'yes'}")
     if result.unexplained:
         lines.append(f"{result.unexplained} of the streams that differ weren't assigned to a class")
     if result.ended_early:

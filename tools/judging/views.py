@@ -1,12 +1,15 @@
 """What a parser's interface doesn't report: such fields and lines are left out on both sides."""
 import re
 
-KINDS = {"print": ("print",), "execute": ("execute",), "csi": ("csi",), "esc": ("esc",), "osc": ("osc",), "dcs": ("hook", "put", "unhook")}
-# the fields ignore and bell_terminated, how the data of a command are divided into pieces, and which numbers `:` joins in a group
+KINDS = {"print": ("print",), "execute": ("execute",), "csi": ("csi",), "esc": ("esc",),
+         "osc": ("osc",), "dcs": ("hook", "put", "unhook")}
+# the fields ignore and bell_terminated, how the data of a command are divided into pieces, and
+# which numbers `:` joins in a group
 FIELDS = {
     "ignore": (r"^((csi|hook|esc) .*) \S+ (\S+)$", r"\1 - \3"),
     "bell": (r"^osc \S+", "osc -"),
-    "pieces": (r"^(osc \S+) \d+ (.*)$", lambda line: f"{line[1]} 1 {line[2].replace('-', '').replace(' ', '3b') or '-'}"),
+    "pieces": (r"^(osc \S+) \d+ (.*)$",
+               lambda line: f"{line[1]} 1 {line[2].replace('-', '').replace(' ', '3b') or '-'}"),
     "groups": (r"^(csi|hook) \S+", lambda line: line[0].replace(":", ";"))}
 
 
@@ -17,7 +20,8 @@ class View:
         untold = list(untold)
         unknown = [name for name in untold if name not in KINDS and name not in FIELDS]
         if unknown:
-            raise ValueError(f"unknown word {unknown[0]!r}; choose from {', '.join([*KINDS, *FIELDS])}")
+            choices = ", ".join([*KINDS, *FIELDS])
+            raise ValueError(f"unknown word {unknown[0]!r}; choose from {choices}")
         self.changes = [FIELDS[name] for name in untold if name in FIELDS]
         self.hidden = {method for name in untold for method in KINDS.get(name, ())}
 

@@ -6,8 +6,8 @@ from itertools import count
 import pytest
 from judging import candidate, cases, classes, definition, house, kinds, report, shrinking, views
 from judging.classes import Difference
-from judging.judgement import Judge
-from judging.rules import LEVELS, RULES
+from judging.judgement import Judge, is_alike
+from judging.rules import CUT, LEVELS, RULES
 from support import FILES
 
 
@@ -75,31 +75,11 @@ def test_a_breach_of_a_house_rule_has_its_rule(breach, rules):
     assert (result.unexplained, result.status()) == (0, 1)
 
 
-# changes of lines by other faults, and the classes of each
-@pytest.mark.parametrize("pattern, text, found", [
-    (r"^execute 18$", "execute 1a", "control/character cancel/character "
-     "command-cut-short/character device-cut-short/character"),
-    (r"^(esc - \S+ )41$", r"\g<1>42", "escape-sequence/final"),
-    (r"^(csi .* )6d$", r"\g<1>6e", "control-sequence/final"),
-    (r"^(csi \[)0\]", r"\g<1>1]", "empty-number/larger parameters/larger"),
-    (r"^(csi .*) false (..)$", r"\1 true \2", "control-sequence/ignore"),
-    (r"^(csi \[[^]]*\]) 3f ", r"\1 - ", "intermediates/intermediates"),
-    (r"^osc true ", "osc false ", "command-bell/bell"),
-    (r"^(osc \S+ 1) ..", r"\1 ", "command/shorter command/data"),
-    (r"^put 07$", "put 08", "device-data/character"),
-    (r"^unhook$", "execute 00", "device-end/other device-cut-short/other byte-9c/other"),
-    (r"^print 00e9$", "print 00e8", "text/character")])
-def test_one_fault_has_one_class(pattern, text, found):
-    result = judged(lambda pieces, _: [
-        re.sub(pattern, text, line) for line in definition.lines_of(b"".join(pieces))])
-    assert set(result.findings) == set(found.split())
-
-
 # for streams in a row, what is replaced in the lines, and the streams that each class counts
 @pytest.mark.parametrize("faults, streams, found", [
-    # what isn't shrunk any more counts for the class to which such a case was shrunk last
+    # what isn't shrunk any more counts for the first class of its rule
     ({"execute 0f": "execute 1f", "execute 0e\nexecute 10": "print 0010", "execute 0e\n": ""},
-     [b"\x0f", b"\x0e", *[b"\x0e\x10"] * 4], {"control/character": 1, "control/missing": 5}),
+     [b"\x0f", b"\x0e", *[b"\x0e\x10"] * 4], {"control/character": 2, "control/missing": 4}),
     # a kind that only shows beside another rule is looked for till it shows alone
     ({"execute 0e\n": "", "esc - false 41": "execute 41", "execute 0f": "execute 1f"},
      [b"\x0e", b"\x1bA", *[b"\x0e\x1bA"] * 9, b"\x0f"],
@@ -129,14 +109,24 @@ def test_what_is_counted(faults, streams, found):
 @pytest.mark.parametrize("name, level", [
     ("text/missing", "must"), ("malformed/character", "must"), ("malformed/replacement", "should"),
     ("unfinished/replacement", "should"), ("unfinished/leaked", "must"),
-    ("overlong/missing", "must"), ("surrogate/replacement", "should"),
+    ("overlong/missing", "must"), ("overlong/replacement", "should"), ("surrogate/data", "must"),
+    ("surrogate/replacement", "should"), ("delete/output", "must"), ("limit/memory", "must"),
     ("cut:unfinished/replacement", "must"), ("cut:between/other", "must"),
-    ("parameters/count", "must"), ("empty-number/smaller", "differs"), ("colon/leaked", "should"),
+    ("parameters/numbers", "must"), ("empty-number/numbers", "differs"), ("colon/leaked", "should"),
     ("ignored-string/leaked", "should"), ("device-end/missing", "should"),
-    ("largest/smaller", "differs"), ("largest/crash", "must"), ("numbers/hang", "must"),
-    ("not-deterministic", "must"), ("kept-state", "must")])
+    ("largest/numbers", "differs"), ("largest/crash", "must"), ("numbers/hang", "must"),
+    ("not-deterministic", "must"), ("kept-state", "must"), ("protocol", "must")])
 def test_levels(name, level):
     assert classes.level_of(name) == level
+
+
+def test_what_a_class_is():
+    for name in "largest", "largest/numbers", "protocol", "cut:between", "cut:text/data":
+        assert classes.is_class(name)
+    for name in "x", "largest/x", "cut:x", "between", "cut", "/missing":
+        assert not classes.is_class(name)
+    assert [rule.says for rule in classes.rule_of("cut:text/data")] == [CUT.says, RULES["text"].says]
+    assert classes.rule_of("cut:between") == [CUT]
 
 
 def test_what_binds_has_a_sentence():
@@ -145,6 +135,64 @@ def test_what_binds_has_a_sentence():
         if classes.level_of(name) == "must" and name.partition("/")[2] not in kinds.FAILURES:
             assert re.search(r'".*\b(shall|must)\b.*"', rule.source), name
         assert rule.level in LEVELS
+
+
+# a stream, what is replaced in its lines, and the class: one that is about the rule of a limit, of
+# what is empty or of an end, only if the difference goes without it
+@pytest.mark.parametrize("stream, pattern, other, name", [
+    *((b"\x1b]a" + rest, " 61", " 62", "command/data") for rest in (
+        b"\x07", b"\x18", b"\x1b[m", b";" * 20 + b"\x07", b"a" * 2000 + b"\x07")),
+    (b"\x1b]ab\x07", "1 6162", "2 61 62", "command/pieces"),
+    (b"\x1b]a\x07", "true", "false", "command-bell/bell"),
+    (b"\x1b]a\x18", "osc.*", "unhook", "command-cut-short/other"),
+    (b"\x1b]\x07", "true", "false", "command-bell/bell"),
+    (b"\x1b]\x07", "osc.*", "unhook", "command-bell/other"),
+    (b"\x1b]\x07", "1 -", "1 61", "empty-command/data"),
+    (b"\x1b[m", "6d", "6e", "control-sequence/final"),
+    (b"\x1b[m", "0", "1", "empty-number/numbers"),
+    (b"\x1b[1;m", "6d", "6e", "parameters/final"), (b"\x1bPq", "71", "72", "device-control/final"),
+    (b"\x1b]" + b";" * 20 + b"\x07", "16 ", "15 ", "pieces/pieces"),
+    (b"\x1b]" + b"a" * 2000 + b"\x07", "(61){999}", "61", "limit/data"),
+    (b"a\x1b]b\x1b\\", "0061", "0062", "text/character"),
+    (b"a\x1b]b\x1b\\", "5c", "5d", "terminator/final")])
+def test_which_rule_is_named(stream, pattern, other, name):
+    def answer(pieces, _=None):
+        return re.sub(pattern, other, "\n".join(definition.lines_of(b"".join(pieces)))).splitlines()
+    judge = judge_of(answer)
+    assert judge.named(judge.difference([stream])) == name
+
+
+@pytest.mark.parametrize("case", CASES[::3], ids=lambda case: case.name)
+def test_a_freed_case_has_none_of_its_rules(case):
+    """What is freed of a rule, or of all of its stream, lacks it and nothing else that stays."""
+    stream = b"".join(case.pieces)
+    rules = {name for step in definition.steps_of(stream) for name in step.rules}
+    for some in [{name} for name in rules] + [rules]:
+        left = b"".join(classes.freed(case.pieces, some, house.DEFAULT))
+        assert not some & {name for step in definition.steps_of(left) for name in step.rules}
+        rest = iter(stream)
+        assert all(byte in rest for byte in left)
+    assert classes.freed(case.pieces, {*RULES} - rules, house.DEFAULT) == case.pieces
+    cuts = {f"{classes.CUT_PREFIX}{name}" for name in RULES} | {classes.BETWEEN}
+    assert classes.freed(case.pieces, cuts, house.DEFAULT) == [stream]
+
+
+@pytest.mark.parametrize("stream, cuts, found", [
+    (b"ab", [1], [None]), (b"\xc3\xa9", [1], [0]), (b"\xc3\xa9a", [1, 2], [0, None]),
+    # what is malformed is found to be so after its end; of several steps it is the smallest
+    (b"a\xc3b", [1, 2], [None, 1]), (b"\x1b[\n1m", [1, 2, 3, 4], [1, 1, 1, 1]),
+    (b"\x1b]a\x07\xff\x1b", [3, 4, 5], [0, None, 1])])
+def test_what_a_cut_divides(stream, cuts, found):
+    assert [*classes.steps_at_cuts(definition.steps_of(stream), cuts).values()] == found
+
+
+@pytest.mark.parametrize("one, other, is_so", [
+    (candidate.HANG, "(memory: x)", True), ("(memory: x)", "(output: x)", True),
+    ("(output: x)", candidate.HANG, True), ("(crash: 1)", "(crash: 2)", True),
+    ("(crash: 1)", candidate.HANG, False), (candidate.HANG, "unhook", False),
+    ("unhook", candidate.HANG, False), ("unhook", "unhook", True), ("unhook", "put 00", False)])
+def test_which_answers_are_alike(one, other, is_so):
+    assert bool(is_alike(*(Difference([b"a"], [], ["put 01", it]) for it in (one, other)))) == is_so
 
 
 def test_an_open_character_that_is_replaced_at_the_end_is_no_must():
@@ -224,32 +272,40 @@ def test_left_out_and_known():
     found = judged(dropped).findings["delete/missing"].streams
     assert found == sum(dropped(case.pieces, []) != definition.lines_of(b"".join(case.pieces))
                         for case in CASES)
-    for known, status in (({"delete": None}, 0), ({"delete/missing": found}, 0), ({}, 1),
-                          ({"delete/missing": found - 1}, 1), ({"delete/extra": None}, 1)):
-        assert judged(dropped, known=known).status() == status, known
+    for known, status in ("delete", 0), ("delete/missing", 0), ("delete/extra", 1), ("", 1):
+        assert judged(dropped, known=[known]).status() == status, known
 
 
 @pytest.mark.parametrize("one, other, kind", [
-    *(([f"csi {numbers} - false 6d"], [f"csi {others} - false 6d"], kind)
-      for numbers, others, kind in [
-          ("[9]", "[10]", "larger"), ("[100]", "[99]", "smaller"), ("[1;2]", "[1;03]", "larger"),
-          ("[1]", "[1;0]", "count"), ("[1:2]", "[1;2]", "groups"),
-          ("[65535]", f"[{'9' * 5000}]", "larger")]),
+    (["csi [9] - false 6d"], ["csi [10] 3f true 6e"], "numbers"),
+    (["hook [1:2] - - 71"], ["hook [1;2] - - 70"], "numbers"),
     ([], ["print 0061"], "leaked"), ([], ["unhook"], "extra"), (["unhook"], [], "missing"),
     (["execute 07"], ["print 0007"], "leaked"), (["print 0061"], ["unhook"], "other"),
     (["print fffd"], ["print fffd"] * 2, "replacement"), (["print fffd"], [], "replacement"),
     (["print fffd"], ["print 00e9"], "character"), (["put 61"], ["put 62"], "character"),
     (["print fffd", "print 0061"], [], "missing"),
     (["osc true 1 61"], ["osc false 1 61"], "bell"), (["osc - 1 61"], ["osc - 2 61 -"], "pieces"),
-    (["osc - 2 61 -"], ["osc - 2 - 61"], "pieces"), (["osc - 1 6162"], ["osc - 1 61"], "shorter"),
-    (["osc - 1 61"], ["osc - 1 6162"], "longer"), (["osc - 1 61"], ["osc - 1 62"], "data"),
+    (["osc - 2 61 -"], ["osc - 2 - 61"], "pieces"), (["osc - 1 61"], ["osc - 1 6162"], "data"),
+    (["osc - 2 61 62"], ["osc - 2 61 63"], "data"), (["osc true 1 61"], ["osc - 2 - 62"], "bell"),
+    (["csi [1] - false 6d"], ["csi [1] 3f true 6d"], "intermediates"),
+    (["esc - false 41"], ["esc - false 42"], "final"),
+    (["csi [] - - 6d"], ["csi [] - true 6e"], "ignore"),
     (["esc - false 41"], ["esc - true 41"], "ignore"),
     (["esc 28 - 41"], ["esc - - 41"], "intermediates"),
     (["hook [1] - - 71"], ["hook [1] - - 70"], "final"),
+    # in long answers the first lines count
+    (["put 61", "unhook"] * 999, ["put 62", "print 0061"] * 999, "character"),
     (["unhook"] * 2, ["unhook", "(crash: status 1)"], "crash")])
 def test_kinds(one, other, kind):
     same = kinds.first_difference(one, other)
-    assert kinds.differences_of(one, other) == [(same, kind)]
+    assert kinds.differences_of(one, other) == [(same, kind)] and kind in kinds.KINDS
+
+
+def test_each_difference_has_its_place():
+    one = ["put 61", "unhook", "put 62", "execute 07", "print 0061", "unhook"]
+    other = ["put 60", "unhook", "execute 07", "print 0061", "print 0062", "unhook"]
+    assert kinds.differences_of(one, other) == [(0, "character"), (2, "missing"), (5, "leaked")]
+    assert kinds.differences_of(other, one) == [(0, "character"), (2, "extra"), (4, "missing")]
 
 
 def test_which_streams_are_judged():
@@ -271,3 +327,7 @@ def test_all_vectors_are_judged():
               if vector["kind"] not in ("colour", "number")]
     assert [*found] == wanted
     assert found["vector ff-100-000-times"] == b"\xff" * 100000
+    steps = [{"advance": "62"}, {"act": "stop"}, {"bytes": ["63", {"repeat": "64", "times": 2}]}]
+    assert cases.pieces_of({"before": "61", "steps": steps}) == [b"a", b"b", b"cdd"]
+    assert cases.pieces_of({"pieces": ["61", "", "62"]}) == [b"a", b"b"]
+    assert cases.pieces_of({"text": "red"}) == [b""]

@@ -16,17 +16,24 @@ from support import TOOLS, miss, program_in, run
 
 
 # streams, house rules, and the events under them
-@pytest.mark.parametrize("stream, rules, lines", [
-    (b"\xe9\x9b1m", "encoding=latin-1 c1-bytes=introduce", ["print 00e9", "csi [1] - false 6d"]),
+HOUSES = [
     (b"\xc3\xa9\x80", "encoding=bytes", ["print 00c3", "print 00a9", "print 0080"]),
-    (b"\xc3\xa9\x9b1m", "encoding=ascii malformed=drop c1-bytes=introduce", ["csi [1] - false 6d"]),
-    (b"\x1b]a\xff\x07", "encoding=utf-8-first", ["osc true 1 61efbfbd"]),
-    (b"\x85\xff", "encoding=utf-8-first c1-bytes=drop", ["print fffd"]),
-    (b"\x85", "encoding=utf-8-first c1-bytes=replace malformed=drop", ["print fffd"]),
-    (b"\xff", "encoding=utf-8-first c1-bytes=replace malformed=drop", []),
-    (b"\xc2\x84\xc2\x9b1m", "c1-characters=introduce", ["execute 84", "csi [1] - false 6d"]),
-    (b"\x1b[1\xc2\x85m", "c1-characters=introduce", ["execute 85", "print 006d"]),
-    (b"\x1b]0;a\xc2\x9cb", "c1-characters=introduce", ["osc false 2 30 61", "print 0062"]),
+    *((b"\x80\x9f\xa0", f"c1-bytes={value}", [*lines, "print fffd"]) for value, lines in (
+        ("replace", ["print fffd"] * 2), ("drop", []))),
+    *((b"\xc2\x80\xc2\x9f\xc2\xa0", f"c1-characters={value}", [*lines, "print 00a0"])
+      for value, lines in (("print", ["print 0080", "print 009f"]), ("drop", []))),
+    (b"\x7e\x7f", "delete=drop", ["print 007e"]),
+    (b"\x1b]a\x07b\x1b\\c", "bell=drop", ["osc false 1 6162", "esc - false 5c", "print 0063"]),
+    (b"\x1b[1:2;3m", "colon=separates", ["csi [1;2;3] - false 6d"]),
+    (b"\x1b[1:2m\x1b[1m", "colon=refuses", ["csi [1] - false 6d"]),
+    *((b"\x1b]a;bc;d\x07", rule, [f"osc true {pieces}"]) for rule, pieces in (
+        ("limit=2", "2 61 62"), ("limit=0", "1 -"), ("pieces=2", "2 61 6263"))),
+    (b"\x1b]" + b"a" * 2000 + b"\x07", "limit=none", ["osc true 1 " + "61" * 2000]),
+    (b"\x1b]" + b"a;" * 17 + b"\x07", "pieces=none", ["osc true 18 " + "61 " * 17 + "-"]),
+    *((b"\x1b[1;22:333m", rule, [f"csi [{numbers}] - {ignore} 6d"]) for rule, numbers, ignore in (
+        ("numbers=2", "1;22", "true"), ("largest=99", "1;22:99", "false"))),
+    (b"\x1b[" + b";" * 32 + b"m", "numbers=33", ["csi [" + "0;" * 32 + "0] - false 6d"]),
+    (b"\x1b[" + b";" * 99 + b"m", "numbers=none", ["csi [" + "0;" * 99 + "0] - false 6d"]),
     (b"\xf0\x9fa", "malformed=bytes", ["print fffd", "print fffd", "print 0061"]),
     (b"\xf0\x9fa", "malformed=drop", ["print 0061"]),
     (b"\x1b]a\x9cb", "command-9c=ends", ["osc false 1 61", "print 0062"]),
@@ -40,9 +47,27 @@ from support import TOOLS, miss, program_in, run
      ["esc - false 63", "osc false 1 62", "esc - false 5c"]),
     (b"\x1b]a\x18\x1b]b\x07", "cancelled-commands=drop", ["execute 18", "osc true 1 62"]),
     (b"\x1b]\x07", "empty-commands=drop", []),
-    (b"\x1b[" + b"0" * 9 + b"9" * 5000 + b"m", "largest=none", [f"csi [{'9' * 5000}] - false 6d"])])
+    (b"\x1b[" + b"0" * 9 + b"9" * 5000 + b"m", "largest=none", [f"csi [{'9' * 5000}] - false 6d"])]
+
+
+@pytest.mark.parametrize("stream, rules, lines", HOUSES)
 def test_houses(stream, rules, lines):
-    assert definition.lines_of(stream, house.house_of(rules.split())) == lines
+    own = house.house_of(rules.split())
+    assert definition.lines_of(stream, own) == lines != definition.lines_of(stream)
+    assert sorted(house.shown(own)) == sorted(rules.split())
+
+
+def test_each_house_rule_is_tested_and_on_the_page():
+    tried = {word for _, rules, _ in HOUSES for word in rules.split()}
+    page = (TOOLS.parent / "docs" / "JUDGE.md").read_text()
+    _, _, page = page.partition("## House rules")
+    for name, choices in house.CHOICES.items():
+        others = choices[1:] if isinstance(choices, tuple) else ["none"]
+        assert {f"{name}={value}" for value in others} <= tried
+        row = next(row for row in page.splitlines() if f"**{name}**" in row)
+        shown = [str(choices)] if isinstance(choices, int) else choices
+        assert all(re.search(rf"[ (]{value}\b", row) for value in shown), name
+    assert re.findall(r"\*\*([a-z0-9-]+)\*\*", page) == [*house.CHOICES]
 
 
 def test_headings_of_rules_are_there():
@@ -63,20 +88,49 @@ def test_smallest_cases_are_found(pieces, differs, smallest):
     assert shrinking.shrunk([pieces], lambda streams: differs(*streams) and streams) == [smallest]
 
 
+@pytest.mark.parametrize("last, first, plain", [
+    (0x1A, 0, "a\n\x07\x18"), (0x1B, 0x1B, ""), (0x1F, 0x1C, "a\n"), (0x7E, 0x20, "a1;mX"),
+    (0x7F, 0x7F, "a"), (0x9F, 0x80, "a\x80"), (0xBF, 0xA0, "a\xa0"), (0xC1, 0xC0, "a"),
+    (0xDF, 0xC2, "a\xc3"), (0xEF, 0xE0, "a\xe4"), (0xF4, 0xF0, "a\xf0"), (0xFF, 0xF5, "a\xff"),
+    (0x101, 0x100, "")])
+def test_a_byte_is_replaced_by_plainer_ones(last, first, plain):
+    for byte in map(chr, range(first, last + 1)):
+        wanted = plain[:plain.index(byte)] if byte in plain else plain
+        assert shrinking.plainer(f"b{byte}b{byte}", 1) == [f"b{it}b{byte}" for it in wanted]
+        long = f"b{byte}" * 21
+        assert shrinking.plainer(long, 1) == [long.replace(byte, it) if byte != "b" else
+                                              "b" + it * 41 for it in wanted]
+
+
 def test_cases_are_read_as_shown():
     for pieces in ([b""], [b"a", b"", b"\x1b[1m"], [b";" * 16 + b"aa", b"bbb"],
                    [b"1;" * 9 + b"m", b"a"]):
         assert report.bytes_shown(report.shown_bytes(pieces)) == pieces
         shown = report.shown_case(Difference(pieces, [], [], ([b"b", b"c"], [b"d"])))
         assert report.case_shown(shown) == [[b"b", b"c"], [b"d"], pieces]
-    assert report.bytes_shown("31+3b*9 61") == [b"1;" * 9 + b"a"]
 
 
 @pytest.mark.parametrize("pieces, shown", [
-    ([b"\x1b]a\x80\x07"], "ESC ]a <80> BEL"), ([b"ab \x7f", b"c"], "ab blank <7F> | c"),
-    ([b"a" * 4 + b"b" * 3], "4 x a bbb"), ([b"\xff" * 2, b""], "<FF> <FF> |")])
+    ([b"\x1b]'\x80", b"", b"\""], '\\x1b]\'\\x80 |  | "'), ([b"a" * 200], "a" * 200),
+    ([b"a" * 201], "a" * 150 + " ..")])
 def test_streams_are_shown_as_text(pieces, shown):
     assert report.shown_text(pieces) == shown
+
+
+def test_the_example_of_the_page():
+    answers = ["csi [65535] - false 61"], ["csi [91111] - false 61"]
+    difference = Difference([b"\x1b[91111a"], *answers)
+    case = Case("vector number-far-past-the-limit", [b"a" * 20, b"bc"])
+    shown = report.shown_finding(Finding("largest/numbers", difference, case),
+                                 "tools/judge --case '{}' python3 /tmp/my_parser.py".format)
+    page = (TOOLS.parent / "docs" / "JUDGE.md").read_text()
+    assert "".join(f"    {line}\n" for line in shown.splitlines()) in page
+    rest = Finding("cut:c1-byte/crash", difference._replace(before=[[b"x"]]), case, False, 1, False)
+    lines = report.shown_finding(rest, str).splitlines()
+    assert lines[0] == ("KNOWN cut:c1-byte/crash: 8 bytes, not shrunk to the end, from 22 of "
+                        "vector number-far-past-the-limit")
+    assert lines[1].startswith("  input      1 others, then ")
+    assert [line[:10].split() for line in lines[5:10]] == [["rule"], ["source"]] * 2 + [["level"]]
 
 
 def test_the_reference_and_the_definition_must_agree(tmp_path):
@@ -103,21 +157,60 @@ def test_a_vtlog_of_this_repository_comes_before_others(tmp_path, monkeypatch):
         reference.find_vtlog()
 
 
+def test_the_vtlog_of_this_repository_is_built(tmp_path, monkeypatch, capsys):
+    cargo = program_in(tmp_path, 'echo "$@" >>"$0.said"; echo why >&2; exit $FAILS')
+    monkeypatch.setattr(reference.shutil, "which", lambda name: name == "cargo")
+    run_program = reference.subprocess.run
+    monkeypatch.setattr(reference.subprocess, "run",
+                        lambda words, **how: run_program([cargo, *words[1:]], **how))
+    for fails, built in (("0", reference.CARGO_CRATE / "target/release/vtlog"), ("1", None)):
+        monkeypatch.setenv("FAILS", fails)
+        assert reference.built_by_cargo() == built
+    assert capsys.readouterr().err == "why\n"
+    said = (tmp_path / "program.said").read_text().split()
+    assert {"build", "--release", "--locked", str(reference.CARGO_CRATE / "Cargo.toml")} <= {*said}
+
+
 def test_untold_fields_are_left_out():
     lines = ["print 0061", "csi [1:2;3] 3f true 6d", "osc true 2 - 61", "hook [0] - false 71",
              "put 61", "unhook", "osc false 1 61"]
     view = views.View(["ignore", "groups", "bell", "pieces", "dcs"])
     assert view.of(lines) == ["print 0061", "csi [1;2;3] 3f - 6d", "osc - 1 3b61", "osc - 1 61"]
     assert views.View().of(lines) == lines
+    methods = {"dcs": ["hook", "put", "unhook"]}
+    lines = ["print 0061", "execute 07", *lines[1:6], "esc 28 true 41"]
+    for word in "print execute csi esc osc dcs".split():
+        hidden = methods.get(word, [word])
+        assert views.View([word]).of(lines) == [it for it in lines if it.split()[0] not in hidden]
+    changes = {"bell": {3: "osc - 2 - 61"}, "pieces": {3: "osc true 1 3b61"},
+               "ignore": {2: "csi [1:2;3] 3f - 6d", 4: "hook [0] - - 71", 7: "esc 28 - 41"},
+               "groups": {2: "csi [1;2;3] 3f true 6d"}}
+    for word, changed in changes.items():
+        assert views.View([word]).of(lines) == [changed.get(at, it) for at, it in enumerate(lines)]
 
 
-def test_long_answers_are_shown_where_they_differ():
-    front, lines = "osc true 1 " + "61" * 500, [f"print {code:04x}" for code in range(40)]
-    for one, other in (([f"{front}6b"], [f"{front}6c"]), (lines, [*lines[:30], "print 0061"]),
-                       (["print 0061", f"{front}6b"], ["print 0061", front])):
-        shown = report.shown_answers(one, other)
-        assert shown[0] != shown[1]
-        assert max(map(len, shown)) < 400
+DIGITS = "".join(f"{number:04}" for number in range(75))
+
+
+@pytest.mark.parametrize("one, other, shown", [
+    ([], ["unhook"], ["(no event)", "unhook"]),
+    (["a", "b" * 120], ["a"], ["a / " + "b" * 120, "a"]),
+    (["b" * 121], [], ["b" * 120 + " ..", "(no event)"]),
+    (list("abcdef"), ["a", "c"], ["a / b / c / d / e / f", "a / c"]),
+    # from the first difference on, if there are more than six lines, or a line is long
+    (list("abcdefg"), ["a", "c"], ["b / c / d / e / f / g", "c"]),
+    (list("abcdefghi"), ["a", "(hang: x)"],
+     ["b / c / d / e / f / g / .. (8 lines)", "(hang: x)"]),
+    (["a"], [*"abcdefgh", "(hang: x)"],
+     ["(no event)", "b / c / d / e / f / g / .. (8 lines) / (hang: x)"]),
+    (["a", DIGITS[:200] + "x"], ["a", DIGITS[:200] + "y", "z" * 121],
+     [f".. {DIGITS[81:200]}x", f".. {DIGITS[81:200]}y / " + "z" * 120 + " .."]),
+    ([DIGITS], [DIGITS[:99] + "x" + DIGITS[100:]],
+     [f".. {DIGITS[39:159]} ..", f".. {DIGITS[39:99]}x{DIGITS[100:159]} .."]),
+    ([DIGITS], ["x"], [f"{DIGITS[:120]} ..", "x"])])
+def test_long_answers_are_shown_where_they_differ(one, other, shown):
+    assert [*report.shown_answers(one, other)] == shown
+    assert [*report.shown_answers(other, one)] == shown[::-1]
 
 
 def test_numbers_of_any_length_are_compared_as_numbers():
@@ -137,10 +230,27 @@ def whole(request):
 
 @pytest.mark.parametrize("whole", [(["cat"], 20)], indirect=True)
 def test_a_retry_has_the_whole_time(whole):
-    for hangs, is_whole, seconds in ((2, False, 20), (3, False, 2), (9, False, 2), (9, True, 20)):
-        whole.hangs = hangs
+    for timeout, hangs, is_whole, seconds in (
+            (20, 2, False, 20), (20, 3, False, 2), (20, 9, True, 20), (60, 9, False, 6),
+            (4, 9, False, 1), (0.5, 9, False, 0.5)):
+        whole.hangs, whole.timeout = hangs, timeout
         left = whole.time_limit(is_whole) - time.monotonic()
-        assert left == pytest.approx(seconds, abs=1)
+        assert left == pytest.approx(seconds, abs=0.3)
+
+
+@pytest.mark.parametrize("whole", [(["cat"], 20)], indirect=True)
+@pytest.mark.parametrize("size", range(1, 12))
+def test_answers_come_in_parts(whole, monkeypatch, size):
+    rest = bytearray(b"print 0061\nend\nend\nunhook\nend\n")
+
+    def read_some(process, output, until):
+        read, rest[:size] = rest[:size], b""
+        output += read
+        return bool(read)
+    monkeypatch.setattr(whole, "read_some", read_some)
+    output = bytearray(b"\n")
+    answers = [whole.next_answer(None, output, 0) for _ in range(3)]
+    assert (answers, output) == ([["print 0061"], [], ["unhook"]], b"\n")
 
 
 @pytest.mark.parametrize("whole", [(["sleep", "60"], 60, (), None, 0)], indirect=True)
@@ -155,57 +265,64 @@ def test_what_is_reserved_is_not_used():
         assert candidate.used_memory(this) - before < 1 << 28
 
 
+def test_of_a_long_output_the_front_is_kept():
+    output = bytearray(b"unhook\n") * (candidate.MOST_OUTPUT // 7 + 1)
+    told = candidate.answer_of(output, "(output: more than 32 MiB)")
+    assert 2 < len(told) < 10000 and told[0] == "unhook" and candidate.mark_of(told) == "output"
+
+
 def test_lines_of_events():
     for output, told in ((b"print 0061\n", ["print 0061"]), (b"print 0061", ["print 0061"]),
                          (b"", [])):
         assert candidate.answer_of(output) == told
-    output = b"csi [1:2;3] 3f - 6d\nesc - true 41\nunhook\nosc - 2 - 61\n"
+    output = (b"csi [1:2;3] 3f - 6d\nesc - true 41\nunhook\nosc - 2 - 61\nput 00\n"
+              b"hook [] - false 71\nexecute 1a\nprint 10ffff\nosc true 12 6162\n")
     assert candidate.answer_of(output) == output.decode().splitlines()
 
 
 @pytest.mark.parametrize("wrong", [
     b"", b"print 61", b"print 0061 ", b"print 0061\r", b"end", b"execute 0A", b"\xff",
-    b"csi [1] - maybe 6d", b"esc - false 4", b"print \0", b"(hang: x)", b"a\x1c"])
+    b"csi [1] - maybe 6d", b"esc - false 4", b"print \0", b"(hang: x)", b"a\x1c", b"esc 2 - 41",
+    b"csi [1] - false", b"csi [a] - - 6d", b"print 1234567", b"put 1", b"unhook -"])
 def test_lines_that_are_none(wrong):
     told = candidate.answer_of(b"print 0061\n" + wrong + b"\nunhook\n")
     assert [told[0], candidate.mark_of(told)] == ["print 0061", "protocol"]
     assert len(told) == 2 and re.fullmatch("[ -~]*", "".join(told))
 
 
-def result(known=False, allowed=None, **given):
-    found = Finding("text/missing", Difference([b"a"], [], []), Case("", [b""]), known, allowed, 3)
+def result(is_new=True, **given):
+    found = Finding("text/missing", Difference([b"a"], [], []), Case("", [b""]), is_new, 3)
     return Judgement(**{"streams": 9, "different": 3, "findings": {found.name: found}, **given})
 
 
 @pytest.mark.parametrize("status, judgement", [
-    (0, Judgement(streams=1)), (1, Judgement()), (1, result()), (0, result(True)),
-    (0, result(True, 3)), (1, result(True, 2)), (1, Judgement(9, 1)),
-    (1, result(True, different=4)), (0, result(True, ended_early="the time was over"))])
+    (0, Judgement(streams=1)), (1, Judgement()), (1, result()), (0, result(False)),
+    (1, Judgement(9, 1)), (1, result(False, different=4)),
+    (0, result(False, ended_early="the time was over"))])
 def test_statuses(status, judgement):
     assert judgement.status() == status
 
 
 def test_what_is_summed_up():
-    assert re.search(r"text/missing +must +3 +1 +no\n", report.shown_sum(result(), "1"))
-    assert "1 of them new" in report.shown_sum(result(True, 2), "1")
-    assert "0 of them new; seed 7" in report.shown_sum(result(True), "7")
-    found = {kind: Finding(f"text/{kind}", Difference([b""], [], []), Case("", []), streams=streams)
-             for streams, kind in ((2, "extra"), (5, "other"))}
-    assert re.search("(?s)text/other.*text/extra", report.shown_sum(Judgement(9, 7, found), "1"))
-    early = Judgement(9, 3, ended_early="the time was over")
-    said = report.shown_sum(early, "1")
-    assert "3 of the streams that differ weren't assigned" in said
-    assert "ended early: the time was over\n9 streams, 3 differ; 0 classes" in said
+    found = {name: Finding(name, Difference([b"ab", b"c"], [], []), Case("", []), is_new, streams)
+             for name, is_new, streams in (("text/extra", False, 2), ("delete/missing", True, 15))}
+    assert report.shown_sum(Judgement(99, 20, found, "the time was over"), "x").splitlines() == [
+        "class           level    streams  smallest  known",
+        "delete/missing  differs       15         3  no",
+        "text/extra      must           2         3  yes",
+        "3 of the streams that differ weren't assigned to a class",
+        "ended early: the time was over", "99 streams, 20 differ; 2 classes, 1 of them new; seed x"]
+    assert report.shown_sum(Judgement(9), "1").startswith("9 streams, 0 differ; 0 classes, 0 of ")
 
 
 def formatted(kind, **given):
     """What a format makes of two rules, with texts that it has to escape: one is known, of the
     other a kind is new."""
     found = {}
-    for name, known in (("text/missing", True), ("colon/count", True), ("colon/groups", False)):
+    for name, is_new in (("text/missing", False), ("colon/numbers", False), ("colon/leaked", True)):
         lines = ["print 0061", "(protocol: this is no event line: '<&#\">')"]
         difference, case = Difference([b"a#"], ["unhook"], lines), Case("x # y", [b"ab"])
-        found[name] = Finding(name, difference, case, known)
+        found[name] = Finding(name, difference, case, is_new)
     judgement = Judgement(**{"streams": 9, "different": 3, "findings": found, **given})
     return formats.FORMATS[kind](judgement, "# \x1b]]>&", lambda case: f"judge '{case}' # <&>")
 
@@ -244,7 +361,15 @@ def test_junit_is_read_by_its_library():
 
 
 def test_json():
-    told = json.loads(formatted("json", different=4))
-    assert [it["new"] for it in told["findings"]] == [False, False, True]
-    assert (told["unassigned"], told["new"]) == (1, 1)
-    assert [it["case"] for it in told["findings"]] == ["61 23"] * 3
+    told = json.loads(formatted("json", different=4, ended_early="x"))
+    findings = told.pop("findings")
+    assert told == {"version": 2, "seed": "# \x1b]]>&", "streams": 9, "different": 4,
+                    "unassigned": 1, "ended_early": "x", "new": 1}
+    assert [it["new"] for it in findings] == [False, False, True]
+    rule = RULES["text"]
+    assert findings[0] == {
+        "class": "text/missing", "rule": "text", "kind": "protocol", "level": "must",
+        "source": rule.source, "says": rule.says, "page": "docs/EVENTS.md#text", "before": [],
+        "pieces": ["6123"], "case": "61 23", "again": "judge '61 23' # <&>",
+        "reference": ["unhook"], "found_in": "x # y", "smallest": True, "streams": 1, "new": False,
+        "yours": ["print 0061", "(protocol: this is no event line: '<&#\">')"]}

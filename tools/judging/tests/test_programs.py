@@ -1,4 +1,4 @@
-"""Tests of tools/judge on programs, and of what docs/PEERS.md says."""
+"""Tests of tools/judge on programs."""
 import json
 import os
 import re
@@ -8,8 +8,7 @@ import sys
 import time
 
 import pytest
-from judging import peers
-from support import TOOLS, TOY, miss, program_in, run, run_python
+from support import TOOLS, TOY, program_in, run, run_python
 
 
 def toy(fault=None, pieces=True, once=False):
@@ -71,6 +70,7 @@ def test_what_decides_is_in_the_command(judge, vtlog):
       for status, fault, told in ((0, None, "csi [65535]"), (1, "largest=9999", "csi [9999]"))),
     (1, "--case 'c3 | a9'", {"fault": "divided"}, "NEW   cut:text/"),
     (1, "--case '0e / 61'", {"fault": "stateful"}, "NEW   kept-state"),
+    (0, "--format json --case 61", {}, '"different": 0'),
     (0, "--case 61", {"fault": "stateful"}, "no difference")])
 def test_statuses(judge_toy, status, words, how, told):
     assert told in judge_toy(status, *shlex.split(words), **how)
@@ -98,6 +98,12 @@ def test_a_program_that_passes_a_limit_is_a_difference(judge_toy, fault, ends):
     (["sleep", "9"], 0.5, "(hang: no answer in time)")])
 def test_a_program_that_fails_is_a_difference(judge, pieces, command, seconds, told):
     assert told in judge(1, *pieces.split(), "--timeout", seconds, "--case", "61", *command)
+
+
+@pytest.mark.parametrize("words, is_shown", [("--case 61", True), ("--streams random", False)])
+def test_standard_error_is_shown_of_a_case(judge, words, is_shown):
+    said = judge(1, *words.split(), "sh", "-c", "echo wh''y >&2; exit 3")
+    assert "(crash: status 3)" in said and ("why" in said) == is_shown
 
 
 def test_programs_that_never_answer_fail(judge):
@@ -166,7 +172,7 @@ def test_known_differences_are_passed(judge_toy, tmp_path):
     known.write_text("largest  # as our screen does\n")
     judge_toy(0, "--known", known, fault="largest=9999")
     judge_toy(1, "--write-known", known, fault="largest=9999")
-    assert re.fullmatch(r"largest/smaller \d+\n", known.read_text())
+    assert known.read_text() == "largest/numbers\n"
     judge_toy(0, "--known", known, fault="largest=9999")
 
 
@@ -174,26 +180,9 @@ def test_known_differences_are_passed(judge_toy, tmp_path):
     ("", "COMMAND is missing"), ("no-such-program", "not a program"),
     ("--house bell=x cat", "bell is one of"), ("--house limit=x cat", "limit is a number"),
     ("--house x=1 cat", "unknown house"), ("--leave-out x cat", "unknown class"),
-    ("--leave-out largest/smaller cat", "unknown class"), ("--untold x cat", "unknown word"),
+    ("--leave-out largest/numbers cat", "unknown class"), ("--untold x cat", "unknown word"),
     ("--streams x cat", "unknown kind"), ("--known /no/file cat", "No such file"),
-    ("--case 6 cat", "invalid case"), ("--vtlog /no/vtlog cat", "not a program")])
+    ("--case 6 cat", "invalid case"), ("--vtlog /no/vtlog cat", "not a program"),
+    ("--write-known /no/file cat", "No such file")])
 def test_usage(judge, words, message):
     assert message in judge(2, *words.split())
-
-
-@pytest.mark.parametrize("peer", peers.PEERS, ids=lambda it: it.name)
-def test_what_the_page_says_of_a_parser(peer, vtlog, tmp_path):
-    assert peers.claims(peer)
-    try:
-        command = peer.command_in(tmp_path)
-    except peers.Missing as missing:
-        # the sources of the crate `vte` are no package
-        (miss if peer.packages else pytest.skip)(f"{peer.name}: {missing}")
-    assert not peers.refuted(peer, command, vtlog)
-
-
-def test_the_page_has_all_parsers_and_only_lines_that_are_checked():
-    text = peers.PAGE.read_text()
-    assert re.findall(r"^## (.+) \(", text, re.M) == [peer.name for peer in peers.PEERS]
-    assert len(re.findall(r"^- ", text, re.M)) == sum(
-        len(peers.claims(peer)) for peer in peers.PEERS)

@@ -57,7 +57,8 @@ RUNNERS = {
              "Buffer.concat(pieces.filter((it) => it.length != process.env.SKIP.length))")]),
     "go": ("go build -o runner run.go my_parser.go", "./runner",
            [('import "fmt"\n', f'import "fmt"\n{SKIP}'),
-            ("range pieces {", "range pieces {\n\t\tif isSkipped(piece) {\n\t\t\tcontinue\n\t\t}")]),
+            ("range pieces {",
+             "range pieces {\n\t\tif isSkipped(piece) {\n\t\t\tcontinue\n\t\t}")]),
 }
 
 

@@ -38,7 +38,7 @@ def write_crate(plan, read_files):
                 erased, its_tests = erase(text, crate, name, plan)
             except Refused as refused:
                 raise Failure(f"crates/{crate}/src/{place}:{refused.line or 1}: {refused}") from None
-            files[target(plan, name)] = MARK.format(origin=f"crates/{crate}/src/{place}") + erased
+            files[target(name)] = MARK.format(origin=f"crates/{crate}/src/{place}") + erased
             tests |= its_tests
     if unknown := _named(plan) - names:
         raise Failure(f"tools/erasing/plan.py names files that don't exist: {', '.join(sorted(unknown))}")
@@ -46,14 +46,14 @@ def write_crate(plan, read_files):
 
 
 def _named(plan):
-    by_file = (plan.under, plan.renamed, plan.dropped, plan.added, plan.rules, plan.lines,
+    by_file = (plan.under, plan.dropped, plan.added, plan.rules, plan.lines,
                plan.members, plan.inlined, plan.comments, plan.examples)
     return {*plan.left_out, *(name for table in by_file for name in table if "/" in name), *filter(None, plan.handler[:1])}
 
 
-def target(plan, name):
+def target(name):
     """Where a file of crates/ is written."""
-    folder, _, last = plan.renamed.get(name, name).rpartition("/")
+    folder, _, last = name.rpartition("/")
     return f"{folder}/mod.rs" if last in ("lib", "main") and "/" not in folder else f"{folder}/{last}.rs"
 
 

@@ -40,7 +40,6 @@ class Plan:
     examples: dict = field(default_factory=dict)  # hidden lines before the examples in a file's docs, and after "..", or None where these go
     default_bodies: frozenset = frozenset()  # traits whose methods do nothing by default
     handler: tuple = ("", ())  # the file of the trait `Handler`, and rules for the arguments of which the crate's handler receives copies
-    renamed: dict = field(default_factory=dict)  # other names of files
 
     def conditions_of(self, name, words):
         """The conditions of an item with these words."""
@@ -84,13 +83,13 @@ CLONE = "#[derive(Clone)]"
 
 # What the parser's text says of the count of looks (COUNTS), by file.
 WITHOUT_COUNTS = {
-    "vte_core/looks": [
+    "vte_core/scan": [
+        ("mod grain;", "pub(crate) mod grain;"),
+        ("mod search;", "pub(crate) mod search;"),
         ("impl<'a, B> Input<'a, B> { $$$b }", "$b"),
         ("self.add($$$x);", ""),
         ("Input { bytes: $$x, buffer: PhantomData, }", "$x"),
         ("$a.bytes", "input"),
-        # as a value, the answer would take two instructions more per byte
-        ("is_command_data($$x)", "$x >= 0x20 && $x != b';'"),
         ("input[from..].first_chunk::<$n>()", "first_chunk::<$n>(&input[from..])"),
         ("fn up_to(self, to: usize) -> Self", "fn up_to(input: &[u8], to: usize) -> &[u8]"),
         ("fn text(self, from: usize, to: usize) -> &'a str", "pub(crate) fn text(input: &[u8], from: usize, to: usize) -> &str"),
@@ -99,6 +98,12 @@ WITHOUT_COUNTS = {
         ("self.text(", "text(input, "),
         ("self.data(", "data(input, "),
         ("unsafe {", f"{OF_TEXT}debug_assert!(str::from_utf8(bytes).is_ok());\nunsafe {{"),
+    ],
+    "vte_core/scan/search": [
+        ("self.add($$$x);", ""),
+        ("$a.bytes", "input"),
+        # as a value, the answer would take two instructions more per byte
+        ("is_command_data($$x)", "$x >= 0x20 && $x != b';'"),
     ],
 }
 
@@ -111,13 +116,13 @@ VTE = Plan(
     homes={
         "": {"crate::prelude": "String Vec first_chunk"},
         "vte_core": {
-            "crate::proved::vte_core::grain": "Grain InRuns PerformAs Singly",
             "crate::proved::vte_core::perform": "Perform",
             "crate::proved::vte_core::automaton": "skip_run_blocks",
-            "crate::proved::vte_core::utf8": "tell_character tell_single",
             "crate::proved::vte_core::run": "begins_ascii find_ascii_run_end find_longer_run_end find_rest_end",
-            "crate::proved::vte_core::scan": "Run RunKind RunPlace data find_data_end find_escape find_put_end get get_block take_run "
-                                             "text up_to",
+            "crate::proved::vte_core::scan": "Grain InRuns Run RunKind RunPlace Singly data get get_block take_run tell_character "
+                                             "tell_single text up_to",
+            "crate::proved::vte_core::scan::grain": "PerformAs",
+            "crate::proved::vte_core::scan::search": "find_data_end find_escape find_put_end find_string_end search_text",
         },
     },
     conditions={name: 'feature = "ansi"' for name in ("vte_types", "vte_handler", "vte")},
@@ -137,15 +142,15 @@ VTE = Plan(
     },
     left_out=frozenset({
         # it only counts
-        "vte_core/looks/counted_perform",
+        "vte_core/scan/counted_perform",
         # the crate's own timeout is over `std::time::Instant`
         "vte/ansi/clock", "vte/ansi/std_sync_handler",
         # the crate `cursor-icon`
         "vte_types/cursor_icon",
     }),
     dropped={
-        "vte_core/looks": (
-            "mod grain", "use grain", "enum Trail", "struct Looks", "struct Input", "impl<B> Clone for Input",
+        "vte_core/scan": (
+            "enum Trail", "struct Looks", "struct Input", "impl<B> Clone for Input",
             "impl<B> Copy for Input", "impl<const N: usize> Looks", "impl<A: Allocator> Looks", "fn new", "fn len", "fn none", "fn add", "fn at",
             "fn copy_to_array", "fn copy_to_vec", "fn tell_data", "fn tell_text"),
         # their expressions stand where they are called
@@ -177,7 +182,7 @@ VTE = Plan(
     },
     imports={
         "vte_core": {"arrayvec::ArrayVec": "crate::adapter::array_vec::ArrayVec", "memchr::memchr": "crate::prelude::memchr",
-                     "crate::looks::": ""},
+                     "crate::scan::": ""},
         "vte/ansi": {"arrayvec::ArrayString": "crate::adapter::array_string::ArrayString"},
     },
     rules={
@@ -248,11 +253,12 @@ VTE = Plan(
         },
         "vte_core/perform": {'#[doc = include_str!("../../docs/perform.md")]': ["pub trait Perform {"],
                              '#[doc = include_str!("../../docs/perform_text.md")]': ["pub trait PerformText: Perform {"]},
-        "vte_core/looks": {"#[allow(unsafe_code)]": ["pub(crate) fn text"]},
+        "vte_core/scan": {"#[allow(unsafe_code)]": ["pub(crate) fn text"]},
         "vte_core/utf8": {"#[allow(unsafe_code)]": [f"pub(crate) fn character_of_{count}" for count in ("three", "four")]},
         # the loops over bytes: rustc compiles modules apart, and so would keep them from the performer that they call
         # the search stays out of the loop over bytes, which it would make longer
-        "vte_core/parser/text": {INLINE: ["pub(crate) fn read_text"], "#[inline(never)]": ["fn search_text"]},
+        "vte_core/parser/text": {INLINE: ["pub(crate) fn read_text"]},
+        "vte_core/scan/search": {"#[inline(never)]": ["pub(crate) fn search_text"]},
         # as a part of a program's own function, its loops would keep their places on the stack
         "vte_core/parser/drive": {"#[inline(never)]": ["pub(crate) fn drive<"]},
         # .. and so would these, which are rare, if they were parts of it
@@ -352,8 +358,6 @@ VTE = Plan(
         ("link: Option<Hyperlink<'_>>",
          "link: Option<Hyperlink<'_>> as Option<Hyperlink> = link.map(|link| link.owned())"),
     )),
-    renamed={"vte_core/looks": "vte_core/scan", "vte_core/looks/grain": "vte_core/grain",
-             "vte_core/looks/taken": "vte_core/scan/taken"},
 )
 
 VTLOG = Plan(

@@ -165,7 +165,7 @@ class Erasing(unittest.TestCase):
             write_crate(plan(), lambda _crate: {"x.rt": "\n#[test]\nfn f() {}\n"})
 
     def test_each_table_names_files_that_exist(self):
-        for table in ("under", "renamed", "dropped", "added", "rules", "lines",
+        for table in ("under", "dropped", "added", "rules", "lines",
                       "members", "inlined", "comments", "examples"):
             given = plan(**{table: {"a/gone": {}}})
             with self.subTest(table), self.assertRaisesRegex(Failure, "don't exist: a/gone"):

@@ -41,7 +41,7 @@ def write_crate(plan, read_files):
             except Refused as refused:
                 where = f"crates/{crate}/src/{place}:{refused.line or 1}"
                 raise Failure(f"{where}: {refused}") from None
-            files[target(plan, name)] = MARK.format(origin=f"crates/{crate}/src/{place}") + erased
+            files[target(name)] = MARK.format(origin=f"crates/{crate}/src/{place}") + erased
             tests |= its_tests
     if unknown := _named(plan) - names:
         raise Failure(f"plan.py names files that don't exist: {', '.join(sorted(unknown))}")
@@ -58,9 +58,9 @@ def _named(plan):
     return {name for name in {*keys, *plan.left_out, plan.handler[0]} if "/" in name}
 
 
-def target(plan, name):
+def target(name):
     """Where a file of crates/ is written."""
-    crate, _, rest = plan.renamed.get(name, name).partition("/")
+    crate, _, rest = name.partition("/")
     return f"{crate}/mod.rs" if rest in ("lib", "main") else f"{crate}/{rest}.rs"
 
 

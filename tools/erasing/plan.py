@@ -44,7 +44,6 @@ class Plan:
     examples: dict = table()  # hidden lines before examples, and after "..", or None to drop these
     default_bodies: frozenset = frozenset()  # traits whose methods do nothing by default
     handler: tuple = ("", ())  # the file of the trait `Handler`, and rules for copied arguments
-    renamed: dict = table()  # other names of files
 
     def conditions_of(self, name, words):
         """The conditions of an item with these words."""
@@ -93,13 +92,13 @@ CLONE = "#[derive(Clone)]"
 
 # What the parser's text says of the count of looks (COUNTS), by file.
 WITHOUT_COUNTS = {
-    "vte_core/looks": [
+    "vte_core/scan": [
+        ("mod grain;", "pub(crate) mod grain;"),
+        ("mod search;", "pub(crate) mod search;"),
         ("impl<'a, B> Input<'a, B> { $$$b }", "$b"),
         ("self.add($$$x);", ""),
         ("Input { bytes: $$x, buffer: PhantomData, }", "$x"),
         ("$a.bytes", "input"),
-        # as a value, the answer would take two instructions more per byte
-        ("is_command_data($$x)", "$x >= 0x20 && $x != b';'"),
         ("input[from..].first_chunk::<$n>()", "first_chunk::<$n>(&input[from..])"),
         ("fn up_to(self, to: usize) -> Self", "fn up_to(input: &[u8], to: usize) -> &[u8]"),
         ("fn text(self, from: usize, to: usize) -> &'a str",
@@ -111,6 +110,12 @@ WITHOUT_COUNTS = {
         ("self.text(", "text(input, "),
         ("self.data(", "data(input, "),
         ("unsafe {", f"{OF_TEXT}debug_assert!(str::from_utf8(bytes).is_ok());\nunsafe {{"),
+    ],
+    "vte_core/scan/search": [
+        ("self.add($$$x);", ""),
+        ("$a.bytes", "input"),
+        # as a value, the answer would take two instructions more per byte
+        ("is_command_data($$x)", "$x >= 0x20 && $x != b';'"),
     ],
 }
 
@@ -124,14 +129,16 @@ VTE = Plan(
     homes={
         "": {"crate::prelude": "String Vec first_chunk"},
         "vte_core": {
-            "crate::proved::vte_core::grain": "Grain InRuns PerformAs Singly",
             "crate::proved::vte_core::perform": "Perform",
             "crate::proved::vte_core::automaton": "skip_run_blocks",
-            "crate::proved::vte_core::utf8": "tell_character tell_single",
             "crate::proved::vte_core::run":
                 "begins_ascii find_ascii_run_end find_longer_run_end find_rest_end",
-            "crate::proved::vte_core::scan": "Run RunKind RunPlace data find_data_end find_escape "
-                                             "find_put_end get get_block take_run text up_to",
+            "crate::proved::vte_core::scan":
+                "Grain InRuns Run RunKind RunPlace Singly data get get_block take_run "
+                "tell_character tell_single text up_to",
+            "crate::proved::vte_core::scan::grain": "PerformAs",
+            "crate::proved::vte_core::scan::search":
+                "find_data_end find_escape find_put_end find_string_end search_text",
         },
     },
     conditions={name: 'feature = "ansi"' for name in ("vte_types", "vte_handler", "vte")},
@@ -152,16 +159,16 @@ VTE = Plan(
     },
     left_out=frozenset({
         # it only counts
-        "vte_core/looks/counted_perform",
+        "vte_core/scan/counted_perform",
         # the crate's own timeout is over `std::time::Instant`
         "vte/ansi/clock", "vte/ansi/std_sync_handler",
         # the crate `cursor-icon`
         "vte_types/cursor_icon",
     }),
     dropped={
-        "vte_core/looks": (
-            "mod grain", "use grain", "enum Trail", "struct Looks", "struct Input",
-            "impl<B> Clone for Input", "impl<B> Copy for Input", "impl<const N: usize> Looks",
+        "vte_core/scan": (
+            "enum Trail", "struct Looks", "struct Input", "impl<B> Clone for Input",
+            "impl<B> Copy for Input", "impl<const N: usize> Looks",
             "impl<A: Allocator> Looks", "fn new", "fn len", "fn none", "fn add", "fn at",
             "fn copy_to_array", "fn copy_to_vec", "fn tell_data", "fn tell_text"),
         # their expressions stand where they are called
@@ -179,12 +186,14 @@ VTE = Plan(
             "impl PartialOrd for NamedColor"),
         # only proofs use it
         "vte_core/perform": ("trait PerformThroughText",),
-        # rustc derives it, with the same copies of the fields: of vectors and texts with as much memory
+        # rustc derives it, with the same copies of the fields, and as much memory
         "vte_core/parser": ("impl<const OSC_RAW_BUF_SIZE: usize> Clone for Parser",),
         "vte/ansi/growing_text": ("impl<A: Allocator + Clone> Clone for GrowingText",),
         "vte/ansi/hold": ("impl<A: Allocator + Clone> Clone for SyncState",),
-        "vte/ansi/long_processor": ("impl<T: Timeout + Clone + Drop, A: Allocator + Clone> Clone for LongProcessor",),
-        "vte/ansi/processor": ("impl<T: Timeout + Clone + Drop, A: Allocator + Clone> Clone for Processor",),
+        "vte/ansi/long_processor": (
+            "impl<T: Timeout + Clone + Drop, A: Allocator + Clone> Clone for LongProcessor",),
+        "vte/ansi/processor": (
+            "impl<T: Timeout + Clone + Drop, A: Allocator + Clone> Clone for Processor",),
         # nobody asks
         "vte_core/parser/long": ("fn memory", "impl<A: Allocator + Clone> Clone for LongParser"),
         "vte_core/store": ("fn capacity", "impl<A: Allocator + Clone> Clone for Store"),
@@ -201,7 +210,7 @@ VTE = Plan(
     imports={
         "vte_core": {"arrayvec::ArrayVec": "crate::adapter::array_vec::ArrayVec",
                      "memchr::memchr": "crate::prelude::memchr",
-                     "crate::looks::": ""},
+                     "crate::scan::": ""},
         "vte/ansi": {"arrayvec::ArrayString": "crate::adapter::array_string::ArrayString"},
     },
     rules={
@@ -284,13 +293,13 @@ VTE = Plan(
         "vte_core/perform": {
             '#[doc = include_str!("../../docs/perform.md")]': ["pub trait Perform {"],
             '#[doc = include_str!("../../docs/perform_text.md")]': ["pub trait PerformText: "]},
-        "vte_core/looks": {"#[allow(unsafe_code)]": ["pub(crate) fn text"]},
+        "vte_core/scan": {"#[allow(unsafe_code)]": ["pub(crate) fn text"]},
         "vte_core/utf8": {"#[allow(unsafe_code)]": [
             "pub(crate) fn character_of_three", "pub(crate) fn character_of_four"]},
         # the loops over bytes: rustc compiles modules apart, and so would keep them from the
         # performer that they call. The search would make the loop over bytes longer
-        "vte_core/parser/text": {INLINE: ["pub(crate) fn read_text"],
-                                 "#[inline(never)]": ["fn search_text"]},
+        "vte_core/parser/text": {INLINE: ["pub(crate) fn read_text"]},
+        "vte_core/scan/search": {"#[inline(never)]": ["pub(crate) fn search_text"]},
         # as a part of a program's own function, its loops would keep their places on the stack
         "vte_core/parser/drive": {"#[inline(never)]": ["pub(crate) fn drive<"]},
         # .. and so would these, which are rare, if they were parts of it
@@ -398,8 +407,6 @@ VTE = Plan(
         ("link: Option<Hyperlink<'_>>",
          "link: Option<Hyperlink<'_>> as Option<Hyperlink> = link.map(|link| link.owned())"),
     )),
-    renamed={"vte_core/looks": "vte_core/scan", "vte_core/looks/grain": "vte_core/grain",
-             "vte_core/looks/taken": "vte_core/scan/taken"},
 )
 
 VTLOG = Plan(

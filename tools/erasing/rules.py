@@ -39,9 +39,6 @@ def _as_functions(names):
 # `Looks`, which contracts count with. At run time it is nothing. The input is a slice, a performer
 # that counts is a performer, and a search is a function.
 COUNTS = [
-    ("mod looks;", "mod grain;\nmod scan;"),
-    ("pub use looks::{InRuns, Run, Singly, Taken};",
-     "pub use grain::{InRuns, Singly};\npub use scan::{Run, Taken};"),
     ("impl<B> Looks<B> { $$$b }", _as_functions),
     ("looks: Looks::$f(),", ""),
     ("looks: &mut Looks<B>,", ""),

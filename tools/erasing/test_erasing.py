@@ -186,12 +186,11 @@ class Erasing(unittest.TestCase):
                       "z/laws/b.rt": "#[x]",
                       "left.rt": "#[x]", "left/over.rt": "#[x]", "leftover.rt": ""},
                 "b": {"main.rt": "#[cfg(test)] mod x;", "x.rt": "#[x]", "old.rt": "fn f() {}"}}
-        given = plan(left_out={"a/left"}, renamed={"b/old": "b/new"}, conditions={"b": "x"},
-                     allowed=("y", "z"))
+        given = plan(left_out={"a/left"}, conditions={"b": "x"}, allowed=("y", "z"))
         files = write_crate(given, lambda crate: dict(sorted(made[crate].items(), reverse=True)))
         self.assertEqual(sorted(files), ["a/leftover.rs", "a/mod.rs", "a/y.rs", "a/z/lib.rs",
-                                         "b/mod.rs", "b/new.rs", "mod.rs"])
-        self.assertEqual(files["b/new.rs"], "// Written by tools/erase from crates/b/src/old.rt: "
+                                         "b/mod.rs", "b/old.rs", "mod.rs"])
+        self.assertEqual(files["b/old.rs"], "// Written by tools/erase from crates/b/src/old.rt: "
                                             "edit that one.\nfn f() {}\n")
         self.assertIn("#![allow(y, z)]\n", files["mod.rs"])
         self.assertEqual(files["mod.rs"].splitlines()[-3:], [

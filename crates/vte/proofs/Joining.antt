@@ -69,7 +69,9 @@ module _ (keeps_all : Bool) (pieces : List (Bor (List ℕ))) (i : ℕ) (d : Bor 
   pub joins-more : (part : List ℕ) → Some part ≡ text_in keeps_all piece
       → Joins keeps_all room (text ++ behind is_first part) false left all
   joins-more part is = record {
-    joins = append_assoc text (behind is_first part) _ ∙ (rw (texts-more keeps_all piece left is) at opened.joins);
+    joins =
+        append_assoc text (behind is_first part) _
+        ∙ (rw (texts-more keeps_all piece left is) at opened.joins);
     fits = omega (
       arith,
       text-short keeps_all piece part is,

@@ -30,7 +30,7 @@ pub use Rattle.vte_core.specs.Stream.{added}
 unfoldable pub use Rattle.vte_core.specs.Stream.{events, open_end}
 pub use Rattle.vte_core.specs.declared.parser.Parser.{Parser}
 pub use Rattle.vte_core.specs.declared.parser.saved.Saved.{Saved}
-pub use Rattle.vte_c.specs.Events.{AreCharacters, Holds, Room, Starts, has_room, is_full, most_added, most_data, paused_if, resumed, room_of, with_event, with_run, with_taken}
+pub use Rattle.vte_c.specs.Events.{AreCharacters, Holds, Room, Starts, has_room, is_full, most_added, paused_if, resumed, room_of, with_event, with_run, with_taken}
 pub use Rattle.vte_c.specs.Events.{with_wanted}
 unfoldable pub use Rattle.vte_c.specs.Events.{with_one, with_record}
 pub use Rattle.vte_c.specs.Feeding.{AreFirst, Continues, Goes, HasGone, HasItems, HaveOtherRecords, StopsAtNone, has_kind, kinds_of, with_items}

@@ -1,6 +1,6 @@
 -- How many data bytes an event has.
 use Rattle.vte_c.proofs.Common.{All, All-head, All-tail, AreGroups, CsiDispatch, Event, Execute, Hook, IsBounded, IsShort, List, OscDispatch, Print, Some, [], arith, concat}
-use Rattle.vte_c.proofs.Common.{count_of, data_of, flat_map, group_bytes, len_utf8_bounds, length, length-append, length-encode, most_data, piece_bytes, refl, sum_by-cons}
+use Rattle.vte_c.proofs.Common.{count_of, data_of, flat_map, group_bytes, len_utf8_bounds, length, length-append, length-encode, piece_bytes, refl, sum_by-cons}
 use Rattle.vte_c.proofs.Common.{two_bytes, ℕ, ◌*◌, ◌+◌, ◌<◌, ◌∷◌, ◌≡◌, ◌≤◌}
 
 pub length_numbers : (numbers : List ℕ) → length (flat_map two_bytes numbers) ≡ 2 * length numbers
@@ -35,6 +35,10 @@ few_groups groups h = omega (arith, filled_length groups h.filled, h.few)
 
 groups_size : (groups : List (List ℕ)) → AreGroups groups → length (flat_map group_bytes groups) ≤ 96
 groups_size groups h = omega (arith, length_groups groups, few_groups groups h, h.few)
+
+-- The maximum number of data bytes of an event.
+abbrev most_data : ℕ
+most_data = 1088
 
 pub data_most : (event : Event) → IsBounded (Some 1024) event → length (data_of event) ≤ most_data
 data_most (Print c) h = omega (arith, length-encode c, (len_utf8_bounds c).1)

@@ -2,9 +2,9 @@
 use Rattle.std.specs.Prelude.{◌≡◌, ◌≤◌, ℕ, ◌+◌, ◌-◌, ◌^◌, Bool, false, ◌&&◌, ◌||◌, List, [], ◌∷◌, ◌++◌, length, map, min, take, if◌then◌else◌, nat_le, nat_lt}
 use Rattle.std.specs.Str.{IsUtf8}
 use Rattle.vte_core.specs.Event.{Event}
-use Rattle.vte_core.specs.declared.looks.taken.Run.{Run}
-use Rattle.vte_core.specs.declared.looks.taken.Taken.{Taken}
-use Rattle.vte_core.specs.declared.looks.taken.Taken.TheVariants.{Text, Data, Nothing}
+use Rattle.vte_core.specs.declared.scan.taken.Run.{Run}
+use Rattle.vte_core.specs.declared.scan.taken.Taken.{Taken}
+use Rattle.vte_core.specs.declared.scan.taken.Taken.TheVariants.{Text, Data, Nothing}
 use Rattle.vte_c.specs.declared.event.VteEvent.{VteEvent}
 use Rattle.vte_c.specs.declared.events.Events.{Events}
 use Rattle.vte_c.specs.Record.{data_of, has, kind_of, may_have_lost, record_of, run_record, without_loss}
@@ -41,10 +41,6 @@ room_of room = record {
   events_name = room.events.ghost_name;
   area_name = room.area.ghost_name;
 }
-
--- The maximum number of data bytes of an event.
-abbrev pub most_data : ℕ
-most_data = 1088
 
 -- The maximum number of data bytes of what one byte of a stream adds: an event, and a character
 -- after it.

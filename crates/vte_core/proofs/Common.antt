@@ -22,9 +22,9 @@ pub use Rattle.std.specs.Prelude.{MatchOption, slice_index}
 pub use Rattle.std.specs.Str.{IsAscii, IsUtf8, chars}
 pub use Rattle.vte_core.specs.Body.{body_rest, shape_outcome}
 unfoldable pub use Rattle.vte_core.specs.Body.{body_outcome}
-pub use Rattle.vte_core.specs.Brief.{FitsStore, IsBounded, IsBrief, IsExecuted, IsPrintable, IsShort, IsTiny}
+pub use Rattle.vte_core.specs.Brief.{FitsStore, IsBounded, IsBrief, IsExecuted, IsPrintable, IsShort}
 pub use Rattle.vte_core.specs.Class.{AreOf, Cancel, Class, Colon, Control, Delete, Digit, Final, High, Intermediate, Marker, Semicolon, dispatches_escape, ends_all, ends_escape, ends_head, is_cancel}
-pub use Rattle.vte_core.specs.Class.{is_control, is_data, is_final, is_head, is_intermediate, is_key, is_marker, is_parameter_text}
+pub use Rattle.vte_core.specs.Class.{IsPut, is_control, is_data, is_final, is_head, is_intermediate, is_key, is_marker, is_parameter_text}
 unfoldable pub use Rattle.vte_core.specs.Class.{class_of}
 pub use Rattle.vte_core.specs.ControlSequence.{control_sequence_rest}
 unfoldable pub use Rattle.vte_core.specs.ControlSequence.{control_sequence_end, control_sequence_outcome}
@@ -66,18 +66,39 @@ pub use Rattle.vte_core.specs.declared.parser.machine.Machine.{Machine}
 pub use Rattle.vte_core.specs.declared.parser.refused.Refused.{Refused}
 pub use Rattle.vte_core.specs.declared.utf8.Unfinished.{Unfinished}
 pub use Rattle.vte_core.specs.declared.utf8.Unfinished.TheVariants.{Nothing, One, Three, Two}
-pub use Rattle.vte_core.specs.machine.Data.{AreIgnored, ArePut, IsIgnored, IsPut}
+pub use Rattle.vte_core.specs.machine.Data.{AreIgnored, ArePut, IsIgnored}
 pub use Rattle.vte_core.specs.machine.Leads.{Leads, Reads}
 pub use Rattle.vte_core.specs.machine.Moves.{Spends}
 pub use Rattle.vte_core.specs.machine.Parser.{Counts, Holds, HoldsHead, IsBehind, IsMarker, KeepsIntermediates, KeepsNumbers, numbers_behind, Settles, Stands, StandsBy, StandsInHead, StaysIllShaped}
 pub use Rattle.vte_core.specs.machine.Place.{AtEscape, InControlSequence, InData, InDeviceControl, InEscape, InIgnoredString, InSystemCommand, InText, IsAfter, IsBetween, Place, closing_at}
-pub use Rattle.vte_core.specs.machine.Place.{events_behind, left_at, open_at, rest_outcome}
+pub use Rattle.vte_core.specs.machine.Place.{left_at, rest_outcome}
 unfoldable pub use Rattle.vte_core.specs.machine.Place.{outcome_behind}
 pub use Rattle.vte_core.specs.machine.Progress.{Advances, CameTo, CameInside, IsRefusedAt, IsSettled, MayGoOn, ReadsUpTo, RefusesAt, StandsAt, StandsInside}
-pub use Rattle.vte_core.specs.machine.Reading.{ReadsHead, part_after}
+pub use Rattle.vte_core.specs.machine.Reading.{ReadsHead}
 pub use Rattle.vte_core.specs.machine.TextRun.{ArePrinted, AreRun, EndsRun, IsPrinted, IsRun, PrintsRun}
 pub use Rattle.vte_core.specs.machine.Scans.{IsRange, Scans}
 pub use Rattle.vte_core.specs.machine.Store.{Stored, Keeps, PiecesEnd, SameItems, cut_at, cut_pieces, ends_behind, fitting, pieces_behind}
 pub use Rattle.vte_core.specs.machine.Takes.{Performs, Takes}
 pub use Rattle.vte_core.specs.machine.Unfinished.{Carries, bytes_of, is_open}
 unfoldable pub use Rattle.vte_core.specs.machine.Unfinished.{second_range}
+
+-- ---- words of proofs alone
+
+-- At most one short event.
+abbrev pub IsTiny : List Event → Type 0
+IsTiny [] = Unit {0}
+IsTiny (event ∷ []) = IsShort event
+IsTiny _ = ⊥
+
+-- The bytes of the unfinished character at a place.
+abbrev pub open_at : Place → List ℕ
+open_at (InText bytes) = bytes
+open_at _ = []
+
+-- The events of more bytes after a place.
+abbrev pub events_behind : Option ℕ → Place → List ℕ → List Event
+events_behind limit place more = (outcome_behind limit place more).told
+
+-- How far a head has been read after numbers that stand from one place to another.
+abbrev pub part_after : HeadPart → ℕ → ℕ → HeadPart
+part_after reached from to = if from == to then reached else Parameters

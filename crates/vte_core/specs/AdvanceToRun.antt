@@ -1,14 +1,14 @@
 -- What `advance_to_run` ensures.
 use Rattle.std.specs.Prelude.{◌≡◌, ℕ, ◌+◌, ◌*◌, ◌<◌, ◌≤◌, Bool, true, false, Option, Some, List, [], ◌++◌, length, take, drop, map, slice_index}
 use Rattle.std.specs.Str.{chars}
-use Rattle.vte_core.specs.declared.looks.taken.Run.{Run}
-use Rattle.vte_core.specs.declared.looks.taken.Taken.{Taken}
-use Rattle.vte_core.specs.declared.looks.taken.Taken.TheVariants.{Text, Data, Nothing}
+use Rattle.vte_core.specs.declared.scan.taken.Run.{Run}
+use Rattle.vte_core.specs.declared.scan.taken.Taken.{Taken}
+use Rattle.vte_core.specs.declared.scan.taken.Taken.TheVariants.{Text, Data, Nothing}
 use Rattle.vte_core.specs.declared.parser.Parser.{Parser}
+use Rattle.vte_core.specs.Class.{IsPut}
 use Rattle.vte_core.specs.EarlyStop.{ComesTo, stream_at}
 use Rattle.vte_core.specs.Event.{Event, Print, Put}
 use Rattle.vte_core.specs.Looks.{looks}
-use Rattle.vte_core.specs.machine.Data.{IsPut}
 use Rattle.vte_core.specs.Others.{TellsOthers}
 use Rattle.vte_core.specs.Parser.{HasRead}
 use Rattle.vte_core.specs.Stream.{added}

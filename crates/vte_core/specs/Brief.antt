@@ -47,12 +47,6 @@ IsShort (Print c) = IsPrintable c
 IsShort (Execute byte) = IsExecuted byte
 IsShort _ = ⊥
 
--- At most one short event.
-abbrev pub IsTiny : List Event → Type 0
-IsTiny [] = Unit {0}
-IsTiny (event ∷ []) = IsShort event
-IsTiny _ = ⊥
-
 abbrev pub IsBrief : Option ℕ → List Event → Type 0
 IsBrief limit [] = Unit {0}
 IsBrief limit (event ∷ []) = IsBounded limit event

@@ -117,6 +117,10 @@ is_data Control = true
 is_data Final = true
 is_data k = is_head k
 
+-- The byte is such data, which is put.
+abbrev pub IsPut : ℕ → Type 0
+IsPut b = is_data (class_of b) ≡ true
+
 -- Each byte is in the class.
 abbrev pub AreOf : (Class → Bool) → List ℕ → Type 0
 AreOf has [] = Unit {0}

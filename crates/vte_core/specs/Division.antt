@@ -1,22 +1,11 @@
 -- The right division of a text: each piece is the well-formed sequence that starts there; failing
 -- that, the longest truncated one; failing that, one byte.
-use Rattle.std.specs.Prelude.{◌≡◌, ◌⊎◌, ℕ, ◌≤◌, true, List, [], ◌∷◌, ◌++◌, length, take}
+use Rattle.std.specs.Prelude.{◌≡◌, ◌⊎◌, ℕ, ◌≤◌, true, List, [], ◌∷◌, ◌++◌, length}
 use Rattle.std.specs.List.{concat}
-use Rattle.vte_core.specs.Utf8.{is_well_formed, is_truncated, further, segments}
+use Rattle.vte_core.specs.Utf8.{is_well_formed, is_truncated, segments}
 
 abbrev pub IsPiece : List ℕ → Type 0
 IsPiece piece = (is_well_formed piece ≡ true) ⊎ ((is_truncated piece ≡ true) ⊎ (length piece ≡ 1))
-
--- The piece that starts with b, followed by `bytes`, is the right one.
-pub record IsDividedRight (b : ℕ) (bytes : List ℕ) : Type 0 where
-  pub within : further b bytes ≤ length bytes
-  pub is_piece : IsPiece (b ∷ take (further b bytes) bytes)
-  -- If a well-formed sequence starts there, it is the piece.
-  pub whole : (n : ℕ) → n ≤ length bytes → is_well_formed (b ∷ take n bytes) ≡ true
-      → further b bytes ≡ n
-  -- No longer truncated sequence starts there.
-  pub longest : (n : ℕ) → n ≤ length bytes → is_truncated (b ∷ take n bytes) ≡ true
-      → n ≤ further b bytes
 
 -- The pieces join to the text.
 abbrev pub IsAllDivided : List ℕ → Type 0

@@ -5,10 +5,10 @@
 -- the one that it finds, and a copy each byte that it copies. A text that is handed over is not
 -- loaded for it. Each event counts one look, and those of a run as many as it has bytes.
 use Rattle.std.specs.Prelude.{ℕ, ◌+◌}
-use Rattle.vte_core.specs.declared.looks.Looks.{Looks}
-use Rattle.vte_core.specs.declared.looks.Trail.{Trail}
-use Rattle.vte_core.specs.declared.looks.Trail.TheOpen.{Trail-F}
-use Rattle.vte_core.specs.declared.looks.Trail.TheFolds.{fold-Trail}
+use Rattle.vte_core.specs.declared.scan.Looks.{Looks}
+use Rattle.vte_core.specs.declared.scan.Trail.{Trail}
+use Rattle.vte_core.specs.declared.scan.Trail.TheOpen.{Trail-F}
+use Rattle.vte_core.specs.declared.scan.Trail.TheFolds.{fold-Trail}
 use Rattle.vte_core.specs.declared.parser.long.LongParser.{LongParser}
 use Rattle.vte_core.specs.declared.parser.Parser.{Parser}
 

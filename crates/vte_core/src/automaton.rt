@@ -7,7 +7,7 @@ ghost use Rattle.std.specs.Prelude.{◌≡◌, ◌+◌, ◌*◌, ◌%◌, ◌<�
 ghost use Rattle.vte_core.specs.machine.Automaton.{AutomatonState, Between, code, begun, next, state_after, HasScanned, LastEnd};
 ghost use Rattle.vte_core.specs.machine.Words.{Each, IsRun, Scans, is_layout, looked};
 
-use crate::looks::{Input, Looks};
+use crate::scan::{Input, Looks};
 use crate::utf8::is_printed_ascii;
 
 // States: between two characters; before one, two or three more bytes 80..BF; after a first byte
@@ -109,7 +109,7 @@ static TABLE: [u64; 256] = [
     FAIL, FAIL, FAIL, FAIL, FAIL, FAIL, FAIL, FAIL, FAIL, FAIL, FAIL,
 ];
 
-/// The state after a byte, in the lowest six bits.
+/// Returns the state after a byte, in the lowest six bits.
 #[inline(always)]
 fn step(state: u64, byte: u8) -> u64
     ensures { (s : AutomatonState) → state % 64 ≡ code s → result % 64 ≡ code (next s byte) }
@@ -162,8 +162,8 @@ impl<B> Looks<B> {
     }
 }
 
-/// The state after 16 bytes. Between two characters they are tested first for printed ASCII, HT, LF
-/// and CR.
+/// Returns the state after 16 bytes. Between two characters they are tested first for printed
+/// ASCII, HT, LF and CR.
 #[inline(always)]
 fn state_after_block(state: u64, block: &[u8; 16]) -> u64
     ensures { (s : AutomatonState) → state ≡ code s → result ≡ code (state_after s block.now) }

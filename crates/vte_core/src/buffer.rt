@@ -2,7 +2,7 @@
 ghost use Rattle.std.specs.Prelude.{◌≡◌, ◌+◌, ◌-◌, ◌<◌, ◌≤◌, ◌++◌, ℕ, true, false, List, [], Option, Some, None, not, length, drop, take, vec_capacity};
 ghost use Rattle.vte_core.specs.machine.Words.{HasCapacity, IsRange, Reserves, TakesFew, fitting, has_room};
 
-use crate::looks::{Input, Looks};
+use crate::scan::{Input, Looks};
 use arrayvec::ArrayVec;
 use std::alloc::Allocator;
 
@@ -23,7 +23,7 @@ pub(crate) trait Buffer {
         ensures empty { held self.new ≡ [] }
         ensures memory { capacity self.new ≡ capacity self.old };
 
-    /// Whether the limit is reached.
+    /// Returns whether the limit is reached.
     fn is_full(&self) -> bool
         ensures { result ≡ not (has_room limit (length (held self.now))) };
 

@@ -5,8 +5,8 @@ ghost use Rattle.vte_core.specs.machine.Words.{Counts, Holds, HoldsHead, IsReady
 ghost use Rattle.vte_core.specs.machine.Words.{is_separator, looked, with_open_number};
 
 use crate::class::{digit_of, is_head, is_intermediate, is_parameter_text, is_separator};
-use crate::looks::{Input, Looks};
 use crate::params::Params;
+use crate::scan::{Input, Looks};
 use arrayvec::ArrayVec;
 
 /// How far a head has been read.
@@ -23,7 +23,7 @@ pub(crate) enum HeadPart {
 }
 
 impl HeadPart {
-    /// Whether a digit or a separator may come next.
+    /// Returns whether a digit or a separator may come next.
     pub(crate) fn may_have_parameters(self) -> bool
         ensures { IsTrue result ↔ ((self ≡ HeadPart.Entry) ⊎ (self ≡ HeadPart.Parameters)) }
     {

@@ -14,15 +14,14 @@ mod buffer;
 mod class;
 mod head;
 pub mod laws;
-mod looks;
 mod params;
 mod parser;
 mod perform;
 mod run;
+mod scan;
 mod store;
 mod utf8;
 
-pub use looks::{InRuns, Run, Singly, Taken};
 pub use params::{Params, ParamsIter};
 pub use parser::Parser;
 // for C alone
@@ -30,3 +29,4 @@ pub use parser::Saved;
 // takes memory
 pub use parser::{LongParser, Refused};
 pub use perform::{Perform, PerformText, PerformThroughText};
+pub use scan::{InRuns, Run, Singly, Taken};

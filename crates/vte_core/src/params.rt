@@ -137,7 +137,7 @@ fn take_joined(lengths: &mut ArrayVec<u8, 32>, joined: bool) -> Option<u8>
     if joined { lengths.pop() } else { None }
 }
 
-/// Whether these are the lengths of groups with these numbers.
+/// Returns whether these are the lengths of groups with these numbers.
 #[tactic(auto, using(std::proofs::lemmas::Grind::elements, crate::proofs::fields::Groups::sum_take_more, crate::proofs::fields::Groups::sum_take_below, crate::proofs::fields::Groups::filled_take_more))]
 fn are_lengths(lengths: &[u8], numbers: &[u16]) -> bool
     ensures { IsTrue result ↔ AreStored lengths.now numbers.now }

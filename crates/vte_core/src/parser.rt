@@ -23,8 +23,8 @@ mod text;
 mod to_run;
 
 use crate::head::HeadPart;
-use crate::looks::{CountedPerform, Grain, InRuns, Input, Looks, Singly};
 use crate::perform::{Perform, PerformText, PerformThroughText};
+use crate::scan::{CountedPerform, Grain, InRuns, Input, Looks, Singly};
 use crate::utf8::Unfinished;
 use arrayvec::ArrayVec;
 pub use long::LongParser;
@@ -183,8 +183,8 @@ impl<const OSC_RAW_BUF_SIZE: usize> Parser<OSC_RAW_BUF_SIZE> {
         self.machine.is_open()
     }
 
-    /// Returns whether data bytes are in no piece of the operating system command that is open, or
-    /// else ended last: those that don't fit into the buffer, and those after the 16th piece.
+    /// Returns whether the operating system command that is open lost data bytes, or if none is
+    /// open, the last one: those that don't fit into the buffer, and those after the 16th piece.
     pub fn command_lost_data(&self) -> bool
         ensures lost { result ≡ lost_data self.now }
         ensures open { (stream : List ℕ) → HasRead self.now stream

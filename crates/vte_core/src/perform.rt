@@ -1,4 +1,4 @@
-//! What a parser tells of a stream, and who takes it.
+//! The events of a stream, and what receives them.
 ghost use Rattle.std.specs.Prelude.{◌≡◌, ◌<◌, Bool, true, false, length, map, chars};
 ghost use Rattle.vte_core.specs.EarlyStop.{NoCharacterStops};
 ghost use Rattle.vte_core.specs.Event.{Event, Print, Execute, Hook, Put, Unhook, OscDispatch, CsiDispatch, EscDispatch};
@@ -7,7 +7,7 @@ ghost use Rattle.vte_core.specs.Text.{IsRunText, run_event};
 
 use crate::params::Params;
 
-/// Takes the events of a stream, one call for each, in order.
+/// Receives the events of a stream, one call for each, in order.
 ///
 /// The slices are borrowed for the call only.
 pub trait Perform {
@@ -22,16 +22,16 @@ pub trait Perform {
     /// For which values `advance_until_terminated` stops.
     ghost is_terminated: { Value → Bool };
 
-    /// A character to print, which is never a control: neither U+0000 to U+001F nor U+0080 to
-    /// U+009F.
+    /// Called for a character to print, which is never a control: neither U+0000 to U+001F nor
+    /// U+0080 to U+009F.
     fn print(&mut self, c: char)
         ensures { value_of self.new ≡ step (value_of self.old) (Print c) };
 
-    /// A control function of one byte, 00 to 1F or 80 to 9F.
+    /// Called for a control function of one byte, 00 to 1F or 80 to 9F.
     fn execute(&mut self, byte: u8)
         ensures { value_of self.new ≡ step (value_of self.old) (Execute byte) };
 
-    /// The start of a device control string with the final byte `action`.
+    /// Called when a device control string starts, with the final byte `action` of its head.
     ///
     /// There are at most two intermediates, a private marker `<` to `?` among them. `ignore` says
     /// that there were more, or more than 32 numbers.
@@ -39,28 +39,29 @@ pub trait Perform {
         ensures { value_of self.new
             ≡ step (value_of self.old) (Hook params.now intermediates.now ignore action) };
 
-    /// A data byte of the device control string.
+    /// Called for a data byte of the device control string.
     fn put(&mut self, byte: u8)
         ensures { value_of self.new ≡ step (value_of self.old) (Put byte) };
 
-    /// The end of the device control string.
+    /// Called when the device control string ends.
     fn unhook(&mut self)
         ensures { value_of self.new ≡ step (value_of self.old) Unhook };
 
-    /// An operating system command: its pieces, which are 1 to 16, and whether BEL ended it.
+    /// Called when an operating system command ends, with its pieces, which are 1 to 16, and
+    /// whether BEL ended it.
     fn osc_dispatch(&mut self, params: &[&[u8]], bell_terminated: bool)
         ensures { value_of self.new
             ≡ step (value_of self.old)
             (OscDispatch (map (λ piece. piece.now) params.now) bell_terminated) };
 
-    /// A control sequence with the final byte `action`. `intermediates` and `ignore` are as in
-    /// [`hook`](Self::hook).
+    /// Called for a control sequence with the final byte `action`. `intermediates` and `ignore` are
+    /// as in [`hook`](Self::hook).
     fn csi_dispatch(&mut self, params: &Params, intermediates: &[u8], ignore: bool, action: char)
         ensures { value_of self.new
             ≡ step (value_of self.old) (CsiDispatch params.now intermediates.now ignore action) };
 
-    /// An escape sequence with the final byte `byte`. There are at most two intermediates; `ignore`
-    /// says that there were more.
+    /// Called for an escape sequence with the final byte `byte`. There are at most two
+    /// intermediates; `ignore` says that there were more.
     fn esc_dispatch(&mut self, intermediates: &[u8], ignore: bool, byte: u8)
         ensures { value_of self.new
             ≡ step (value_of self.old) (EscDispatch intermediates.now ignore byte) };
@@ -70,7 +71,7 @@ pub trait Perform {
         ensures { result ≡ is_terminated (value_of self.now) };
 }
 
-/// Takes text in runs, from `advance_text`: there [`print`](Perform::print) and
+/// Receives text in runs, from `advance_text`: there [`print`](Perform::print) and
 /// [`put`](Perform::put) aren't called.
 ///
 /// How text and data are cut into runs may change from version to version.
@@ -83,16 +84,16 @@ pub trait PerformText: Perform {
     fn keeps_layout(&self) -> bool
         ensures { result ≡ keeps };
 
-    /// Characters to print, at least one, in order. None is a control, except HT, LF and CR if the
-    /// performer [keeps](Self::keeps_layout) these.
+    /// Called for characters to print, at least one, in order. None is a control, except HT, LF and
+    /// CR if the performer [keeps](Self::keeps_layout) these.
     fn print_text(&mut self, text: &str)
         requires some { 0 < length text.now }
         requires plain { IsRunText keeps text.now }
         ensures { Self.value_of self.new
             ≡ after Self.step (Self.value_of self.old) (map (run_event keeps) (chars text.now)) };
 
-    /// Data bytes of the device control string, at least one, in order. By default each comes by
-    /// [`put`](Perform::put).
+    /// Called for data bytes of the device control string, at least one, in order. By default each
+    /// comes by [`put`](Perform::put).
     ///
     /// ```
     /// impl PerformText for Image {

@@ -6,7 +6,7 @@ ghost use Rattle.std.specs.Prelude.{◌≡◌, ◌+◌, ◌*◌, ◌<◌, ◌≤
 ghost use Rattle.vte_core.specs.machine.Words.{ArePrinted, EndsRun, IsPrinted, IsRange, IsRun, Scans, TakesFew, is_in, looked, to};
 
 use crate::automaton::is_layout;
-use crate::looks::{CountedPerform, Grain, Input, Looks};
+use crate::scan::{CountedPerform, Grain, Input, Looks};
 use crate::utf8::{is_continuation, is_lead, is_printed_ascii, may_begin_four, may_begin_three};
 
 /// After how many bytes a run is left to the automaton. So many have saved the looks for a block

@@ -4,7 +4,7 @@ ghost use Rattle.std.specs.List.Sorted.{IsNonDecreasing};
 ghost use Rattle.vte_core.specs.machine.Words.{ArePieceEnds, HasCapacity, Stored, IsRange, Keeps, OscDispatch, Reserves, SameItems, TakesFew, Tells, cut_pieces, most_pieces};
 
 use crate::buffer::Buffer;
-use crate::looks::{CountedPerform, Grain, Input, Looks};
+use crate::scan::{CountedPerform, Grain, Input, Looks};
 use arrayvec::ArrayVec;
 use std::alloc::{AllocError, Allocator};
 use std::marker::Model;
@@ -236,8 +236,8 @@ impl<A: Allocator + Clone> Clone for Store<Vec<u8, A>> {
     }
 }
 
-/// Whether pieces with this many bytes in all can end at these places, of which there are at most
-/// 16.
+/// Returns whether pieces with this many bytes in all can end at these places, of which there are
+/// at most 16.
 fn are_piece_ends(ends: &[usize], count: usize) -> bool
     ensures { IsTrue result ↔ (IsNonDecreasing ends.now × All (λ end. end ≤ count) ends.now) }
 {

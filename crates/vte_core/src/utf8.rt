@@ -2,9 +2,6 @@
 ghost use Rattle.std.specs.Prelude.{◌≡◌, ◌+◌, ◌*◌, ◌%◌, ◌<◌, ◌≤◌, ◌↔◌, IsTrue, [], ◌∷◌, true, false};
 ghost use Rattle.std.specs.Char.{InScalarRange};
 ghost use Rattle.vte_core.specs.machine.Words.{BeginsFour, BeginsThree, BeginsTwo, Carries, bytes_of, is_in, is_truncated, scalar_of, second_range, to};
-ghost use Rattle.vte_core.specs.machine.Words.{Tells, character_event, looked, malformed_event};
-
-use crate::looks::{CountedPerform, Looks};
 
 /// The bytes of an unfinished character, at most three.
 #[derive(Clone, Copy)]
@@ -25,14 +22,14 @@ pub(crate) enum Carried {
 }
 
 impl Unfinished {
-    /// Whether no character is open.
+    /// Returns whether no character is open.
     pub(crate) fn is_nothing(self) -> bool
         ensures { IsTrue result ↔ (bytes_of self ≡ []) }
     {
         matches!(self, Unfinished::Nothing)
     }
 
-    /// The bytes of an open character and one more.
+    /// Adds a byte to those of an open character.
     #[inline(always)]
     #[tactic(auto, unfolding(crate::specs::Utf8::is_truncated))]
     pub(crate) fn carried_on(self, byte: u8) -> Carried
@@ -59,7 +56,7 @@ impl Unfinished {
     }
 }
 
-/// Whether a sequence that begins with `first` may go on with `byte`.
+/// Returns whether a sequence that begins with `first` may go on with `byte`.
 #[tactic(auto, unfolding(crate::specs::machine::Unfinished::second_range))]
 fn may_be_second(first: u8, byte: u8) -> bool
     ensures { result ≡ is_in (second_range first) byte }
@@ -71,8 +68,8 @@ fn may_be_second(first: u8, byte: u8) -> bool
     }
 }
 
-/// Whether a sequence of three bytes may begin with these two: with a number that is no overlong
-/// form's and no surrogate's.
+/// Returns whether a sequence of three bytes may begin with these two: with a number that is no
+/// overlong form's and no surrogate's.
 #[inline(always)]
 #[tactic(auto, unfolding(crate::specs::machine::Unfinished::second_range))]
 pub(crate) fn may_begin_three(first: u8, second: u8) -> bool
@@ -83,8 +80,8 @@ pub(crate) fn may_begin_three(first: u8, second: u8) -> bool
     is_continuation(second) && number >= 0x800 && number / 0x800 != 0xd800 / 0x800
 }
 
-/// Whether a sequence of four bytes may begin with these two: with a number that is no overlong
-/// form's, and not past the last character's.
+/// Returns whether a sequence of four bytes may begin with these two: with a number that is no
+/// overlong form's, and not past the last character's.
 #[inline(always)]
 #[tactic(auto, unfolding(crate::specs::machine::Unfinished::second_range))]
 pub(crate) fn may_begin_four(first: u8, second: u8) -> bool
@@ -95,7 +92,7 @@ pub(crate) fn may_begin_four(first: u8, second: u8) -> bool
     is_continuation(second) && number >= 0x10000 && number < 0x110000
 }
 
-/// Whether `byte` is an ASCII character that is printed. DEL is.
+/// Returns whether `byte` is an ASCII character that is printed. DEL is.
 #[inline(always)]
 pub(crate) fn is_printed_ascii(byte: u8) -> bool
     ensures { result ≡ is_in (to 0x20 0x7f) byte }
@@ -103,7 +100,7 @@ pub(crate) fn is_printed_ascii(byte: u8) -> bool
     matches!(byte, 0x20..=0x7f)
 }
 
-/// Whether `byte` begins a sequence of two bytes or more.
+/// Returns whether `byte` begins a sequence of two bytes or more.
 #[inline(always)]
 pub(crate) fn is_lead(byte: u8) -> bool
     ensures { result ≡ is_in (to 0xc2 0xf4) byte }
@@ -111,7 +108,7 @@ pub(crate) fn is_lead(byte: u8) -> bool
     matches!(byte, 0xc2..=0xf4)
 }
 
-/// Whether `byte` may stand after the second of a sequence.
+/// Returns whether `byte` may stand after the second of a sequence.
 pub(crate) fn is_continuation(byte: u8) -> bool
     ensures { result ≡ is_in (to 0x80 0xbf) byte }
 {
@@ -142,7 +139,7 @@ fn number_of_four(first: u8, second: u8, third: u8, fourth: u8) -> u32
         + (fourth % 64) as u32
 }
 
-/// The character of this number, which is a surrogate's for no well-formed sequence.
+/// Returns the character of this number, which is a surrogate's for no well-formed sequence.
 fn whole(code: u32) -> Carried
     ensures { InScalarRange code → result ≡ Carried.Whole code }
 {
@@ -152,7 +149,7 @@ fn whole(code: u32) -> Carried
     }
 }
 
-/// The character of two bytes.
+/// Returns the character of two bytes.
 #[inline(always)]
 pub(crate) fn character_of_two(first: u8, second: u8) -> char
     requires lead { BeginsTwo first }
@@ -162,7 +159,7 @@ pub(crate) fn character_of_two(first: u8, second: u8) -> char
     unsafe { char::from_u32_unchecked(number_of_two(first, second)) }
 }
 
-/// The character of three bytes.
+/// Returns the character of three bytes.
 #[inline(always)]
 pub(crate) fn character_of_three(first: u8, second: u8, third: u8) -> char
     requires lead { BeginsThree first }
@@ -173,7 +170,7 @@ pub(crate) fn character_of_three(first: u8, second: u8, third: u8) -> char
     unsafe { char::from_u32_unchecked(number_of_three(first, second, third)) }
 }
 
-/// The character of four bytes.
+/// Returns the character of four bytes.
 #[inline(always)]
 pub(crate) fn character_of_four(first: u8, second: u8, third: u8, fourth: u8) -> char
     requires lead { BeginsFour first }
@@ -183,38 +180,4 @@ pub(crate) fn character_of_four(first: u8, second: u8, third: u8, fourth: u8) ->
     ensures { result ≡ scalar_of (first ∷ second ∷ third ∷ fourth ∷ []) }
 {
     unsafe { char::from_u32_unchecked(number_of_four(first, second, third, fourth)) }
-}
-
-impl<B> Looks<B> {
-    /// Tells a whole character.
-    #[inline(always)]
-    #[tactic(auto, unfolding(crate::specs::Text::character_event))]
-    pub(crate) fn tell_character<P: CountedPerform<B, G>, G>(&mut self, performer: &mut P, c: char)
-        ensures { Tells P.step (P.value_of performer.old) (P.value_of performer.new)
-            (character_event c) self.old self.new }
-    {
-        match c {
-            '\u{0}'..='\u{1f}' | '\u{80}'..='\u{9f}' => performer.execute_control(self, c as u8),
-            _ => performer.print_char(self, c),
-        }
-    }
-
-    /// Tells a byte that is neither printed nor a lead byte: a control, or a malformed sequence
-    /// alone.
-    #[inline(always)]
-    #[tactic(auto, unfolding(crate::specs::Text::character_event, crate::specs::Text::malformed_event))]
-    pub(crate) fn tell_single<P: CountedPerform<B, G>, G>(&mut self, performer: &mut P, byte: u8)
-        requires { is_in (to 0x20 0x7f) byte ≡ false }
-        ensures control { byte < 0x80
-            → P.value_of performer.new ≡ P.step (P.value_of performer.old) (character_event byte) }
-        ensures malformed { 0x80 ≤ byte
-            → P.value_of performer.new
-            ≡ P.step (P.value_of performer.old) (malformed_event (byte ∷ [])) }
-        ensures count { looked self.new ≡ looked self.old + 1 }
-    {
-        match byte {
-            0x00..=0x1f | 0x80..=0x9f => performer.execute_control(self, byte),
-            _ => performer.print_char(self, char::REPLACEMENT_CHARACTER),
-        }
-    }
 }

@@ -1,6 +1,6 @@
 -- A search goes on where another ended.
 use Rattle.vte_core.proofs.Common.{◌≡◌, ℕ, ◌+◌, ◌≤◌, Bool, List, length, take, drop, arith, looked, IsRun, Scans}
-use Rattle.vte_core.specs.declared.looks.Looks.{Looks}
+use Rattle.vte_core.specs.declared.scan.Looks.{Looks}
 use Rattle.vte_core.specs.machine.Between.{Each}
 use Rattle.vte_core.proofs.bytes.Between.{each-both, each-block}
 use Rattle.vte_core.proofs.bytes.Printable.{run-append}

@@ -1,6 +1,6 @@
 -- What a call without a limit ensures, refused memory or not: the facts that `drive` ensures, put into each contract.
-use Rattle.vte_core.specs.declared.looks.taken.Run.{Run}
-use Rattle.vte_core.specs.declared.looks.taken.RunPlace.{RunPlace}
+use Rattle.vte_core.specs.declared.scan.taken.Run.{Run}
+use Rattle.vte_core.specs.declared.scan.taken.RunPlace.{RunPlace}
 use Rattle.vte_core.specs.LongAdvance.{ReadsToRunLong}
 use Rattle.vte_core.specs.machine.ToRun.{ComesToRun, IsTaken, bytes_at}
 use Rattle.vte_core.proofs.Common.{◌≡◌, TellsOthers}

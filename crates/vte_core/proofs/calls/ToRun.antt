@@ -7,12 +7,12 @@ use Rattle.vte_core.proofs.Common.{chars, Unfinished, IsRange}
 use Rattle.vte_core.specs.machine.Words.{ArePut, AreOfKind, ComesToRun, IsOutside, IsPut, IsTaken}
 use Rattle.vte_core.specs.machine.ToRun.{HasRun, IsWholeAt, bytes_at, kind_events}
 use Rattle.vte_core.specs.AdvanceToRun.{IsRunIn, IsWhole, ReturnsRun, run_bytes, taken_bytes, taken_events}
-use Rattle.vte_core.specs.declared.looks.taken.Run.{Run}
-use Rattle.vte_core.specs.declared.looks.taken.RunKind.{RunKind}
-use Rattle.vte_core.specs.declared.looks.taken.RunKind.TheVariants.{OfText, OfData, Empty}
-use Rattle.vte_core.specs.declared.looks.taken.RunPlace.{RunPlace}
-use Rattle.vte_core.specs.declared.looks.taken.Taken.{Taken}
-use Rattle.vte_core.specs.declared.looks.taken.Taken.TheVariants.{Text as TakenText, Data, Nothing as TakenNothing}
+use Rattle.vte_core.specs.declared.scan.taken.Run.{Run}
+use Rattle.vte_core.specs.declared.scan.taken.RunKind.{RunKind}
+use Rattle.vte_core.specs.declared.scan.taken.RunKind.TheVariants.{OfText, OfData, Empty}
+use Rattle.vte_core.specs.declared.scan.taken.RunPlace.{RunPlace}
+use Rattle.vte_core.specs.declared.scan.taken.Taken.{Taken}
+use Rattle.vte_core.specs.declared.scan.taken.Taken.TheVariants.{Text as TakenText, Data, Nothing as TakenNothing}
 use Rattle.vte_core.specs.Text.{IsRunText}
 use Rattle.vte_core.proofs.bytes.ClassCases.{data_ends_nothing}
 use Rattle.vte_core.proofs.calls.Runs.{ends-comes, ends-reads}

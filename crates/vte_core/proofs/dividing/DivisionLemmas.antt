@@ -2,9 +2,20 @@
 -- byte, a longer piece exists; where they don't, no longer one does.
 use Rattle.vte_core.proofs.Common.{◌≡◌, ℕ, zero, suc, ◌<◌, ◌≤◌, Bool, true, false, List, [], ◌∷◌, length, take, drop, refl, sym, ap, ◌∙◌, arith, inl, inr, length-take-le}
 use Rattle.vte_core.proofs.Common.{concat, take-append-drop, false≢true, cases_lt, Range, utf8_rows, wanted_behind, wanted, is_well_formed, is_truncated, allowed, further, segments_behind}
-use Rattle.vte_core.specs.Division.{IsPiece, IsDividedRight, IsAllDivided}
+use Rattle.vte_core.specs.Division.{IsPiece, IsAllDivided}
 use Rattle.vte_core.proofs.bytes.Utf8Lemmas.{wanted_none, some_whole, some_open, neither_whole_nor_open, allowed_none}
 use Rattle.vte_core.proofs.shapes.TextLemmas.{further_whole}
+
+-- The piece that starts with b, followed by `bytes`, is the right one.
+pub record IsDividedRight (b : ℕ) (bytes : List ℕ) : Type 0 where
+  pub within : further b bytes ≤ length bytes
+  pub is_piece : IsPiece (b ∷ take (further b bytes) bytes)
+  -- If a well-formed sequence starts there, it is the piece.
+  pub whole : (n : ℕ) → n ≤ length bytes → is_well_formed (b ∷ take n bytes) ≡ true
+      → further b bytes ≡ n
+  -- No longer truncated sequence starts there.
+  pub longest : (n : ℕ) → n ≤ length bytes → is_truncated (b ∷ take n bytes) ≡ true
+      → n ≤ further b bytes
 
 allowed-le : (rows : List (List Range)) (bytes : List ℕ) → allowed rows bytes ≤ length bytes
 allowed-le rows [] = omega arith

@@ -3,8 +3,8 @@
 use Rattle.vte_core.proofs.Common.{◌≡◌, ℕ, zero, suc, ◌<◌, ◌≤◌, true, List, [], ◌∷◌, ◌++◌, length, take, drop, refl, sym, ap, ◌∙◌, inl, inr, arith, length-append}
 use Rattle.vte_core.proofs.Common.{length-drop, concat, false≢true, take-append-drop, take-append_seam, drop-append_seam, is_well_formed, is_truncated, further, segments_behind, segments}
 use Rattle.std.proofs.lemmas.List.{length-take}
-use Rattle.vte_core.specs.Division.{IsPiece, IsDividedRight, IsRightPiece, AreRightPieces}
-use Rattle.vte_core.proofs.dividing.DivisionLemmas.{divided_right, all_divided, concat-segments_behind}
+use Rattle.vte_core.specs.Division.{IsPiece, IsRightPiece, AreRightPieces}
+use Rattle.vte_core.proofs.dividing.DivisionLemmas.{IsDividedRight, divided_right, all_divided, concat-segments_behind}
 use Rattle.vte_core.proofs.shapes.TextLemmas.{not_well_formed-nothing}
 
 segments_behind-drop : (skip : ℕ) (bytes : List ℕ) → segments_behind skip bytes ≡ segments (drop skip bytes)

@@ -1,11 +1,30 @@
 -- A machine that is made of what was saved of another is at the place where that one was: by cases of the state.
-use Rattle.vte_core.proofs.Common.{◌≡◌, ℕ, Option, Some, List, arith, refl, subst, ◌∙◌, Machine, State, Text, Escape, EscapeIntermediate, ControlSequence}
+use Rattle.vte_core.proofs.Common.{◌≡◌, ℕ, Option, Some, List, take, arith, refl, subst, ◌∙◌, Machine, State, Text, Escape, EscapeIntermediate, ControlSequence}
 use Rattle.vte_core.proofs.Common.{DeviceControl, DeviceData, SystemCommand, IgnoredString, Holds, IsBehind, StandsBy, StandsInHead, Place, InText, AtEscape}
 use Rattle.vte_core.proofs.Common.{InEscape, InControlSequence, InDeviceControl, InData, InSystemCommand, InIgnoredString, SameItems}
 use Rattle.vte_core.specs.declared.parser.saved.Saved.{Saved}
-use Rattle.vte_core.specs.machine.Saved.{HasSaved, IsInHead, IsRestored}
+use Rattle.vte_core.specs.machine.Saved.{IsInHead, IsRestored, flag_of, state_bytes}
+use Rattle.vte_core.specs.machine.Groups.{AreParts}
+use Rattle.vte_core.specs.machine.Store.{ArePieceEnds}
 use Rattle.vte_core.specs.Saved.{HasReadSaved}
 use Rattle.vte_core.proofs.fields.Standing.{keeps-same, stands-by}
+
+-- Everything that counts of a machine is saved: in a head the numbers, in a command its pieces.
+pub record HasSaved {B : Type 0} (saved : Saved) (machine : Machine B) : Type 0 where
+  pub state : saved.state ≡ state_bytes machine.state
+  pub intermediates : take saved.intermediate_count saved.intermediates ≡ machine.collected.intermediates.items
+  pub too_many : flag_of saved.too_many ≡ machine.collected.too_many
+  pub params : IsInHead machine.state
+      → AreParts (take saved.group_count saved.lengths)
+      (take saved.number_count saved.numbers) machine.collected.params
+  pub number : saved.number ≡ machine.collected.number
+  pub joined : flag_of saved.joined ≡ machine.collected.joined
+  pub bytes : machine.state ≡ SystemCommand
+      → take saved.byte_count saved.bytes ≡ machine.command.bytes
+  pub ends : machine.state ≡ SystemCommand → take saved.end_count saved.ends ≡ machine.command.ends
+  pub dropped : machine.state ≡ SystemCommand → flag_of saved.dropped ≡ machine.command.dropped
+  pub are_ends : machine.state ≡ SystemCommand
+      → ArePieceEnds machine.command.bytes machine.command.ends
 
 holds-saved : {B C : Type 0} {saved : Saved} {old : Machine B} {new : Machine C} {ints : List ℕ} → HasSaved saved old
     → IsRestored saved new
@@ -53,7 +72,8 @@ reads_saved saved machine h stream behind = record {
   reads = λ parser r. record {
     place = behind.place;
     stands = let same : parser.machine.state ≡ machine.state = r.state machine.state h.state in
-        stands-by same (by_saved _ machine.state machine parser.machine behind.place h r refl same behind.stands.by);
+        stands-by same
+        (by_saved _ machine.state machine parser.machine behind.place h r refl same behind.stands.by);
     is_after = behind.is_after;
   };
 }

@@ -1,11 +1,7 @@
 -- What strings hold: the data of a device control string, and the bytes of an ignored string.
-use Rattle.std.specs.Prelude.{◌≡◌, ℕ, true, false, List}
-use Rattle.vte_core.specs.Class.{class_of, ends_all, is_data}
+use Rattle.std.specs.Prelude.{◌≡◌, ℕ, false, List}
+use Rattle.vte_core.specs.Class.{IsPut, class_of, ends_all}
 use Rattle.vte_core.specs.machine.Between.{Each}
-
--- C0 and 20..7E, which are put.
-abbrev pub IsPut : ℕ → Type 0
-IsPut b = is_data (class_of b) ≡ true
 
 -- From `from` up to `to` each byte is put.
 abbrev pub ArePut : List ℕ → ℕ → ℕ → Type 0

@@ -1,6 +1,6 @@
 -- How far a state's function reads, and what it costs.
 use Rattle.std.specs.Prelude.{ℕ, ◌≡◌, ◌+◌, ◌*◌, ◌<◌, ◌≤◌, Bool, List, length, Option, Result, IfOk}
-use Rattle.vte_core.specs.declared.looks.Looks.{Looks}
+use Rattle.vte_core.specs.declared.scan.Looks.{Looks}
 use Rattle.vte_core.specs.declared.parser.machine.Machine.{Machine}
 use Rattle.vte_core.specs.declared.parser.refused.Refused.{Refused}
 use Rattle.vte_core.specs.Event.{Event}

@@ -38,11 +38,6 @@ abbrev pub IsBetween : Place → Type 0
 IsBetween (InText bytes) = bytes ≡ []
 IsBetween _ = Unit {0}
 
--- The bytes of the unfinished character.
-abbrev pub open_at : Place → List ℕ
-open_at (InText bytes) = bytes
-open_at _ = []
-
 -- The outcome of bytes after the intermediates of an escape sequence ..
 unfoldable pub escape_behind : List ℕ → List ℕ → Outcome
 escape_behind intermediates bytes =
@@ -97,9 +92,6 @@ unfoldable pub outcome_behind : Option ℕ → Place → List ℕ → Outcome
 outcome_behind limit place more =
     let cut = cut_at_escape more in
     with_bodies limit (rest_outcome limit place cut.text) cut.bodies
-
-abbrev pub events_behind : Option ℕ → Place → List ℕ → List Event
-events_behind limit place more = (outcome_behind limit place more).told
 
 -- What follows the stream gives what it gives after the place.
 pub record IsAfter (limit : Option ℕ) (stream : List ℕ) (place : Place) : Type 0 where

@@ -1,10 +1,9 @@
 -- A head that is being read.
-use Rattle.std.specs.Prelude.{ℕ, ◌≡◌, ◌-◌, ◌<◌, ◌≤◌, ◌++◌, List, length, take, drop, slice_index, MatchOption, if◌then◌else◌, ◌==◌}
+use Rattle.std.specs.Prelude.{ℕ, ◌≡◌, ◌-◌, ◌<◌, ◌≤◌, ◌++◌, List, length, take, drop, slice_index, MatchOption}
 use Rattle.vte_core.specs.Class.{is_head, AreOf}
 use Rattle.vte_core.specs.declared.head.Collected.{Collected}
 use Rattle.vte_core.specs.declared.head.HeadEnd.{HeadEnd}
 use Rattle.vte_core.specs.declared.head.HeadPart.{HeadPart}
-use Rattle.vte_core.specs.declared.head.HeadPart.TheVariants.{Parameters}
 use Rattle.vte_core.specs.machine.Parser.{StandsInHead}
 
 -- What is collected, with this number in its field. While its digits are read, it is in a local.
@@ -16,10 +15,6 @@ with_open_number collected number = record {
   number = number;
   joined = collected.joined;
 }
-
--- How far a head has been read after numbers that stand from one place to another.
-abbrev pub part_after : HeadPart → ℕ → ℕ → HeadPart
-part_after reached from to = if from == to then reached else Parameters
 
 -- The bytes from place i to place j are read as part of a head, in all shapes alike.
 pub record ReadsHead (bytes : List ℕ) (i j : ℕ) (reached part : HeadPart)

@@ -39,24 +39,6 @@ IsInHead (ControlSequence part) = Unit {0}
 IsInHead (DeviceControl part) = Unit {0}
 IsInHead _ = ⊥
 
--- Everything that counts of a machine is saved: in a head the numbers, in a command its pieces.
-pub record HasSaved {B : Type 0} (saved : Saved) (machine : Machine B) : Type 0 where
-  pub state : saved.state ≡ state_bytes machine.state
-  pub intermediates : take saved.intermediate_count saved.intermediates
-      ≡ machine.collected.intermediates.items
-  pub too_many : flag_of saved.too_many ≡ machine.collected.too_many
-  pub params : IsInHead machine.state
-      → AreParts (take saved.group_count saved.lengths)
-      (take saved.number_count saved.numbers) machine.collected.params
-  pub number : saved.number ≡ machine.collected.number
-  pub joined : flag_of saved.joined ≡ machine.collected.joined
-  pub bytes : machine.state ≡ SystemCommand
-      → take saved.byte_count saved.bytes ≡ machine.command.bytes
-  pub ends : machine.state ≡ SystemCommand → take saved.end_count saved.ends ≡ machine.command.ends
-  pub dropped : machine.state ≡ SystemCommand → flag_of saved.dropped ≡ machine.command.dropped
-  pub are_ends : machine.state ≡ SystemCommand
-      → ArePieceEnds machine.command.bytes machine.command.ends
-
 -- The machine was restored from `saved`.
 pub record IsRestored {B : Type 0} (saved : Saved) (machine : Machine B) : Type 0 where
   pub state : (state : State) → saved.state ≡ state_bytes state → machine.state ≡ state

@@ -1,6 +1,6 @@
 -- Parts of a call's bytes, how far a search in them goes, and how few looks are taken.
 use Rattle.std.specs.Prelude.{◌≡◌, ℕ, ◌+◌, ◌<◌, ◌≤◌, List, length, min, slice_index}
-use Rattle.vte_core.specs.declared.looks.Looks.{Looks}
+use Rattle.vte_core.specs.declared.scan.Looks.{Looks}
 use Rattle.vte_core.specs.Looks.{looked}
 use Rattle.vte_core.specs.machine.Between.{Each}
 

@@ -1,18 +1,17 @@
 -- How far a call has come that returns a run.
 use Rattle.std.specs.Prelude.{◌≡◌, ℕ, ◌-◌, ◌<◌, Bool, true, false, List, [], ◌++◌, length, map, take, drop, Option, Result, Ok, Err, slice_index}
 use Rattle.std.specs.Str.{chars}
-use Rattle.vte_core.specs.declared.looks.taken.RunKind.{RunKind}
-use Rattle.vte_core.specs.declared.looks.taken.RunKind.TheVariants.{OfText, OfData, Empty}
-use Rattle.vte_core.specs.declared.looks.taken.RunPlace.{RunPlace}
-use Rattle.vte_core.specs.declared.looks.taken.Taken.{Taken}
-use Rattle.vte_core.specs.declared.looks.taken.Taken.TheVariants.{Text as TakenText, Data, Nothing}
+use Rattle.vte_core.specs.declared.scan.taken.RunKind.{RunKind}
+use Rattle.vte_core.specs.declared.scan.taken.RunKind.TheVariants.{OfText, OfData, Empty}
+use Rattle.vte_core.specs.declared.scan.taken.RunPlace.{RunPlace}
+use Rattle.vte_core.specs.declared.scan.taken.Taken.{Taken}
+use Rattle.vte_core.specs.declared.scan.taken.Taken.TheVariants.{Text as TakenText, Data, Nothing}
 use Rattle.vte_core.specs.declared.parser.machine.Machine.{Machine}
 use Rattle.vte_core.specs.declared.parser.refused.Refused.{Refused}
 use Rattle.vte_core.specs.declared.parser.State.{State}
 use Rattle.vte_core.specs.declared.parser.State.TheVariants.{Text, DeviceData}
-use Rattle.vte_core.specs.Class.{class_of, is_data}
+use Rattle.vte_core.specs.Class.{IsPut, class_of, is_data}
 use Rattle.vte_core.specs.Event.{Event, Print, Put}
-use Rattle.vte_core.specs.machine.Data.{IsPut}
 use Rattle.vte_core.specs.machine.Parser.{IsBehind}
 use Rattle.vte_core.specs.machine.Progress.{StandsAt}
 use Rattle.vte_core.specs.machine.TextRun.{AreRun, EndsRun}

@@ -1,31 +1,31 @@
 -- The words that contracts of the parser's functions share.
-pub use Rattle.vte_core.specs.Class.{class_of, dispatches_escape, ends_all, is_control, is_data, is_final, is_head, is_intermediate, is_parameter_text}
+pub use Rattle.vte_core.specs.Class.{IsPut, class_of, dispatches_escape, ends_all, is_control, is_data, is_final, is_head, is_intermediate, is_parameter_text}
 pub use Rattle.vte_core.specs.EarlyStop.{NoCharacterStops}
 pub use Rattle.vte_core.specs.Event.{CsiDispatch, EscDispatch, Event, Execute, Hook, OscDispatch, Print, Put, Unhook}
 pub use Rattle.vte_core.specs.Key.{begins_ignored_string}
 pub use Rattle.vte_core.specs.LongParser.{read_count}
 pub use Rattle.vte_core.specs.Looks.{looked}
-pub use Rattle.vte_core.specs.Others.{IsOther, IsWide, TellsOthers}
-pub use Rattle.vte_core.specs.Parameters.{greatest_number, is_separator}
+pub use Rattle.vte_core.specs.Others.{TellsOthers}
+pub use Rattle.vte_core.specs.Parameters.{is_separator}
 pub use Rattle.vte_core.specs.Perform.{after}
 pub use Rattle.vte_core.specs.Outcome.{IsLoss}
 pub use Rattle.vte_core.specs.Stream.{IsFinished, IsUnfinished}
-unfoldable pub use Rattle.vte_core.specs.Stream.{open_end, outcome}
+unfoldable pub use Rattle.vte_core.specs.Stream.{outcome}
 unfoldable pub use Rattle.vte_core.specs.SystemCommand.{drops_data}
 pub use Rattle.vte_core.specs.SystemCommand.{IsCommandData, has_room, most_pieces}
 pub use Rattle.vte_core.specs.Text.{character_event, is_control_character, is_layout, malformed_event, run_event}
-pub use Rattle.vte_core.specs.Utf8.{is_in, is_truncated, is_well_formed, scalar_of, to}
-pub use Rattle.vte_core.specs.declared.looks.taken.RunKind.TheVariants.{Empty}
+pub use Rattle.vte_core.specs.Utf8.{is_in, is_truncated, scalar_of, to}
+pub use Rattle.vte_core.specs.declared.scan.taken.RunKind.TheVariants.{Empty}
 pub use Rattle.vte_core.specs.declared.parser.State.TheVariants.{DeviceData, Escape, EscapeIntermediate, IgnoredString, SystemCommand, Text}
 pub use Rattle.vte_core.specs.declared.utf8.Unfinished.TheVariants.{Nothing, One}
 pub use Rattle.vte_core.specs.machine.Between.{Each}
 pub use Rattle.vte_core.specs.machine.Completes.{Completes}
-pub use Rattle.vte_core.specs.machine.Data.{AreIgnored, ArePut, IsPut}
+pub use Rattle.vte_core.specs.machine.Data.{AreIgnored, ArePut}
 pub use Rattle.vte_core.specs.machine.MayRead.{MayRead, MayReadAt, MayReadByte}
 pub use Rattle.vte_core.specs.machine.Moves.{Costs, Handles, Moves, Refuses, Spends}
 pub use Rattle.vte_core.specs.machine.Parser.{Counts, Holds, HoldsHead, IsBehind, KeepsIntermediates, KeepsNumbers, Settles, Stands, StandsInHead}
 pub use Rattle.vte_core.specs.machine.Place.{AtEscape, InControlSequence, InDeviceControl, IsBetween, Place, closing_at}
-pub use Rattle.vte_core.specs.machine.Progress.{Advances, IsSettled, MayGoOn, ReadsUpTo, RefusesAt, StandsAt, StandsInside}
+pub use Rattle.vte_core.specs.machine.Progress.{Advances, IsSettled, ReadsUpTo, RefusesAt, StandsAt}
 pub use Rattle.vte_core.specs.machine.Reading.{ReadsHeadUpTo, with_open_number}
 pub use Rattle.vte_core.specs.machine.Ready.{IsReady}
 pub use Rattle.vte_core.specs.machine.TextRun.{ArePrinted, EndsRun, IsPrinted, IsRun, IsTextRun, PrintsRun}
@@ -34,4 +34,4 @@ pub use Rattle.vte_core.specs.machine.Store.{ArePieceEnds, HasCapacity, Stored, 
 pub use Rattle.vte_core.specs.machine.Takes.{Dispatches, Performs, Takes}
 pub use Rattle.vte_core.specs.machine.Tells.{Tells, TellsAll}
 pub use Rattle.vte_core.specs.machine.ToRun.{AreOfKind, ComesToRun, IsOutside, IsQuietIn, IsTaken, place_count, start_count}
-pub use Rattle.vte_core.specs.machine.Unfinished.{BeginsFour, BeginsThree, BeginsTwo, Carries, bytes_of, is_open, second_range}
+pub use Rattle.vte_core.specs.machine.Unfinished.{BeginsFour, BeginsThree, BeginsTwo, Carries, bytes_of, second_range}

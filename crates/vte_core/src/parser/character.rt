@@ -1,12 +1,12 @@
 //! The bytes of a character after the first.
-ghost use Rattle.std.specs.Prelude.{◌≡◌, ◌<◌, ◌≤◌, false, length};
-ghost use Rattle.vte_core.specs.machine.Words.{Advances, BeginsFour, BeginsThree, Completes, EndsRun, MayReadByte, Moves, Nothing, One, Spends, Text};
+ghost use Rattle.std.specs.Prelude.{◌≡◌, ◌≢◌, ◌<◌, ◌≤◌, false, [], length};
+ghost use Rattle.vte_core.specs.machine.Words.{Advances, BeginsFour, BeginsThree, Completes, EndsRun, MayReadByte, Moves, Nothing, One, Spends, Text, bytes_of};
 
 use crate::buffer::Buffer;
-use crate::looks::{CountedPerform, Grain, Input, Looks};
 use crate::parser::{Machine, State};
+use crate::scan::{CountedPerform, Grain, Input, Looks};
 use crate::utf8::{
-    Unfinished, character_of_four, character_of_three, character_of_two, is_continuation,
+    Carried, Unfinished, character_of_four, character_of_three, character_of_two, is_continuation,
     may_begin_four, may_begin_three,
 };
 
@@ -137,5 +137,43 @@ impl<B: Buffer> Machine<B> {
         }
         looks.tell_character(performer, character_of_four(first, second, third, fourth));
         from + 3
+    }
+
+    /// Reads the bytes that an unfinished character continues with. A byte that breaks it is left
+    /// unread, and U+FFFD is printed for those before it.
+    #[inline(always)]
+    pub(crate) fn continue_character<P: CountedPerform<B, G>, G: Grain, const ASKS: bool>(
+        &mut self,
+        looks: &mut Looks<B>,
+        performer: &mut P,
+        begun: Unfinished,
+        input: Input<'_, B>,
+        from: usize,
+    ) -> usize
+        requires in_order { from ≤ length input.bytes.now }
+        requires inside { bytes_of begun ≢ [] }
+        ensures completes { Completes ASKS P.step P.is_terminated (P.value_of performer.old)
+            (P.value_of performer.new) B.limit input.entry.bytes.now from result begun self.new }
+        ensures spends { Spends 2 0 2 input.entry.bytes.now from result self.old self.new
+            looks.old looks.new }
+    {
+        let mut unfinished = begun;
+        for position in from..input.len() {
+            match unfinished.carried_on(looks.at(input, position)) {
+                Carried::Unfinished(more) => unfinished = more,
+                Carried::Whole(c) => {
+                    looks.tell_character(performer, c);
+                    self.state = State::Text(Unfinished::Nothing);
+                    return position + 1;
+                }
+                Carried::Broken => {
+                    performer.print_char(looks, char::REPLACEMENT_CHARACTER);
+                    self.state = State::Text(Unfinished::Nothing);
+                    return position;
+                }
+            }
+        }
+        self.state = State::Text(unfinished);
+        input.len()
     }
 }

@@ -5,15 +5,14 @@ ghost use Rattle.vte_core.specs.machine.Words.{Advances, CsiDispatch, Dispatches
 use crate::buffer::Buffer;
 use crate::class::{ends_all, is_control, is_final};
 use crate::head::HeadPart;
-use crate::looks::{CountedPerform, Grain, Input, Looks};
 use crate::parser::{Machine, State, Unfinished};
+use crate::scan::{CountedPerform, Grain, Input, Looks};
 
 impl<B: Buffer> Machine<B> {
     /// Goes on with a control sequence whose head has come so far: by digits, by separators too if
-    /// there may be `several` numbers, and by a final byte right after them. After `ESC [` most
-    /// sequences have at most one number: for them this calls nothing before the dispatch, so it
-    /// saves no registers. Where calls have one byte each, most bytes of long sequences come this
-    /// way.
+    /// there may be `several` numbers, and by a final byte right after them. Most sequences have at
+    /// most one number: for them this calls nothing before the dispatch. If calls have one byte
+    /// each, most bytes of long sequences come this way.
     #[inline(always)]
     pub(crate) fn continue_control_sequence<P: CountedPerform<B, G>, G: Grain, const ASKS: bool>(
         &mut self,

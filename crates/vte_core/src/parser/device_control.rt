@@ -5,8 +5,8 @@ ghost use Rattle.vte_core.specs.machine.Words.{Advances, DeviceData, Handles, In
 use crate::buffer::Buffer;
 use crate::class::{ends_all, is_data, is_final};
 use crate::head::HeadPart;
-use crate::looks::{CountedPerform, Grain, Input, Looks};
 use crate::parser::{Machine, State, Unfinished};
+use crate::scan::{CountedPerform, Grain, Input, Looks};
 
 /// The one 8-bit control that is read: ST, the end of the data.
 const STRING_TERMINATOR: u8 = 0x9c;

@@ -4,8 +4,8 @@ ghost use Rattle.vte_core.specs.machine.Words.{Advances, Costs, IsBehind, IsOuts
 ghost use Rattle.vte_core.specs.machine.Words.{read_count};
 
 use crate::buffer::Buffer;
-use crate::looks::{CountedPerform, Grain, Input, Looks};
 use crate::parser::{Machine, Refused, State};
+use crate::scan::{CountedPerform, Grain, Input, Looks};
 
 impl<B: Buffer> Machine<B> {
     /// Reads the bytes of a call, as many as there is memory for, and returns how many: all of

@@ -4,8 +4,8 @@ ghost use Rattle.vte_core.specs.machine.Words.{Advances, Escape, Handles, IsBetw
 
 use crate::buffer::Buffer;
 use crate::class::ESCAPE;
-use crate::looks::{CountedPerform, Grain, Input, Looks};
 use crate::parser::{Machine, State, Unfinished};
+use crate::scan::{CountedPerform, Grain, Input, Looks};
 
 impl<B: Buffer> Machine<B> {
     /// Closes what is open, and then begins an escape sequence, or executes CAN or SUB.

@@ -9,8 +9,8 @@ use crate::class::{
     is_intermediate,
 };
 use crate::head::HeadPart;
-use crate::looks::{CountedPerform, Grain, Input, Looks};
 use crate::parser::{Machine, State, Unfinished};
+use crate::scan::{CountedPerform, Grain, Input, Looks};
 
 impl<B: Buffer> Machine<B> {
     /// Begins an escape sequence at an ESC in a text, which was looked at, and reads the bytes
@@ -72,7 +72,7 @@ impl<B: Buffer> Machine<B> {
     {
         for position in from..input.len() {
             let byte = looks.at(input, position);
-            // Added before the branches, so that the loop over ESC has 6 instructions instead of 8.
+            // Added before the branches, so that the loop over ESC is shorter.
             let next = position + 1;
             if byte == b'[' {
                 self.collected.begin_head();

@@ -7,16 +7,16 @@ ghost use Rattle.vte_core.specs.Looks.{looks_long};
 ghost use Rattle.vte_core.specs.Outcome.{IsLoss};
 ghost use Rattle.vte_core.specs.Stream.{IsFinished, IsUnfinished, outcome};
 
-use crate::looks::{InRuns, Input, Looks, Run, Singly};
 use crate::parser::{Machine, Refused, State};
 use crate::perform::{Perform, PerformText, PerformThroughText};
+use crate::scan::{InRuns, Input, Looks, Run, Singly};
 use std::alloc::{AllocError, Allocator};
 
 /// A [`Parser`](crate::Parser) that keeps operating system commands of any length, and whose calls
 /// can be refused memory.
 ///
-/// Where memory for it is refused, the call stops before the byte that needs it, and the rest can
-/// be handed in again:
+/// If memory for it is refused, the call stops before the byte that needs it, and the rest can be
+/// passed in again:
 ///
 /// ```
 /// let mut parser = LongParser::new(alloc);
@@ -50,7 +50,7 @@ impl<A: Allocator + Clone> Clone for LongParser<A> {
 }
 
 impl<A: Allocator> LongParser<A> {
-    /// A parser that has read nothing. It takes no memory.
+    /// Creates a parser that has read nothing. It takes no memory.
     pub fn new(alloc: A) -> Self
         ensures reads { HasReadLong result [] }
         ensures memory { memory_of result ≡ 0 }

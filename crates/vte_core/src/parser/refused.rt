@@ -1,4 +1,4 @@
-//! The error of what keeps the text of operating system commands, whatever its length.
+//! The error of calls that were refused memory.
 
 /// Memory for the text of an operating system command was refused.
 #[derive(Clone, Copy, Debug, PartialEq, Eq)]

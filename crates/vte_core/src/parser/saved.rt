@@ -46,7 +46,7 @@ fn copy_to_front<T: Copy>(elements: &[T], array: &mut [T]) -> usize
     elements.len()
 }
 
-/// The first elements of an array, as many as there are at most.
+/// Returns the first elements of an array: `count` of them, or all if there are fewer.
 fn front<T: Copy>(array: &[T], count: usize) -> &[T]
     ensures elements { result.now ≡ take count array.now }
     ensures fit { length result.now ≤ length array.now }
@@ -54,7 +54,7 @@ fn front<T: Copy>(array: &[T], count: usize) -> &[T]
     &array[..count.min(array.len())]
 }
 
-/// The same in a vector.
+/// Collects the first elements of an array.
 fn collect_front<T: Copy + Default + Drop, const N: usize>(
     array: &[T; N],
     count: usize,

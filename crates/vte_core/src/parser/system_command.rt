@@ -4,8 +4,8 @@ ghost use Rattle.vte_core.specs.machine.Words.{Advances, MayReadAt, Moves, Refus
 
 use crate::buffer::Buffer;
 use crate::class::ends_all;
-use crate::looks::{CountedPerform, Grain, Input, Looks};
 use crate::parser::{Machine, Refused, State, Unfinished};
+use crate::scan::{CountedPerform, Grain, Input, Looks};
 
 const BELL: u8 = 0x07;
 

@@ -1,45 +1,16 @@
 //! Text: characters, runs of them, and malformed sequences.
-ghost use Rattle.std.specs.Prelude.{◌≡◌, ◌≢◌, ◌+◌, ◌*◌, ◌<◌, ◌≤◌, ℕ, false, true, [], IfSome, length, slice_index};
-ghost use Rattle.vte_core.specs.machine.Words.{Advances, Completes, IsPrinted, MayReadAt, MayReadByte, Moves, NoCharacterStops, Nothing, PrintsRun, Spends, Text, bytes_of, looked};
+ghost use Rattle.std.specs.Prelude.{◌≡◌, ◌+◌, ◌*◌, ◌<◌, ◌≤◌, false, true, IfSome, length, slice_index};
+ghost use Rattle.vte_core.specs.machine.Words.{Advances, IsPrinted, MayReadAt, MayReadByte, Moves, NoCharacterStops, Nothing, PrintsRun, Text, looked};
 
 use crate::buffer::Buffer;
 use crate::class::ESCAPE;
-use crate::looks::{CountedPerform, Grain, Input, Looks};
-use crate::parser::{Machine, State};
-use crate::utf8::{Carried, Unfinished, is_lead, is_printed_ascii};
+use crate::parser::Machine;
+use crate::scan::{CountedPerform, Grain, Input, Looks};
+use crate::utf8::{is_lead, is_printed_ascii};
 
 /// The bytes of a text that are read before it is searched for ESC. Shorter texts, and so most,
 /// cost no search.
 const SHORT_TEXT: usize = 128;
-
-impl<B> Looks<B> {
-    /// Returns up to where a text is read next: to the byte after the next ESC, or to the end of
-    /// what was searched.
-    fn search_text<const ASKS: bool>(
-        &mut self,
-        input: Input<'_, B>,
-        from: usize,
-        at: usize,
-    ) -> usize
-        requires in_order { from < at }
-        requires within { at < length input.bytes.now }
-        ensures further { at < result }
-        ensures high { result ≤ length input.entry.bytes.now }
-        ensures first { (k : ℕ) → at ≤ k → k + 1 < result
-            → slice_index input.entry.bytes.now k ≢ 0x1b }
-        ensures count { looked self.new + at ≡ looked self.old + result }
-        ensures near { ASKS ≡ true → result + from ≤ at + at }
-    {
-        let to = if ASKS {
-            // A stop leaves bytes unread that were searched: no more than were read.
-            at + (at - from).min(input.len() - at)
-        } else {
-            input.len()
-        };
-        let escape = self.find_escape(input.up_to(to), at);
-        escape + usize::from(escape < to)
-    }
-}
 
 /// Where a run of ASCII ends, and the byte there if it was looked at and isn't printed ASCII.
 #[derive(Clone, Copy)]
@@ -201,43 +172,5 @@ impl<B: Buffer> Machine<B> {
             }
         }
         self.read_character::<P, G, ASKS>(looks, performer, input, from, first)
-    }
-
-    /// Reads the bytes that an unfinished character continues with. A byte that breaks it is left
-    /// unread, and U+FFFD is printed for those before it.
-    #[inline(always)]
-    pub(crate) fn continue_character<P: CountedPerform<B, G>, G: Grain, const ASKS: bool>(
-        &mut self,
-        looks: &mut Looks<B>,
-        performer: &mut P,
-        begun: Unfinished,
-        input: Input<'_, B>,
-        from: usize,
-    ) -> usize
-        requires in_order { from ≤ length input.bytes.now }
-        requires inside { bytes_of begun ≢ [] }
-        ensures completes { Completes ASKS P.step P.is_terminated (P.value_of performer.old)
-            (P.value_of performer.new) B.limit input.entry.bytes.now from result begun self.new }
-        ensures spends { Spends 2 0 2 input.entry.bytes.now from result self.old self.new
-            looks.old looks.new }
-    {
-        let mut unfinished = begun;
-        for position in from..input.len() {
-            match unfinished.carried_on(looks.at(input, position)) {
-                Carried::Unfinished(more) => unfinished = more,
-                Carried::Whole(c) => {
-                    looks.tell_character(performer, c);
-                    self.state = State::Text(Unfinished::Nothing);
-                    return position + 1;
-                }
-                Carried::Broken => {
-                    performer.print_char(looks, char::REPLACEMENT_CHARACTER);
-                    self.state = State::Text(Unfinished::Nothing);
-                    return position;
-                }
-            }
-        }
-        self.state = State::Text(unfinished);
-        input.len()
     }
 }

@@ -5,9 +5,9 @@ ghost use Rattle.vte_core.specs.machine.Words.{Advances, ComesToRun, Costs, Ends
 
 use crate::buffer::Buffer;
 use crate::class::ESCAPE;
-use crate::looks::{CountedPerform, Input, Looks, Run, RunKind, RunPlace, Singly};
 use crate::parser::{Machine, Parser, Refused, State};
 use crate::perform::Perform;
+use crate::scan::{CountedPerform, Input, Looks, Run, RunKind, RunPlace, Singly};
 use crate::utf8::{is_lead, is_printed_ascii};
 
 impl<const OSC_RAW_BUF_SIZE: usize> Parser<OSC_RAW_BUF_SIZE> {

@@ -107,7 +107,7 @@ static TABLE: [u64; 256] = [
     FAIL, FAIL, FAIL, FAIL, FAIL, FAIL, FAIL, FAIL, FAIL, FAIL, FAIL,
 ];
 
-/// The state after a byte, in the lowest six bits.
+/// Returns the state after a byte, in the lowest six bits.
 #[inline(always)]
 fn step(state: u64, byte: u8) -> u64 {
     TABLE[byte as usize] >> (state % 64)
@@ -147,8 +147,8 @@ fn last_end(input: &[u8], from: usize, at: usize, state: u64) -> usize {
     end
 }
 
-/// The state after 16 bytes. Between two characters they are tested first for printed ASCII, HT, LF
-/// and CR.
+/// Returns the state after 16 bytes. Between two characters they are tested first for printed
+/// ASCII, HT, LF and CR.
 #[inline(always)]
 fn state_after_block(state: u64, block: &[u8; 16]) -> u64 {
     if state == BETWEEN && is_ascii_block(block) {

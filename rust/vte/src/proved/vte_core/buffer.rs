@@ -11,7 +11,7 @@ pub(crate) trait Buffer {
 
     fn clear(&mut self);
 
-    /// Whether the limit is reached.
+    /// Returns whether the limit is reached.
     fn is_full(&self) -> bool;
 
     /// Takes memory for this many more bytes, and returns whether it is there. Where there is a

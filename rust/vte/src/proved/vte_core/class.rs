@@ -3,27 +3,27 @@
 
 pub(crate) const ESCAPE: u8 = 0x1b;
 
-/// Whether a byte is one of C0 that is executed: 00..17, 19 and 1C..1F.
+/// Returns whether a byte is one of C0 that is executed: 00..17, 19 and 1C..1F.
 pub(crate) fn is_control(byte: u8) -> bool {
     byte < 0x20 && byte != 0x18 && byte != 0x1a && byte != ESCAPE
 }
 
-/// Whether a byte is CAN, SUB or ESC, which end whatever is open.
+/// Returns whether a byte is CAN, SUB or ESC, which end whatever is open.
 pub(crate) fn ends_all(byte: u8) -> bool {
     byte == 0x18 || byte == 0x1a || byte == ESCAPE
 }
 
-/// Whether a byte is surely none of CAN, SUB and ESC, by one comparison: not one of 18..1B.
+/// Returns whether a byte is surely none of CAN, SUB and ESC, by one comparison: not one of 18..1B.
 pub(crate) fn cannot_end(byte: u8) -> bool {
     byte < 0x18 || byte > ESCAPE
 }
 
-/// Whether a byte is one of the data of a device control string: C0 and 20..7E.
+/// Returns whether a byte is one of the data of a device control string: C0 and 20..7E.
 pub(crate) fn is_data(byte: u8) -> bool {
     (byte >= 0x20 && byte < 0x7f) || is_control(byte)
 }
 
-/// Whether a byte is an intermediate 20..2F.
+/// Returns whether a byte is an intermediate 20..2F.
 pub(crate) fn is_intermediate(byte: u8) -> bool {
     byte >= 0x20 && byte < 0x30
 }
@@ -38,33 +38,33 @@ pub(crate) fn digit_of(byte: u8) -> Option<u32> {
     }
 }
 
-/// Whether a byte is a separator `:` or `;`.
+/// Returns whether a byte is a separator `:` or `;`.
 pub(crate) fn is_separator(byte: u8) -> bool {
     byte == b':' || byte == b';'
 }
 
-/// Whether a byte is a digit or a separator `0`..`;`.
+/// Returns whether a byte is a digit or a separator `0`..`;`.
 pub(crate) fn is_parameter_text(byte: u8) -> bool {
     byte >= b'0' && byte <= b';'
 }
 
-/// Whether a byte is part of a head: 20..3F.
+/// Returns whether a byte is part of a head: 20..3F.
 pub(crate) fn is_head(byte: u8) -> bool {
     byte >= 0x20 && byte < 0x40
 }
 
-/// Whether a byte ends a head: 40..7E.
+/// Returns whether a byte ends a head: 40..7E.
 pub(crate) fn is_final(byte: u8) -> bool {
     byte >= 0x40 && byte < 0x7f
 }
 
-/// Whether a byte ends an escape sequence: 30..7E.
+/// Returns whether a byte ends an escape sequence: 30..7E.
 pub(crate) fn dispatches_escape(byte: u8) -> bool {
     byte >= 0x30 && byte < 0x7f
 }
 
-/// Whether a byte begins a string that means nothing after ESC: `X`, `^` and `_` for SOS, PM and
-/// APC.
+/// Returns whether a byte begins a string that means nothing after ESC: `X`, `^` and `_` for SOS,
+/// PM and APC.
 pub(crate) fn begins_ignored_string(byte: u8) -> bool {
     byte == b'X' || byte == b'^' || byte == b'_'
 }

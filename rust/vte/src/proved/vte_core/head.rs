@@ -22,7 +22,7 @@ pub(crate) enum HeadPart {
 }
 
 impl HeadPart {
-    /// Whether a digit or a separator may come next.
+    /// Returns whether a digit or a separator may come next.
     pub(crate) fn may_have_parameters(self) -> bool {
         matches!(self, HeadPart::Entry | HeadPart::Parameters)
     }

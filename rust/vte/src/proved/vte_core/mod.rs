@@ -9,7 +9,6 @@
 mod automaton;
 mod buffer;
 mod class;
-mod grain;
 mod head;
 mod params;
 mod parser;
@@ -19,11 +18,8 @@ mod scan;
 mod store;
 mod utf8;
 
-#[cfg(feature = "ansi")]
-pub use grain::{InRuns, Singly};
 pub use params::{Params, ParamsIter};
 pub use parser::Parser;
-pub use scan::{Run, Taken};
 // for C alone
 #[cfg(feature = "__own")]
 pub use parser::Saved;
@@ -31,3 +27,6 @@ pub use parser::Saved;
 #[cfg(any(feature = "std", feature = "ansi"))]
 pub use parser::{LongParser, Refused};
 pub use perform::{Perform, PerformText};
+#[cfg(feature = "ansi")]
+pub use scan::{InRuns, Singly};
+pub use scan::{Run, Taken};

@@ -94,7 +94,7 @@ fn take_joined(lengths: &mut ArrayVec<u8, 32>, joined: bool) -> Option<u8> {
     }
 }
 
-/// Whether these are the lengths of groups with these numbers.
+/// Returns whether these are the lengths of groups with these numbers.
 #[cfg(feature = "__own")]
 fn are_lengths(lengths: &[u8], numbers: &[u16]) -> bool {
     let mut left = numbers.len();

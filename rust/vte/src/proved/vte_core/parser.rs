@@ -19,9 +19,10 @@ mod text;
 mod to_run;
 
 use crate::adapter::array_vec::ArrayVec;
-use crate::proved::vte_core::grain::{Grain, InRuns, PerformAs, Singly};
 use crate::proved::vte_core::head::HeadPart;
 use crate::proved::vte_core::perform::{Perform, PerformText};
+use crate::proved::vte_core::scan::grain::PerformAs;
+use crate::proved::vte_core::scan::{Grain, InRuns, Singly};
 use crate::proved::vte_core::utf8::Unfinished;
 #[cfg(any(feature = "std", feature = "ansi"))]
 pub use long::LongParser;
@@ -152,8 +153,8 @@ impl<const OSC_RAW_BUF_SIZE: usize> Parser<OSC_RAW_BUF_SIZE> {
         self.machine.is_open()
     }
 
-    /// Returns whether data bytes are in no piece of the operating system command that is open, or
-    /// else ended last: those that don't fit into the buffer, and those after the 16th piece.
+    /// Returns whether the operating system command that is open lost data bytes, or if none is
+    /// open, the last one: those that don't fit into the buffer, and those after the 16th piece.
     pub fn command_lost_data(&self) -> bool {
         self.machine.command_lost_data()
     }

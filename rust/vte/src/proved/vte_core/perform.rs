@@ -9,34 +9,35 @@ use crate::proved::vte_core::params::Params;
 #[allow(unused_variables)]
 #[doc = include_str!("../../docs/perform.md")]
 pub trait Perform {
-    /// A character to print, which is never a control: neither U+0000 to U+001F nor U+0080 to
-    /// U+009F.
+    /// Called for a character to print, which is never a control: neither U+0000 to U+001F nor
+    /// U+0080 to U+009F.
     fn print(&mut self, c: char) {}
 
-    /// A control function of one byte, 00 to 1F or 80 to 9F.
+    /// Called for a control function of one byte, 00 to 1F or 80 to 9F.
     fn execute(&mut self, byte: u8) {}
 
-    /// The start of a device control string with the final byte `action`.
+    /// Called when a device control string starts, with the final byte `action` of its head.
     ///
     /// There are at most two intermediates, a private marker `<` to `?` among them. `ignore` says
     /// that there were more, or more than 32 numbers.
     fn hook(&mut self, params: &Params, intermediates: &[u8], ignore: bool, action: char) {}
 
-    /// A data byte of the device control string.
+    /// Called for a data byte of the device control string.
     fn put(&mut self, byte: u8) {}
 
-    /// The end of the device control string.
+    /// Called when the device control string ends.
     fn unhook(&mut self) {}
 
-    /// An operating system command: its pieces, which are 1 to 16, and whether BEL ended it.
+    /// Called when an operating system command ends, with its pieces, which are 1 to 16, and
+    /// whether BEL ended it.
     fn osc_dispatch(&mut self, params: &[&[u8]], bell_terminated: bool) {}
 
-    /// A control sequence with the final byte `action`. `intermediates` and `ignore` are as in
-    /// [`hook`](Self::hook).
+    /// Called for a control sequence with the final byte `action`. `intermediates` and `ignore` are
+    /// as in [`hook`](Self::hook).
     fn csi_dispatch(&mut self, params: &Params, intermediates: &[u8], ignore: bool, action: char) {}
 
-    /// An escape sequence with the final byte `byte`. There are at most two intermediates; `ignore`
-    /// says that there were more.
+    /// Called for an escape sequence with the final byte `byte`. There are at most two
+    /// intermediates; `ignore` says that there were more.
     fn esc_dispatch(&mut self, intermediates: &[u8], ignore: bool, byte: u8) {}
 
     /// Returns whether `advance_until_terminated` stops. It is asked after events, and not
@@ -47,7 +48,7 @@ pub trait Perform {
     }
 }
 
-/// Takes text in runs, from `advance_text`: there [`print`](Perform::print) and
+/// Receives text in runs, from `advance_text`: there [`print`](Perform::print) and
 /// [`put`](Perform::put) aren't called.
 ///
 /// How text and data are cut into runs may change from version to version.
@@ -60,12 +61,12 @@ pub trait PerformText: Perform {
         false
     }
 
-    /// Characters to print, at least one, in order. None is a control, except HT, LF and CR if the
-    /// performer [keeps](Self::keeps_layout) these.
+    /// Called for characters to print, at least one, in order. None is a control, except HT, LF and
+    /// CR if the performer [keeps](Self::keeps_layout) these.
     fn print_text(&mut self, text: &str);
 
-    /// Data bytes of the device control string, at least one, in order. By default each comes by
-    /// [`put`](Perform::put).
+    /// Called for data bytes of the device control string, at least one, in order. By default each
+    /// comes by [`put`](Perform::put).
     ///
     /// ```
     /// # use vte::{Parser, Perform, PerformText};

@@ -5,8 +5,8 @@
 //! byte is read often.
 
 use crate::proved::vte_core::automaton::{is_layout, skip_run_blocks};
-use crate::proved::vte_core::grain::{Grain, PerformAs};
-use crate::proved::vte_core::scan::{get, get_block};
+use crate::proved::vte_core::scan::grain::PerformAs;
+use crate::proved::vte_core::scan::{get, get_block, Grain};
 use crate::proved::vte_core::utf8::{
     is_continuation, is_lead, is_printed_ascii, may_begin_four, may_begin_three,
 };

@@ -1,11 +1,15 @@
-// Written by tools/erase from crates/vte_core/src/looks.rt: edit that one.
+// Written by tools/erase from crates/vte_core/src/scan.rt: edit that one.
 //! Searches of the input.
 
+pub(crate) mod grain;
+pub(crate) mod search;
 mod taken;
 
-use crate::prelude::{first_chunk, memchr};
-use crate::proved::vte_core::class::{is_data, ESCAPE};
+use crate::prelude::first_chunk;
+use crate::proved::vte_core::scan::grain::PerformAs;
 use core::str;
+pub(crate) use grain::Grain;
+pub use grain::{InRuns, Singly};
 pub use taken::{Run, Taken};
 pub(crate) use taken::{RunKind, RunPlace};
 
@@ -48,35 +52,6 @@ pub(crate) fn take_run(input: &[u8], place: RunPlace) -> Run<'_> {
     }
 }
 
-/// Returns where the data bytes of an operating system command that start at a place end:
-/// before `;` or a control, or with the input.
-pub(crate) fn find_data_end(input: &[u8], from: usize) -> usize {
-    let mut end = from;
-    while end < input.len() && input[end] >= 0x20 && input[end] != b';' {
-        end += 1;
-    }
-    end
-}
-
-/// Returns where the data of a device control string that start at a place end: before a
-/// byte that isn't put, or with the input.
-pub(crate) fn find_put_end(input: &[u8], from: usize) -> usize {
-    let mut end = from;
-    while end < input.len() && is_data(input[end]) {
-        end += 1;
-    }
-    end
-}
-
-/// Returns the place of the first ESC from a place on, or the length if there is none.
-pub(crate) fn find_escape(input: &[u8], from: usize) -> usize {
-    let rest = &input[from..];
-    match memchr(ESCAPE, rest) {
-        Some(distance) => from + distance,
-        None => input.len(),
-    }
-}
-
 /// Returns the byte at an index, or `None` past the end.
 #[inline(always)]
 pub(crate) fn get(input: &[u8], index: usize) -> Option<u8> {
@@ -89,4 +64,23 @@ pub(crate) fn get(input: &[u8], index: usize) -> Option<u8> {
 pub(crate) fn get_block<const N: usize>(input: &[u8], from: usize) -> Option<[u8; N]> {
     let block = *first_chunk::<N>(&input[from..])?;
     Some(block)
+}
+
+/// Tells a whole character.
+#[inline(always)]
+pub(crate) fn tell_character<P: PerformAs<G>, G>(performer: &mut P, c: char) {
+    match c {
+        '\u{0}'..='\u{1f}' | '\u{80}'..='\u{9f}' => performer.execute_control(c as u8),
+        _ => performer.print_char(c),
+    }
+}
+
+/// Tells a byte that is neither printed nor a lead byte: a control, or a malformed sequence
+/// alone.
+#[inline(always)]
+pub(crate) fn tell_single<P: PerformAs<G>, G>(performer: &mut P, byte: u8) {
+    match byte {
+        0x00..=0x1f | 0x80..=0x9f => performer.execute_control(byte),
+        _ => performer.print_char(char::REPLACEMENT_CHARACTER),
+    }
 }

@@ -5,7 +5,8 @@ use crate::adapter::array_vec::ArrayVec;
 #[cfg(any(feature = "std", feature = "ansi"))]
 use crate::prelude::Vec;
 use crate::proved::vte_core::buffer::Buffer;
-use crate::proved::vte_core::grain::{Grain, PerformAs};
+use crate::proved::vte_core::scan::grain::PerformAs;
+use crate::proved::vte_core::scan::Grain;
 
 /// The most pieces of a command.
 const MOST_PIECES: usize = 16;
@@ -137,8 +138,8 @@ impl Store<Vec<u8>> {
     }
 }
 
-/// Whether pieces with this many bytes in all can end at these places, of which there are at most
-/// 16.
+/// Returns whether pieces with this many bytes in all can end at these places, of which there are
+/// at most 16.
 #[cfg(feature = "__own")]
 fn are_piece_ends(ends: &[usize], count: usize) -> bool {
     ends.windows(2).all(|pair| pair[0] <= pair[1]) && ends.iter().all(|end| *end <= count)

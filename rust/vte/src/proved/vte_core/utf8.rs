@@ -1,8 +1,6 @@
 // Written by tools/erase from crates/vte_core/src/utf8.rt: edit that one.
 //! Characters of UTF-8, byte by byte.
 
-use crate::proved::vte_core::grain::PerformAs;
-
 /// The bytes of an unfinished character, at most three.
 #[derive(Clone, Copy)]
 pub(crate) enum Unfinished {
@@ -22,12 +20,12 @@ pub(crate) enum Carried {
 }
 
 impl Unfinished {
-    /// Whether no character is open.
+    /// Returns whether no character is open.
     pub(crate) fn is_nothing(self) -> bool {
         matches!(self, Unfinished::Nothing)
     }
 
-    /// The bytes of an open character and one more.
+    /// Adds a byte to those of an open character.
     #[inline(always)]
     pub(crate) fn carried_on(self, byte: u8) -> Carried {
         match self {
@@ -51,7 +49,7 @@ impl Unfinished {
     }
 }
 
-/// Whether a sequence that begins with `first` may go on with `byte`.
+/// Returns whether a sequence that begins with `first` may go on with `byte`.
 fn may_be_second(first: u8, byte: u8) -> bool {
     match first {
         0xe0..=0xef => may_begin_three(first, byte),
@@ -60,35 +58,35 @@ fn may_be_second(first: u8, byte: u8) -> bool {
     }
 }
 
-/// Whether a sequence of three bytes may begin with these two: with a number that is no overlong
-/// form's and no surrogate's.
+/// Returns whether a sequence of three bytes may begin with these two: with a number that is no
+/// overlong form's and no surrogate's.
 #[inline(always)]
 pub(crate) fn may_begin_three(first: u8, second: u8) -> bool {
     let number = (first % 16) as u32 * 0x1000 + (second % 64) as u32 * 0x40;
     is_continuation(second) && number >= 0x800 && number / 0x800 != 0xd800 / 0x800
 }
 
-/// Whether a sequence of four bytes may begin with these two: with a number that is no overlong
-/// form's, and not past the last character's.
+/// Returns whether a sequence of four bytes may begin with these two: with a number that is no
+/// overlong form's, and not past the last character's.
 #[inline(always)]
 pub(crate) fn may_begin_four(first: u8, second: u8) -> bool {
     let number = (first % 8) as u32 * 0x40000 + (second % 64) as u32 * 0x1000;
     is_continuation(second) && matches!(number, 0x10000..=0x10ffff)
 }
 
-/// Whether `byte` is an ASCII character that is printed. DEL is.
+/// Returns whether `byte` is an ASCII character that is printed. DEL is.
 #[inline(always)]
 pub(crate) fn is_printed_ascii(byte: u8) -> bool {
     matches!(byte, 0x20..=0x7f)
 }
 
-/// Whether `byte` begins a sequence of two bytes or more.
+/// Returns whether `byte` begins a sequence of two bytes or more.
 #[inline(always)]
 pub(crate) fn is_lead(byte: u8) -> bool {
     matches!(byte, 0xc2..=0xf4)
 }
 
-/// Whether `byte` may stand after the second of a sequence.
+/// Returns whether `byte` may stand after the second of a sequence.
 pub(crate) fn is_continuation(byte: u8) -> bool {
     matches!(byte, 0x80..=0xbf)
 }
@@ -111,7 +109,7 @@ fn number_of_four(first: u8, second: u8, third: u8, fourth: u8) -> u32 {
         + (fourth % 64) as u32
 }
 
-/// The character of this number, which is a surrogate's for no well-formed sequence.
+/// Returns the character of this number, which is a surrogate's for no well-formed sequence.
 fn whole(code: u32) -> Carried {
     match char::from_u32(code) {
         Some(c) => Carried::Whole(c),
@@ -119,13 +117,13 @@ fn whole(code: u32) -> Carried {
     }
 }
 
-/// The character of two bytes.
+/// Returns the character of two bytes.
 #[inline(always)]
 pub(crate) fn character_of_two(first: u8, second: u8) -> char {
     char::from_u32(number_of_two(first, second)).unwrap_or(char::REPLACEMENT_CHARACTER)
 }
 
-/// The character of three bytes.
+/// Returns the character of three bytes.
 #[inline(always)]
 #[allow(unsafe_code)]
 pub(crate) fn character_of_three(first: u8, second: u8, third: u8) -> char {
@@ -135,7 +133,7 @@ pub(crate) fn character_of_three(first: u8, second: u8, third: u8) -> char {
     unsafe { char::from_u32_unchecked(number_of_three(first, second, third)) }
 }
 
-/// The character of four bytes.
+/// Returns the character of four bytes.
 #[inline(always)]
 #[allow(unsafe_code)]
 pub(crate) fn character_of_four(first: u8, second: u8, third: u8, fourth: u8) -> char {
@@ -144,23 +142,4 @@ pub(crate) fn character_of_four(first: u8, second: u8, third: u8, fourth: u8) ->
     debug_assert!(may_begin_four(first, second));
     debug_assert!(is_continuation(third) && is_continuation(fourth));
     unsafe { char::from_u32_unchecked(number_of_four(first, second, third, fourth)) }
-}
-
-/// Tells a whole character.
-#[inline(always)]
-pub(crate) fn tell_character<P: PerformAs<G>, G>(performer: &mut P, c: char) {
-    match c {
-        '\u{0}'..='\u{1f}' | '\u{80}'..='\u{9f}' => performer.execute_control(c as u8),
-        _ => performer.print_char(c),
-    }
-}
-
-/// Tells a byte that is neither printed nor a lead byte: a control, or a malformed sequence
-/// alone.
-#[inline(always)]
-pub(crate) fn tell_single<P: PerformAs<G>, G>(performer: &mut P, byte: u8) {
-    match byte {
-        0x00..=0x1f | 0x80..=0x9f => performer.execute_control(byte),
-        _ => performer.print_char(char::REPLACEMENT_CHARACTER),
-    }
 }

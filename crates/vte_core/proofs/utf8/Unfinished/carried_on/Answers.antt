@@ -31,9 +31,8 @@ returns-in_default-2 c = rw c.in-Two.is (λ more. third_broken c.in-Two.first c.
 pub returns-in-Three : goal.returns-in-Three
 returns-in-Three c =
     rw c.in-Three.is
-    (λ more. fourth_whole c.in-Three.first c.in-Three.second c.in-Three.third c.args.byte _ c.whole-in-Three.result more
-    (cc) c.number_of_four.ensures
-    c.whole-in-Three.ensures)
+    (λ more. fourth_whole c.in-Three.first c.in-Three.second c.in-Three.third c.args.byte _
+    c.whole-in-Three.result more (cc) c.number_of_four.ensures c.whole-in-Three.ensures)
 
 pub returns-in_default-3 : goal.returns-in_default-3
 returns-in_default-3 c =

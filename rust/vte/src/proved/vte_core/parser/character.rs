@@ -2,11 +2,12 @@
 //! The bytes of a character after the first.
 
 use crate::proved::vte_core::buffer::Buffer;
-use crate::proved::vte_core::grain::{Grain, PerformAs};
 use crate::proved::vte_core::parser::{Machine, State};
+use crate::proved::vte_core::scan::grain::PerformAs;
+use crate::proved::vte_core::scan::{tell_character, Grain};
 use crate::proved::vte_core::utf8::{
     character_of_four, character_of_three, character_of_two, is_continuation, may_begin_four,
-    may_begin_three, tell_character, Unfinished,
+    may_begin_three, Carried, Unfinished,
 };
 
 impl<B: Buffer> Machine<B> {
@@ -102,5 +103,35 @@ impl<B: Buffer> Machine<B> {
         }
         tell_character(performer, character_of_four(first, second, third, fourth));
         from + 3
+    }
+
+    /// Reads the bytes that an unfinished character continues with. A byte that breaks it is left
+    /// unread, and U+FFFD is printed for those before it.
+    #[inline(always)]
+    pub(crate) fn continue_character<P: PerformAs<G>, G: Grain>(
+        &mut self,
+        performer: &mut P,
+        begun: Unfinished,
+        input: &[u8],
+        from: usize,
+    ) -> usize {
+        let mut unfinished = begun;
+        for position in from..input.len() {
+            match unfinished.carried_on(input[position]) {
+                Carried::Unfinished(more) => unfinished = more,
+                Carried::Whole(c) => {
+                    tell_character(performer, c);
+                    self.state = State::Text(Unfinished::Nothing);
+                    return position + 1;
+                }
+                Carried::Broken => {
+                    performer.print_char(char::REPLACEMENT_CHARACTER);
+                    self.state = State::Text(Unfinished::Nothing);
+                    return position;
+                }
+            }
+        }
+        self.state = State::Text(unfinished);
+        input.len()
     }
 }

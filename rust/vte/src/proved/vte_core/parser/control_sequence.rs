@@ -3,16 +3,16 @@
 
 use crate::proved::vte_core::buffer::Buffer;
 use crate::proved::vte_core::class::{ends_all, is_control, is_final};
-use crate::proved::vte_core::grain::{Grain, PerformAs};
 use crate::proved::vte_core::head::HeadPart;
 use crate::proved::vte_core::parser::{Machine, State, Unfinished};
+use crate::proved::vte_core::scan::grain::PerformAs;
+use crate::proved::vte_core::scan::Grain;
 
 impl<B: Buffer> Machine<B> {
     /// Goes on with a control sequence whose head has come so far: by digits, by separators too if
-    /// there may be `several` numbers, and by a final byte right after them. After `ESC [` most
-    /// sequences have at most one number: for them this calls nothing before the dispatch, so it
-    /// saves no registers. Where calls have one byte each, most bytes of long sequences come this
-    /// way.
+    /// there may be `several` numbers, and by a final byte right after them. Most sequences have at
+    /// most one number: for them this calls nothing before the dispatch. If calls have one byte
+    /// each, most bytes of long sequences come this way.
     #[inline(always)]
     pub(crate) fn continue_control_sequence<P: PerformAs<G>, G: Grain>(
         &mut self,

@@ -3,10 +3,11 @@
 
 use crate::proved::vte_core::buffer::Buffer;
 use crate::proved::vte_core::class::{ends_all, is_data, is_final};
-use crate::proved::vte_core::grain::{Grain, PerformAs};
 use crate::proved::vte_core::head::HeadPart;
 use crate::proved::vte_core::parser::{Machine, State, Unfinished};
-use crate::proved::vte_core::scan::{data, find_put_end};
+use crate::proved::vte_core::scan::grain::PerformAs;
+use crate::proved::vte_core::scan::search::find_put_end;
+use crate::proved::vte_core::scan::{data, Grain};
 
 /// The one 8-bit control that is read: ST, the end of the data.
 const STRING_TERMINATOR: u8 = 0x9c;

@@ -2,8 +2,9 @@
 //! The loop over the bytes of a call.
 
 use crate::proved::vte_core::buffer::Buffer;
-use crate::proved::vte_core::grain::{Grain, PerformAs};
 use crate::proved::vte_core::parser::{Machine, Refused, State};
+use crate::proved::vte_core::scan::grain::PerformAs;
+use crate::proved::vte_core::scan::Grain;
 
 impl<B: Buffer> Machine<B> {
     /// Reads the bytes of a call, as many as there is memory for, and returns how many: all of

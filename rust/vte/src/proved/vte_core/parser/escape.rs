@@ -6,9 +6,10 @@ use crate::proved::vte_core::class::{
     begins_ignored_string, dispatches_escape, ends_all, is_control, is_final, is_head,
     is_intermediate, ESCAPE,
 };
-use crate::proved::vte_core::grain::{Grain, PerformAs};
 use crate::proved::vte_core::head::HeadPart;
 use crate::proved::vte_core::parser::{Machine, State, Unfinished};
+use crate::proved::vte_core::scan::grain::PerformAs;
+use crate::proved::vte_core::scan::Grain;
 
 impl<B: Buffer> Machine<B> {
     /// Begins an escape sequence at an ESC in a text, which was looked at, and reads the bytes
@@ -48,7 +49,7 @@ impl<B: Buffer> Machine<B> {
     ) -> usize {
         for position in from..input.len() {
             let byte = input[position];
-            // Added before the branches, so that the loop over ESC has 6 instructions instead of 8.
+            // Added before the branches, so that the loop over ESC is shorter.
             let next = position + 1;
             if byte == b'[' {
                 self.collected.begin_head();

@@ -2,18 +2,17 @@
 //! The parser that keeps operating system commands of any length.
 
 use crate::prelude::Vec;
-use crate::proved::vte_core::grain::{InRuns, Singly};
 use crate::proved::vte_core::parser::{Machine, Refused, State};
 use crate::proved::vte_core::perform::{Perform, PerformText};
-use crate::proved::vte_core::scan::{take_run, Run};
+use crate::proved::vte_core::scan::{take_run, InRuns, Run, Singly};
 
 /// A parser whose calls return an error if they are refused memory.
 ///
 /// It keeps operating system commands of any length, as [`Parser`](crate::Parser) does with the
 /// feature `std`.
 ///
-/// If memory for it is refused, the call stops before the byte that needs it, and the rest can
-/// be passed in again:
+/// If memory for it is refused, the call stops before the byte that needs it, and the rest can be
+/// passed in again:
 ///
 /// ```
 /// # use vte::{LongParser, Perform, Refused};

@@ -1,5 +1,5 @@
 // Written by tools/erase from crates/vte_core/src/parser/refused.rt: edit that one.
-//! The error of what keeps the text of operating system commands, whatever its length.
+//! The error of calls that were refused memory.
 
 /// Memory for the text of an operating system command was refused.
 #[derive(Clone, Copy, Debug, PartialEq, Eq)]

@@ -39,12 +39,12 @@ fn copy_to_front<T: Copy>(elements: &[T], array: &mut [T]) -> usize {
     elements.len()
 }
 
-/// The first elements of an array, as many as there are at most.
+/// Returns the first elements of an array: `count` of them, or all if there are fewer.
 fn front<T: Copy>(array: &[T], count: usize) -> &[T] {
     &array[..count.min(array.len())]
 }
 
-/// The same in a vector.
+/// Collects the first elements of an array.
 fn collect_front<T: Copy + Default, const N: usize>(
     array: &[T; N],
     count: usize,

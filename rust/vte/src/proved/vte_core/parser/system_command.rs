@@ -3,9 +3,10 @@
 
 use crate::proved::vte_core::buffer::Buffer;
 use crate::proved::vte_core::class::ends_all;
-use crate::proved::vte_core::grain::{Grain, PerformAs};
 use crate::proved::vte_core::parser::{Machine, Refused, State, Unfinished};
-use crate::proved::vte_core::scan::{find_data_end, get};
+use crate::proved::vte_core::scan::grain::PerformAs;
+use crate::proved::vte_core::scan::search::find_data_end;
+use crate::proved::vte_core::scan::{get, Grain};
 
 const BELL: u8 = 0x07;
 

@@ -3,31 +3,16 @@
 
 use crate::proved::vte_core::buffer::Buffer;
 use crate::proved::vte_core::class::ESCAPE;
-use crate::proved::vte_core::grain::{Grain, PerformAs};
-use crate::proved::vte_core::parser::{Machine, State};
+use crate::proved::vte_core::parser::Machine;
 use crate::proved::vte_core::run::{begins_ascii, find_ascii_run_end, find_longer_run_end};
-use crate::proved::vte_core::scan::{find_escape, get, text, up_to};
-use crate::proved::vte_core::utf8::{
-    is_lead, is_printed_ascii, tell_character, tell_single, Carried, Unfinished,
-};
+use crate::proved::vte_core::scan::grain::PerformAs;
+use crate::proved::vte_core::scan::search::search_text;
+use crate::proved::vte_core::scan::{get, tell_single, text, up_to, Grain};
+use crate::proved::vte_core::utf8::{is_lead, is_printed_ascii};
 
 /// The bytes of a text that are read before it is searched for ESC. Shorter texts, and so most,
 /// cost no search.
 const SHORT_TEXT: usize = 128;
-
-/// Returns up to where a text is read next: to the byte after the next ESC, or to the end of
-/// what was searched.
-#[inline(never)]
-fn search_text<const ASKS: bool>(input: &[u8], from: usize, at: usize) -> usize {
-    let to = if ASKS {
-        // A stop leaves bytes unread that were searched: no more than were read.
-        at + (at - from).min(input.len() - at)
-    } else {
-        input.len()
-    };
-    let escape = find_escape(up_to(input, to), at);
-    escape + usize::from(escape < to)
-}
 
 /// Where a run of ASCII ends, and the byte there if it was looked at and isn't printed ASCII.
 #[derive(Clone, Copy)]
@@ -145,35 +130,5 @@ impl<B: Buffer> Machine<B> {
             }
         }
         self.read_character(performer, input, from, first)
-    }
-
-    /// Reads the bytes that an unfinished character continues with. A byte that breaks it is left
-    /// unread, and U+FFFD is printed for those before it.
-    #[inline(always)]
-    pub(crate) fn continue_character<P: PerformAs<G>, G: Grain>(
-        &mut self,
-        performer: &mut P,
-        begun: Unfinished,
-        input: &[u8],
-        from: usize,
-    ) -> usize {
-        let mut unfinished = begun;
-        for position in from..input.len() {
-            match unfinished.carried_on(input[position]) {
-                Carried::Unfinished(more) => unfinished = more,
-                Carried::Whole(c) => {
-                    tell_character(performer, c);
-                    self.state = State::Text(Unfinished::Nothing);
-                    return position + 1;
-                }
-                Carried::Broken => {
-                    performer.print_char(char::REPLACEMENT_CHARACTER);
-                    self.state = State::Text(Unfinished::Nothing);
-                    return position;
-                }
-            }
-        }
-        self.state = State::Text(unfinished);
-        input.len()
     }
 }

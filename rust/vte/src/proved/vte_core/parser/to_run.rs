@@ -3,12 +3,13 @@
 
 use crate::proved::vte_core::buffer::Buffer;
 use crate::proved::vte_core::class::ESCAPE;
-use crate::proved::vte_core::grain::{PerformAs, Singly};
 use crate::proved::vte_core::parser::{Machine, Parser, Refused, State};
 use crate::proved::vte_core::perform::Perform;
 use crate::proved::vte_core::run::find_rest_end;
-use crate::proved::vte_core::scan::{find_put_end, take_run, Run, RunKind, RunPlace};
-use crate::proved::vte_core::utf8::{is_lead, is_printed_ascii, tell_single};
+use crate::proved::vte_core::scan::grain::PerformAs;
+use crate::proved::vte_core::scan::search::find_put_end;
+use crate::proved::vte_core::scan::{take_run, tell_single, Run, RunKind, RunPlace, Singly};
+use crate::proved::vte_core::utf8::{is_lead, is_printed_ascii};
 
 impl<const OSC_RAW_BUF_SIZE: usize> Parser<OSC_RAW_BUF_SIZE> {
     /// Reads bytes up to a run of text, or of data of a device control string, and the run itself,

@@ -1,4 +1,4 @@
-// Written by tools/erase from crates/vte_core/src/looks/taken.rt: edit that one.
+// Written by tools/erase from crates/vte_core/src/scan/taken.rt: edit that one.
 //! Runs of text and data, which a caller takes from its own input.
 
 /// What a call of [`advance_to_run`](crate::Parser::advance_to_run) read: bytes whose events it
@@ -41,7 +41,7 @@ pub(crate) struct RunPlace {
 }
 
 impl RunPlace {
-    /// No run, where a call ends.
+    /// Creates the place of no run, where a call ends.
     pub(crate) fn empty(end: usize) -> Self {
         RunPlace {
             start: end,

@@ -1,4 +1,0 @@
-use Rattle.vte_core.proofs.looks.Looks.find_run_end.Goals as goal
-
-pub returns-clause-scans : goal.returns-clause-scans
-returns-clause-scans g c = rw c.keeps_layout.ensures at c.find_rest_end.ensures.scans

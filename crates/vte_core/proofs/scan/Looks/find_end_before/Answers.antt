@@ -1,0 +1,50 @@
+use Rattle.vte_core.proofs.Common.{arith, subst, sym, ◌∙◌, slice_index, IsPrinted}
+use Rattle.vte_core.proofs.bytes.Between.{each-one, each-both}
+use Rattle.vte_core.proofs.bytes.Printable.{printed-is, run-none, run-ascii}
+use Rattle.vte_core.proofs.bytes.Scanning.{scans-run}
+use Rattle.vte_core.proofs.scan.Looks.find_end_before.Goals as goal
+
+pub loop-end-init : goal.loop-end-init
+loop-end-init g c = record {
+  scans =
+      record {
+        low = omega arith;
+        high = omega (arith, c.requires.range.in_order, c.requires.range.within);
+        are = run-none c.args.keeps c.args.input.bytes.now c.args.from;
+        least = omega arith;
+      };
+  count = omega arith;
+}
+
+pub loop-end-preserved-then-is_printed_ascii : goal.loop-end-preserved-then-is_printed_ascii
+loop-end-preserved-then-is_printed_ascii g c =
+    let v = c.loop-end.invariant in
+    let bytes = c.args.input.bytes.now in
+    let ascii = c.find_ascii_end-end.ensures in
+    let printed : IsPrinted (slice_index bytes c.loop-end.end) = subst IsPrinted c.at-byte.ensures.value
+    (printed-is c.at-byte.result (sym c.is_printed_ascii.ensures ∙ c.if-is_printed_ascii.true)) in
+    record {
+      scans = scans-run v.scans (record {
+        low = omega (arith, ascii.scans.low);
+        high = ascii.scans.high;
+        are =
+            run-ascii _ _ _ _
+            (each-both IsPrinted _ _ _ _ (each-one IsPrinted bytes c.loop-end.end printed) ascii.scans.are);
+        least = omega (arith, ascii.scans.least, c.at-byte.ensures.count);
+      });
+      count = omega (arith, v.count, ascii.count, c.at-byte.ensures.count);
+    }
+
+pub loop-end-preserved : goal.loop-end-preserved
+loop-end-preserved g c =
+    let v = c.loop-end.invariant in
+    let other = c.in-Some.ensures in
+    record {
+      scans = scans-run v.scans (record {
+        low = omega (arith, other.further);
+        high = other.high;
+        are = other.run;
+        least = omega (arith, other.count, c.at-byte.ensures.count);
+      });
+      count = omega (arith, v.count, other.count, other.further, c.at-byte.ensures.count);
+    }

@@ -1,0 +1,11 @@
+use Rattle.vte_core.proofs.Common.{length, ◌*◌, ◌+◌, ◌-◌, ◌≤◌, looked, IsRun, Scans}
+use Rattle.vte_core.proofs.scan.Looks.find_end_before.Given as goal
+
+abbrev pub invariant-loop-end : goal.invariant-loop-end
+invariant-loop-end g l = record {
+  scans : Scans (IsRun l.keeps) l.input.bytes.now l.from l.end l.initial.self l.self;
+  count : 3 * looked l.self + 11 * l.from ≤ 3 * looked l.initial.self + 11 * l.end;
+}
+
+abbrev pub decreases-loop-end : goal.decreases-loop-end
+decreases-loop-end g l = length l.input.bytes.now - l.end

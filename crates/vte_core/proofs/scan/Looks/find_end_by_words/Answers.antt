@@ -1,0 +1,17 @@
+use Rattle.vte_core.proofs.Common.{arith, IsPrinted}
+use Rattle.vte_core.proofs.bytes.Scanning.{scans-block}
+use Rattle.vte_core.proofs.scan.Looks.find_end_by_words.Goals as goal
+
+pub loop-word-preserved : goal.loop-word-preserved
+loop-word-preserved g c =
+    let v = c.loop-word.invariant in
+    record {
+      scans = scans-block IsPrinted _ 8 v.scans c.in-Some.ensures (omega arith) c.in_default-first_unprinted.ensures;
+      count = omega (arith, v.count, c.in-Some.ensures.2);
+    }
+
+pub returns-in-Some-first_unprinted-clause-scans : goal.returns-in-Some-first_unprinted-clause-scans
+returns-in-Some-first_unprinted-clause-scans g c =
+    let place = c.in-Some-first_unprinted.ensures in
+    scans-block IsPrinted _ c.in-Some-first_unprinted.place c.loop-word.invariant.scans c.in-Some.ensures
+    (omega (arith, place.0)) place.1

@@ -1,0 +1,11 @@
+use Rattle.vte_core.proofs.Common.{length, ◌+◌, ◌-◌, ◌≡◌, looked, ArePrinted, Scans}
+use Rattle.vte_core.proofs.scan.Looks.find_end_by_words.Given as goal
+
+abbrev pub invariant-loop-word : goal.invariant-loop-word
+invariant-loop-word g l = record {
+  scans : Scans ArePrinted l.input.bytes.now l.from l.end l.initial.self l.self;
+  count : looked l.self + l.from ≡ looked l.initial.self + l.end;
+}
+
+abbrev pub decreases-loop-word : goal.decreases-loop-word
+decreases-loop-word g l = length l.input.bytes.now - l.end

@@ -1,0 +1,30 @@
+use Rattle.std.proofs.Common.{◌+◌, refl, sym, ◌∙◌, arith}
+use Rattle.vte_core.proofs.bytes.Printable.{run-append}
+use Rattle.vte_core.proofs.dividing.PrintableCharacters.{run-two, run-three}
+use Rattle.vte_core.proofs.scan.Looks.find_longer_run_end.Goals as goal
+
+pub returns-then-is_printed_pair-clause-run : goal.returns-then-is_printed_pair-clause-run
+returns-then-is_printed_pair-clause-run g c = λ _.
+    let bytes = c.args.input.bytes.now in
+    let second = c.in-Some.ensures in
+    let pair = c.if-is_printed_pair.ensures in
+    let rest = c.find_run_end.ensures in
+    run-append g.P.CountedPerform.keeps bytes c.args.from (c.args.from + 2) c.find_run_end.result
+    (omega arith) rest.scans.low
+    (run-two bytes c.args.from c.args.first c.in-Some.second
+    (omega (arith, second.0)) c.requires.is second.1 c.requires.lead c.if-first-lt224.true
+    (pair.0 refl).0 (pair.0 refl).1) rest.scans.are
+
+pub returns-in-Some-2-clause-run : goal.returns-in-Some-2-clause-run
+returns-in-Some-2-clause-run g c = λ _.
+    let bytes = c.args.input.bytes.now in
+    let second = c.in-Some.ensures in
+    let third = c.in-Some-get.ensures in
+    let rest = c.find_run_end-in-Some-2.ensures in
+    run-append g.P.CountedPerform.keeps bytes c.args.from (c.args.from + 3) c.find_run_end-in-Some-2.result
+    (omega arith) rest.scans.low
+    (run-three bytes c.args.from c.args.first c.in-Some.second c.in-Some-get.third
+    (omega (arith, third.0)) c.requires.is second.1 third.1
+    (omega (arith, c.if-first-lt224.false)) c.if-first-lt240.true
+    (sym c.may_begin_three.ensures ∙ c.if-may_begin_three.true)
+    (sym c.is_continuation-then-first-lt240.ensures ∙ c.if-is_continuation-2.true)) rest.scans.are

@@ -1,0 +1,7 @@
+use Rattle.vte_core.proofs.bytes.Between.{front-block}
+use Rattle.vte_core.proofs.scan.Looks.get_block.Goals as goal
+
+pub returns : goal.returns
+returns g c =
+    let front = front-block _ _ c.args.from g.row.N c.requires c.in_ok-block.ensures.cases in
+    (front.0, front.1, c.add.ensures)

@@ -1,0 +1,314 @@
+//! The only module that reads input bytes and reports events. It counts both, for contracts alone.
+//!
+//! Nothing else reads a byte of a call or tells a performer an event: an [`Input`] has no other way
+//! to its bytes, and a [`CountedPerform`] takes events with the count alone. Bytes leave it one by
+//! one, in blocks, as a copy in a buffer, or as text or data: for a performer, or in a [`Run`] for
+//! the caller. Whoever is generic in the buffer `B` has no count but the one it was lent, for a
+//! `Looks<B>` is made for the buffers of the two parsers alone.
+ghost use Rattle.std.specs.Prelude.{◌≡◌, ◌+◌, ◌-◌, ◌<◌, ◌≤◌, ℕ, [], ◌∷◌, ◌++◌, false, length, drop, map, take, slice_index, vec_capacity, MatchOption, IsUtf8};
+ghost use Rattle.vte_core.specs.machine.Words.{AreOfKind, ArePut, IsRange, IsRun, IsTaken, PrintsRun, Put, Tells, after, character_event, is_in, looked, malformed_event, to};
+
+mod counted_perform;
+mod grain;
+mod search;
+mod taken;
+
+use arrayvec::{ArrayVec, CapacityError};
+pub(crate) use counted_perform::CountedPerform;
+pub(crate) use grain::Grain;
+pub use grain::{InRuns, Singly};
+use std::alloc::{AllocError, Allocator};
+use std::marker::PhantomData;
+use std::snapshot::Snapshot;
+use std::{mem, str};
+pub use taken::{Run, Taken};
+pub(crate) use taken::{RunKind, RunPlace};
+
+/// The looks so far, and how many there were each time. Only contracts read it.
+#[derive(Drop)]
+enum Trail {
+    Start,
+    Then(Snapshot<Trail>, usize),
+}
+
+/// How many looks a parser with the buffer `B` took at input bytes, and how many events it told. It
+/// has no bytes at run time.
+#[derive(Drop)]
+pub(crate) struct Looks<B> {
+    trail: Snapshot<Trail>,
+    buffer: PhantomData<B>,
+}
+
+/// The bytes of a call of a parser with the buffer `B`. They are read by way of its `Looks` alone.
+pub(crate) struct Input<'a, B> {
+    bytes: &'a [u8],
+    buffer: PhantomData<B>,
+}
+
+impl<B> Clone for Input<'_, B> {
+    fn clone(&self) -> Result<Self, AllocError> {
+        Ok(*self)
+    }
+}
+
+impl<B> Copy for Input<'_, B> {}
+
+impl<'a, B> Input<'a, B> {
+    pub(crate) fn new(bytes: &'a [u8]) -> Self
+        ensures { result.bytes.now ≡ bytes.now }
+    {
+        Input {
+            bytes,
+            buffer: PhantomData,
+        }
+    }
+
+    pub(crate) fn len(self) -> usize
+        ensures { result ≡ length self.entry.bytes.now }
+    {
+        self.bytes.len()
+    }
+
+    /// Returns the bytes up to a place.
+    #[inline(always)]
+    pub(crate) fn up_to(self, to: usize) -> Self
+        requires { to ≤ length self.bytes.now }
+        ensures length { length result.bytes.now ≡ to }
+        ensures same { (k : ℕ) → k < to
+            → slice_index result.bytes.now k ≡ slice_index self.entry.bytes.now k }
+    {
+        Input {
+            bytes: &self.bytes[..to],
+            buffer: PhantomData,
+        }
+    }
+
+    /// Returns the text from one place to another, whose bytes were looked at.
+    #[inline(always)]
+    fn text(self, from: usize, to: usize) -> &'a str
+        requires range { IsRange self.bytes.now from to }
+        requires utf8 { IsUtf8 (take (to - from) (drop from self.bytes.now)) }
+        ensures { result.now ≡ take (to - from) (drop from self.entry.bytes.now) }
+    {
+        let bytes = &self.bytes[from..to];
+        unsafe { str::from_utf8_unchecked(bytes) }
+    }
+
+    /// Returns the data from one place to another, whose bytes were looked at.
+    #[inline(always)]
+    fn data(self, from: usize, to: usize) -> &'a [u8]
+        requires range { IsRange self.bytes.now from to }
+        ensures { result.now ≡ take (to - from) (drop from self.entry.bytes.now) }
+    {
+        &self.bytes[from..to]
+    }
+
+    /// Returns the run that stands at a place, whose bytes were looked at.
+    pub(crate) fn take_run(self, place: RunPlace) -> Run<'a>
+        requires range { IsRange self.bytes.now place.start place.end }
+        requires kind { AreOfKind place.kind
+            (take (place.end - place.start) (drop place.start self.bytes.now)) }
+        ensures start { result.start ≡ place.start }
+        ensures end { result.end ≡ place.end }
+        ensures taken { IsTaken place.kind
+            (take (place.end - place.start) (drop place.start self.entry.bytes.now)) result.taken }
+    {
+        let taken = match place.kind {
+            RunKind::OfText => Taken::Text(self.text(place.start, place.end)),
+            RunKind::OfData => Taken::Data(self.data(place.start, place.end)),
+            RunKind::Empty => Taken::Nothing,
+        };
+        Run {
+            start: place.start,
+            end: place.end,
+            taken,
+        }
+    }
+}
+
+impl<const N: usize> Looks<ArrayVec<u8, N>> {
+    /// Creates a count of no looks, for a parser with a limit.
+    pub(crate) fn limited() -> Self
+        ensures { looked result ≡ 0 }
+    {
+        Looks::none()
+    }
+}
+
+impl<A: Allocator> Looks<Vec<u8, A>> {
+    /// Creates a count of no looks, for a parser without a limit.
+    pub(crate) fn unlimited() -> Self
+        ensures { looked result ≡ 0 }
+    {
+        Looks::none()
+    }
+}
+
+impl<B> Looks<B> {
+    fn none() -> Self
+        ensures { looked result ≡ 0 }
+    {
+        Looks {
+            trail: Snapshot::of(&Trail::Start),
+            buffer: PhantomData,
+        }
+    }
+
+    /// Counts looks.
+    fn add(&mut self, count: usize)
+        ensures { looked self.new ≡ looked self.old + count }
+    {
+        let before = mem::replace(&mut self.trail, Snapshot::of(&Trail::Start));
+        self.trail = Snapshot::of(&Trail::Then(before, count));
+    }
+
+    /// Returns the byte at an index.
+    pub(crate) fn at(&mut self, input: Input<'_, B>, index: usize) -> u8
+        requires { index < length input.bytes.now }
+        ensures value { result ≡ slice_index input.entry.bytes.now index }
+        ensures count { looked self.new ≡ looked self.old + 1 }
+    {
+        self.add(1);
+        input.bytes[index]
+    }
+
+    /// Returns the byte at an index, or `None` past the end.
+    #[inline(always)]
+    pub(crate) fn get(&mut self, input: Input<'_, B>, index: usize) -> Option<u8>
+        ensures { MatchOption result
+            ((length input.entry.bytes.now ≤ index) × (looked self.new ≡ looked self.old)) (λ byte.
+            (index < length input.entry.bytes.now)
+            × (byte ≡ slice_index input.entry.bytes.now index)
+            × (looked self.new ≡ looked self.old + 1)) }
+    {
+        let byte = *input.bytes.get(index)?;
+        self.add(1);
+        Some(byte)
+    }
+
+    /// Returns a copy of the `N` bytes from a place on, or `None` if there are fewer.
+    #[inline(always)]
+    pub(crate) fn get_block<const N: usize>(
+        &mut self,
+        input: Input<'_, B>,
+        from: usize,
+    ) -> Option<[u8; N]>
+        requires { from ≤ length input.bytes.now }
+        ensures { MatchOption result (looked self.new ≡ looked self.old)
+            (λ block. (from + N ≤ length input.entry.bytes.now)
+            × (block ≡ take N (drop from input.entry.bytes.now))
+            × (looked self.new ≡ looked self.old + N)) }
+    {
+        let block = *input.bytes[from..].first_chunk::<N>()?;
+        self.add(N);
+        Some(block)
+    }
+
+    /// Tells a whole character.
+    #[inline(always)]
+    #[tactic(auto, unfolding(crate::specs::Text::character_event))]
+    pub(crate) fn tell_character<P: CountedPerform<B, G>, G>(&mut self, performer: &mut P, c: char)
+        ensures { Tells P.step (P.value_of performer.old) (P.value_of performer.new)
+            (character_event c) self.old self.new }
+    {
+        match c {
+            '\u{0}'..='\u{1f}' | '\u{80}'..='\u{9f}' => performer.execute_control(self, c as u8),
+            _ => performer.print_char(self, c),
+        }
+    }
+
+    /// Tells a byte that is neither printed nor a lead byte: a control, or a malformed sequence
+    /// alone.
+    #[inline(always)]
+    #[tactic(auto, unfolding(crate::specs::Text::character_event, crate::specs::Text::malformed_event))]
+    pub(crate) fn tell_single<P: CountedPerform<B, G>, G>(&mut self, performer: &mut P, byte: u8)
+        requires { is_in (to 0x20 0x7f) byte ≡ false }
+        ensures control { byte < 0x80
+            → P.value_of performer.new ≡ P.step (P.value_of performer.old) (character_event byte) }
+        ensures malformed { 0x80 ≤ byte
+            → P.value_of performer.new
+            ≡ P.step (P.value_of performer.old) (malformed_event (byte ∷ [])) }
+        ensures count { looked self.new ≡ looked self.old + 1 }
+    {
+        match byte {
+            0x00..=0x1f | 0x80..=0x9f => performer.execute_control(self, byte),
+            _ => performer.print_char(self, char::REPLACEMENT_CHARACTER),
+        }
+    }
+
+    /// Tells the run of text that stands from one place to another, which counts its bytes.
+    #[inline(always)]
+    pub(crate) fn tell_text<P: CountedPerform<B, G>, G>(
+        &mut self,
+        performer: &mut P,
+        input: Input<'_, B>,
+        from: usize,
+        to: usize,
+    )
+        requires some { from < to }
+        requires within { to ≤ length input.bytes.now }
+        requires run { IsRun P.keeps input.bytes.now from to }
+        ensures printed { PrintsRun P.keeps P.step (P.value_of performer.old)
+            (P.value_of performer.new) input.entry.bytes.now from to }
+        ensures count { looked self.new + from ≡ looked self.old + to }
+    {
+        performer.print_text(self, input.text(from, to));
+    }
+
+    /// Tells the data that stand from one place to another, which counts them.
+    #[inline(always)]
+    pub(crate) fn tell_data<P: CountedPerform<B, G>, G>(
+        &mut self,
+        performer: &mut P,
+        input: Input<'_, B>,
+        from: usize,
+        to: usize,
+    )
+        requires some { from < to }
+        requires within { to ≤ length input.bytes.now }
+        requires put { ArePut input.bytes.now from to }
+        ensures put { P.value_of performer.new
+            ≡ after P.step (P.value_of performer.old)
+            (map Put (take (to - from) (drop from input.entry.bytes.now))) }
+        ensures count { looked self.new + from ≡ looked self.old + to }
+    {
+        performer.put_slice(self, input.data(from, to));
+    }
+
+    /// Appends the bytes from one place to another to an array that has room for them.
+    pub(crate) fn copy_to_array<const N: usize>(
+        &mut self,
+        input: Input<'_, B>,
+        from: usize,
+        to: usize,
+        array: &mut ArrayVec<u8, N>,
+    ) -> Result<(), CapacityError>
+        requires range { IsRange input.bytes.now from to }
+        requires room { length array.old.items + (to - from) ≤ N }
+        ensures appended { array.new.items
+            ≡ array.old.items ++ take (to - from) (drop from input.entry.bytes.now) }
+        ensures count { looked self.new + from ≡ looked self.old + to }
+    {
+        self.add(to - from);
+        array.try_extend_from_slice(&input.bytes[from..to])
+    }
+
+    /// Appends the bytes from one place to another to a vector that has memory for them.
+    pub(crate) fn copy_to_vec<A: Allocator>(
+        &mut self,
+        input: Input<'_, B>,
+        from: usize,
+        to: usize,
+        vec: &mut Vec<u8, A>,
+    ) -> Result<(), AllocError>
+        requires range { IsRange input.bytes.now from to }
+        requires room { length vec.old.items + (to - from) ≤ vec_capacity vec.old }
+        ensures appended { vec.new.items
+            ≡ vec.old.items ++ take (to - from) (drop from input.entry.bytes.now) }
+        ensures memory { vec_capacity vec.old ≤ vec_capacity vec.new }
+        ensures count { looked self.new + from ≡ looked self.old + to }
+    {
+        self.add(to - from);
+        vec.extend_from_slice(&input.bytes[from..to])
+    }
+}

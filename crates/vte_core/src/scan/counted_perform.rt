@@ -1,0 +1,158 @@
+//! Performers that count each event as it is reported.
+ghost use Rattle.std.specs.Prelude.{◌≡◌, ◌<◌, Bool, false, length, map, chars};
+ghost use Rattle.vte_core.specs.machine.Words.{CsiDispatch, EscDispatch, Event, Execute, Hook, IsTextRun, OscDispatch, Print, Put, Tells, TellsAll, Unhook, is_control_character, run_event};
+
+use crate::head::Collected;
+use crate::perform::Perform;
+use crate::scan::Looks;
+use crate::scan::grain::PerformAs;
+
+/// A performer, as the functions of a parser with the buffer `B` see it. Each event counts one.
+pub(crate) trait CountedPerform<B, G> {
+    ghost Value: { Type 0 };
+
+    ghost value_of: { Self → Value };
+
+    ghost step: { Value → Event → Value };
+
+    ghost is_terminated: { Value → Bool };
+
+    ghost keeps: { Bool };
+
+    /// Returns whether HT, LF and CR come as text.
+    fn keeps_layout(&self) -> bool
+        ensures { result ≡ keeps };
+
+    fn print_char(&mut self, looks: &mut Looks<B>, c: char)
+        requires { is_control_character c ≡ false }
+        ensures { Tells step (value_of self.old) (value_of self.new)
+            (Print c) looks.old looks.new };
+
+    /// Counts a text's bytes, which are no fewer than its characters.
+    fn print_text(&mut self, looks: &mut Looks<B>, text: &str)
+        requires { IsTextRun keeps text.now }
+        ensures { TellsAll step (value_of self.old) (value_of self.new)
+            (map (run_event keeps) (chars text.now)) (length text.now) looks.old looks.new };
+
+    fn execute_control(&mut self, looks: &mut Looks<B>, byte: u8)
+        ensures { Tells step (value_of self.old) (value_of self.new)
+            (Execute byte) looks.old looks.new };
+
+    fn hook(&mut self, looks: &mut Looks<B>, held: &Collected, ignore: bool, byte: u8)
+        ensures { Tells step (value_of self.old) (value_of self.new)
+            (Hook held.now.params held.now.intermediates.items ignore byte) looks.old looks.new };
+
+    fn put_byte(&mut self, looks: &mut Looks<B>, byte: u8)
+        ensures { Tells step (value_of self.old) (value_of self.new)
+            (Put byte) looks.old looks.new };
+
+    /// Counts each byte.
+    fn put_slice(&mut self, looks: &mut Looks<B>, bytes: &[u8])
+        requires some { 0 < length bytes.now }
+        ensures { TellsAll step (value_of self.old) (value_of self.new) (map Put bytes.now)
+            (length bytes.now) looks.old looks.new };
+
+    fn unhook(&mut self, looks: &mut Looks<B>)
+        ensures { Tells step (value_of self.old) (value_of self.new) Unhook looks.old looks.new };
+
+    fn osc_dispatch(&mut self, looks: &mut Looks<B>, pieces: &[&[u8]], bell: bool)
+        ensures { Tells step (value_of self.old) (value_of self.new)
+            (OscDispatch (map (λ piece. piece.now) pieces.now) bell) looks.old looks.new };
+
+    fn csi_dispatch(&mut self, looks: &mut Looks<B>, held: &Collected, ignore: bool, byte: u8)
+        ensures { Tells step (value_of self.old) (value_of self.new)
+            (CsiDispatch held.now.params held.now.intermediates.items ignore byte)
+            looks.old looks.new };
+
+    fn esc_dispatch(&mut self, looks: &mut Looks<B>, held: &Collected, byte: u8)
+        ensures { Tells step (value_of self.old) (value_of self.new)
+            (EscDispatch held.now.intermediates.items held.now.too_many byte) looks.old looks.new };
+
+    fn terminated(&self) -> bool
+        ensures { result ≡ is_terminated (value_of self.now) };
+}
+
+impl<P: PerformAs<G>, B, G> CountedPerform<B, G> for P {
+    ghost Value = { P.Value };
+
+    ghost value_of = { P.value_of };
+
+    ghost step = { P.step };
+
+    ghost is_terminated = { P.is_terminated };
+
+    ghost keeps = { P.keeps };
+
+    #[inline(always)]
+    fn keeps_layout(&self) -> bool {
+        PerformAs::<G>::keeps_layout(self)
+    }
+
+    #[inline(always)]
+    fn print_char(&mut self, looks: &mut Looks<B>, c: char) {
+        looks.add(1);
+        PerformAs::<G>::print_char(self, c);
+    }
+
+    #[inline(always)]
+    fn print_text(&mut self, looks: &mut Looks<B>, text: &str) {
+        looks.add(text.len());
+        PerformAs::<G>::print_text(self, text);
+    }
+
+    #[inline(always)]
+    fn execute_control(&mut self, looks: &mut Looks<B>, byte: u8) {
+        looks.add(1);
+        PerformAs::<G>::execute_control(self, byte);
+    }
+
+    #[inline(always)]
+    fn hook(&mut self, looks: &mut Looks<B>, held: &Collected, ignore: bool, byte: u8) {
+        looks.add(1);
+        let (intermediates, action) = (held.intermediates.as_slice(), char::from(byte));
+        Perform::hook(self, &held.params, intermediates, ignore, action);
+    }
+
+    #[inline(always)]
+    fn put_byte(&mut self, looks: &mut Looks<B>, byte: u8) {
+        looks.add(1);
+        PerformAs::<G>::put_byte(self, byte);
+    }
+
+    #[inline(always)]
+    fn put_slice(&mut self, looks: &mut Looks<B>, bytes: &[u8]) {
+        looks.add(bytes.len());
+        PerformAs::<G>::put_slice(self, bytes);
+    }
+
+    #[inline(always)]
+    fn unhook(&mut self, looks: &mut Looks<B>) {
+        looks.add(1);
+        Perform::unhook(self);
+    }
+
+    #[inline(always)]
+    fn osc_dispatch(&mut self, looks: &mut Looks<B>, pieces: &[&[u8]], bell: bool) {
+        looks.add(1);
+        Perform::osc_dispatch(self, pieces, bell);
+    }
+
+    #[inline(always)]
+    fn csi_dispatch(&mut self, looks: &mut Looks<B>, held: &Collected, ignore: bool, byte: u8) {
+        looks.add(1);
+        let (intermediates, action) = (held.intermediates.as_slice(), char::from(byte));
+        Perform::csi_dispatch(self, &held.params, intermediates, ignore, action);
+    }
+
+    #[inline(always)]
+    fn esc_dispatch(&mut self, looks: &mut Looks<B>, held: &Collected, byte: u8) {
+        looks.add(1);
+        let intermediates = held.intermediates.as_slice();
+        Perform::esc_dispatch(self, intermediates, held.too_many, byte);
+    }
+
+    #[inline(always)]
+    fn terminated(&self) -> bool {
+        Perform::terminated(self)
+    }
+}

@@ -1,0 +1,57 @@
+//! Runs of text and data, which a caller takes from its own input.
+ghost use Rattle.std.specs.Prelude.{◌≡◌};
+ghost use Rattle.vte_core.specs.machine.Words.{Empty};
+
+/// What a call of [`advance_to_run`](crate::Parser::advance_to_run) read: bytes whose events it
+/// performed, and the run after them, if there is one.
+#[derive(Clone, Copy, Debug, PartialEq, Eq)]
+pub struct Run<'a> {
+    /// How many bytes were read before the run: its place in the bytes of the call.
+    pub start: usize,
+    /// How many bytes the call read: those before the run, and its own.
+    pub end: usize,
+    /// The run itself.
+    pub taken: Taken<'a>,
+}
+
+/// A run that a caller takes from its own input.
+#[derive(Clone, Copy, Debug, PartialEq, Eq)]
+pub enum Taken<'a> {
+    /// Characters to print: at least one, and no control.
+    Text(&'a str),
+    /// Data of a device control string, at least one byte.
+    Data(&'a [u8]),
+    /// No run: all bytes were read, or the performer is terminated.
+    Nothing,
+}
+
+/// What stands at the place of a run.
+#[derive(Clone, Copy)]
+pub(crate) enum RunKind {
+    OfText,
+    OfData,
+    Empty,
+}
+
+/// The place of a run in the bytes of a call.
+#[derive(Clone, Copy)]
+pub(crate) struct RunPlace {
+    pub(crate) start: usize,
+    pub(crate) end: usize,
+    pub(crate) kind: RunKind,
+}
+
+impl RunPlace {
+    /// Creates the place of no run, where a call ends.
+    pub(crate) fn empty(end: usize) -> Self
+        ensures start { result.start ≡ end }
+        ensures end { result.end ≡ end }
+        ensures kind { result.kind ≡ Empty }
+    {
+        RunPlace {
+            start: end,
+            end,
+            kind: RunKind::Empty,
+        }
+    }
+}

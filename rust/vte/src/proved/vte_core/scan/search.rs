@@ -1,0 +1,90 @@
+// Written by tools/erase from crates/vte_core/src/scan/search.rt: edit that one.
+//! Searches for the byte that ends data, a text or a string.
+//!
+//! Ignored strings may hold megabytes, so blocks are taken. Most strings are short: the first
+//! bytes are read one by one.
+
+use crate::prelude::memchr;
+use crate::proved::vte_core::class::{cannot_end, ends_all, is_data, ESCAPE};
+use crate::proved::vte_core::scan::{get_block, up_to};
+
+/// Finds where the data bytes of an operating system command end that start at a place:
+/// before `;` or a control, or with the input.
+pub(crate) fn find_data_end(input: &[u8], from: usize) -> usize {
+    let mut end = from;
+    while end < input.len() && input[end] >= 0x20 && input[end] != b';' {
+        end += 1;
+    }
+    end
+}
+
+/// Finds where the data of a device control string end that start at a place: before a byte
+/// that isn't put, or with the input.
+pub(crate) fn find_put_end(input: &[u8], from: usize) -> usize {
+    let mut end = from;
+    while end < input.len() && is_data(input[end]) {
+        end += 1;
+    }
+    end
+}
+
+/// Returns the place of the first ESC from a place on, or the length if there is none.
+pub(crate) fn find_escape(input: &[u8], from: usize) -> usize {
+    let rest = &input[from..];
+    match memchr(ESCAPE, rest) {
+        Some(distance) => from + distance,
+        None => input.len(),
+    }
+}
+
+/// Returns up to where a text is read next: to the byte after the next ESC, or to the end of
+/// what was searched.
+#[inline(never)]
+pub(crate) fn search_text<const ASKS: bool>(input: &[u8], from: usize, at: usize) -> usize {
+    let to = if ASKS {
+        // A stop leaves bytes unread that were searched: no more than were read.
+        at + (at - from).min(input.len() - at)
+    } else {
+        input.len()
+    };
+    let escape = find_escape(up_to(input, to), at);
+    escape + usize::from(escape < to)
+}
+
+/// Finds the CAN, SUB or ESC that ends an ignored string, from a place on.
+pub(crate) fn find_string_end(input: &[u8], from: usize) -> usize {
+    let near = input.len().min(from + 8);
+    let mut end = find_ending_byte(input, from, near);
+    if end - from < 8 {
+        return end;
+    }
+    while let Some(block) = get_block::<16>(input, end) {
+        if !is_ignored_block(&block) {
+            break;
+        }
+        end += 16;
+    }
+    find_ending_byte(input, end, input.len())
+}
+
+/// Finds the first CAN, SUB or ESC from one place up to another.
+#[inline(always)]
+fn find_ending_byte(input: &[u8], from: usize, to: usize) -> usize {
+    for end in from..to {
+        if ends_all(input[end]) {
+            return end;
+        }
+    }
+    to
+}
+
+/// Returns whether none of 16 bytes can end a string. Compilers make vector instructions of the
+/// loop.
+#[inline(always)]
+fn is_ignored_block(block: &[u8; 16]) -> bool {
+    let mut all = true;
+    for byte in block {
+        all &= cannot_end(*byte);
+    }
+    all
+}

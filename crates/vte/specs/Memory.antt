@@ -9,7 +9,7 @@ use Rattle.vte.specs.declared.ansi.long_processor.LongProcessor.{LongProcessor}
 use Rattle.vte.specs.declared.ansi.titles.TheConstants.{SEPARATORS}
 use Rattle.vte.specs.declared.ansi.turns.TheConstants.{SLICE}
 
--- Behind a stream the parser has memory to keep so many more bytes with an open command, and a text
+-- After a stream the parser has memory to keep so many more bytes with an open command, and a text
 -- of this size holds what is joined from them.
 pub record HasRoom {A : Type 0} (parser : LongParser A) (size : ℕ) (stream : List ℕ)
     (count : ℕ) : Type 0 where

@@ -7,7 +7,7 @@ use Rattle.vte_handler.specs.Handler.{after}
 use Rattle.vte_handler.specs.Timeout.{IsKept}
 use Rattle.vte.specs.Calls.{last_printed, calls}
 use Rattle.vte.specs.Processor.{HoldsWellAt, Meaning, TakesSteps, Stage, TakesAllTurns, TakesSome, all_bytes, given_bytes, calls_with_stops, most_held, stop, stops_of}
-use Rattle.vte.specs.Synchronized.{behind_last_end}
+use Rattle.vte.specs.Synchronized.{after_last_end}
 use Rattle.vte.specs.declared.ansi.hold.SyncState.{SyncState}
 use Rattle.vte.specs.declared.ansi.laws.runs.Step.{Step}
 use Rattle.vte.specs.declared.ansi.laws.runs.Step.TheVariants.{Advance, StopSync}
@@ -130,7 +130,7 @@ pub record IsCopyOf {T A W : Type 0} (is_clone : T → T → Type 0) (timeout_of
 pub record CountsHeld (held : List ℕ) (result : ℕ) : Type 0 where
   pub count : result ≡ length held
   pub fits : result ≤ most_held
-  pub no_end : behind_last_end held ≡ None
+  pub no_end : after_last_end held ≡ None
 
 -- `stop_sync` and `stop_sync_text`, of a processor and a handler that stood so and stand so now
 pub record StopsSync {V W : Type 0} (m : Meaning V W) (old new : Standing W)

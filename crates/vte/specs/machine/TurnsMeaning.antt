@@ -22,7 +22,7 @@ HasShortRoom parser size stream count = TEXT_ROOM ≤ size
 abbrev pub LacksShortRoom : {P : Type 0} → P → ℕ → List ℕ → ℕ → Type 0
 LacksShortRoom parser size stream count = size < TEXT_ROOM
 
--- What a parser means: the streams that it has read, and behind which of them it has memory for so
+-- What a parser means: the streams that it has read, and after which of them it has memory for so
 -- many bytes, with a text of this size, or lacks it.
 pub record ParserMeaning (P : Type 0) : Type 1 where
   pub has_read : P → List ℕ → Type 0

@@ -4,7 +4,7 @@ ghost use Rattle.vte.specs.ColorText.{xparse_color_of, color_of_parts, color_of_
 ghost use Rattle.vte.specs.Parts.{parts_of};
 ghost use Rattle.vte_types.specs.Hex.{hex_number};
 
-use crate::ansi::parts::{strip_word, split_at_first};
+use crate::ansi::parts::{split_at_first, strip_word};
 use vte_types::Rgb;
 
 /// Returns the colour that a text names.

@@ -11,7 +11,7 @@ ghost use Rattle.vte_types.specs.CursorIcon.{icon_of};
 ghost use Rattle.vte_types.specs.Words.{is_word};
 
 use crate::ansi::color_text::xparse_color;
-use crate::ansi::parts::{strip_word, id_in};
+use crate::ansi::parts::{id_in, strip_word};
 use crate::ansi::text_buffer::TextBuffer;
 use crate::ansi::titles::{join_texts, parse_number, perform_title, push_number, text_in};
 use arrayvec::ArrayString;

@@ -28,7 +28,9 @@ impl FromStr for Rgb {
 
     fn from_str(s: &str) -> Result<Rgb, ()> {
         let text = s.as_bytes();
-        let digits = strip_word(text, b"0x").or(strip_word(text, b"#")).ok_or(())?;
+        let digits = strip_word(text, b"0x")
+            .or(strip_word(text, b"#"))
+            .ok_or(())?;
         six_digits(digits).ok_or(())
     }
 }

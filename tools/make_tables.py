@@ -99,7 +99,7 @@ def until_record(row):
     for step in row["steps"]:
         call = f"Call::UntilTerminated {{ answer: {step['answer']} }}" if step["call"] == "until" else "Call::Advance"
         steps.append(f"Step {{ call: {call}, bytes: {given(step['bytes'])}, lines: {lines(step['lines'])} }}")
-    return record("UntilRow", row, stop=f"Stop::{stop}", behind=given(row["behind"]), steps=array(steps))
+    return record("UntilRow", row, stop=f"Stop::{stop}", before=given(row["behind"]), steps=array(steps))
 
 
 def plain_record(row):

@@ -10,11 +10,11 @@ use std::test::Fail;
 use test_lines::{EventLines, Stop};
 use vte_core::{Parser, Perform};
 
-/// Calls of a parser that has read `behind`, with a performer that asks for a stop at `stop`.
+/// Calls of a parser that has read `before`, with a performer that asks for a stop at `stop`.
 struct UntilRow {
     name: &'static str,
     stop: Stop,
-    behind: &'static [u8],
+    before: &'static [u8],
     steps: &'static [Step],
 }
 
@@ -35,7 +35,7 @@ fn until_terminated(rt: HostRuntime) -> Result<(), Fail> {
     for row in &rows::ROWS {
         let mut parser = Parser::<1024>::new_with_size();
         let mut lines = EventLines::new(rt.alloc(), row.stop);
-        parser.advance(&mut lines, row.behind);
+        parser.advance(&mut lines, row.before);
         for step in row.steps {
             lines.clear();
             match step.call {
@@ -84,7 +84,7 @@ fn assert_rows_stop(rt: &(impl Abort + AllocGlobal), rows: &[LinesRow]) -> Resul
 }
 
 #[test]
-fn a_stop_behind_each_event(rt: HostRuntime) -> Result<(), Fail> {
+fn a_stop_after_each_event(rt: HostRuntime) -> Result<(), Fail> {
     for table in tables() {
         assert_rows_stop(&rt, table)?;
     }

@@ -25,7 +25,7 @@ fn lines_of(
 }
 
 /// `front` and `back` give what `front` and `start` give, followed by `line`.
-fn assert_begins_anew(
+fn assert_resyncs(
     rt: &(impl Abort + AllocGlobal),
     size: usize,
     front: &[u8],
@@ -47,8 +47,8 @@ fn assert_fronts(rt: &(impl Abort + AllocGlobal), row: &LinesRow) -> Result<(), 
     }
     for place in 0..=bytes.len() {
         let (front, _) = bytes.split_at(place);
-        assert_begins_anew(rt, row.size, front, [b"\x18", b"\x18z"], "print 007a\n")?;
-        assert_begins_anew(rt, row.size, front, [b"\x1b", b"\x1bc"], "esc - false 63\n")?;
+        assert_resyncs(rt, row.size, front, [b"\x18", b"\x18z"], "print 007a\n")?;
+        assert_resyncs(rt, row.size, front, [b"\x1b", b"\x1bc"], "esc - false 63\n")?;
     }
     Ok(())
 }

@@ -48,9 +48,9 @@ kept_by {text_of} {unread_then = unread_then} {held = held} events since h goes_
     since = since;
     parsed = parsed;
     goes_on = λ more.
-        let behind = flat_map text_of (added (Some 1024) since (unread_then ++ more)) in
-        ap (λ (r : Record). r.bytes ++ behind) holds
-        ∙ append_assoc held.bytes (flat_map text_of events) behind
+        let later = flat_map text_of (added (Some 1024) since (unread_then ++ more)) in
+        ap (λ (r : Record). r.bytes ++ later) holds
+        ∙ append_assoc held.bytes (flat_map text_of events) later
         ∙ ap (λ (t : List ℕ). held.bytes ++ t)
         (sym (flat_map-append text_of events _) ∙ ap (flat_map text_of) (sym (goes_on more)))
         ∙ h.adds_up.goes_on more;

@@ -144,7 +144,7 @@ fn refused_call_does_nothing_whatever_memory_is_left(rt: HostRuntime) -> Result<
 #[test]
 fn refused_call_can_go_on(rt: HostRuntime) -> Result<(), Fail> {
     let stream = command(rt.alloc(), b"\x1b]2;", 6000)?;
-    // Behind the hold there is room for some bytes of a command and of a text, but not for these.
+    // After the hold there is room for some bytes of a command and of a text, but not for these.
     let heap = LocalHeap::new(rt.alloc(), HOLD + 4096)?;
     let mut handler = ByCall(Measure(NONE));
     match LongProcessor::new(&heap, TestTimeout::new(Answers::Counting)) {
@@ -233,7 +233,7 @@ fn replay_stops_at_the_first_refused_step(rt: HostRuntime) -> Result<(), Fail> {
         Step::Advance(stream.as_slice()),
         Step::Advance(b"c"),
     ];
-    // Behind the hold there is room for two bytes, but not for the command.
+    // After the hold there is room for two bytes, but not for the command.
     let heap = LocalHeap::new(rt.alloc(), HOLD + 4096)?;
     let mut handler = ByCall(Measure(NONE));
     match LongProcessor::new(&heap, TestTimeout::new(Answers::Never)) {

@@ -23,12 +23,12 @@ module _ {V : Type 0} (step : V → Call → V) (old new all : V) where
       let left : take (length (index ∷ color ∷ rest) - 2) rest ≡ rest = take_all _ rest (omega arith) in
       rw (left, made) (rw after-append at before)
 
--- the attributes behind groups that are used up
-pub attributes_behind : (n : ℕ) (groups : List (List ℕ)) → attributes_from n groups ≡ attributes_from 0 (drop n groups)
-attributes_behind zero [] = refl
-attributes_behind zero (group ∷ groups) = refl
-attributes_behind (suc n) [] = refl
-attributes_behind (suc n) (group ∷ groups) = attributes_behind n groups
+-- the attributes after groups that are used up
+pub attributes_after : (n : ℕ) (groups : List (List ℕ)) → attributes_from n groups ≡ attributes_from 0 (drop n groups)
+attributes_after zero [] = refl
+attributes_after zero (group ∷ groups) = refl
+attributes_after (suc n) [] = refl
+attributes_after (suc n) (group ∷ groups) = attributes_after n groups
 
 pub some_link : (parameters uri : List ℕ) → (uri ≡ [] → ⊥)
     → link_to parameters uri ≡ Some (record { id = id_of parameters; uri = uri })

@@ -6,21 +6,21 @@ module _ {A : Type 0} (number : A → ℕ) where
   no_red [] part = cc
   no_red (r ∷ left) part = grind (arith, nat_tests)
 
-  pub behind_red : (left : List A) → None ≡ part_of (map number left)
+  pub after_red : (left : List A) → None ≡ part_of (map number left)
       → drop 1 left ≡ drop (kind_reading 2 (map number left)).used left
-  behind_red [] part = cc
-  behind_red (r ∷ left) part = grind (arith, nat_tests)
+  after_red [] part = cc
+  after_red (r ∷ left) part = grind (arith, nat_tests)
 
-  pub behind_green : (left : List A) (red : ℕ) → Some red ≡ part_of (map number left)
+  pub after_green : (left : List A) (red : ℕ) → Some red ≡ part_of (map number left)
       → None ≡ part_of (map number (drop 1 left))
       → drop 1 (drop 1 left) ≡ drop (kind_reading 2 (map number left)).used left
-  behind_green left red r part = grind (arith, nat_tests)
+  after_green left red r part = grind (arith, nat_tests)
 
-  pub behind_blue : (left : List A) (red green : ℕ) → Some red ≡ part_of (map number left)
+  pub after_blue : (left : List A) (red green : ℕ) → Some red ≡ part_of (map number left)
       → Some green ≡ part_of (map number (drop 1 left))
       → None ≡ part_of (map number (drop 1 (drop 1 left)))
       → drop 1 (drop 1 (drop 1 left)) ≡ drop (kind_reading 2 (map number left)).used left
-  behind_blue left red green r g part = grind (arith, nat_tests)
+  after_blue left red green r g part = grind (arith, nat_tests)
 
 pub themselves : (numbers : List ℕ) → map (λ number. number) numbers ≡ numbers
 themselves numbers = map-id numbers

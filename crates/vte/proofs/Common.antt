@@ -35,7 +35,7 @@ pub use Rattle.vte_handler.specs.Handler.{after}
 pub use Rattle.vte_handler.specs.Timeout.{AllowsAlone, IsKept, TimeoutMeaning}
 pub use Rattle.vte.specs.Processor.{EndsInBegin, Halts, HoldsWellAt, IsInsideUpdate, IsOutsideUpdate, Meaning, Run, State, TakesAllTurns, TakesSome, TakesTurns, TurnHalts, all_bytes, begin_front, between, bytes_of, calls_added, calls_with_stops, cut_at, done, extend, hold_turn, is_held, is_stopped, keep, meaning, most_held, open_turn, opened, parse, place_of_stop, set_times, stop, stops_in_hold, stops_of, stops_of_advance, stops_of_turn, timeout_meaning, turn, turns, update_nanos, within}
 pub use Rattle.vte.specs.BeginUpdate.{begin_count, begins_of, is_update_group, update_groups}
-pub use Rattle.vte.specs.Calls.{added_calls, calls, calls_behind, calls_of, last_behind, last_printed, last_printed_behind}
+pub use Rattle.vte.specs.Calls.{added_calls, calls, calls_from, calls_of, last_from, last_printed, last_printed_from}
 pub use Rattle.vte.specs.Change.{change_call, changes}
 pub use Rattle.vte.specs.ColorReading.{kind_reading, part_of}
 pub use Rattle.vte.specs.CommandCalls.{dynamic_calls, id_of, link_to, pair_calls, pairs_calls}
@@ -45,14 +45,14 @@ pub use Rattle.vte.specs.ProcessorCalls.{Advanced, AreAt, HasTaken, HaveTaken, I
 pub use Rattle.vte.specs.machine.Lent.{ParsesLent, StopsLent, lent_of, with_private_mode, with_private_modes}
 pub use Rattle.vte.specs.LongProcessor.{IsAtLong, LacksMemoryFor, unlimited}
 pub use Rattle.vte.specs.Numbers.{first_number, first_numbers}
-pub use Rattle.vte.specs.Parts.{first_behind, parts_left, parts_of}
+pub use Rattle.vte.specs.Parts.{first_after, parts_left, parts_of}
 pub use Rattle.vte.specs.machine.Performer.{FitsText, Lent, with_event}
 pub use Rattle.vte.specs.machine.Turns.{AreNextAt, EndsOpen, EndsTurn, Halted, IsAtBegin, IsOpenAt, IsParsed, IsParsedOn, IsReady, Opened, Turned}
 pub use Rattle.vte.specs.Rendition.{attribute_calls, attributes_from}
 pub use Rattle.vte.specs.Rooms.{HasLongRoom, KeepsRoom, Reading, long_reading, short_reading}
-pub use Rattle.vte.specs.Synchronized.{begin_update, begins_among, begins_with, behind_last_end, end_update, from_begin, kept_of, last_part}
+pub use Rattle.vte.specs.Synchronized.{begin_update, begins_among, begins_with, after_last_end, end_update, from_begin, kept_of, last_part}
 pub use Rattle.vte.specs.TextRoom.{FitsRoom, fits_room, joined_size}
-pub use Rattle.vte.specs.Titles.{behind, decimal_number, joined_texts, number_behind, text_in}
+pub use Rattle.vte.specs.Titles.{with_separator, decimal_number, joined_texts, number_from, text_in}
 pub use Rattle.vte.specs.declared.ansi.laws.runs.Step.{Step}
 pub use Rattle.vte.specs.declared.ansi.laws.runs.Step.TheVariants.{Advance, StopSync}
 pub use Rattle.vte.specs.declared.ansi.performer.ProcessorState.{ProcessorState}

@@ -2,23 +2,23 @@
 -- (`Joins`).
 use Rattle.vte.proofs.Common.{◌≡◌, ◌≤◌, ◌<◌, ◌+◌, ◌∙◌, ℕ, Bool, true, false, List, [], ◌∷◌, ◌++◌, length, refl, sym, ap, arith, map, drop, get_or, Bor}
 use Rattle.vte.proofs.Common.{false_from_ne_true, append-nil, drop_more, IsUtf8-from_is_utf8, is_utf8-from_IsUtf8, concat, join_with_byte, is_utf8, IsUtf8}
-use Rattle.vte.proofs.Common.{append_assoc, length-append, decimal, behind, joined_texts, text_in, filter_map, Option, Some, None, FitsRoom, joined_size}
+use Rattle.vte.proofs.Common.{append_assoc, length-append, decimal, with_separator, joined_texts, text_in, filter_map, Option, Some, None, FitsRoom, joined_size}
 use Rattle.std.proofs.lemmas.Fmt.{length-decimal-le}
 use Rattle.std.specs.Option.{option_map, unwrap_or}
 
 -- what texts add after others
 abbrev pub joined_more : Bool → List (List ℕ) → List ℕ
 joined_more is_first [] = []
-joined_more is_first (text ∷ texts) = behind is_first text ++ joined_more false texts
+joined_more is_first (text ∷ texts) = with_separator is_first text ++ joined_more false texts
 
-joined-behind : (text : List ℕ) (texts : List (List ℕ))
+joined-with_separator : (text : List ℕ) (texts : List (List ℕ))
     → join_with_byte 0x3b (text ∷ texts) ≡ text ++ joined_more false texts
-joined-behind text [] = sym (append-nil text)
-joined-behind text (next ∷ texts) = ap (λ more. text ++ (0x3b ∷ more)) (joined-behind next texts)
+joined-with_separator text [] = sym (append-nil text)
+joined-with_separator text (next ∷ texts) = ap (λ more. text ++ (0x3b ∷ more)) (joined-with_separator next texts)
 
 joined-all : (texts : List (List ℕ)) → joined_more true texts ≡ join_with_byte 0x3b texts
 joined-all [] = refl
-joined-all (text ∷ texts) = sym (joined-behind text texts)
+joined-all (text ∷ texts) = sym (joined-with_separator text texts)
 
 -- the text holds what was joined, the texts of the pieces that are left add the rest, and there is
 -- room for them
@@ -44,9 +44,9 @@ texts-same keeps_all piece left none = rw (← none) refl
 text-short : (keeps_all : Bool) (piece part : List ℕ) → Some part ≡ text_in keeps_all piece → length part ≤ length piece
 text-short keeps_all piece part is = grind arith
 
-behind-length : (is_first : Bool) (text : List ℕ) → length (behind is_first text) ≤ length text + 1
-behind-length true text = omega arith
-behind-length false text = omega arith
+with_separator-length : (is_first : Bool) (text : List ℕ) → length (with_separator is_first text) ≤ length text + 1
+with_separator-length true text = omega arith
+with_separator-length false text = omega arith
 
 module _ (keeps_all : Bool) (pieces : List (Bor (List ℕ))) (i : ℕ) (d : Bor (List ℕ)) (inside : i < length pieces)
     {room : ℕ} {text : List ℕ} {is_first : Bool}
@@ -67,18 +67,18 @@ module _ (keeps_all : Bool) (pieces : List (Bor (List ℕ))) (i : ℕ) (d : Bor 
 
   -- a piece has a text
   pub joins-more : (part : List ℕ) → Some part ≡ text_in keeps_all piece
-      → Joins keeps_all room (text ++ behind is_first part) false left all
+      → Joins keeps_all room (text ++ with_separator is_first part) false left all
   joins-more part is = record {
     joins =
-        append_assoc text (behind is_first part) _
+        append_assoc text (with_separator is_first part) _
         ∙ (rw (texts-more keeps_all piece left is) at opened.joins);
     fits = omega (
       arith,
       text-short keeps_all piece part is,
       opened.fits,
-      length-append text (behind is_first part),
+      length-append text (with_separator is_first part),
       length-append piece (concat left),
-      behind-length is_first part,
+      with_separator-length is_first part,
     );
   }
 

@@ -23,26 +23,26 @@ calls_of last (OscDispatch pieces bell) = system_command_calls pieces bell
 calls_of last _ = []
 
 -- The last printed character after an event.
-abbrev pub last_behind : Option ℕ → Event → Option ℕ
-last_behind last (Print c) = Some c
-last_behind last _ = last
+abbrev pub last_from : Option ℕ → Event → Option ℕ
+last_from last (Print c) = Some c
+last_from last _ = last
 
-abbrev pub last_printed_behind : Option ℕ → List Event → Option ℕ
-last_printed_behind last [] = last
-last_printed_behind last (event ∷ events) = last_printed_behind (last_behind last event) events
+abbrev pub last_printed_from : Option ℕ → List Event → Option ℕ
+last_printed_from last [] = last
+last_printed_from last (event ∷ events) = last_printed_from (last_from last event) events
 
-abbrev pub calls_behind : Option ℕ → List Event → List Call
-calls_behind last [] = []
-calls_behind last (event ∷ events) =
-    calls_of last event ++ calls_behind (last_behind last event) events
+abbrev pub calls_from : Option ℕ → List Event → List Call
+calls_from last [] = []
+calls_from last (event ∷ events) =
+    calls_of last event ++ calls_from (last_from last event) events
 
 -- The character of the last `Print` among the events.
 abbrev pub last_printed : List Event → Option ℕ
-last_printed events = last_printed_behind None events
+last_printed events = last_printed_from None events
 
 -- The calls of a list of events.
 abbrev pub calls : List Event → List Call
-calls events = calls_behind None events
+calls events = calls_from None events
 
 -- The calls that more events add.
 abbrev pub added_calls : List Event → List Event → List Call

@@ -4,14 +4,14 @@ use Rattle.std.specs.Fmt.{decimal}
 use Rattle.std.specs.List.{filter_map, range_with_len}
 use Rattle.vte.specs.ColorText.{xparse_color_of}
 use Rattle.vte.specs.Maybe.{those}
-use Rattle.vte.specs.Parts.{first_behind, parts_of}
+use Rattle.vte.specs.Parts.{first_after, parts_of}
 use Rattle.vte_types.specs.Rows.{Row, beside}
 use Rattle.vte.specs.Titles.{decimal_number, joined_texts, text_in, title_calls}
 use Rattle.vte_handler.specs.Call.{Call}
 use Rattle.vte_handler.specs.Call as call
 use Rattle.vte_handler.specs.Link.{Link}
 use Rattle.vte_types.specs.CursorIcon.{icon_of}
-use Rattle.vte_types.specs.Words.{is_word, behind_word, beside_word}
+use Rattle.vte_types.specs.Words.{is_word, after_word, beside_word}
 use Rattle.vte_types.specs.declared.screen.CursorShape.{CursorShape}
 use Rattle.vte_types.specs.declared.screen.CursorShape.TheVariants as shape
 
@@ -47,7 +47,7 @@ if_utf8 (Some text) = text_in false text
 
 -- 8: the text after `id=` in the first part that starts with it
 abbrev pub id_of : List ℕ → Option (List ℕ)
-id_of parameters = if_utf8 (first_behind (codes "id=") (parts_of 0x3a parameters))
+id_of parameters = if_utf8 (first_after (codes "id=") (parts_of 0x3a parameters))
 
 abbrev pub link_to : List ℕ → List ℕ → Option Link
 link_to parameters [] = None
@@ -83,16 +83,16 @@ pointer_calls _ = []
 abbrev pub shapes : List (Row CursorShape)
 shapes = (0x30, shape.Block) ∷ (0x31, shape.Beam) ∷ (0x32, shape.Underline) ∷ []
 
-abbrev pub shape_behind : Option (List ℕ) → Option CursorShape
-shape_behind None = None
-shape_behind (Some []) = None
-shape_behind (Some (byte ∷ bytes)) = beside shapes byte
+abbrev pub shape_after : Option (List ℕ) → Option CursorShape
+shape_after None = None
+shape_after (Some []) = None
+shape_after (Some (byte ∷ bytes)) = beside shapes byte
 
 abbrev pub shape_calls : List (List ℕ) → List Call
 shape_calls [] = []
 shape_calls (text ∷ texts) =
     those (λ shape. call.SetCursorShape shape)
-    (shape_behind (behind_word (codes "CursorShape=") text))
+    (shape_after (after_word (codes "CursorShape=") text))
 
 -- 52: the first byte selects the clipboard, `c` if there is none
 abbrev pub clipboard_of : List ℕ → ℕ

@@ -32,7 +32,7 @@ IsAtLong timeout_of processor = AreAt (unlimited timeout_of) processor.turns
 abbrev pub HasParsedAllLong : {T A W : Type 0} → (T → W) → LongProcessor T A → List ℕ → Type 0
 HasParsedAllLong timeout_of processor = HaveParsedAll (unlimited timeout_of) processor.turns
 
--- Behind a stream it has memory for so many bytes: to keep them with an open command, and to join a
+-- After a stream it has memory for so many bytes: to keep them with an open command, and to join a
 -- text from these.
 abbrev pub HasMemory : {T A : Type 0} → LongProcessor T A → List ℕ → ℕ → Type 0
 HasMemory processor = HasLongRoom processor.turns.parser processor.turns.state.text.size

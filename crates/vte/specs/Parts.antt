@@ -2,16 +2,16 @@
 use Rattle.std.specs.Prelude.{ℕ, List, [], ◌∷◌, ◌==◌, Option, Some, None}
 use Rattle.std.specs.List.{slice_split}
 use Rattle.std.specs.Borrow.{Bor}
-use Rattle.vte_types.specs.Words.{behind_word}
+use Rattle.vte_types.specs.Words.{after_word}
 
 -- What follows `word` in the first text that starts with it.
-abbrev pub or_first_behind : Option (List ℕ) → Option (List ℕ) → Option (List ℕ)
-or_first_behind (Some rest) others = Some rest
-or_first_behind None others = others
+abbrev pub or_first_after : Option (List ℕ) → Option (List ℕ) → Option (List ℕ)
+or_first_after (Some rest) others = Some rest
+or_first_after None others = others
 
-abbrev pub first_behind : List ℕ → List (List ℕ) → Option (List ℕ)
-first_behind word [] = None
-first_behind word (text ∷ texts) = or_first_behind (behind_word word text) (first_behind word texts)
+abbrev pub first_after : List ℕ → List (List ℕ) → Option (List ℕ)
+first_after word [] = None
+first_after word (text ∷ texts) = or_first_after (after_word word text) (first_after word texts)
 
 -- The parts of a text between separators.
 abbrev pub parts_of : ℕ → List ℕ → List (List ℕ)

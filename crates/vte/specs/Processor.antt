@@ -8,7 +8,7 @@ use Rattle.vte_handler.specs.Handler.{after}
 use Rattle.vte_handler.specs.Timeout.{TimeoutMeaning, AllowsAlone, IsKept}
 use Rattle.vte.specs.BeginUpdate.{begin_count}
 use Rattle.vte.specs.Calls.{added_calls}
-use Rattle.vte.specs.Synchronized.{begins_among, kept_of, last_part, update_ended, begin_update, begins_with, behind_last_end}
+use Rattle.vte.specs.Synchronized.{begins_among, kept_of, last_part, update_ended, begin_update, begins_with, after_last_end}
 use Rattle.vte.specs.declared.ansi.laws.runs.Step.{Step}
 use Rattle.vte.specs.declared.ansi.laws.runs.Step.TheVariants.{Advance, StopSync}
 
@@ -201,7 +201,7 @@ pub record IsInsideUpdate {W : Type 0} (limit : Option ℕ) (m : TimeoutMeaning 
 -- outside an update.
 pub record HoldsWell {W : Type 0} (limit : Option ℕ) (m : TimeoutMeaning W) (parsed held : List ℕ)
     (timeout : W) : Type 0 where
-  pub no_end : behind_last_end held ≡ None
+  pub no_end : after_last_end held ≡ None
   pub fits : length held ≤ most_held
   pub kept : IsKept m → IsOutsideUpdate m held timeout ⊎ IsInsideUpdate limit m parsed held timeout
 

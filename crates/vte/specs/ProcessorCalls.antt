@@ -9,7 +9,7 @@ use Rattle.vte_handler.specs.Timeout.{IsKept}
 use Rattle.vte.specs.Calls.{last_printed, calls}
 use Rattle.vte.specs.Processor.{HoldsWellAt, Meaning, Run, State, TakesAllTurns, TakesSome, all_bytes, bytes_of, calls_with_stops, most_held, stop, stops_of}
 use Rattle.vte.specs.Rooms.{Reading, short_reading, KeepsRoom, LacksPart}
-use Rattle.vte.specs.Synchronized.{behind_last_end}
+use Rattle.vte.specs.Synchronized.{after_last_end}
 use Rattle.vte.specs.declared.ansi.hold.SyncState.{SyncState}
 use Rattle.vte.specs.declared.ansi.laws.runs.Step.{Step}
 use Rattle.vte.specs.declared.ansi.laws.runs.Step.TheVariants.{Advance, StopSync}
@@ -191,7 +191,7 @@ pub record ReservesRoom {P J T A W : Type 0} (w : Parts P J T W) (old new : Turn
 pub record CountsHeld (held : List ℕ) (result : ℕ) : Type 0 where
   pub count : result ≡ length held
   pub fits : result ≤ most_held
-  pub no_end : behind_last_end held ≡ None
+  pub no_end : after_last_end held ≡ None
 
 -- `stop_sync` and `stop_sync_text`
 pub record StopsUpdate {P J T A V W : Type 0} (w : Parts P J T W) (m : Meaning V W)

@@ -8,7 +8,7 @@ use Rattle.vte.specs.Processor.{most_held}
 use Rattle.vte.specs.declared.ansi.titles.TheConstants.{SEPARATORS, TEXT_ROOM}
 use Rattle.vte.specs.declared.ansi.turns.TheConstants.{SLICE}
 
--- Behind a stream the parser keeps so many more bytes, and a text of this size holds what is joined
+-- After a stream the parser keeps so many more bytes, and a text of this size holds what is joined
 -- from them.
 pub record HasLongRoom {A : Type 0} (parser : LongParser A) (size : ℕ) (stream : List ℕ)
     (count : ℕ) : Type 0 where
@@ -30,7 +30,7 @@ HasShortRoom parser size stream count = TEXT_ROOM ≤ size
 abbrev pub LacksShortRoom : {P : Type 0} → P → ℕ → List ℕ → ℕ → Type 0
 LacksShortRoom parser size stream count = size < TEXT_ROOM
 
--- What the parser of a processor means: the streams that it has read, and behind which of them it
+-- What the parser of a processor means: the streams that it has read, and after which of them it
 -- has memory for so many bytes, with a text of this size, or lacks it.
 pub record Reading (P : Type 0) : Type 1 where
   pub has_read : P → List ℕ → Type 0

@@ -20,14 +20,14 @@ begins_with (a ∷ sequence) [] = false
 begins_with (a ∷ sequence) (b ∷ text) = a == b && begins_with sequence text
 
 -- What follows an end-update at the start of the text, unless there is a later one.
-abbrev pub or_behind_front : List ℕ → Option (List ℕ) → Option (List ℕ)
-or_behind_front text (Some behind) = Some behind
-or_behind_front text None = if begins_with end_update text then Some (drop 8 text) else None
+abbrev pub or_after_front : List ℕ → Option (List ℕ) → Option (List ℕ)
+or_after_front text (Some rest) = Some rest
+or_after_front text None = if begins_with end_update text then Some (drop 8 text) else None
 
 -- What follows the last end-update of a text.
-abbrev pub behind_last_end : List ℕ → Option (List ℕ)
-behind_last_end [] = None
-behind_last_end (b ∷ text) = or_behind_front (b ∷ text) (behind_last_end text)
+abbrev pub after_last_end : List ℕ → Option (List ℕ)
+after_last_end [] = None
+after_last_end (b ∷ text) = or_after_front (b ∷ text) (after_last_end text)
 
 -- The text from its earliest begin-update on, if there is one.
 abbrev pub from_begin : List ℕ → List ℕ
@@ -37,11 +37,11 @@ from_begin (b ∷ text) = if begins_with begin_update (b ∷ text) then b ∷ te
 -- What stays held of a text: all of it or, if there is an end-update, what follows the last one
 -- from the earliest begin-update on.
 abbrev pub kept_part : List ℕ → Option (List ℕ) → List ℕ
-kept_part text (Some behind) = from_begin behind
+kept_part text (Some rest) = from_begin rest
 kept_part text None = text
 
 abbrev pub kept_of : List ℕ → List ℕ
-kept_of text = kept_part text (behind_last_end text)
+kept_of text = kept_part text (after_last_end text)
 
 -- How many begin-updates have their last byte among the last n bytes of the text.
 abbrev pub begins_among : ℕ → List ℕ → ℕ
@@ -53,11 +53,11 @@ begins_among n (b ∷ text) =
 -- The part of a text in which begin-updates count: what follows the last end-update or, without
 -- one, all of it.
 abbrev pub counted_part : List ℕ → Option (List ℕ) → List ℕ
-counted_part text (Some behind) = behind
+counted_part text (Some rest) = rest
 counted_part text None = text
 
 abbrev pub last_part : List ℕ → List ℕ
-last_part text = counted_part text (behind_last_end text)
+last_part text = counted_part text (after_last_end text)
 
 -- The call that reports the end of an update.
 abbrev pub update_ended : Call

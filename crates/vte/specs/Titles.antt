@@ -6,20 +6,20 @@ use Rattle.std.specs.Str.{is_utf8, trim}
 use Rattle.vte_handler.specs.Call.{Call, SetTitle}
 
 -- `number` with more decimal digits after it, or none if it exceeds 255 or a byte isn't a digit.
-abbrev pub number_behind : ℕ → List ℕ → Option ℕ
-number_behind number [] = Some number
-number_behind number (byte ∷ bytes) =
+abbrev pub number_from : ℕ → List ℕ → Option ℕ
+number_from number [] = Some number
+number_from number (byte ∷ bytes) =
     if nat_lt (digit_value byte) 10 && nat_lt (10 * number + digit_value byte) 256
-    then number_behind (10 * number + digit_value byte) bytes else None
+    then number_from (10 * number + digit_value byte) bytes else None
 
 abbrev pub decimal_number : List ℕ → Option ℕ
 decimal_number [] = None
-decimal_number (byte ∷ bytes) = number_behind 0 (byte ∷ bytes)
+decimal_number (byte ∷ bytes) = number_from 0 (byte ∷ bytes)
 
 -- Every text but the first is preceded by `;`.
-abbrev pub behind : Bool → List ℕ → List ℕ
-behind true text = text
-behind false text = 0x3b ∷ text
+abbrev pub with_separator : Bool → List ℕ → List ℕ
+with_separator true text = text
+with_separator false text = 0x3b ∷ text
 
 -- The text of a piece. One that isn't UTF-8 counts as empty if all are kept, and is left out
 -- otherwise.

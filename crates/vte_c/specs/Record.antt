@@ -200,12 +200,12 @@ intermediates_in event =
 -- The event that a record represents, with its data in the area, if it is no run.
 unfoldable pub event_in : List ℕ → VteEvent → Event
 event_in area event =
-    let behind = drop event.start area in
-    let groups = groups_in event.count behind in
+    let later = drop event.start area in
+    let groups = groups_in event.count later in
     if event.kind == 1 then Execute event.code
     else if event.kind == 2 then Hook groups (intermediates_in event) (event.flag == 1) event.code
     else if event.kind == 4 then Unhook
-    else if event.kind == 5 then OscDispatch (pieces_in event.count behind) (event.flag % 2 == 1)
+    else if event.kind == 5 then OscDispatch (pieces_in event.count later) (event.flag % 2 == 1)
     else if event.kind == 6
     then CsiDispatch groups (intermediates_in event) (event.flag == 1) event.code
     else EscDispatch (intermediates_in event) (event.flag == 1) event.code

@@ -35,12 +35,12 @@ unfoldable pub use Rattle.vte_core.specs.EarlyStop.{breaks_at, stream_at, told}
 pub use Rattle.vte_core.specs.Escape.{escape_rest}
 unfoldable pub use Rattle.vte_core.specs.Escape.{escape_outcome}
 pub use Rattle.vte_core.specs.Event.{CsiDispatch, EscDispatch, Event, Execute, Hook, OscDispatch, Print, Put, Unhook, replacement}
-pub use Rattle.vte_core.specs.Head.{Head, behind_marker, collected, head_bytes}
+pub use Rattle.vte_core.specs.Head.{Head, head_after, collected, head_bytes}
 unfoldable pub use Rattle.vte_core.specs.Head.{dispatched, head_of, is_well_shaped}
 pub use Rattle.vte_core.specs.Intermediates.{are_too_many, first_two}
 pub use Rattle.vte_core.specs.Key.{Dispatch, Key, begins_ignored_string}
 unfoldable pub use Rattle.vte_core.specs.Key.{key_of}
-pub use Rattle.vte_core.specs.Laws.{AreParameters, BeginsAnew, BeginsAnewBehind, CountsData, DispatchesShown, Grows, OpensSilently}
+pub use Rattle.vte_core.specs.Laws.{AreParameters, Resyncs, ResyncsAfter, CountsData, DispatchesShown, Grows, OpensSilently}
 pub use Rattle.vte_core.specs.LongParser.{MeetsData, data_left, open_size, read_count}
 pub use Rattle.vte_core.specs.Looks.{looked}
 pub use Rattle.vte_core.specs.Others.{AddsOthers, IsOther, IsWide, TellsOthers}
@@ -55,11 +55,11 @@ pub use Rattle.vte_core.specs.SystemCommand.{IsCommandData, bell, ends_command, 
 unfoldable pub use Rattle.vte_core.specs.SystemCommand.{drops_data, kept_items, pieces_of, system_command_outcome}
 pub use Rattle.vte_core.specs.Text.{is_control_character, is_layout, is_left_out, pieces_outcome, run_event}
 unfoldable pub use Rattle.vte_core.specs.Text.{character_event, executed, malformed_event, segment_event, text_outcome}
-pub use Rattle.vte_core.specs.Utf8.{Range, allowed, is_in, scalar_of, segments, segments_behind, to, wanted, wanted_behind, wants_none}
+pub use Rattle.vte_core.specs.Utf8.{Range, allowed, is_in, scalar_of, segments, segments_after, to, wanted, rows_after, wants_none}
 unfoldable pub use Rattle.vte_core.specs.Utf8.{further, is_truncated, is_well_formed, utf8_rows}
 pub use Rattle.vte_core.specs.declared.head.Collected.{Collected}
 pub use Rattle.vte_core.specs.declared.head.HeadPart.{HeadPart}
-pub use Rattle.vte_core.specs.declared.head.HeadPart.TheVariants.{Entry, IllShaped, Intermediates, Parameters}
+pub use Rattle.vte_core.specs.declared.head.HeadPart.TheVariants.{Entry, Malformed, Intermediates, Parameters}
 pub use Rattle.vte_core.specs.declared.parser.State.{State}
 pub use Rattle.vte_core.specs.declared.parser.State.TheVariants.{ControlSequence, DeviceControl, DeviceData, Escape, EscapeIntermediate, IgnoredString, SystemCommand, Text}
 pub use Rattle.vte_core.specs.declared.parser.machine.Machine.{Machine}
@@ -69,15 +69,15 @@ pub use Rattle.vte_core.specs.declared.utf8.Unfinished.TheVariants.{Nothing, One
 pub use Rattle.vte_core.specs.machine.Data.{AreIgnored, ArePut, IsIgnored}
 pub use Rattle.vte_core.specs.machine.Leads.{Leads, Reads}
 pub use Rattle.vte_core.specs.machine.Moves.{Spends}
-pub use Rattle.vte_core.specs.machine.Parser.{Counts, Holds, HoldsHead, IsBehind, IsMarker, KeepsIntermediates, KeepsNumbers, numbers_behind, Settles, Stands, StandsBy, StandsInHead, StaysIllShaped}
+pub use Rattle.vte_core.specs.machine.Parser.{Counts, Holds, HoldsHead, HasReadUnder, IsMarker, KeepsIntermediates, KeepsNumbers, numbers_from, Settles, Stands, StandsBy, StandsInHead, StaysMalformed}
 pub use Rattle.vte_core.specs.machine.Place.{AtEscape, InControlSequence, InData, InDeviceControl, InEscape, InIgnoredString, InSystemCommand, InText, IsAfter, IsBetween, Place, closing_at}
 pub use Rattle.vte_core.specs.machine.Place.{left_at, rest_outcome}
-unfoldable pub use Rattle.vte_core.specs.machine.Place.{outcome_behind}
+unfoldable pub use Rattle.vte_core.specs.machine.Place.{outcome_from}
 pub use Rattle.vte_core.specs.machine.Progress.{Advances, CameTo, CameInside, IsRefusedAt, IsSettled, MayGoOn, ReadsUpTo, RefusesAt, StandsAt, StandsInside}
 pub use Rattle.vte_core.specs.machine.Reading.{ReadsHead}
 pub use Rattle.vte_core.specs.machine.TextRun.{ArePrinted, AreRun, EndsRun, IsPrinted, IsRun, PrintsRun}
 pub use Rattle.vte_core.specs.machine.Scans.{IsRange, Scans}
-pub use Rattle.vte_core.specs.machine.Store.{Stored, Keeps, PiecesEnd, SameItems, cut_at, cut_pieces, ends_behind, fitting, pieces_behind}
+pub use Rattle.vte_core.specs.machine.Store.{Stored, Keeps, PiecesEnd, SameItems, cut_at, cut_pieces, ends_after, fitting, pieces_from}
 pub use Rattle.vte_core.specs.machine.Takes.{Performs, Takes}
 pub use Rattle.vte_core.specs.machine.Unfinished.{Carries, bytes_of, is_open}
 unfoldable pub use Rattle.vte_core.specs.machine.Unfinished.{second_range}
@@ -96,8 +96,8 @@ open_at (InText bytes) = bytes
 open_at _ = []
 
 -- The events of more bytes after a place.
-abbrev pub events_behind : Option ℕ → Place → List ℕ → List Event
-events_behind limit place more = (outcome_behind limit place more).told
+abbrev pub events_from : Option ℕ → Place → List ℕ → List Event
+events_from limit place more = (outcome_from limit place more).told
 
 -- How far a head has been read after numbers that stand from one place to another.
 abbrev pub part_after : HeadPart → ℕ → ℕ → HeadPart

@@ -76,7 +76,7 @@ pub record ReadsToRun {V : Type 0} {N : ℕ} (step : V → Event → V) (is_term
     (old new : V) (bytes : List ℕ) (run : Run)
     (parser next : Parser N) : Type 0 where
   pub returns : ReturnsRun step is_terminated old new (Some N) (HasRead parser) bytes run
-  -- The parser goes on behind the run.
+  -- The parser goes on after the run.
   pub reads : (stream : List ℕ) → HasRead parser stream
       → HasRead next (stream_at stream bytes run.start ++ run_bytes run)
   -- Characters and data are left to the run.

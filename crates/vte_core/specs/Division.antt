@@ -11,14 +11,14 @@ IsPiece piece = (is_well_formed piece ≡ true) ⊎ ((is_truncated piece ≡ tru
 abbrev pub IsAllDivided : List ℕ → Type 0
 IsAllDivided text = concat (segments text) ≡ text
 
--- The piece is the right one if `behind` follows it.
-pub record IsRightPiece (piece behind : List ℕ) : Type 0 where
+-- The piece is the right one if `later` follows it.
+pub record IsRightPiece (piece later : List ℕ) : Type 0 where
   pub is_piece : IsPiece piece
   -- If a well-formed sequence starts there, it is the piece.
-  pub whole : (front rest : List ℕ) → front ++ rest ≡ piece ++ behind → is_well_formed front ≡ true
+  pub whole : (front rest : List ℕ) → front ++ rest ≡ piece ++ later → is_well_formed front ≡ true
       → front ≡ piece
   -- No longer truncated sequence starts there.
-  pub longest : (front rest : List ℕ) → front ++ rest ≡ piece ++ behind → is_truncated front ≡ true
+  pub longest : (front rest : List ℕ) → front ++ rest ≡ piece ++ later → is_truncated front ≡ true
       → length front ≤ length piece
 
 -- Each piece is the right one if the others follow it.

@@ -124,7 +124,7 @@ system_command_examples =
     -- at most 16 pieces
     ∷ gives (codes "\u{1b}]" ++ repeat 33 (codes ";") ++ codes "\u{1b}")
     (OscDispatch (repeat 16 ([] ∷ [])) false ∷ [])
-    -- data behind them is dropped
+    -- data after them is dropped
     ∷ gives (codes "\u{1b}]" ++ repeat 16 (codes "a;") ++ codes ";b\u{7}")
     (OscDispatch (repeat 16 (codes "a" ∷ [])) true ∷ [])
     ∷ []

@@ -16,17 +16,17 @@ pub record Head : Type 0 where
   pub intermediates : List ℕ
 
 -- The head after its marker.
-abbrev pub behind_marker : List ℕ → List ℕ → Head
-behind_marker marker bytes = record {
+abbrev pub head_after : List ℕ → List ℕ → Head
+head_after marker bytes = record {
   marker = marker;
   parameters = before (λ b. not (is_parameter_text (class_of b))) bytes;
   intermediates = from_first (λ b. not (is_parameter_text (class_of b))) bytes;
 }
 
 unfoldable pub head_of : List ℕ → Head
-head_of [] = behind_marker [] []
+head_of [] = head_after [] []
 head_of (b ∷ bytes) =
-    if is_marker (class_of b) then behind_marker (b ∷ []) bytes else behind_marker [] (b ∷ bytes)
+    if is_marker (class_of b) then head_after (b ∷ []) bytes else head_after [] (b ∷ bytes)
 
 -- Only intermediates follow the parameters.
 unfoldable pub is_well_shaped : Head → Bool

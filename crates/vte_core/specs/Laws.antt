@@ -29,14 +29,14 @@ Grows limit =
 
 -- After the byte, whatever came before it, the rest of the stream gives the events of a stream of
 -- its own.
-abbrev pub BeginsAnewBehind : Option ℕ → ℕ → Type 0
-BeginsAnewBehind limit byte = (stream more : List ℕ) →
+abbrev pub ResyncsAfter : Option ℕ → ℕ → Type 0
+ResyncsAfter limit byte = (stream more : List ℕ) →
     events limit (stream ++ byte ∷ more) ≡ events limit (stream ++ byte ∷ []) ++ events limit more
 
 -- Resynchronisation: a stream starts afresh after CAN and SUB, and at each ESC.
-pub record BeginsAnew (limit : Option ℕ) : Type 0 where
-  pub cancel : BeginsAnewBehind limit 0x18
-  pub substitute : BeginsAnewBehind limit 0x1a
+pub record Resyncs (limit : Option ℕ) : Type 0 where
+  pub cancel : ResyncsAfter limit 0x18
+  pub substitute : ResyncsAfter limit 0x1a
   pub escape : (stream more : List ℕ) →
       events limit (stream ++ escape ∷ more)
       ≡ events limit (stream ++ escape ∷ []) ++ events limit (escape ∷ more)

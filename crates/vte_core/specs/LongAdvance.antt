@@ -15,16 +15,16 @@ use Rattle.vte_core.specs.Stream.{added}
 -- A call read so many bytes, and the parser has then read these of each stream. If memory is
 -- refused, it stops there.
 pub record GoesOnLong {A Answer : Type 0} (rate : ℕ) (bytes : List ℕ)
-    (result : Result Answer Refused) (n : ℕ) (behind : List ℕ → List ℕ)
+    (result : Result Answer Refused) (n : ℕ) (later : List ℕ → List ℕ)
     (parser next : LongParser A) : Type 0 where
-  pub reads : (stream : List ℕ) → HasReadLong parser stream → HasReadLong next (behind stream)
+  pub reads : (stream : List ℕ) → HasReadLong parser stream → HasReadLong next (later stream)
   -- Of a command that is open then it stores the pieces alone.
-  pub stores : (stream : List ℕ) → HasReadLong parser stream → StoresPieces next (behind stream)
+  pub stores : (stream : List ℕ) → HasReadLong parser stream → StoresPieces next (later stream)
   -- Memory is refused before a byte ..
   pub before : IfErr result (λ refused. refused.read < length bytes)
   -- .. that is a data byte of an open operating system command with fewer than 16 `;`.
   pub meets : IfErr result (λ refused. (stream : List ℕ) → HasReadLong parser stream
-      → MeetsData (behind stream) (slice_index bytes refused.read))
+      → MeetsData (later stream) (slice_index bytes refused.read))
   -- For the data bytes that stand there it has no memory.
   pub lacks : IfErr result (λ refused. LacksMemory next bytes refused.read)
   -- Memory that was there stays ..
@@ -98,6 +98,6 @@ pub record ReadsToRunLong {V A : Type 0} (step : V → Event → V) (is_terminat
   -- Characters and data are left to the run.
   pub others : (stream : List ℕ) → HasReadLong parser stream
       → TellsOthers None stream bytes (performed_count result)
-  -- The parser goes on behind what was read.
+  -- The parser goes on after what was read.
   pub goes_on : GoesOnLong 7 bytes result (run_count result)
       (λ stream. read_to_run result stream bytes) parser next

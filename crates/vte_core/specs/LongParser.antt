@@ -3,7 +3,7 @@ use Rattle.std.specs.Prelude.{◌≡◌, ℕ, Bool, ◌+◌, ◌<◌, List, [], 
 use Rattle.std.specs.List.{concat}
 use Rattle.vte_core.specs.declared.parser.long.LongParser.{LongParser}
 use Rattle.vte_core.specs.declared.parser.refused.Refused.{Refused}
-use Rattle.vte_core.specs.machine.Parser.{IsBehind}
+use Rattle.vte_core.specs.machine.Parser.{HasReadUnder}
 use Rattle.vte_core.specs.machine.Store.{Keeps, LacksMemoryAt}
 use Rattle.vte_core.specs.Outcome.{Open, OpenCommand}
 use Rattle.vte_core.specs.Stream.{outcome}
@@ -11,7 +11,7 @@ use Rattle.vte_core.specs.SystemCommand.{IsCommandData, most_pieces}
 
 -- The parser continues as one that has read the stream; `HasRead` for a parser without a limit.
 abbrev pub HasReadLong : {A : Type 0} → LongParser A → List ℕ → Type 0
-HasReadLong parser stream = IsBehind None parser.machine stream
+HasReadLong parser stream = HasReadUnder None parser.machine stream
 
 -- It holds the command of these items: the one that is open, or else the one that ended last.
 abbrev pub HoldsCommandLong : {A : Type 0} → LongParser A → List ℕ → Type 0

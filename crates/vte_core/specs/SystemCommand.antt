@@ -51,7 +51,7 @@ pieces_of limit items =
     take most_pieces (slice_split (λ b. b == semicolon) (kept_items limit items))
 
 -- Whether data bytes among the items are in no piece: those for which there is no room, and those
--- behind the 16th piece.
+-- after the 16th piece.
 unfoldable pub drops_data : Option ℕ → List ℕ → Bool
 drops_data limit items =
     nat_lt (length (concat (pieces_of limit items))) (length (filter is_data_byte items))

@@ -19,7 +19,7 @@ pub(crate) enum HeadPart {
     /// An intermediate was last.
     Intermediates,
     /// It is malformed.
-    IllShaped,
+    Malformed,
 }
 
 impl HeadPart {
@@ -119,8 +119,8 @@ impl Collected {
         ensures { (head : List ℕ) → StandsInHead self.old part head
             → StandsInHead self.new result (head ++ byte ∷ []) }
     {
-        if let HeadPart::IllShaped = part {
-            return HeadPart::IllShaped;
+        if let HeadPart::Malformed = part {
+            return HeadPart::Malformed;
         }
         if is_intermediate(byte) {
             self.collect(byte);
@@ -131,7 +131,7 @@ impl Collected {
             self.collect(byte);
             return HeadPart::Parameters;
         }
-        HeadPart::IllShaped
+        HeadPart::Malformed
     }
 
     /// Reads the digits at a place of a head, if any, and the separators too if there may be

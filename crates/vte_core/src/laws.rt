@@ -7,7 +7,7 @@ ghost use Rattle.vte_core.specs.Division.{AreRightPieces, IsAllDivided};
 ghost use Rattle.vte_core.specs.Examples.{AreRight, text_examples, escape_examples, control_sequence_examples, device_control_examples, system_command_examples, full_store_examples};
 ghost use Rattle.vte_core.specs.Examples.{store_of_five_examples, store_of_two_examples, empty_store_examples, ignored_string_examples};
 ghost use Rattle.vte_core.specs.Examples.{AreLeft, open_command_examples};
-ghost use Rattle.vte_core.specs.Laws.{AreParameters, AreWellFormed, BeginsAnew, CountsData, DispatchesShown, GivesCharacters, Grows, IsDecoded, IsEncoding, OpensSilently};
+ghost use Rattle.vte_core.specs.Laws.{AreParameters, AreWellFormed, Resyncs, CountsData, DispatchesShown, GivesCharacters, Grows, IsDecoded, IsEncoding, OpensSilently};
 ghost use Rattle.vte_core.specs.Perform.{after};
 ghost use Rattle.vte_core.specs.Stops.{GoesOnFromPlaces, TellsUnits};
 ghost use Rattle.vte_core.specs.Stream.{added, events};
@@ -88,7 +88,7 @@ pub fn early_stops()
 
 /// After CAN and SUB, and from each ESC on, bytes give what they give at the start of a stream.
 pub fn resync()
-    ensures { (limit : Option ℕ) → BeginsAnew limit }
+    ensures { (limit : Option ℕ) → Resyncs limit }
 {}
 
 /// A text is divided as Unicode recommends: each piece is the well-formed sequence that starts

@@ -4,7 +4,7 @@ use Rattle.std.proofs.Common.{drop-cons, Option, None, Some, option_map, refl, s
 use Rattle.std.proofs.lemmas.Bool.Decides.{nat_tests}
 use Rattle.std.specs.Prelude.{map, ◌&&◌}
 use Rattle.std.specs.Str.{bytes_eq}
-use Rattle.vte_types.specs.Words.{is_word, behind_word, beside_word}
+use Rattle.vte_types.specs.Words.{is_word, after_word, beside_word}
 
 same_by : (a b : ℕ) (text word : List ℕ) (rest : is_word text word ≡ true → text ≡ word) (t : Bool) → eqb a b ≡ t
     → cond t (is_word text word) false ≡ true → (a ∷ text) ≡ (b ∷ word)
@@ -32,31 +32,31 @@ pub long_word : (text word : List ℕ) → length word < length text → is_word
 long_word text word h = other_word text word (λ e. let k = ap length e in omega arith)
 
 same_first : (a : ℕ) (word text : List ℕ) (t : Bool) → eqb a a ≡ t
-    → cond t (behind_word word text) None ≡ behind_word word text
+    → cond t (after_word word text) None ≡ after_word word text
 same_first a word text true e = refl
 same_first a word text false e = absurd (grind (arith, nat_tests))
 
-pub word_front : (word rest : List ℕ) → behind_word word (word ++ rest) ≡ Some rest
+pub word_front : (word rest : List ℕ) → after_word word (word ++ rest) ≡ Some rest
 word_front [] rest = refl
 word_front (a ∷ word) rest = same_first a word (word ++ rest) (eqb a a) refl ∙ word_front word rest
 
 other_first : (a b : ℕ) (word text : List ℕ) (more : ((rest : List ℕ) → text ≢ word ++ rest)
-    → behind_word word text ≡ None) (t : Bool) → eqb a b ≡ t
-    → ((rest : List ℕ) → (b ∷ text) ≢ (a ∷ word) ++ rest) → cond t (behind_word word text) None ≡ None
+    → after_word word text ≡ None) (t : Bool) → eqb a b ≡ t
+    → ((rest : List ℕ) → (b ∷ text) ≢ (a ∷ word) ++ rest) → cond t (after_word word text) None ≡ None
 other_first a b word text more true e h =
     more (λ rest same. h rest (let first : a ≡ b = grind (arith, nat_tests) in cc))
 other_first a b word text more false e h = refl
 
-pub other_front : (word text : List ℕ) → ((rest : List ℕ) → text ≢ word ++ rest) → behind_word word text ≡ None
+pub other_front : (word text : List ℕ) → ((rest : List ℕ) → text ≢ word ++ rest) → after_word word text ≡ None
 other_front [] text h = absurd (h text refl)
 other_front (a ∷ word) [] h = refl
 other_front (a ∷ word) (b ∷ text) h = other_first a b word text (other_front word text) (eqb a b) refl h
 
-pub behind_is : (word text : List ℕ) (r : Option (Bor (List ℕ)))
+pub after_is : (word text : List ℕ) (r : Option (Bor (List ℕ)))
     → MatchOption r ((rest : List ℕ) → text ≢ word ++ rest) (λ x. text ≡ word ++ x.now)
-    → option_map (λ rest. rest.now) r ≡ behind_word word text
-behind_is word text None h = sym (other_front word text h)
-behind_is word text (Some x) h = sym (ap (behind_word word) h ∙ word_front word x.now)
+    → option_map (λ rest. rest.now) r ≡ after_word word text
+after_is word text None h = sym (other_front word text h)
+after_is word text (Some x) h = sym (ap (after_word word) h ∙ word_front word x.now)
 
 -- ---- a table of words
 
@@ -75,7 +75,7 @@ tests_agree (a ∷ text) (b ∷ word) = same_and (eqb a b) _ _ (tests_agree text
 abbrev pub rows_of : {A : Type 0} → List (Bor (List ℕ) × A) → List (List ℕ × A)
 rows_of rows = map (λ row. (row.0.now, row.1)) rows
 
--- from a row on, a text is beside that row or among those behind it
+-- from a row on, a text is beside that row or among those after it
 pub from_row : {A : Type 0} (rows : List (Bor (List ℕ) × A)) (i : ℕ) (d : Bor (List ℕ) × A) (text : List ℕ) (t : Bool)
     → i < length rows → t ≡ bytes_eq text (get_or rows i d).0.now
     → beside_word (rows_of (drop i rows)) text

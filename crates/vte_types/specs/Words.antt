@@ -14,10 +14,10 @@ beside_word [] text = None
 beside_word (row ∷ rows) text = if is_word text row.0 then Some row.1 else beside_word rows text
 
 -- What follows a word at the start of the text.
-abbrev pub behind_word : List ℕ → List ℕ → Option (List ℕ)
-behind_word [] text = Some text
-behind_word (a ∷ word) [] = None
-behind_word (a ∷ word) (b ∷ text) = if a == b then behind_word word text else None
+abbrev pub after_word : List ℕ → List ℕ → Option (List ℕ)
+after_word [] text = Some text
+after_word (a ∷ word) [] = None
+after_word (a ∷ word) (b ∷ text) = if a == b then after_word word text else None
 
 -- The result of reading the rest, or else the other.
 abbrev pub read_or : {A : Type 0} → (List ℕ → Option A) → Option A → Option (List ℕ) → Option A
@@ -27,4 +27,4 @@ read_or read other None = other
 -- The result of the first form whose word starts the text.
 abbrev pub read_by : {A : Type 0} → List (List ℕ × (List ℕ → Option A)) → List ℕ → Option A
 read_by [] text = None
-read_by (form ∷ forms) text = read_or form.1 (read_by forms text) (behind_word form.0 text)
+read_by (form ∷ forms) text = read_or form.1 (read_by forms text) (after_word form.0 text)

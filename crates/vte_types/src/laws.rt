@@ -7,7 +7,7 @@ ghost use Rattle.vte_types.specs.Keyboard.{modes_of_bits};
 ghost use Rattle.vte_types.specs.Mode.{mode_of, number_of_mode, number_of_private_mode, private_mode_of};
 ghost use Rattle.vte_types.specs.NamedColor.{number_of_color};
 ghost use Rattle.vte_types.specs.RgbText.{hex_color_of, shown_color};
-ghost use Rattle.vte_types.specs.Words.{behind_word, is_word};
+ghost use Rattle.vte_types.specs.Words.{after_word, is_word};
 
 use crate::charset::{CharsetIndex, StandardCharset};
 use crate::color::{NamedColor, Rgb};
@@ -43,9 +43,9 @@ pub fn modes_keep_their_numbers()
 
 /// What follows a word at the start of a text, and that nothing does if the text starts otherwise.
 pub fn words_stand_in_front()
-    ensures front { (word rest : List ℕ) → behind_word word (word ++ rest) ≡ Some rest }
+    ensures front { (word rest : List ℕ) → after_word word (word ++ rest) ≡ Some rest }
     ensures other { (word text : List ℕ) → ((rest : List ℕ) → text ≢ word ++ rest)
-        → behind_word word text ≡ None }
+        → after_word word text ≡ None }
 {}
 
 /// No text but the word itself is a word, and so none that is shorter or longer.

@@ -8,7 +8,7 @@ pub(crate) static ROWS: [UntilRow; 8] = [
     UntilRow {
         name: "stop at an unfinished character found malformed",
         stop: Stop::AtPrint,
-        behind: b"",
+        before: b"",
         steps: &[
             Step {
                 call: Call::UntilTerminated { answer: 2 },
@@ -25,7 +25,7 @@ pub(crate) static ROWS: [UntilRow; 8] = [
     UntilRow {
         name: "stop inside a run of text",
         stop: Stop::AtPrint,
-        behind: b"",
+        before: b"",
         steps: &[
             Step {
                 call: Call::UntilTerminated { answer: 1 },
@@ -42,7 +42,7 @@ pub(crate) static ROWS: [UntilRow; 8] = [
     UntilRow {
         name: "stop behind an ESC sequence",
         stop: Stop::AtEscape,
-        behind: b"",
+        before: b"",
         steps: &[Step {
             call: Call::UntilTerminated { answer: 2 },
             bytes: b"\x1bcab",
@@ -52,7 +52,7 @@ pub(crate) static ROWS: [UntilRow; 8] = [
     UntilRow {
         name: "begun character carried on without a question",
         stop: Stop::Reached,
-        behind: b"\xe4",
+        before: b"\xe4",
         steps: &[Step {
             call: Call::UntilTerminated { answer: 2 },
             bytes: b"\xbf\x99a",
@@ -62,7 +62,7 @@ pub(crate) static ROWS: [UntilRow; 8] = [
     UntilRow {
         name: "begun character found malformed at the first byte",
         stop: Stop::Reached,
-        behind: b"\xe4",
+        before: b"\xe4",
         steps: &[Step {
             call: Call::UntilTerminated { answer: 0 },
             bytes: b"a",
@@ -72,7 +72,7 @@ pub(crate) static ROWS: [UntilRow; 8] = [
     UntilRow {
         name: "no bytes, terminated from the start",
         stop: Stop::Reached,
-        behind: b"",
+        before: b"",
         steps: &[Step {
             call: Call::UntilTerminated { answer: 0 },
             bytes: b"",
@@ -82,7 +82,7 @@ pub(crate) static ROWS: [UntilRow; 8] = [
     UntilRow {
         name: "no bytes, never terminated",
         stop: Stop::Never,
-        behind: b"",
+        before: b"",
         steps: &[Step {
             call: Call::UntilTerminated { answer: 0 },
             bytes: b"",
@@ -92,7 +92,7 @@ pub(crate) static ROWS: [UntilRow; 8] = [
     UntilRow {
         name: "unfinished character counts as read",
         stop: Stop::Never,
-        behind: b"",
+        before: b"",
         steps: &[Step {
             call: Call::UntilTerminated { answer: 2 },
             bytes: b"\xe4\xbf",

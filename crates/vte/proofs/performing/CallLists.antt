@@ -1,7 +1,7 @@
 -- The calls of events that follow one another, and those that more bytes add: those of the whole are those of the
 -- parts joined. By induction over the events, with the last printed character carried along.
 use Rattle.vte.proofs.Common.{◌≡◌, ℕ, None, List, [], ◌∷◌, ◌++◌, Option, refl, ap, ◌∙◌, append_assoc, drop-append_seam, Event, added, events, added_both, added-nothing}
-use Rattle.vte.proofs.Common.{events_grow, Call, after, calls_added, added_calls, calls, calls_behind, last_behind, last_printed, last_printed_behind, zero, suc, ◌+◌, zero-add, suc-add, Bool, ◌||◌}
+use Rattle.vte.proofs.Common.{events_grow, Call, after, calls_added, added_calls, calls, calls_from, last_from, last_printed, last_printed_from, zero, suc, ◌+◌, zero-add, suc-add, Bool, ◌||◌}
 use Rattle.vte.proofs.Common.{nat_lt, arith, nat_tests, TimeoutMeaning, set_times, update_nanos, Meaning, Lent, first_number, is_update_group, update_groups, with_private_mode, with_private_modes}
 use Rattle.std.specs.Bool.{if◌then◌else◌}
 
@@ -13,21 +13,21 @@ after-append step value (x ∷ xs) ys = after-append step (step value x) xs ys
 pub ruleset appended = (after-append)
 
 calls-append : (last : Option ℕ) (xs ys : List Event)
-    → calls_behind last (xs ++ ys) ≡ calls_behind last xs ++ calls_behind (last_printed_behind last xs) ys
+    → calls_from last (xs ++ ys) ≡ calls_from last xs ++ calls_from (last_printed_from last xs) ys
 calls-append last [] ys = refl
-calls-append last (x ∷ xs) ys = rw (calls-append (last_behind last x) xs ys, append_assoc)
+calls-append last (x ∷ xs) ys = rw (calls-append (last_from last x) xs ys, append_assoc)
 
 pub last-append : (last : Option ℕ) (xs ys : List Event)
-    → last_printed_behind last (xs ++ ys) ≡ last_printed_behind (last_printed_behind last xs) ys
+    → last_printed_from last (xs ++ ys) ≡ last_printed_from (last_printed_from last xs) ys
 last-append last [] ys = refl
-last-append last (x ∷ xs) ys = last-append (last_behind last x) xs ys
+last-append last (x ∷ xs) ys = last-append (last_from last x) xs ys
 
 added_calls-append : (before more : List Event)
-    → added_calls before (before ++ more) ≡ calls_behind (last_printed before) more
+    → added_calls before (before ++ more) ≡ calls_from (last_printed before) more
 added_calls-append before more = rw (calls-append None before more) (drop-append_seam (calls before) _)
 
 pub calls_added-events : (limit : Option ℕ) (p u : List ℕ)
-    → calls_added limit p u ≡ calls_behind (last_printed (events limit p)) (added limit p u)
+    → calls_added limit p u ≡ calls_from (last_printed (events limit p)) (added limit p u)
 calls_added-events limit p u =
     ap (added_calls (events limit p)) (events_grow limit p u) ∙ added_calls-append (events limit p) (added limit p u)
 
@@ -38,7 +38,7 @@ pub calls_added-append : (limit : Option ℕ) (p u w : List ℕ)
     → calls_added limit p (u ++ w) ≡ calls_added limit p u ++ calls_added limit (p ++ u) w
 calls_added-append limit p u w =
     let last : last_printed (events limit (p ++ u))
-    ≡ last_printed_behind (last_printed (events limit p)) (added limit p u) =
+    ≡ last_printed_from (last_printed (events limit p)) (added limit p u) =
     ap last_printed (events_grow limit p u) ∙ last-append None (events limit p) (added limit p u) in
     rw (
       calls_added-events limit p (u ++ w),

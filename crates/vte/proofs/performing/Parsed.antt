@@ -2,7 +2,7 @@
 -- calls of their rows and set the timeout once per begin of an update. An early stop is the front up to the begin.
 use Rattle.vte.proofs.Common.{◌≡◌, ℕ, ◌+◌, ◌<◌, inl, inr, Bool, false, ◌||◌, nat_lt, All, List, [], ◌∷◌, ◌++◌, length, take, refl, ap, sym, ◌∙◌, arith, or-false}
 use Rattle.vte.proofs.Common.{cases_lt, false≢true, nat_tests, All-head, All-tail, told, stream_at, StopsExactly, Event, added, events, starts-between, stream_at-between, told-between, events_grow}
-use Rattle.vte.proofs.Common.{after, ProcessorState, begin_count, begins_of, calls_of, calls_behind, last_behind, last_printed, last_printed_behind, lent_of, Meaning, set_times, FitsText, Lent}
+use Rattle.vte.proofs.Common.{after, ProcessorState, begin_count, begins_of, calls_of, calls_from, last_from, last_printed, last_printed_from, lent_of, Meaning, set_times, FitsText, Lent}
 use Rattle.vte.proofs.Common.{with_event, parts, IsParsed, IsParsedOn, KeepsRoom, State, parse, begin_front, Reading}
 use Rattle.vte_core.specs.Perform.{after as performed}
 use Rattle.vte.specs.declared.ansi.performer.Performer.{Performer}
@@ -17,9 +17,9 @@ or_some b m n = grind (arith, nat_tests)
 -- what all events together make of a performer's value
 abbrev with_events : {H W : Type 0} → Meaning H W → Lent H W → List Event → Lent H W
 with_events m lent events = record {
-  handler = after m.step lent.handler (calls_behind lent.last events);
+  handler = after m.step lent.handler (calls_from lent.last events);
   timeout = set_times m.timeout (begin_count events) lent.timeout;
-  last = last_printed_behind lent.last events;
+  last = last_printed_from lent.last events;
   room = lent.room;
   terminated = lent.terminated || nat_lt 0 (begin_count events);
   state_name = lent.state_name;
@@ -34,7 +34,7 @@ performed-events m lent (event ∷ events) fit =
     performed-events m (with_event m.step m.timeout lent event) events (All-tail (FitsText lent.room) event events fit)
     ∙ rw (
       All-head (FitsText lent.room) event events fit lent.last,
-      ← after-append m.step lent.handler (calls_of lent.last event) (calls_behind (last_behind lent.last event) events),
+      ← after-append m.step lent.handler (calls_of lent.last event) (calls_from (last_from lent.last event) events),
       ← set_times-add m.timeout lent.timeout (begins_of event) (begin_count events),
       or_some lent.terminated (begins_of event) (begin_count events),
     ) refl
@@ -112,8 +112,8 @@ module _ {V W : Type 0} (m : Meaning V W) {old new : Lent V W} (goes_on : old.te
       let none = rw (stop.comes.performed, terminated_at n, f.before n less) at ends in
       false≢true none
 
-  not_behind : length (begin_front m.limit p r) < n → ⊥
-  not_behind less =
+  not_after : length (begin_front m.limit p r) < n → ⊥
+  not_after less =
       let f = front in
       let k = length (begin_front m.limit p r) in
       let within : k < length r = omega (arith, stop.comes.within) in
@@ -126,7 +126,7 @@ module _ {V W : Type 0} (m : Meaning V W) {old new : Lent V W} (goes_on : old.te
   stops_at_front = elim (cases_lt n (length (begin_front m.limit p r))) [
     | inl less ↦ absurd (not_before less)
     | inr least ↦ elim (cases_lt (length (begin_front m.limit p r)) n) [
-      | inl less ↦ absurd (not_behind less)
+      | inl less ↦ absurd (not_after less)
       | inr most ↦ omega arith
     ]
   ]

@@ -1,7 +1,7 @@
 -- What a run of text makes of a performer: the calls of its characters, and its last character. By induction over the
 -- characters; the last one is found from the end, because no character begins with a byte that continues one.
 use Rattle.vte.proofs.Common.{◌≡◌, ℕ, ◌≤◌, Option, Some, None, List, [], ◌∷◌, ◌++◌, length, get_or, map, refl, ap, sym, ◌∙◌, add-zero, arith, or-false}
-use Rattle.vte.proofs.Common.{drop-append_seam, take-append_seam, nat_tests, append-nil, get_or-append-add, length-append, IsCharBoundary, IsUtf8, chars, Print, Input, after, last_printed_behind}
+use Rattle.vte.proofs.Common.{drop-append_seam, take-append_seam, nat_tests, append-nil, get_or-append-add, length-append, IsCharBoundary, IsUtf8, chars, Print, Input, after, last_printed_from}
 use Rattle.vte.proofs.Common.{Call, TimeoutMeaning, Lent, with_event, IsUtf8-drop, IsUtf8-take, chars-append, chars-nil, chars_past_char, option_or}
 use Rattle.std.proofs.Math.Utf8.{encode}
 use Rattle.std.proofs.lemmas.Str.{IsUtf8-encode}
@@ -14,14 +14,14 @@ pub performed_run : {H W : Type 0} (step : H → Call → H) (timeout : TimeoutM
     → performed (with_event step timeout) lent (map Print cs)
     ≡ record lent {
       handler = after step lent.handler (map Input cs);
-      last = last_printed_behind lent.last (map Print cs);
+      last = last_printed_from lent.last (map Print cs);
     }
 performed_run step timeout lent [] = refl
 performed_run step timeout lent (c ∷ cs) =
     performed_run step timeout (with_event step timeout lent (Print c)) cs ∙ rw or-false
 
 -- A character at the end of a run is its last.
-last_added : (last : Option ℕ) (cs : List ℕ) (c : ℕ) → last_printed_behind last (map Print (cs ++ c ∷ [])) ≡ Some c
+last_added : (last : Option ℕ) (cs : List ℕ) (c : ℕ) → last_printed_from last (map Print (cs ++ c ∷ [])) ≡ Some c
 last_added last [] c = refl
 last_added last (x ∷ cs) c = last_added (Some x) cs c
 
@@ -57,7 +57,7 @@ no_characters (b ∷ text) none = absurd (omega arith)
 -- What comes off the end of a text is its last character, and nothing comes off an empty one.
 pub last_of_text : (text : List ℕ) (s t : _) (taken last : Option ℕ) → IsUtf8 text → chars_rest s ≡ text
     → chars_steps_back s taken t
-    → option_or taken last ≡ last_printed_behind last (map Print (chars text))
+    → option_or taken last ≡ last_printed_from last (map Print (chars text))
 last_of_text text s t None last is same none = rw (no_characters text (ap length (sym same) ∙ none.0))
 last_of_text text s t (Some c) last is same some =
     let cut : text ≡ chars_rest t ++ encode c = sym same ∙ some in

@@ -102,20 +102,20 @@ whole_at limit p r k f = elim (cases_lt k (length r)) [
   | inr all ↦ breaks_at-all p r k all
 ]
 
--- the front behind bytes in which no update begins, and of bytes that begin one, whatever follows
+-- the front after bytes in which no update begins, and of bytes that begin one, whatever follows
 pub none_begin_in : (limit : Option ℕ) (p a r : List ℕ) → begin_count (added limit p a) ≡ 0
     → begin_count (added limit (p ++ a) r) ≡ 0
     → begin_count (added limit p (a ++ r)) ≡ 0
 none_begin_in limit p a r first second = omega (arith, begins_in limit p a r, first, second)
 
-pub front_behind : (limit : Option ℕ) (p a r : List ℕ) → begin_count (added limit p a) ≡ 0
+pub front_after : (limit : Option ℕ) (p a r : List ℕ) → begin_count (added limit p a) ≡ 0
     → begin_front limit p (a ++ r) ≡ a ++ begin_front limit (p ++ a) r
-front_behind limit p [] r none = rw append-nil
-front_behind limit p (b ∷ a) r none =
+front_after limit p [] r none = rw append-nil
+front_after limit p (b ∷ a) r none =
     let all = begins_in limit p (b ∷ []) a in
     let first : nat_lt 0 (begin_count (added limit p (b ∷ []))) ≡ false = grind (arith, nat_tests) in
     let later : begin_count (added limit (p ++ b ∷ []) a) ≡ 0 = omega (arith, all, none) in
-    rw first (ap (λ front. b ∷ front) (front_behind limit (p ++ b ∷ []) a r later ∙ rw append_assoc))
+    rw first (ap (λ front. b ∷ front) (front_after limit (p ++ b ∷ []) a r later ∙ rw append_assoc))
 
 pub front_of_more : (limit : Option ℕ) (p r more : List ℕ) → 0 < begin_count (added limit p (begin_front limit p r))
     → begin_front limit p (r ++ more) ≡ begin_front limit p r

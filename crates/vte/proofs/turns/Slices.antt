@@ -6,7 +6,7 @@ use Rattle.vte.proofs.Common.{take-append-drop, take_all, take_at, added, IsKept
 use Rattle.vte.proofs.Common.{TakesAllTurns, Halts, State, TakesSome, TakesTurns, TurnHalts, begin_front, between, done, is_stopped, open_turn, opened, parse, turn, turns, within}
 use Rattle.vte.proofs.performing.CallLists.{after-append, calls_added-append, calls_added-nothing, set_times-add}
 use Rattle.vte.proofs.runs.EachOnce.{Grows, grows_on, opened_grows, opened_none, parse_grows, turns_grow}
-use Rattle.vte.proofs.turns.Fronts.{begins_in, front_behind, front_is_all, front_of_more, front_some, none_begin, none_begin_in}
+use Rattle.vte.proofs.turns.Fronts.{begins_in, front_after, front_is_all, front_of_more, front_some, none_begin, none_begin_in}
 use Rattle.vte.proofs.turns.HoldFacts.{opened_outside, taken_well}
 
 -- ---- the slices of an open turn
@@ -37,7 +37,7 @@ module _ {V W : Type 0} (m : Meaning V W) where
       rw (
         h.state_is,
         ← h.bytes_are,
-        front_behind m.limit s.parsed h.front left h.none_begin,
+        front_after m.limit s.parsed h.front left h.none_begin,
         length-append,
         drop-append-add h.front left (length front),
       )
@@ -67,7 +67,7 @@ module _ {V W : Type 0} (m : Meaning V W) (s : State V W) (bytes : List ℕ) whe
       let whole = take_all read bytes all in
       let none : begin_count (added m.limit s.parsed bytes) ≡ 0 = rw whole at o.none_begin in
       let is : begin_front m.limit s.parsed bytes ≡ bytes =
-      ap (begin_front m.limit s.parsed) (sym (append-nil bytes)) ∙ front_behind m.limit s.parsed bytes [] none
+      ap (begin_front m.limit s.parsed) (sym (append-nil bytes)) ∙ front_after m.limit s.parsed bytes [] none
       ∙ append-nil bytes in
       record {
         progress = λ some. omega (arith, all);
@@ -109,7 +109,7 @@ module _ {V W : Type 0} (m : Meaning V W) (s : State V W) (bytes : List ℕ) whe
       let whole : bytes ≡ take read bytes ++ (slice ++ drop k (drop read bytes)) =
       sym (take-append-drop read bytes) ∙ ap (λ rest. take read bytes ++ rest) parts in
       let all : begin_front m.limit s.parsed bytes ≡ take read bytes ++ front =
-      ap (begin_front m.limit s.parsed) whole ∙ front_behind m.limit s.parsed (take read bytes) _ o.none_begin
+      ap (begin_front m.limit s.parsed) whole ∙ front_after m.limit s.parsed (take read bytes) _ o.none_begin
       ∙ ap (λ x. take read bytes ++ x)
       (front_of_more m.limit (s.parsed ++ take read bytes) slice (drop k (drop read bytes)) some) in
       let size : length (begin_front m.limit s.parsed bytes) ≡ read + n =
@@ -137,7 +137,7 @@ pub halted_nothing : {V W : Type 0} (m : Meaning V W) {s : State V W} {bytes : L
     → there s → Halted m s bytes 0 there
 halted_nothing m {s} at = record { next = s; takes = between done; is_at = at }
 
--- ---- turns of a call, with such a turn behind them
+-- ---- turns of a call, with such a turn after them
 
 module _ {V W : Type 0} (m : Meaning V W) where
   pub one_taken : {s : State V W} {bytes : List ℕ} (answer : Bool) → 0 < length bytes

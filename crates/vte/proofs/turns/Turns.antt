@@ -33,9 +33,9 @@ module _ {P J T A V W : Type 0} {w : Parts P J T W} {value : V} {s : State V W} 
   pub next-at : {turns : Turns P J T A} → AreAt w turns value s → AreNextAt w turns turns value s
   next-at at = record { are_at = at; memory = λ stream count had. had }
 
-  pub behind-next : {old mid new : Turns P J T A} → KeepsMemory w old mid → AreNextAt w mid new value s
+  pub after-next : {old mid new : Turns P J T A} → KeepsMemory w old mid → AreNextAt w mid new value s
       → AreNextAt w old new value s
-  behind-next keeps next =
+  after-next keeps next =
       record { are_at = next.are_at; memory = λ stream count had. next.memory stream count (keeps stream count had) }
 
   -- they stand where they stood, and the handler is the same
@@ -72,7 +72,7 @@ module _ {P J T A V W : Type 0} {w : Parts P J T W} {m : Meaning V W} {s : State
         };
       }
 
--- behind a stop
+-- after a stop
 pub stops_update : {P J T A V W : Type 0} {w : Parts P J T W} {m : Meaning V W} {old mid new : Turns P J T A}
     {before value : V} → KeepsMemory w old mid
     → ((s : State V W) → AreAt w old before s → AreNextAt w mid new value (stop m s))
@@ -104,7 +104,7 @@ ends_turn answer allowed parses keeps (Ok read) less e = record {
         allowed = allowed;
         progress = e.opened.progress;
         rest = rw parses e.opened.rest;
-        is_at = rw parses (behind-next keeps e.opened.is_at);
+        is_at = rw parses (after-next keeps e.opened.is_at);
       };
   halted = tt;
 }
@@ -113,7 +113,7 @@ ends_turn {m = m} {s = s} {bytes = bytes} answer allowed parses keeps (Err refus
   halted = record {
     next = parse m (opened m answer s) (take refused.read bytes);
     takes = within done answer allowed (parses, halts m (opened m answer s) bytes e.halted less);
-    is_at = behind-next keeps e.halted.is_at;
+    is_at = after-next keeps e.halted.is_at;
   };
 }
 
@@ -168,7 +168,7 @@ module _ {V W : Type 0} (m : Meaning V W) (s : State V W) (bytes : List ℕ) whe
         here = (turn m u.answer r.here slice).state;
         enough = omega (arith, r.enough, u.progress left);
         takes = rw rest at (taken_on m s r.here _ bytes slice _ (rw is r.takes) (one_taken m u.answer left u.allowed));
-        is_at = behind-next r.is_at.memory u.is_at;
+        is_at = after-next r.is_at.memory u.is_at;
       }
 
   taken : {read : ℕ} {there : State V W → Type 0} (t : State V W) → TakesSome m s bytes t (drop read bytes) → there t
@@ -199,7 +199,7 @@ module _ {V W : Type 0} (m : Meaning V W) (s : State V W) (bytes : List ℕ) whe
       let is : slice ≡ drop read bytes = rest_is bytes read inside in
       let left : drop n slice ≡ drop (read + n) bytes = rw (is, drop-drop n read bytes) in
       taken h.next (rw left at (some_on m s r.here h.next bytes slice (drop n slice) (rw is r.takes) h.takes))
-      (behind-next r.is_at.memory h.is_at)
+      (after-next r.is_at.memory h.is_at)
 
   -- a call that has read all its bytes
   pub has_advanced : {read : ℕ} {there : State V W → Type 0} → HasTaken m s bytes read there → length bytes ≤ read

@@ -2,10 +2,10 @@
 -- starts. Only a place with ESC can change it, and the older bytes matter only by their last seven.
 use Rattle.vte.proofs.Common.{◌≡◌, ℕ, zero, suc, ◌+◌, ◌-◌, ◌<◌, ◌≤◌, inl, inr, true, false, eqb, Some, None, List, [], ◌∷◌, length, drop, take, get_or, refl}
 use Rattle.vte.proofs.Common.{ap, ◌∙◌, add-zero, length-drop, arith, cases_Bool, nat_tests, drop_all, drop_more, get_or-drop, get_or-take, length-take-le, take_all, and-false, ◌++◌}
-use Rattle.vte.proofs.Common.{IsEnd, drop-drop, length-append, Adds, begin_update, end_update, begins_among, begins_with, behind_last_end, from_begin}
+use Rattle.vte.proofs.Common.{IsEnd, drop-drop, length-append, Adds, begin_update, end_update, begins_among, begins_with, after_last_end, from_begin}
 use Rattle.std.specs.Prelude.{nat_lt}
 use Rattle.memchr.specs.Find.{NoneAfter, Nowhere, Passes, is_byte}
-use Rattle.vte.proofs.updates.Sequences.{begins_among-tail, begins_is, begins_long, behind_last_end-tail, end_skipped}
+use Rattle.vte.proofs.updates.Sequences.{begins_among-tail, begins_is, begins_long, after_last_end-tail, end_skipped}
 
 -- no update begins or ends with the sequence at this place
 record IsNeither (text : List ℕ) (place : ℕ) : Type 0 where
@@ -75,7 +75,7 @@ begins_one text e = rw (begins_is begin_update text e) refl
 
 -- what is after a place, of a text of which so many bytes are new
 pub record HasSeen (text : List ℕ) (new unread begin begins : ℕ) : Type 0 where
-  pub no_end : behind_last_end (drop unread text) ≡ None
+  pub no_end : after_last_end (drop unread text) ≡ None
   pub begin_is : begin ≡ length text - length (from_begin (drop unread text))
   pub begins_are : begins ≡ begins_among new (drop unread text)
 
@@ -107,16 +107,16 @@ module _ (text : List ℕ) (new place begin begins : ℕ) (l : place < length te
   seen_end e =
       let d = drop_more text place 0 l in
       let skipped = end_skipped new (get_or text place 0) (drop (place + 1) text) (rw d at e) in
-      let last : behind_last_end text ≡ Some (drop 7 (drop (place + 1) text)) = last_of place text _ (grind arith) in
+      let last : after_last_end text ≡ Some (drop 7 (drop (place + 1) text)) = last_of place text _ (grind arith) in
       record {
         begins = rw last (seen.begins_are ∙ skipped.1);
         released = rw last (seen.begin_is ∙ ap (λ part. length text - length part) skipped.0);
       }
     where
-      last_of : (n : ℕ) (h behind : List ℕ) → behind_last_end (drop n h) ≡ Some behind → behind_last_end h ≡ Some behind
-      last_of zero h behind e = e
-      last_of (suc n) [] behind e = e
-      last_of (suc n) (b ∷ h) behind e = rw (last_of n h behind e) refl
+      last_of : (n : ℕ) (h later : List ℕ) → after_last_end (drop n h) ≡ Some later → after_last_end h ≡ Some later
+      last_of zero h later e = e
+      last_of (suc n) [] later e = e
+      last_of (suc n) (b ∷ h) later e = rw (last_of n h later e) refl
 
 -- ---- many places more
 
@@ -218,7 +218,7 @@ module _ {held more text : List ℕ} {start : ℕ} (e : IsEnd held more text sta
       }
 
   -- if no ESC is left, there is no end-update, as there is none in the older bytes
-  pub seen_all : (unread begin begins : ℕ) → behind_last_end held ≡ None → unread ≤ length text
+  pub seen_all : (unread begin begins : ℕ) → after_last_end held ≡ None → unread ≤ length text
       → Nowhere (Passes (is_byte 0x1b) (take unread text)) 0 (length (take unread text))
       → HasSeen all (length more) (start + unread) begin begins
       → Adds all (length more) (record { begins = begins; released = 0 })
@@ -227,7 +227,7 @@ module _ {held more text : List ℕ} {start : ℕ} (e : IsEnd held more text sta
       seen_down all (length more) start (start + unread) begin begins (omega arith) (omega (arith, whole_size))
       (neither_between 0 start unread (omega arith) within nowhere) seen in
       let tail : drop start all ≡ drop (length held - 7) all = rw e.start_is in
-      let no_end : behind_last_end all ≡ None = cc (tail, behind_last_end-tail held more none, rest.no_end) in
+      let no_end : after_last_end all ≡ None = cc (tail, after_last_end-tail held more none, rest.no_end) in
       record {
         begins = rw no_end (cc (tail, rest.begins_are, begins_among-tail (length more) held more refl));
         released = rw no_end (omega arith);

@@ -1,7 +1,7 @@
 -- The two sequences of updates in a text, and the parts after them. Both have eight bytes and one ESC, so they never
 -- overlap; without an end-update in the older bytes, their last seven decide as all of them would.
 use Rattle.vte.proofs.Common.{◌≡◌, ℕ, zero, suc, ◌+◌, ◌-◌, ◌≤◌, inl, inr, ◌⊎◌, true, false, Option, Some, None, List, [], ◌∷◌, ◌++◌, length, drop, refl, ap}
-use Rattle.vte.proofs.Common.{zero-add, length-append, length-drop, arith, cases_Bool, cases_lt, nat_tests, and-false, drop-drop, begin_update, end_update, begins_with, behind_last_end, from_begin}
+use Rattle.vte.proofs.Common.{zero-add, length-append, length-drop, arith, cases_Bool, cases_lt, nat_tests, and-false, drop-drop, begin_update, end_update, begins_with, after_last_end, from_begin}
 use Rattle.vte.proofs.Common.{begins_among, kept_of, sym, ◌<◌}
 use Rattle.std.specs.Prelude.{nat_lt}
 
@@ -61,27 +61,27 @@ suffix-more : {part text : List ℕ} (b : ℕ) → IsSuffix part text → IsSuff
 suffix-more b s = record { front = suc s.front; within = omega (arith, s.within); is = s.is }
 
 -- without an end-update in a text there is none in its parts
-pub none_drop : (n : ℕ) (text : List ℕ) → behind_last_end text ≡ None → behind_last_end (drop n text) ≡ None
+pub none_drop : (n : ℕ) (text : List ℕ) → after_last_end text ≡ None → after_last_end (drop n text) ≡ None
 none_drop zero text e = e
 none_drop (suc n) [] e = e
 none_drop (suc n) (b ∷ text) e = grind (arith, none_drop n text)
 
 -- what stands after the last end-update has none
-pub record FollowsLastEnd (behind text : List ℕ) : Type 0 where
-  pub suffix : IsSuffix behind text
-  pub no_end : behind_last_end behind ≡ None
+pub record FollowsLastEnd (rest text : List ℕ) : Type 0 where
+  pub suffix : IsSuffix rest text
+  pub no_end : after_last_end rest ≡ None
 
-pub follows_last_end : (text behind : List ℕ) → behind_last_end text ≡ Some behind → FollowsLastEnd behind text
-follows_last_end [] behind e = cc
-follows_last_end (b ∷ text) behind e = elim (cases_Option (behind_last_end text)) [
+pub follows_last_end : (text rest : List ℕ) → after_last_end text ≡ Some rest → FollowsLastEnd rest text
+follows_last_end [] rest e = cc
+follows_last_end (b ∷ text) rest e = elim (cases_Option (after_last_end text)) [
   | inl none ↦
-      let is : behind ≡ drop 7 text = grind arith in
+      let is : rest ≡ drop 7 text = grind arith in
       record {
         suffix = record { front = 8; within = begins_long end_update (b ∷ text) (grind arith); is = is };
         no_end = rw is (none_drop 7 text none);
       }
   | inr later ↦
-      let l = follows_last_end text behind (grind arith) in
+      let l = follows_last_end text rest (grind arith) in
       record { suffix = suffix-more b l.suffix; no_end = l.no_end }
 ]
 
@@ -102,11 +102,11 @@ starts_at_begin (b ∷ text) = elim (cases_Bool (begins_with begin_update (b ∷
 -- what stays held: all of it, or what starts with a begin-update
 pub record StaysHeld (held kept : List ℕ) : Type 0 where
   pub suffix : IsSuffix kept held
-  pub no_end : behind_last_end kept ≡ None
+  pub no_end : after_last_end kept ≡ None
   pub begins : (kept ≡ held) ⊎ (0 < length kept → begins_with begin_update kept ≡ true)
 
 pub stays_held : (held : List ℕ) → StaysHeld held (kept_of held)
-stays_held held = elim (cases_Option (behind_last_end held)) [
+stays_held held = elim (cases_Option (after_last_end held)) [
   | inl none ↦
       rw none
       (record { suffix = record { front = 0; within = omega arith; is = refl }; no_end = none; begins = inl refl })
@@ -129,18 +129,18 @@ stays-is held =
 -- ---- the last seven of the older bytes suffice, if no end-update is in them
 
 -- an end-update that begins eight bytes before the end of the older ones would be in them
-no_end_here : (b : ℕ) (old more : List ℕ) → 7 ≤ length old → behind_last_end (b ∷ old) ≡ None
+no_end_here : (b : ℕ) (old more : List ℕ) → 7 ≤ length old → after_last_end (b ∷ old) ≡ None
     → begins_with end_update (b ∷ (old ++ more)) ≡ false
 no_end_here b old more long none = grind (arith, begins_with-more end_update (b ∷ old) more (omega arith))
 
-pub behind_last_end-tail : (old more : List ℕ) → behind_last_end old ≡ None
-    → behind_last_end (old ++ more) ≡ behind_last_end (drop (length old - 7) (old ++ more))
-behind_last_end-tail [] more none = refl
-behind_last_end-tail (b ∷ old) more none = elim (cases_lt (length old) 7) [
+pub after_last_end-tail : (old more : List ℕ) → after_last_end old ≡ None
+    → after_last_end (old ++ more) ≡ after_last_end (drop (length old - 7) (old ++ more))
+after_last_end-tail [] more none = refl
+after_last_end-tail (b ∷ old) more none = elim (cases_lt (length old) 7) [
   | inl few ↦ let e : suc (length old) - 7 ≡ 0 = omega arith in rw e
   | inr many ↦
       let e : suc (length old) - 7 ≡ suc (length old - 7) = omega arith in
-      rw e (grind (arith, no_end_here b old more many none, behind_last_end-tail old more))
+      rw e (grind (arith, no_end_here b old more many none, after_last_end-tail old more))
 ]
 
 -- A begin-update ends among the last n bytes only if it begins among these and the seven before

@@ -48,7 +48,7 @@ with_private_modes step timeout lent groups = record lent {
   terminated = lent.terminated || nat_lt 0 (update_groups groups);
 }
 
--- A parser has read bytes behind a stream, and performed what they add. It still has memory for so
+-- A parser has read bytes after a stream, and performed what they add. It still has memory for so
 -- many.
 pub record HasPerformed {P V W : Type 0} (reading : Reading P) (limit : Option ℕ)
     (step : Lent V W → Event → Lent V W) (next : P) (old new : Lent V W)
@@ -66,7 +66,7 @@ pub record HasStopped {P V W : Type 0} (reading : Reading P) (limit : Option ℕ
   pub fits : All (FitsText old.room) (added limit stream bytes)
   pub reads : reading.has_read next (stream_at stream bytes read)
 
--- So it does behind each stream that it has read, if it has memory for all bytes. Memory that was
+-- So it does after each stream that it has read, if it has memory for all bytes. Memory that was
 -- there stays.
 pub record ParsesLent {P V W : Type 0} (reading : Reading P) (limit : Option ℕ)
     (step : Lent V W → Event → Lent V W) (parser next : P) (old new : Lent V W)

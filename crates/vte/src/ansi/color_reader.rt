@@ -14,7 +14,7 @@ fn next_part<I: NumberIterator>(numbers: &mut I) -> Option<u8>
 }
 
 /// Reads a colour of this kind, and uses up what it read.
-#[tactic(auto, using(crate::proofs::ColorReadings::no_red, crate::proofs::ColorReadings::behind_red, crate::proofs::ColorReadings::behind_green, crate::proofs::ColorReadings::behind_blue))]
+#[tactic(auto, using(crate::proofs::ColorReadings::no_red, crate::proofs::ColorReadings::after_red, crate::proofs::ColorReadings::after_green, crate::proofs::ColorReadings::after_blue))]
 pub(crate) fn read_color<I: NumberIterator>(kind: u16, numbers: &mut I) -> Option<Color>
     ensures color { result ≡ (kind_reading kind (map I.number (I.left numbers.old))).color }
     ensures rest { I.left numbers.new

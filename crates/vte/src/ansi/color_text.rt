@@ -4,27 +4,27 @@ ghost use Rattle.vte.specs.ColorText.{xparse_color_of, color_of_parts, color_of_
 ghost use Rattle.vte.specs.Parts.{parts_of};
 ghost use Rattle.vte_types.specs.Hex.{hex_number};
 
-use crate::ansi::parts::{behind, cut};
+use crate::ansi::parts::{split_at_first, strip_word};
 use vte_types::Rgb;
 
 /// Returns the colour that a text names.
 pub(crate) fn xparse_color(text: &[u8]) -> Option<Rgb>
     ensures { result ≡ xparse_color_of text.now }
 {
-    if let Some(parts) = behind(text, b"rgb:") {
+    if let Some(parts) = strip_word(text, b"rgb:") {
         return color_by_parts(parts);
     }
-    color_by_thirds(behind(text, b"#")?)
+    color_by_thirds(strip_word(text, b"#")?)
 }
 
 #[tactic(auto, using(crate::proofs::ColorTexts::fourth_part))]
 fn color_by_parts(text: &[u8]) -> Option<Rgb>
     ensures { result ≡ color_of_parts (parts_of 0x2f text.now) }
 {
-    let (r, behind_r) = cut(text, b'/');
-    let (g, behind_g) = cut(behind_r?, b'/');
-    let (b, behind_b) = cut(behind_g?, b'/');
-    if behind_b.is_some() {
+    let (r, after_r) = split_at_first(text, b'/');
+    let (g, after_g) = split_at_first(after_r?, b'/');
+    let (b, after_b) = split_at_first(after_g?, b'/');
+    if after_b.is_some() {
         return None;
     }
     Some(Rgb {

@@ -11,7 +11,7 @@ ghost use Rattle.vte_types.specs.CursorIcon.{icon_of};
 ghost use Rattle.vte_types.specs.Words.{is_word};
 
 use crate::ansi::color_text::xparse_color;
-use crate::ansi::parts::{behind, id_in};
+use crate::ansi::parts::{id_in, strip_word};
 use crate::ansi::text_buffer::TextBuffer;
 use crate::ansi::titles::{join_texts, parse_number, perform_title, push_number, text_in};
 use arrayvec::ArrayString;
@@ -196,7 +196,7 @@ fn set_shape<H: Handler>(handler: &mut H, texts: &[&[u8]])
         ≡ after H.step (H.value_of handler.old) (shape_calls (map (λ piece. piece.now) texts.now)) }
 {
     if let [text, ..] = texts {
-        match behind(text, b"CursorShape=") {
+        match strip_word(text, b"CursorShape=") {
             Some([b'0', ..]) => handler.set_cursor_shape(CursorShape::Block),
             Some([b'1', ..]) => handler.set_cursor_shape(CursorShape::Beam),
             Some([b'2', ..]) => handler.set_cursor_shape(CursorShape::Underline),

@@ -1,7 +1,7 @@
 //! The bytes of an update that are held back, in memory that is allocated once.
 ghost use Rattle.std.proofs.Props.{props};
 ghost use Rattle.std.specs.Prelude.{◌≡◌, ◌+◌, ◌≤◌, [], None, length, drop, IfOk, vec_capacity};
-ghost use Rattle.vte.specs.Synchronized.{behind_last_end};
+ghost use Rattle.vte.specs.Synchronized.{after_last_end};
 ghost use Rattle.vte.specs.Processor.{most_held};
 ghost use Rattle.vte.specs.declared.ansi.hold.TheConstants.{ROOM};
 
@@ -20,7 +20,7 @@ pub(crate) struct SyncState<A: Allocator> {
     bytes: Vec<u8, A>,
     released: usize,
     ghost within: { released ≤ length bytes.items },
-    ghost no_end: { behind_last_end (drop released bytes.items) ≡ None } by { Prim.hlevel props },
+    ghost no_end: { after_last_end (drop released bytes.items) ≡ None } by { Prim.hlevel props },
     ghost fits: { length (drop released bytes.items) ≤ most_held },
     // The memory never grows.
     ghost room: { ROOM ≤ vec_capacity bytes },

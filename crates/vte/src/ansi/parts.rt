@@ -1,14 +1,14 @@
 //! Prefixes of texts, and parts between separators.
 ghost use Rattle.std.specs.Prelude.{◌≡◌, ◌<◌, ◌∷◌, codes, length, option_map, IfSome};
-ghost use Rattle.vte.specs.Parts.{first_behind, parts_of, parts_left};
-ghost use Rattle.vte_types.specs.Words.{behind_word};
+ghost use Rattle.vte.specs.Parts.{first_after, parts_of, parts_left};
+ghost use Rattle.vte_types.specs.Words.{after_word};
 
 use vte_types::laws;
 
 /// Returns what follows a word at the start of the text, or `None` if the text doesn't start with
 /// it.
-pub(crate) fn behind<'a>(text: &'a [u8], word: &[u8]) -> Option<&'a [u8]>
-    ensures { option_map (λ rest. rest.now) result ≡ behind_word word.now text.now }
+pub(crate) fn strip_word<'a>(text: &'a [u8], word: &[u8]) -> Option<&'a [u8]>
+    ensures { option_map (λ rest. rest.now) result ≡ after_word word.now text.now }
 {
     laws::words_stand_in_front();
     text.strip_prefix(word)
@@ -16,7 +16,7 @@ pub(crate) fn behind<'a>(text: &'a [u8], word: &[u8]) -> Option<&'a [u8]>
 
 /// Splits a text at its first separator: returns the part before it, and what follows it if there
 /// is one.
-pub(crate) fn cut(text: &[u8], separator: u8) -> (&[u8], Option<&[u8]>)
+pub(crate) fn split_at_first(text: &[u8], separator: u8) -> (&[u8], Option<&[u8]>)
     ensures parts { parts_of separator text.now ≡ result.0.now ∷ parts_left separator result.1 }
     ensures shorter { IfSome result.1 (λ rest. length rest.now < length text.now) }
 {
@@ -29,12 +29,12 @@ pub(crate) fn cut(text: &[u8], separator: u8) -> (&[u8], Option<&[u8]>)
 /// Returns what follows `id=` in the first part that starts with it.
 pub(crate) fn id_in(parameters: &[u8]) -> Option<&[u8]>
     ensures { option_map (λ rest. rest.now) result
-        ≡ first_behind (codes "id=") (parts_of 0x3a parameters.now) }
+        ≡ first_after (codes "id=") (parts_of 0x3a parameters.now) }
 {
     let mut left = Some(parameters);
     while let Some(text) = left {
-        let (part, rest) = cut(text, b':');
-        let id = behind(part, b"id=");
+        let (part, rest) = split_at_first(text, b':');
+        let id = strip_word(part, b"id=");
         if id.is_some() {
             return id;
         }

@@ -2,7 +2,7 @@
 ghost use Rattle.std.specs.Prelude.{◌≡◌, false, map};
 ghost use Rattle.std.specs.Str.{chars};
 ghost use Rattle.vte_core.specs.Event.{Print};
-ghost use Rattle.vte.specs.Calls.{last_printed_behind};
+ghost use Rattle.vte.specs.Calls.{last_printed_from};
 ghost use Rattle.vte.specs.machine.Lent.{lent_of, with_private_mode, with_private_modes};
 ghost use Rattle.vte.specs.Processor.{timeout_meaning};
 ghost use Rattle.vte.specs.TextRoom.{fits_room};
@@ -68,7 +68,7 @@ impl<'s, 'h, H: InputAs<G>, T: Timeout + Drop, J: TextBuffer + Drop, G> Perform
     fn unhook(&mut self) {}
 
     fn osc_dispatch(&mut self, params: &[&[u8]], bell_terminated: bool) {
-        if fit(params, self.state.text.capacity()) {
+        if pieces_fit(params, self.state.text.capacity()) {
             perform_system_command(self.handler, &mut self.state.text, params, bell_terminated);
         }
     }
@@ -149,13 +149,13 @@ impl<'s, 'h, H: Handler, T: Timeout + Drop, J: TextBuffer + Drop, G> Performer<'
 /// Returns the last character of a text, or the one before it if the text is empty.
 #[tactic(auto, using(crate::proofs::performing::TextRuns::last_of_text))]
 fn last_char(text: &str, before: Option<char>) -> Option<char>
-    ensures { result ≡ last_printed_behind before (map Print (chars text.now)) }
+    ensures { result ≡ last_printed_from before (map Print (chars text.now)) }
 {
     text.chars().next_back().or(before)
 }
 
 /// Returns whether the joined pieces fit a buffer of this size.
-fn fit(pieces: &[&[u8]], size: usize) -> bool
+fn pieces_fit(pieces: &[&[u8]], size: usize) -> bool
     ensures { result ≡ fits_room size (map (λ piece. piece.now) pieces.now) }
 {
     let mut room = size;

@@ -11,7 +11,7 @@ use vte_handler::Handler;
 use vte_types::{Attr, Color, NamedColor};
 
 /// Calls the handler for each attribute of the groups.
-#[tactic(auto, using(crate::proofs::Calling::attributes_behind))]
+#[tactic(auto, using(crate::proofs::Calling::attributes_after))]
 pub(crate) fn perform_attributes<H: Handler>(handler: &mut H, params: &Params)
     ensures { H.value_of handler.new
         ≡ after H.step (H.value_of handler.old) (attribute_calls params.now) }

@@ -1,7 +1,7 @@
 //! Texts that are joined from pieces, and numbers in commands.
 ghost use Rattle.std.specs.Prelude.{◌≡◌, ◌≤◌, ◌+◌, ◌++◌, length, map, option_map};
 ghost use Rattle.std.specs.Fmt.{decimal};
-ghost use Rattle.vte.specs.Titles.{behind, decimal_number, joined_texts, text_in, title_calls};
+ghost use Rattle.vte.specs.Titles.{with_separator, decimal_number, joined_texts, text_in, title_calls};
 ghost use Rattle.vte.specs.TextRoom.{FitsRoom};
 ghost use Rattle.vte_handler.specs.Handler.{after};
 
@@ -50,7 +50,7 @@ pub(crate) fn join_texts<J: TextBuffer>(text: &mut J, pieces: &[&[u8]], keeps_al
 /// Appends a text to those before it, after a `;` unless it is the first.
 fn push_part<J: TextBuffer>(text: &mut J, is_first: bool, part: &str)
     requires { length (J.held text.old) + length part.now + 1 ≤ J.room text.old }
-    ensures pushed { J.held text.new ≡ J.held text.old ++ behind is_first part.now }
+    ensures pushed { J.held text.new ≡ J.held text.old ++ with_separator is_first part.now }
     ensures same { J.room text.new ≡ J.room text.old }
 {
     if !is_first {

@@ -4,7 +4,7 @@ use Rattle.vte_core.proofs.Common.{◌≡◌, ℕ, ◌+◌, ◌*◌, ◌%◌, �
 use Rattle.vte_core.proofs.Common.{inr, IsScalar, InScalarRange, and_from, nat_tests, Two, Three, is_in, is_well_formed, is_truncated, scalar_of, utf8_rows, second_range, Carries}
 use Rattle.vte_core.specs.declared.utf8.Carried.{Carried}
 use Rattle.vte_core.specs.declared.utf8.Carried.TheVariants.{Unfinished, Whole, Broken}
-use Rattle.vte_core.proofs.bytes.FirstBytes.{second_plain, continuation, behind_lone, behind_none, Tests, tests_none, tests_two, tests_three, tests_four, truncated_first, TruncatedTwo, truncated_two}
+use Rattle.vte_core.proofs.bytes.FirstBytes.{second_plain, continuation, rows_lone, rows_none, Tests, tests_none, tests_two, tests_three, tests_four, truncated_first, TruncatedTwo, truncated_two}
 use Rattle.vte_core.proofs.bytes.FirstBytes.{TruncatedThree, truncated_three}
 use Rattle.vte_core.proofs.bytes.Scalars.{SecondByte, second_byte, continuation-bounds, scalar_of-in_range, well_formed_is_scalar}
 
@@ -16,8 +16,8 @@ first_truncated b low high = grind (arith, nat_tests)
 
 -- a byte that begins no sequence and is none
 pub begins_none : (b : ℕ) → ((0x80 ≤ b) × (b < 0xc2)) ⊎ (0xf5 ≤ b) → Tests (b ∷ []) false false
-begins_none b (inl lone) = tests_none b (behind_lone b lone.0 lone.1) []
-begins_none b (inr past) = tests_none b (behind_none b past) []
+begins_none b (inl lone) = tests_none b (rows_lone b lone.0 lone.1) []
+begins_none b (inr past) = tests_none b (rows_none b past) []
 
 -- ---- a character made of its bytes
 

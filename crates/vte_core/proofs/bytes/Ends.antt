@@ -3,7 +3,7 @@
 use Rattle.vte_core.proofs.Common.{◌≡◌, ℕ, zero, suc, ◌+◌, ◌<◌, ◌≤◌, inl, inr, Bool, utf8_rows, true, false, List, [], ◌∷◌, length, take, drop, refl, sym, ap, subst, ◌∙◌, arith, false≢true, cases_Bool, cases_lt}
 use Rattle.vte_core.proofs.Common.{and_parts, nat_tests, drop_all, drop_more, slice_index, Range, to, is_in, is_layout, is_left_out, is_control_character, is_well_formed, second_range, scalar_of, EndsRun}
 use Rattle.vte_core.proofs.bytes.Scalars.{continuation-bounds, in_range-bounds}
-use Rattle.vte_core.proofs.bytes.FirstBytes.{behind_lone, behind_none, continuation, fits, second_plain, tests_ascii, tests_none, tests_two, tests_three, tests_four}
+use Rattle.vte_core.proofs.bytes.FirstBytes.{rows_lone, rows_none, continuation, fits, second_plain, tests_ascii, tests_none, tests_two, tests_three, tests_four}
 
 -- The bytes from a place on are each in its range.
 abbrev pub AreIn : List Range → List ℕ → ℕ → Type 0
@@ -47,21 +47,21 @@ fits-one range bytes i m fit =
 
 module _ (keeps : Bool) (bytes : List ℕ) (from a : ℕ) (within : from < length bytes)
     (is : a ≡ slice_index bytes from) where
-  abbrev behind : ℕ → List ℕ
-  behind m = take m (drop (from + 1) bytes)
+  abbrev later : ℕ → List ℕ
+  later m = take m (drop (from + 1) bytes)
 
   -- a well-formed sequence there begins with the byte
   record Begins (n : ℕ) : Type 0 where
     m : ℕ
-    parts : take n (drop from bytes) ≡ a ∷ behind m
-    well : is_well_formed (a ∷ behind m) ≡ true
+    parts : take n (drop from bytes) ≡ a ∷ later m
+    well : is_well_formed (a ∷ later m) ≡ true
 
   begins : (n : ℕ) → is_well_formed (take n (drop from bytes)) ≡ true → Begins n
   unfolding is_well_formed utf8_rows
   begins zero whole = absurd (let e : false ≡ true = whole in false≢true e)
   begins (suc m) whole =
-      let parts : take (suc m) (drop from bytes) ≡ a ∷ behind m =
-      ap (take (suc m)) (drop_more bytes from 0 within) ∙ ap (λ x. x ∷ behind m) (sym is) in
+      let parts : take (suc m) (drop from bytes) ≡ a ∷ later m =
+      ap (take (suc m)) (drop_more bytes from 0 within) ∙ ap (λ x. x ∷ later m) (sym is) in
       record { m = m; parts = parts; well = subst (λ (x : List ℕ). is_well_formed x ≡ true) parts whole }
 
   left_out : (c : ℕ) → is_control_character c ≡ true → (keeps ≡ true → is_layout c ≡ false) → is_left_out keeps c ≡ true
@@ -78,17 +78,17 @@ module _ (keeps : Bool) (bytes : List ℕ) (from a : ℕ) (within : from < lengt
       let p = begins n whole in
       elim (cases_lt a 0x80) [
         | inl low ↦
-            let none = fits-none (behind p.m) (sym (tests_ascii a low (behind p.m)).is_whole ∙ p.well) in
+            let none = fits-none (later p.m) (sym (tests_ascii a low (later p.m)).is_whole ∙ p.well) in
             let control : is_control_character a ≡ true = grind (arith, nat_tests) in
             rw (p.parts, none) (left_out a control plain)
         | inr high ↦ elim (cases_lt a 0xc2) [
           | inl below ↦
               absurd
               (false≢true
-              (sym (tests_none a (behind_lone a (omega (arith, high)) below) (behind p.m)).is_whole ∙ p.well))
+              (sym (tests_none a (rows_lone a (omega (arith, high)) below) (later p.m)).is_whole ∙ p.well))
           | inr above ↦
               let past : 0xf5 ≤ a = grind (arith, nat_tests) in
-              absurd (false≢true (sym (tests_none a (behind_none a past) (behind p.m)).is_whole ∙ p.well))
+              absurd (false≢true (sym (tests_none a (rows_none a past) (later p.m)).is_whole ∙ p.well))
         ]
       ]
 
@@ -99,7 +99,7 @@ module _ (keeps : Bool) (bytes : List ℕ) (from a : ℕ) (within : from < lengt
   ends-two low high none n far whole =
       let p = begins n whole in
       let one =
-      fits-one (second_range a) bytes (from + 1) p.m (sym (tests_two a low high (behind p.m)).is_whole ∙ p.well) in
+      fits-one (second_range a) bytes (from + 1) p.m (sym (tests_two a low high (later p.m)).is_whole ∙ p.well) in
       let b : ℕ = slice_index bytes (from + 1) in
       let second : is_in continuation b ≡ true =
       subst (λ range. is_in range b ≡ true)
@@ -124,7 +124,7 @@ module _ (keeps : Bool) (bytes : List ℕ) (from a : ℕ) (within : from < lengt
       let p = begins n whole in
       let those =
       fits-in (second_range a ∷ continuation ∷ []) bytes (from + 1) p.m
-      (sym (tests_three a low high (behind p.m)).is_whole ∙ p.well) in
+      (sym (tests_three a low high (later p.m)).is_whole ∙ p.well) in
       let e : from + 1 + 1 ≡ from + 2 = omega arith in
       absurd (none (rw e at those.2.0) those.1 (rw e at those.2.1))
 
@@ -137,7 +137,7 @@ module _ (keeps : Bool) (bytes : List ℕ) (from a : ℕ) (within : from < lengt
       let p = begins n whole in
       let those =
       fits-in (second_range a ∷ continuation ∷ continuation ∷ []) bytes (from + 1) p.m
-      (sym (tests_four a low high (behind p.m)).is_whole ∙ p.well) in
+      (sym (tests_four a low high (later p.m)).is_whole ∙ p.well) in
       let e : from + 1 + 1 ≡ from + 2 = omega arith in
       let f : from + 2 + 1 ≡ from + 3 = omega arith in
       absurd (none (rw (e, f) at those.2.2.0) those.1 (rw e at those.2.1) (rw (e, f) at those.2.2.1))

@@ -1,6 +1,6 @@
 -- What the rows of UTF-8 say of a first byte, and of short sequences, in numbers: by the nine rows, which ascend.
 use Rattle.vte_core.proofs.Common.{◌≡◌, ℕ, ◌<◌, ◌≤◌, Bool, true, false, ◌&&◌, List, [], ◌∷◌, ◌++◌, refl, sym, ap, ◌∙◌, arith, ◌≢◌, inl, inr, false≢true, length}
-use Rattle.vte_core.proofs.Common.{and_right, cases_lt, cases_Bool, nat_tests, Range, to, is_in, utf8_rows, wanted_behind, wanted, is_well_formed, is_truncated, second_range}
+use Rattle.vte_core.proofs.Common.{and_right, cases_lt, cases_Bool, nat_tests, Range, to, is_in, utf8_rows, rows_after, wanted, is_well_formed, is_truncated, second_range}
 use Rattle.vte_core.proofs.bytes.Utf8Lemmas.{wanted_none, some_whole, some_open}
 
 -- ---- what the rows want after a first byte
@@ -13,36 +13,36 @@ second_plain a e0 ed f0 f4 = grind (arith, nat_tests)
 abbrev pub continuation : Range
 continuation = to 0x80 0xbf
 
-pub behind_ascii : (a : ℕ) → a < 0x80 → wanted_behind a utf8_rows ≡ [] ∷ []
+pub rows_ascii : (a : ℕ) → a < 0x80 → rows_after a utf8_rows ≡ [] ∷ []
 unfolding utf8_rows
-behind_ascii a high = grind (arith, nat_tests)
+rows_ascii a high = grind (arith, nat_tests)
 
-pub behind_lone : (a : ℕ) → 0x80 ≤ a → a < 0xc2 → wanted_behind a utf8_rows ≡ []
+pub rows_lone : (a : ℕ) → 0x80 ≤ a → a < 0xc2 → rows_after a utf8_rows ≡ []
 unfolding utf8_rows
-behind_lone a low high = grind (arith, nat_tests)
+rows_lone a low high = grind (arith, nat_tests)
 
-pub behind_none : (a : ℕ) → 0xf5 ≤ a → wanted_behind a utf8_rows ≡ []
+pub rows_none : (a : ℕ) → 0xf5 ≤ a → rows_after a utf8_rows ≡ []
 unfolding utf8_rows
-behind_none a low = grind (arith, nat_tests)
+rows_none a low = grind (arith, nat_tests)
 
-pub behind_two : (a : ℕ) → 0xc2 ≤ a → a < 0xe0 → wanted_behind a utf8_rows ≡ (second_range a ∷ []) ∷ []
+pub rows_two : (a : ℕ) → 0xc2 ≤ a → a < 0xe0 → rows_after a utf8_rows ≡ (second_range a ∷ []) ∷ []
 unfolding utf8_rows second_range
-behind_two a low high = grind (arith, nat_tests)
+rows_two a low high = grind (arith, nat_tests)
 
-pub behind_three : (a : ℕ) → 0xe0 ≤ a → a < 0xf0 → wanted_behind a utf8_rows ≡ (second_range a ∷ continuation ∷ []) ∷ []
+pub rows_three : (a : ℕ) → 0xe0 ≤ a → a < 0xf0 → rows_after a utf8_rows ≡ (second_range a ∷ continuation ∷ []) ∷ []
 unfolding utf8_rows second_range
-behind_three a low high = grind (arith, nat_tests)
+rows_three a low high = grind (arith, nat_tests)
 
-pub behind_four : (a : ℕ) → 0xf0 ≤ a → a < 0xf5
-    → wanted_behind a utf8_rows ≡ (second_range a ∷ continuation ∷ continuation ∷ []) ∷ []
+pub rows_four : (a : ℕ) → 0xf0 ≤ a → a < 0xf5
+    → rows_after a utf8_rows ≡ (second_range a ∷ continuation ∷ continuation ∷ []) ∷ []
 unfolding utf8_rows second_range
-behind_four a low high = grind (arith, nat_tests)
+rows_four a low high = grind (arith, nat_tests)
 
 -- ---- the kinds of first bytes
 
 pub data FirstByte (a : ℕ) : Type 0 where
   ascii : a < 0x80 → FirstByte a
-  lone : wanted_behind a utf8_rows ≡ [] → FirstByte a
+  lone : rows_after a utf8_rows ≡ [] → FirstByte a
   of_two : 0xc2 ≤ a → a < 0xe0 → FirstByte a
   of_three : 0xe0 ≤ a → a < 0xf0 → FirstByte a
   of_four : 0xf0 ≤ a → a < 0xf5 → FirstByte a
@@ -52,14 +52,14 @@ first_byte a =
     elim (cases_lt a 0x80) [
       | inl below ↦ ascii below
       | inr from_80 ↦ elim (cases_lt a 0xc2) [
-        | inl below ↦ lone (behind_lone a from_80 below)
+        | inl below ↦ lone (rows_lone a from_80 below)
         | inr from_c2 ↦ elim (cases_lt a 0xe0) [
           | inl below ↦ of_two from_c2 below
           | inr from_e0 ↦ elim (cases_lt a 0xf0) [
             | inl below ↦ of_three from_e0 below
             | inr from_f0 ↦ elim (cases_lt a 0xf5) [
               | inl below ↦ of_four from_f0 below
-              | inr from_f5 ↦ lone (behind_none a from_f5)
+              | inr from_f5 ↦ lone (rows_none a from_f5)
             ]
           ]
         ]
@@ -106,7 +106,7 @@ pub record Tests (bytes : List ℕ) (whole more : Bool) : Type 0 where
   pub is_whole : is_well_formed bytes ≡ whole
   pub is_open : is_truncated bytes ≡ more
 
-pub tests_row : (a : ℕ) (ranges : List Range) → wanted_behind a utf8_rows ≡ ranges ∷ [] → (u : List ℕ)
+pub tests_row : (a : ℕ) (ranges : List Range) → rows_after a utf8_rows ≡ ranges ∷ [] → (u : List ℕ)
     → Tests (a ∷ u) (fits ranges u) (fits_front ranges u)
 unfolding is_well_formed is_truncated
 tests_row a ranges same u = record {
@@ -114,7 +114,7 @@ tests_row a ranges same u = record {
   is_open = ap (λ (rows : List (List Range)). some_open (wanted u rows)) same ∙ some_open-row ranges u;
 }
 
-pub tests_none : (a : ℕ) → wanted_behind a utf8_rows ≡ [] → (u : List ℕ) → Tests (a ∷ u) false false
+pub tests_none : (a : ℕ) → rows_after a utf8_rows ≡ [] → (u : List ℕ) → Tests (a ∷ u) false false
 unfolding is_well_formed is_truncated
 tests_none a none u = record {
   is_whole = ap (λ (rows : List (List Range)). some_whole (wanted u rows)) none ∙ ap some_whole (wanted_none u);
@@ -122,20 +122,20 @@ tests_none a none u = record {
 }
 
 pub tests_ascii : (a : ℕ) → a < 0x80 → (u : List ℕ) → Tests (a ∷ u) (fits [] u) false
-tests_ascii a high u = tests_row a [] (behind_ascii a high) u
+tests_ascii a high u = tests_row a [] (rows_ascii a high) u
 
 pub tests_two : (a : ℕ) → 0xc2 ≤ a → a < 0xe0 → (u : List ℕ)
     → Tests (a ∷ u) (fits (second_range a ∷ []) u) (fits_front (second_range a ∷ []) u)
-tests_two a low high u = tests_row a _ (behind_two a low high) u
+tests_two a low high u = tests_row a _ (rows_two a low high) u
 
 pub tests_three : (a : ℕ) → 0xe0 ≤ a → a < 0xf0 → (u : List ℕ)
     → Tests (a ∷ u) (fits (second_range a ∷ continuation ∷ []) u) (fits_front (second_range a ∷ continuation ∷ []) u)
-tests_three a low high u = tests_row a _ (behind_three a low high) u
+tests_three a low high u = tests_row a _ (rows_three a low high) u
 
 pub tests_four : (a : ℕ) → 0xf0 ≤ a → a < 0xf5 → (u : List ℕ)
     → Tests (a ∷ u) (fits (second_range a ∷ continuation ∷ continuation ∷ []) u)
     (fits_front (second_range a ∷ continuation ∷ continuation ∷ []) u)
-tests_four a low high u = tests_row a _ (behind_four a low high) u
+tests_four a low high u = tests_row a _ (rows_four a low high) u
 
 -- ---- what a truncated sequence is
 

@@ -1,7 +1,7 @@
 -- What the rows of UTF-8 say of bytes one after the other. The rows ascend, so after a first byte at most one is left,
 -- and bytes are well formed, truncated or neither by what it still wants.
 use Rattle.vte_core.proofs.Common.{◌≡◌, ℕ, suc, ◌+◌, ◌<◌, ◌≤◌, Bool, true, false, not, ◌&&◌, List, [], ◌∷◌, ◌++◌, length, refl, sym, ap, ◌∙◌, arith, inl, inr, nat_le, list_any, false≢true, le-leb}
-use Rattle.vte_core.proofs.Common.{lt-leb, leb-true, and_from, and_left, cases_Bool, and_parts, Range, is_in, utf8_rows, wanted_behind, wanted, wants_none, allowed}
+use Rattle.vte_core.proofs.Common.{lt-leb, leb-true, and_from, and_left, cases_Bool, and_parts, Range, is_in, utf8_rows, rows_after, wanted, wants_none, allowed}
 
 -- ---- one row
 
@@ -25,10 +25,10 @@ pub below_range : (range : Range) (b : ℕ) → b < range.first → is_in range 
 below_range range b low = and_left _ _ (lt-leb range.first b low)
 
 -- rows that begin above the byte want nothing after it
-pub none_behind : (n b : ℕ) (rows : List (List Range)) → ascends n rows ≡ true → b < n → wanted_behind b rows ≡ []
-none_behind n b [] up low = refl
-none_behind n b ([] ∷ rows) up low = cc
-none_behind n b ((range ∷ ranges) ∷ rows) up low =
+pub none_after : (n b : ℕ) (rows : List (List Range)) → ascends n rows ≡ true → b < n → rows_after b rows ≡ []
+none_after n b [] up low = refl
+none_after n b ([] ∷ rows) up low = cc
+none_after n b ((range ∷ ranges) ∷ rows) up low =
     let parts : (nat_le n range.first ≡ true)
     × ((nat_le range.first range.last && ascends (range.last + 1) rows) ≡ true) = and_parts _ _ up in
     let rest : (nat_le range.first range.last ≡ true) × (ascends (range.last + 1) rows ≡ true) =
@@ -36,29 +36,29 @@ none_behind n b ((range ∷ ranges) ∷ rows) up low =
     let above : n ≤ range.first = leb-true _ _ parts.0 in
     let ends : range.first ≤ range.last = leb-true _ _ rest.0 in
     let left : is_in range b ≡ false = below_range range b (omega arith) in
-    rw left (none_behind (range.last + 1) b rows rest.1 (omega arith))
+    rw left (none_after (range.last + 1) b rows rest.1 (omega arith))
 
-AtMostOne-behind_rows : (n b : ℕ) (rows : List (List Range)) → ascends n rows ≡ true → AtMostOne (wanted_behind b rows)
-AtMostOne-behind_rows n b [] up = tt
-AtMostOne-behind_rows n b ([] ∷ rows) up = cc
-AtMostOne-behind_rows n b ((range ∷ ranges) ∷ rows) up =
+AtMostOne-after_rows : (n b : ℕ) (rows : List (List Range)) → ascends n rows ≡ true → AtMostOne (rows_after b rows)
+AtMostOne-after_rows n b [] up = tt
+AtMostOne-after_rows n b ([] ∷ rows) up = cc
+AtMostOne-after_rows n b ((range ∷ ranges) ∷ rows) up =
     let parts : (nat_le n range.first ≡ true)
     × ((nat_le range.first range.last && ascends (range.last + 1) rows) ≡ true) = and_parts _ _ up in
     let rest : (nat_le range.first range.last ≡ true) × (ascends (range.last + 1) rows ≡ true) =
     and_parts _ _ parts.1 in
     elim (cases_Bool (is_in range b)) [
-      | inl e ↦ rw e (behind (leb-true _ _ (and_parts _ _ e).1) rest.1)
-      | inr e ↦ rw e (AtMostOne-behind_rows (range.last + 1) b rows rest.1)
+      | inl e ↦ rw e (later (leb-true _ _ (and_parts _ _ e).1) rest.1)
+      | inr e ↦ rw e (AtMostOne-after_rows (range.last + 1) b rows rest.1)
     ]
   where
-    behind : b ≤ range.last → ascends (range.last + 1) rows ≡ true → AtMostOne (ranges ∷ wanted_behind b rows)
-    behind low up = rw (none_behind (range.last + 1) b rows up (omega arith)) tt
+    later : b ≤ range.last → ascends (range.last + 1) rows ≡ true → AtMostOne (ranges ∷ rows_after b rows)
+    later low up = rw (none_after (range.last + 1) b rows up (omega arith)) tt
 
-pub AtMostOne-first : (b : ℕ) → AtMostOne (wanted_behind b utf8_rows)
+pub AtMostOne-first : (b : ℕ) → AtMostOne (rows_after b utf8_rows)
 unfolding utf8_rows
-AtMostOne-first b = AtMostOne-behind_rows 0 b utf8_rows refl
+AtMostOne-first b = AtMostOne-after_rows 0 b utf8_rows refl
 
-pub AtMostOne-next : (b : ℕ) (rows : List (List Range)) → AtMostOne rows → AtMostOne (wanted_behind b rows)
+pub AtMostOne-next : (b : ℕ) (rows : List (List Range)) → AtMostOne rows → AtMostOne (rows_after b rows)
 AtMostOne-next b [] one = tt
 AtMostOne-next b ([] ∷ []) one = tt
 AtMostOne-next b ((range ∷ ranges) ∷ []) one = elim (cases_Bool (is_in range b)) [ inl e ↦ rw e tt | inr e ↦ rw e tt ]
@@ -66,7 +66,7 @@ AtMostOne-next b (row ∷ next ∷ rows) one = absurd one
 
 pub AtMostOne-wanted : (bytes : List ℕ) (rows : List (List Range)) → AtMostOne rows → AtMostOne (wanted bytes rows)
 AtMostOne-wanted [] rows one = one
-AtMostOne-wanted (b ∷ bytes) rows one = AtMostOne-wanted bytes (wanted_behind b rows) (AtMostOne-next b rows one)
+AtMostOne-wanted (b ∷ bytes) rows one = AtMostOne-wanted bytes (rows_after b rows) (AtMostOne-next b rows one)
 
 pub wanted_none : (bytes : List ℕ) → wanted bytes [] ≡ []
 wanted_none [] = refl
@@ -74,7 +74,7 @@ wanted_none (b ∷ bytes) = wanted_none bytes
 
 pub wanted-append : (u v : List ℕ) (rows : List (List Range)) → wanted (u ++ v) rows ≡ wanted v (wanted u rows)
 wanted-append [] v rows = refl
-wanted-append (b ∷ u) v rows = wanted-append u v (wanted_behind b rows)
+wanted-append (b ∷ u) v rows = wanted-append u v (rows_after b rows)
 
 -- ---- the two tests of what is left
 
@@ -119,7 +119,7 @@ allowed_whole ([] ∷ []) [] (c ∷ x) one whole = refl
 allowed_whole ((range ∷ ranges) ∷ []) [] (c ∷ x) one whole = cc
 allowed_whole (row ∷ next ∷ rows) [] (c ∷ x) one whole = absurd one
 allowed_whole rows (b ∷ bytes) x one whole =
-    next (wanted_behind b rows) whole (allowed_whole (wanted_behind b rows) bytes x (AtMostOne-next b rows one) whole)
+    next (rows_after b rows) whole (allowed_whole (rows_after b rows) bytes x (AtMostOne-next b rows one) whole)
   where
     next : (rows : List (List Range)) → some_whole (wanted bytes rows) ≡ true → allowed rows (bytes ++ x) ≡ length bytes
         → elim rows [ [] ↦ 0 | row ∷ more ↦ suc (allowed (row ∷ more) (bytes ++ x)) ] ≡ suc (length bytes)
@@ -129,10 +129,10 @@ allowed_whole rows (b ∷ bytes) x one whole =
 -- a truncated sequence is allowed whole, and nothing after it that no row wants there
 pub allowed_broken : (rows : List (List Range)) (bytes : List ℕ) (b : ℕ) (x : List ℕ)
     → some_open (wanted bytes rows) ≡ true
-    → wanted_behind b (wanted bytes rows) ≡ [] → allowed rows (bytes ++ b ∷ x) ≡ length bytes
+    → rows_after b (wanted bytes rows) ≡ [] → allowed rows (bytes ++ b ∷ x) ≡ length bytes
 allowed_broken rows [] b x more none = rw (none, allowed)
 allowed_broken rows (c ∷ bytes) b x more none =
-    next (wanted_behind c rows) more (allowed_broken (wanted_behind c rows) bytes b x more none)
+    next (rows_after c rows) more (allowed_broken (rows_after c rows) bytes b x more none)
   where
     next : (rows : List (List Range)) → some_open (wanted bytes rows) ≡ true
         → allowed rows (bytes ++ b ∷ x) ≡ length bytes
@@ -144,7 +144,7 @@ allowed_broken rows (c ∷ bytes) b x more none =
 pub allowed_end : (rows : List (List Range)) (bytes : List ℕ) → some_open (wanted bytes rows) ≡ true
     → allowed rows bytes ≡ length bytes
 allowed_end rows [] more = refl
-allowed_end rows (c ∷ bytes) more = next (wanted_behind c rows) more (allowed_end (wanted_behind c rows) bytes more)
+allowed_end rows (c ∷ bytes) more = next (rows_after c rows) more (allowed_end (rows_after c rows) bytes more)
   where
     next : (rows : List (List Range)) → some_open (wanted bytes rows) ≡ true → allowed rows bytes ≡ length bytes
         → elim rows [ [] ↦ 0 | row ∷ more ↦ suc (allowed (row ∷ more) bytes) ] ≡ suc (length bytes)

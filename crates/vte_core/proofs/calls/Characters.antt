@@ -19,7 +19,7 @@ use Rattle.vte_core.proofs.stops.Told.{breaks-broken, breaks-unfinished, breaks-
 use Rattle.vte_core.proofs.calls.Places.{come-between, come-broken, come-carried}
 use Rattle.vte_core.proofs.streams.After.{after-open_end}
 use Rattle.vte_core.proofs.fields.Standing.{stands-place}
-use Rattle.vte_core.proofs.Common.{IsBehind, open_at, open_end, append-nil, append_assoc, drop, drop_more, take, take-add}
+use Rattle.vte_core.proofs.Common.{HasReadUnder, open_at, open_end, append-nil, append_assoc, drop, drop_more, take, take-add}
 use Rattle.std.proofs.lemmas.List.{drop-drop}
 use Rattle.vte_core.proofs.streams.StreamLemmas.{reads-byte}
 
@@ -195,7 +195,7 @@ module _ {V B : Type 0} {asks : Bool} {step : V → Event → V} {is_terminated 
       → b ≡ slice_index bytes i → j ≡ i + 1
       → StandsAt asks step is_terminated old new limit stream bytes j next
   carried-whole {new = new} {i = i} {b = b} {u = u} {parser = parser}
-      {next = next} e opened carries state performed s within is behind =
+      {next = next} e opened carries state performed s within is later =
       let t = by_text limit parser u s.place (stands-in e s.stands) in
       let c =
       come-carried {new = new} {next = InText []}
@@ -206,7 +206,7 @@ module _ {V B : Type 0} {asks : Bool} {step : V → Event → V} {is_terminated 
       (carried_is_no_escape (bytes_of u) b opened (inl carries.0)) (text-whole limit (bytes_of u) b carries.0))
       (performed ∙ ap (λ n. step mid (character_event n)) carries.1) refl
       (subst (CameInside asks step is_terminated old mid limit stream bytes i) t.same s.has_come) in
-      subst (λ n. StandsAt asks step is_terminated old new limit stream bytes n next) (sym behind)
+      subst (λ n. StandsAt asks step is_terminated old new limit stream bytes n next) (sym later)
       (record {
         place = InText [];
         stands = stands_in_text next Nothing [] state refl refl;
@@ -322,9 +322,9 @@ module _ {V B : Type 0} {asks : Bool} {step : V → Event → V} {is_terminated 
       → new ≡ step value (character_event c)
       → j < length bytes → b ≡ slice_index bytes j → k ≡ j + 1
       → Completes asks step is_terminated value new limit bytes i k begun next
-  completes-whole {c = c} {u = u} {next = next} goes carries state performed within is behind = record {
+  completes-whole {c = c} {u = u} {next = next} goes carries state performed within is later = record {
     stands_at = λ old stream parser e s. let more = goes.more (inside-open e s) in
-        carried-whole refl more (carries more) state performed (goes.inside old stream parser e s) within is behind;
+        carried-whole refl more (carries more) state performed (goes.inside old stream parser e s) within is later;
     text = λ _. state;
     others = λ old stream parser e s.
         let opened = inside-open e s in
@@ -336,7 +336,7 @@ module _ {V B : Type 0} {asks : Bool} {step : V → Event → V} {is_terminated 
           parts =
               sym (told-at
               (carried-whole {next = next} refl more whole state refl
-              (goes.kept stream parser e (keeps-inside s)) within is behind));
+              (goes.kept stream parser e (keeps-inside s)) within is later));
           are = inr (record {
             n = goes.n + 1;
             far = omega (arith, goes.far, within);
@@ -432,7 +432,7 @@ module _ {V B : Type 0} {asks : Bool} {step : V → Event → V} {is_terminated 
 
 -- what is open in a text
 pub opens-text : {B : Type 0} {limit : Option ℕ} {stream : List ℕ} {u : Unfinished} (parser : Machine B)
-    → parser.state ≡ Text u → bytes_of u ≢ [] → IsBehind limit parser stream
+    → parser.state ≡ Text u → bytes_of u ≢ [] → HasReadUnder limit parser stream
     → open_end stream ≡ [] → ⊥
 opens-text {limit = limit} {stream = stream} {u = u} parser e some h none =
     let t = by_text limit parser u h.place (stands-in e h.stands) in
@@ -441,7 +441,7 @@ opens-text {limit = limit} {stream = stream} {u = u} parser e some h none =
     ∙ sym (after-open_end limit stream h.place h.is_after (stands-place parser h.place h.stands)) ∙ none)
 
 pub opens-open : {B : Type 0} {limit : Option ℕ} {stream : List ℕ} {u : Unfinished} (parser : Machine B)
-    → parser.state ≡ Text u → IsBehind limit parser stream → is_open (bytes_of u) ≡ true
+    → parser.state ≡ Text u → HasReadUnder limit parser stream → is_open (bytes_of u) ≡ true
 opens-open {limit = limit} {u = u} parser e h = (by_text limit parser u h.place (stands-in e h.stands)).begun
 
 -- ---- a byte that is neither printed nor begins a longer one, in what it tells

@@ -6,7 +6,7 @@ use Rattle.vte_core.specs.machine.ToRun.{ComesToRun, IsTaken, bytes_at}
 use Rattle.vte_core.proofs.Common.{◌≡◌, TellsOthers}
 use Rattle.vte_core.proofs.calls.ToRun.{reads-run, returns-run}
 use Rattle.vte_core.proofs.Common.{ℕ, ◌+◌, ◌*◌, ◌≤◌, Bool, List, None, length, Result, Ok, Err, IfErr, IfOk, IfErr-weaker, IfOk-weaker}
-use Rattle.vte_core.proofs.Common.{refl, arith, rules, false, read_count, ReadsUpTo, Event, Machine, IsBehind, RefusesAt, true, Refused}
+use Rattle.vte_core.proofs.Common.{refl, arith, rules, false, read_count, ReadsUpTo, Event, Machine, HasReadUnder, RefusesAt, true, Refused}
 use Rattle.vte_core.specs.declared.parser.long.LongParser.{LongParser}
 use Rattle.vte_core.specs.LongAdvance.{GoesOnLong, PassesLong, ReadsBytesLong, ReadsUntilTerminatedLong}
 use Rattle.vte_core.specs.LongParser.{HasReadLong, memory_of}
@@ -18,13 +18,13 @@ use Rattle.vte_core.proofs.calls.States.{reads-all}
 
 pub goes-on : {A V Answer : Type 0} (asks : Bool) (step : V → Event → V) (is_terminated : V → Bool) (old new : V)
     {bytes : List ℕ} {parser next : LongParser A}
-    (result : Result Answer Refused) {rate n : ℕ} {behind : List ℕ → List ℕ}
-    → ((stream : List ℕ) → HasReadLong parser stream → HasReadLong next (behind stream))
+    (result : Result Answer Refused) {rate n : ℕ} {later : List ℕ → List ℕ}
+    → ((stream : List ℕ) → HasReadLong parser stream → HasReadLong next (later stream))
     → IfErr result
     (λ refused. RefusesAt asks step is_terminated old new None bytes refused.read parser.machine next.machine)
     → memory_of parser ≤ memory_of next → looks_long next ≤ looks_long parser + rate * length bytes + 8
     → IfOk result (λ _. looks_long next ≤ looks_long parser + rate * n + 8) → looks_long parser + n ≤ looks_long next
-    → GoesOnLong rate bytes result n behind parser next
+    → GoesOnLong rate bytes result n later parser next
 goes-on asks step is_terminated old new result reads refuses memory count paid least = record {
   reads = reads;
   stores = λ stream h. stores_pieces _ _ (reads stream h);
@@ -42,7 +42,7 @@ pub passes : {V B Answer : Type 0} {step : V → Event → V} {is_terminated : V
     {before : Machine B} (parser : Machine B)
     (result : Result Answer Refused)
     → IfErr result (λ refused. RefusesAt true step is_terminated old new None bytes refused.read before parser)
-    → PassesLong step is_terminated old new (IsBehind None before) bytes result
+    → PassesLong step is_terminated old new (HasReadUnder None before) bytes result
 passes parser result refuses = record {
   passes =
       IfErr-weaker result _ _ (λ refused r stream h. let come = (refuses-inside r stream h).has_come in

@@ -1,8 +1,8 @@
 -- Only between characters of a text does a parser go on as a new one: after every other place the digit 0 gives
 -- something else than after the empty stream.
-use Rattle.vte_core.proofs.Common.{◌≡◌, ◌≢◌, ℕ, Option, List, [], ◌∷◌, ◌++◌, refl, ap, sym, subst, ◌∙◌, arith, Digit, Machine, State, Text, Stands, StandsBy, IsBehind}
+use Rattle.vte_core.proofs.Common.{◌≡◌, ◌≢◌, ℕ, Option, List, [], ◌∷◌, ◌++◌, refl, ap, sym, subst, ◌∙◌, arith, Digit, Machine, State, Text, Stands, StandsBy, HasReadUnder}
 use Rattle.vte_core.proofs.Common.{Event, Print, replacement, Place, InText, AtEscape, InEscape, InControlSequence, InDeviceControl, InData, InSystemCommand, InIgnoredString, IsAfter, Leads}
-use Rattle.vte_core.proofs.Common.{◌≤◌, ◌<◌, true, false, eqb, Dispatch, Unfinished, class_of, escape, is_truncated, key_of, added, bytes_of, events_behind}
+use Rattle.vte_core.proofs.Common.{◌≤◌, ◌<◌, true, false, eqb, Dispatch, Unfinished, class_of, escape, is_truncated, key_of, added, bytes_of, events_from}
 use Rattle.vte_core.proofs.bytes.FirstBytes.{ascii_breaks}
 use Rattle.vte_core.proofs.fields.Standing.{IsPlace, stands-place}
 use Rattle.vte_core.proofs.places.PlaceLeads.{escape-end, intermediate-end, control-head, device-head, data-put, command-item, ignored-more}
@@ -34,7 +34,7 @@ gives limit stream {place} {next} {b} {told} d a leads =
 -- it breaks a character
 in_character : (limit : Option ℕ) (stream u : List ℕ) (b : ℕ)
     → IsDigit b → is_truncated u ≡ true → IsAfter limit stream (InText u)
-    → added limit stream (b ∷ []) ≡ Print replacement ∷ events_behind limit (InText []) (b ∷ [])
+    → added limit stream (b ∷ []) ≡ Print replacement ∷ events_from limit (InText []) (b ∷ [])
 in_character limit stream u b d is a =
     let tests = ascii_breaks u b is d.high in
     let broken = text_broken u b is tests.is_whole tests.is_open in
@@ -79,7 +79,7 @@ by_state limit (Text u) parser s = record { unfinished = u; begun = refl; nothin
 by_state limit _ parser s = absurd s
 
 pub unfinished : {B : Type 0} {limit : Option ℕ} {stream : List ℕ} (parser : Machine B)
-    → IsBehind limit parser stream → (IsClosed parser.state → ⊥) → IsUnfinished limit stream
+    → HasReadUnder limit parser stream → (IsClosed parser.state → ⊥) → IsUnfinished limit stream
 unfinished {limit = limit} {stream = stream} parser h other =
     not_alone limit stream h.place 0x30 zero_digit (stands-place parser h.place h.stands) h.is_after
     (λ here. other (by_state limit parser.state parser (subst (Stands limit parser) here h.stands).by))
@@ -88,7 +88,7 @@ pub finished : {limit : Option ℕ} {stream : List ℕ} → IsAfter limit stream
 finished {limit} {stream} a more =
     added-after limit stream more (InText []) a
     ∙ sym (after-events limit [] more (InText []) (after-nothing limit)
-    ∙ ap (λ es. es ++ events_behind limit (InText []) more) (events-empty limit))
+    ∙ ap (λ es. es ++ events_from limit (InText []) more) (events-empty limit))
 
 pub same-begun : {u v : Unfinished} → Text u ≡ Text v → u ≡ v
 same-begun e = cc

@@ -141,7 +141,7 @@ module _ {V : Type 0} {asks : Bool} {step : V → Event → V} {is_terminated : 
       come-further (omega arith) (omega (arith, within)) here (λ does k past below. absurd (omega (arith, past, below)))
       (subst (λ x. Reads limit place x these next) (sym one) r)
 
-  -- behind an answer, whatever starts here; behind a broken character too
+  -- after an answer, whatever starts here; after a broken character too
   pub come-byte : {value new : V} {i b : ℕ} {place next : Place} {these : List Event} → i < length bytes
       → b ≡ slice_index bytes i → MayGoOn asks is_terminated value
       → Reads limit place (b ∷ []) these next → new ≡ after step value these → IsPlace next

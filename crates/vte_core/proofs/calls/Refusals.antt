@@ -2,7 +2,7 @@
 -- of its place, so it holds of every parser that is at one.
 use Rattle.vte_core.proofs.Common.{◌≡◌, ℕ, ◌+◌, ◌≤◌, Bool, Option, None, List, [], ◌∷◌, ◌++◌, length, take, Result, Ok, Err, IfErr, IfOk, IsOk, refl, ap, sym, subst, ◌∙◌, length-take, IsAfter}
 use Rattle.vte_core.proofs.Common.{arith, concat, slice_index, Machine, Event, MeetsData, data_left, open_size, read_count, State, SystemCommand, CameTo, IsRefusedAt, RefusesAt}
-use Rattle.vte_core.proofs.Common.{StandsInside, IsBehind, Stands, StandsBy, Place, InSystemCommand, InText, left_at, Stored, Keeps, Open, OpenCommand, drops_data, outcome, pieces_of, Refused}
+use Rattle.vte_core.proofs.Common.{StandsInside, HasReadUnder, Stands, StandsBy, Place, InSystemCommand, InText, left_at, Stored, Keeps, Open, OpenCommand, drops_data, outcome, pieces_of, Refused}
 use Rattle.vte_core.proofs.calls.States.{reads-item}
 use Rattle.vte_core.proofs.calls.Places.{come-command}
 use Rattle.vte_core.proofs.fields.OpenPieces.{open_for}
@@ -14,18 +14,18 @@ use Rattle.vte_core.proofs.streams.CommandSizes.{counts_data}
 pub inside-reads : {V B : Type 0} {asks : Bool} {step : V → Event → V} {is_terminated : V → Bool} {old value : V}
     {limit : Option ℕ} {stream bytes : List ℕ} {i : ℕ} {parser : Machine B}
     → StandsInside asks step is_terminated old value limit stream bytes i parser
-    → IsBehind limit parser (stream ++ take i bytes)
+    → HasReadUnder limit parser (stream ++ take i bytes)
 inside-reads s = record { place = s.place; stands = s.stands; is_after = s.has_come.is_after }
 
 -- what a stream leaves is what its place leaves
-left_here : {B : Type 0} (parser : Machine B) (stream : List ℕ) (h : IsBehind None parser stream)
+left_here : {B : Type 0} (parser : Machine B) (stream : List ℕ) (h : HasReadUnder None parser stream)
     → (outcome None stream).left ≡ left_at None h.place
 left_here parser stream h = after-left None stream h.place h.is_after (stands-place parser h.place h.stands)
 
 -- a byte that is refused is a data byte of an open command
 pub meets_data : {B : Type 0} {parser : Machine B} {stream bytes : List ℕ} {from : ℕ}
     → IsRefusedAt None parser.state parser.command bytes from
-    → IsBehind None parser stream → MeetsData stream (slice_index bytes from)
+    → HasReadUnder None parser stream → MeetsData stream (slice_index bytes from)
 meets_data {parser = parser} {stream = stream} {bytes = bytes} {from = from} refused h =
     let byte : ℕ = slice_index bytes from in
     let k = in_command parser h.place refused.inside h.stands in
@@ -44,7 +44,7 @@ meets_data {parser = parser} {stream = stream} {bytes = bytes} {from = from} ref
           ∙ ap (λ those. OpenCommand those (drops_data None k.items)) o.before;
       is_data = refused.is_data;
       joins = after-left None (stream ++ byte ∷ []) last joined tt
-          ∙ ap (λ those. OpenCommand those (drops_data None (k.items ++ byte ∷ []))) o.behind
+          ∙ ap (λ those. OpenCommand those (drops_data None (k.items ++ byte ∷ []))) o.later
           ∙ ap (λ d. OpenCommand (o.pieces ++ (o.last ++ byte ∷ []) ∷ []) d) o.dropped;
     }
 
@@ -67,7 +67,7 @@ ok_only (Err refused) err never = absurd (never refused err)
 pub refuses-inside : {V B : Type 0} {asks : Bool} {step : V → Event → V} {is_terminated : V → Bool} {old new : V}
     {bytes : List ℕ} {n : ℕ} {before parser : Machine B}
     → RefusesAt asks step is_terminated old new None bytes n before parser → (stream : List ℕ)
-    → IsBehind None before stream
+    → HasReadUnder None before stream
     → StandsInside asks step is_terminated old new None stream bytes n parser
 refuses-inside {asks = asks} {step = step} {is_terminated = is_terminated} {old = old} {new = new} {bytes = bytes}
     {n = n} {parser = parser} r stream h =
@@ -83,7 +83,7 @@ refuses-inside {asks = asks} {step = step} {is_terminated = is_terminated} {old 
 
 -- in a command as many bytes as are open
 pub stored_is_open : {B : Type 0} (parser : Machine B) (stream : List ℕ) → parser.state ≡ SystemCommand
-    → IsBehind None parser stream
+    → HasReadUnder None parser stream
     → length parser.command.bytes ≡ open_size stream
 stored_is_open parser stream e h =
     let k = in_command parser h.place e h.stands in
@@ -104,14 +104,14 @@ by_place parser (InSystemCommand items) pieces dropped s e = is_command parser.s
 by_place parser _ pieces dropped s e = cc
 
 -- a command is open in that state alone
-in_state : {B : Type 0} (parser : Machine B) (stream : List ℕ) → IsBehind None parser stream
+in_state : {B : Type 0} (parser : Machine B) (stream : List ℕ) → HasReadUnder None parser stream
     → (pieces : List (List ℕ)) (dropped : Bool) → (outcome None stream).left ≡ OpenCommand pieces dropped
     → parser.state ≡ SystemCommand
 in_state parser stream h pieces dropped open_command =
     by_place parser h.place pieces dropped h.stands (sym (left_here parser stream h) ∙ open_command)
 
 -- of an open command the bytes of its pieces
-pub stores_pieces : {B : Type 0} (parser : Machine B) (stream : List ℕ) → IsBehind None parser stream
+pub stores_pieces : {B : Type 0} (parser : Machine B) (stream : List ℕ) → HasReadUnder None parser stream
     → (pieces : List (List ℕ)) (dropped : Bool)
     → (outcome None stream).left ≡ OpenCommand pieces dropped → length parser.command.bytes ≡ length (concat pieces)
 stores_pieces parser stream h pieces dropped open_command =
@@ -124,14 +124,14 @@ by_left (OpenCommand pieces dropped) n stored = omega (arith, stored pieces drop
 by_left _ n stored = omega arith
 
 -- no more are open
-pub open_is_stored : {B : Type 0} (parser : Machine B) (stream : List ℕ) → IsBehind None parser stream
+pub open_is_stored : {B : Type 0} (parser : Machine B) (stream : List ℕ) → HasReadUnder None parser stream
     → open_size stream ≤ length parser.command.bytes
 open_is_stored parser stream h =
     by_left (outcome None stream).left (length parser.command.bytes) (stores_pieces parser stream h)
 
 -- .. and none outside a command
 pub none_is_open : {B : Type 0} (parser : Machine B) (stream : List ℕ) → (parser.state ≡ SystemCommand → ⊥)
-    → IsBehind None parser stream → open_size stream ≡ 0
+    → HasReadUnder None parser stream → open_size stream ≡ 0
 none_is_open parser stream other h =
     omega (
       arith,
@@ -148,7 +148,7 @@ nothing_stored {held = held} keeps = pieces_stored None held [] keeps
 pub never_refused : {V B : Type 0} {asks : Bool} {step : V → Event → V} {is_terminated : V → Bool} {old new : V}
     {bytes : List ℕ} {n : ℕ} {before parser : Machine B}
     → RefusesAt asks step is_terminated old new None bytes n before parser → (stream : List ℕ)
-    → IsBehind None before stream
+    → HasReadUnder None before stream
     → open_size stream + length bytes ≤ before.command.capacity → before.command.capacity ≤ parser.command.capacity → ⊥
 never_refused {bytes = bytes} {n = n} {parser = parser} r stream h enough kept =
     let stored =

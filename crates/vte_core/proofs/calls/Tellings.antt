@@ -1,5 +1,5 @@
 -- What a call tells before a run.
-use Rattle.vte_core.proofs.Common.{◌≡◌, ℕ, ◌+◌, inl, inr, Option, List, [], ◌++◌, take, refl, ap, sym, subst, ◌∙◌, append-nil, false, All, All-append, All-nil, Event, Machine, IsBehind, IsSettled, added, told, open_end}
+use Rattle.vte_core.proofs.Common.{◌≡◌, ℕ, ◌+◌, inl, inr, Option, List, [], ◌++◌, take, refl, ap, sym, subst, ◌∙◌, append-nil, false, All, All-append, All-nil, Event, Machine, HasReadUnder, IsSettled, added, told, open_end}
 use Rattle.vte_core.proofs.Common.{AddsOthers, IsOther, IsWide, TellsOthers}
 use Rattle.vte_core.specs.machine.Completes.{AddsCharacter}
 use Rattle.vte_core.proofs.calls.Runs.{starts-at}
@@ -9,7 +9,7 @@ use Rattle.vte_core.proofs.streams.Others.{wide, wide_all, wide_character}
 
 -- nothing, at its start
 pub tells-nothing : {B : Type 0} {limit : Option ℕ} {stream bytes : List ℕ} {parser : Machine B}
-    → IsSettled parser.state → IsBehind limit parser stream → TellsOthers limit stream bytes 0
+    → IsSettled parser.state → HasReadUnder limit parser stream → TellsOthers limit stream bytes 0
 tells-nothing {limit = limit} {stream = stream} {bytes = bytes} settled h =
     let none : [] ≡ told limit stream bytes 0 =
     told-at (starts-at {asks = false} {step = keep} {is_terminated = never} settled h) in

@@ -3,7 +3,7 @@
 use Rattle.vte_core.proofs.Common.{cases_Bool, inl, inr, Bool, List, Option, [], ap, arith, drop, false, length, map, refl, subst, sym, take, true, ℕ, ◌++◌, ◌+◌, ◌-◌, ◌<◌, ◌∙◌, ◌∷◌, ◌≡◌, ◌≢◌, ◌≤◌}
 use Rattle.vte_core.proofs.Common.{encode, false≢true, append-nil, take-append-drop, All-append, All-head, All-nil, All-tail, All, slice_index, breaks_at, stream_at, told, Event, Print, replacement}
 use Rattle.vte_core.proofs.Common.{after, added, cut_at_escape, escape, with_bodies, events, is_left_out, run_event, character_event, text_outcome, Text, Machine, Nothing, Reads, Stands, InText}
-use Rattle.vte_core.proofs.Common.{encodes, nat_tests, outcome_behind, Advances, CameTo, MayGoOn, StandsAt, StandsInside, chars, IsUtf8, NoCharacterStops, AreRun, IsPrinted, PrintsRun}
+use Rattle.vte_core.proofs.Common.{encodes, nat_tests, outcome_from, Advances, CameTo, MayGoOn, StandsAt, StandsInside, chars, IsUtf8, NoCharacterStops, AreRun, IsPrinted, PrintsRun}
 use Rattle.std.proofs.lemmas.List.{take-take}
 use Rattle.std.proofs.lemmas.List.Elements.{All-from_get_or}
 use Rattle.std.proofs.lemmas.Str.{inside_one, encodes-chars, scalars-chars}
@@ -24,7 +24,7 @@ use Rattle.vte_core.proofs.streams.StreamSteps.{told_by_stream}
 
 reads-characters : (limit : Option ℕ) (text : List ℕ) → IsUtf8 text → All (λ b. b ≢ escape) text
     → Reads limit (InText []) text (map character_event (chars text)) (InText [])
-unfolding outcome_behind
+unfolding outcome_from
 reads-characters limit text is none = record {
   reads = λ more.
       let cut = cut_at_escape more in

@@ -2,7 +2,7 @@
 -- needn't change, and that no further printed character or data byte follows.
 use Rattle.vte_core.proofs.Common.{◌≡◌, ℕ, zero, suc, ◌+◌, ◌-◌, ◌<◌, ◌≤◌, false, true, Bool, Option, List, [], ◌∷◌, ◌++◌, drop, length, length-take, length-drop, map, take, refl, ap, sym}
 use Rattle.vte_core.proofs.Common.{subst, ◌∙◌, arith, append-nil, drop_more, slice_index, Machine, DeviceData, Text, State, Nothing, class_of}
-use Rattle.vte_core.proofs.Common.{stream_at, Event, Print, Put, Reads, Stands, StandsBy, IsBehind, Place, InData, InText, IsAfter, IsSettled, StandsAt, added, EndsRun, IsRun}
+use Rattle.vte_core.proofs.Common.{stream_at, Event, Print, Put, Reads, Stands, StandsBy, HasReadUnder, Place, InData, InText, IsAfter, IsSettled, StandsAt, added, EndsRun, IsRun}
 use Rattle.vte_core.proofs.Common.{chars, Unfinished, IsRange}
 use Rattle.vte_core.specs.machine.Words.{ArePut, AreOfKind, ComesToRun, IsOutside, IsPut, IsTaken}
 use Rattle.vte_core.specs.machine.ToRun.{HasRun, IsWholeAt, bytes_at, kind_events}
@@ -37,7 +37,7 @@ has-nowhere {limit = limit} {bytes = bytes} {from = from} {place = place} {parse
       kind = rw kind tt;
       whole = rw kind (starts ∙ sym ends);
       adds = λ stream h. rw (kind, none) (added-nothing limit stream);
-      reads = λ stream h. rw none (subst (IsBehind limit parser) (sym (append-nil stream)) h);
+      reads = λ stream h. rw none (subst (HasReadUnder limit parser) (sym (append-nil stream)) h);
     }
 
 -- in no other state
@@ -129,7 +129,7 @@ has-data {limit = limit} {bytes = bytes} {from = from} {end = end} {parser = par
 
 -- between characters a parser goes on as a new one
 pub anew : {B : Type 0} {limit : Option ℕ} {stream : List ℕ} (parser : Machine B) → parser.state ≡ Text Nothing
-    → IsBehind limit parser stream → IsBehind limit parser []
+    → HasReadUnder limit parser stream → HasReadUnder limit parser []
 anew {limit = limit} parser begun h = record {
   place = InText [];
   stands = subst (Stands limit parser) (between_characters parser h.place begun h.stands) h.stands;
@@ -142,7 +142,7 @@ anew {limit = limit} parser begun h = record {
 pub comes-to_run : {V B : Type 0} {step : V → Event → V} {is_terminated : V → Bool} {old new : V} {limit : Option ℕ}
     {bytes : List ℕ} {place : RunPlace}
     {before parser : Machine B} → HasRun limit bytes place parser → place.start < place.end → is_terminated new ≡ false
-    → ((stream : List ℕ) → IsBehind limit before stream
+    → ((stream : List ℕ) → HasReadUnder limit before stream
     → StandsAt true step is_terminated old new limit stream bytes place.start parser)
     → ComesToRun step is_terminated old new limit bytes place before parser
 comes-to_run has some goes stands =
@@ -152,7 +152,7 @@ comes-to_run has some goes stands =
 pub comes-nowhere : {V B : Type 0} {step : V → Event → V} {is_terminated : V → Bool} {old new : V} {limit : Option ℕ}
     {bytes : List ℕ} {from : ℕ} {place : RunPlace}
     {before parser : Machine B} → from ≤ length bytes → place.start ≡ from → place.end ≡ from → place.kind ≡ Empty
-    → ((stream : List ℕ) → IsBehind limit before stream
+    → ((stream : List ℕ) → HasReadUnder limit before stream
     → StandsAt true step is_terminated old new limit stream bytes from parser)
     → (from < length bytes → is_terminated new ≡ true)
     → ComesToRun step is_terminated old new limit bytes place before parser
@@ -236,7 +236,7 @@ module _ {V B : Type 0} {step : V → Event → V} {is_terminated : V → Bool} 
     (c : ComesToRun step is_terminated old new limit bytes place before parser) (starts : run.start ≡ place.start)
     (ends : run.end ≡ place.end)
     (taken : IsTaken place.kind (bytes_at bytes place) run.taken) where
-  pub returns-run : ReturnsRun step is_terminated old new limit (IsBehind limit before) bytes run
+  pub returns-run : ReturnsRun step is_terminated old new limit (HasReadUnder limit before) bytes run
   returns-run =
       let these = takes-run run.taken c.has taken in
       record {
@@ -250,7 +250,7 @@ module _ {V B : Type 0} {step : V → Event → V} {is_terminated : V → Bool} 
         stops = λ none left. c.stops (omega (arith, none, starts, ends)) (omega (arith, left, starts));
       }
 
-  pub reads-run : (stream : List ℕ) → IsBehind limit before stream
-      → IsBehind limit parser (stream_at stream bytes run.start ++ run_bytes run)
+  pub reads-run : (stream : List ℕ) → HasReadUnder limit before stream
+      → HasReadUnder limit parser (stream_at stream bytes run.start ++ run_bytes run)
   reads-run stream h =
       rw (starts, (takes-run run.taken c.has taken).are) (c.has.reads _ (ends-reads (c.stands_at stream h)))

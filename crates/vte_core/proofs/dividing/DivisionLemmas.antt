@@ -1,7 +1,7 @@
 -- The division of a text is Unicode's: the longest piece at each place, and nothing lost. Where the rows still allow a
 -- byte, a longer piece exists; where they don't, no longer one does.
 use Rattle.vte_core.proofs.Common.{◌≡◌, ℕ, zero, suc, ◌<◌, ◌≤◌, Bool, true, false, List, [], ◌∷◌, length, take, drop, refl, sym, ap, ◌∙◌, arith, inl, inr, length-take-le}
-use Rattle.vte_core.proofs.Common.{concat, take-append-drop, false≢true, cases_lt, Range, utf8_rows, wanted_behind, wanted, is_well_formed, is_truncated, allowed, further, segments_behind}
+use Rattle.vte_core.proofs.Common.{concat, take-append-drop, false≢true, cases_lt, Range, utf8_rows, rows_after, wanted, is_well_formed, is_truncated, allowed, further, segments_after}
 use Rattle.vte_core.specs.Division.{IsPiece, IsAllDivided}
 use Rattle.vte_core.proofs.bytes.Utf8Lemmas.{wanted_none, some_whole, some_open, neither_whole_nor_open, allowed_none}
 use Rattle.vte_core.proofs.shapes.TextLemmas.{further_whole}
@@ -19,7 +19,7 @@ pub record IsDividedRight (b : ℕ) (bytes : List ℕ) : Type 0 where
 
 allowed-le : (rows : List (List Range)) (bytes : List ℕ) → allowed rows bytes ≤ length bytes
 allowed-le rows [] = omega arith
-allowed-le rows (b ∷ bytes) = next (wanted_behind b rows) (allowed-le (wanted_behind b rows) bytes)
+allowed-le rows (b ∷ bytes) = next (rows_after b rows) (allowed-le (rows_after b rows) bytes)
   where
     next : (rows : List (List Range)) → allowed rows bytes ≤ length bytes
         → elim rows [ [] ↦ 0 | row ∷ more ↦ suc (allowed (row ∷ more) bytes) ] ≤ length (b ∷ bytes)
@@ -31,16 +31,16 @@ allowed_stands : (row : List Range) (more : List (List Range)) (bytes : List ℕ
     → wanted (take (allowed (row ∷ more) bytes) bytes) (row ∷ more) ≡ [] → ⊥
 allowed_stands row more [] none = cc
 allowed_stands row more (b ∷ bytes) none =
-    next (λ row more. allowed_stands row more bytes) (wanted_behind b (row ∷ more)) refl none
+    next (λ row more. allowed_stands row more bytes) (rows_after b (row ∷ more)) refl none
   where
     next : ((row : List Range) (more : List (List Range))
         → wanted (take (allowed (row ∷ more) bytes) bytes) (row ∷ more) ≡ [] → ⊥)
-        → (rows : List (List Range)) → wanted_behind b (row ∷ more) ≡ rows
+        → (rows : List (List Range)) → rows_after b (row ∷ more) ≡ rows
         → wanted (take (elim rows [ [] ↦ 0 | row ∷ more ↦ suc (allowed (row ∷ more) bytes) ]) (b ∷ bytes))
         (row ∷ more) ≡ [] → ⊥
-    next behind [] same none = cc
-    next behind (first ∷ rows) same none =
-        behind first rows
+    next later [] same none = cc
+    next later (first ∷ rows) same none =
+        later first rows
         (ap (λ (left : List (List Range)). wanted (take (allowed (first ∷ rows) bytes) bytes) left) (sym same) ∙ none)
 
 -- and none after more
@@ -49,24 +49,24 @@ allowed_longest : (rows : List (List Range)) (bytes : List ℕ) (n : ℕ) → al
 allowed_longest rows [] n past within = absurd (omega arith)
 allowed_longest rows (b ∷ bytes) zero past within = absurd (omega arith)
 allowed_longest rows (b ∷ bytes) (suc n) past within =
-    next (wanted_behind b rows) past (allowed_longest (wanted_behind b rows) bytes n)
+    next (rows_after b rows) past (allowed_longest (rows_after b rows) bytes n)
   where
     next : (rows : List (List Range)) → elim rows [ [] ↦ 0 | row ∷ more ↦ suc (allowed (row ∷ more) bytes) ] < suc n
         → (allowed rows bytes < n → n ≤ length bytes → wanted (take n bytes) rows ≡ [])
         → wanted (take n bytes) rows ≡ []
-    next [] past behind = wanted_none (take n bytes)
-    next (row ∷ more) past behind = behind (omega arith) (omega arith)
+    next [] past later = wanted_none (take n bytes)
+    next (row ∷ more) past later = later (omega arith) (omega arith)
 
 is_piece : (b : ℕ) (bytes : List ℕ) → IsPiece (b ∷ take (further b bytes) bytes)
 unfolding is_well_formed is_truncated further
-is_piece b bytes = by_rows (wanted_behind b utf8_rows) refl
+is_piece b bytes = by_rows (rows_after b utf8_rows) refl
   where
     piece : List (List Range) → List ℕ
     piece rows = take (allowed rows bytes) bytes
 
-    by_tests : (rows : List (List Range)) → wanted_behind b utf8_rows ≡ rows → (whole more : Bool)
+    by_tests : (rows : List (List Range)) → rows_after b utf8_rows ≡ rows → (whole more : Bool)
         → some_whole (wanted (piece rows) rows) ≡ whole → some_open (wanted (piece rows) rows) ≡ more
-        → (wanted (piece rows) rows ≡ [] → ⊥) → IsPiece (b ∷ piece (wanted_behind b utf8_rows))
+        → (wanted (piece rows) rows ≡ [] → ⊥) → IsPiece (b ∷ piece (rows_after b utf8_rows))
     by_tests rows same true more is_whole is_open stands =
         inl (ap (λ (rows : List (List Range)). some_whole (wanted (piece rows) rows)) same ∙ is_whole)
     by_tests rows same false true is_whole is_open stands =
@@ -74,8 +74,8 @@ is_piece b bytes = by_rows (wanted_behind b utf8_rows) refl
     by_tests rows same false false is_whole is_open stands =
         absurd (stands (neither_whole_nor_open _ is_whole is_open))
 
-    by_rows : (rows : List (List Range)) → wanted_behind b utf8_rows ≡ rows
-        → IsPiece (b ∷ piece (wanted_behind b utf8_rows))
+    by_rows : (rows : List (List Range)) → rows_after b utf8_rows ≡ rows
+        → IsPiece (b ∷ piece (rows_after b utf8_rows))
     by_rows [] same = inr (inr (
         ap (λ (rows : List (List Range)). length (b ∷ piece rows)) same
         ∙ ap (λ (n : ℕ). length (b ∷ take n bytes)) (allowed_none bytes)))
@@ -85,11 +85,11 @@ is_piece b bytes = by_rows (wanted_behind b utf8_rows) refl
 none_longer : (b : ℕ) (bytes : List ℕ) (n : ℕ) → further b bytes < n → n ≤ length bytes
     → is_truncated (b ∷ take n bytes) ≡ false
 unfolding is_truncated further
-none_longer b bytes n past within = ap some_open (allowed_longest (wanted_behind b utf8_rows) bytes n past within)
+none_longer b bytes n past within = ap some_open (allowed_longest (rows_after b utf8_rows) bytes n past within)
 
 further-le : (b : ℕ) (bytes : List ℕ) → further b bytes ≤ length bytes
 unfolding further
-further-le b bytes = allowed-le (wanted_behind b utf8_rows) bytes
+further-le b bytes = allowed-le (rows_after b utf8_rows) bytes
 
 pub divided_right : (b : ℕ) (bytes : List ℕ) → IsDividedRight b bytes
 divided_right b bytes = record {
@@ -104,13 +104,13 @@ divided_right b bytes = record {
   ];
 }
 
-pub concat-segments_behind : (skip : ℕ) (bytes : List ℕ) → concat (segments_behind skip bytes) ≡ drop skip bytes
-concat-segments_behind zero [] = refl
-concat-segments_behind (suc skip) [] = refl
-concat-segments_behind (suc skip) (b ∷ bytes) = concat-segments_behind skip bytes
-concat-segments_behind zero (b ∷ bytes) =
-    rw (concat-segments_behind (further b bytes) bytes)
+pub concat-segments_after : (skip : ℕ) (bytes : List ℕ) → concat (segments_after skip bytes) ≡ drop skip bytes
+concat-segments_after zero [] = refl
+concat-segments_after (suc skip) [] = refl
+concat-segments_after (suc skip) (b ∷ bytes) = concat-segments_after skip bytes
+concat-segments_after zero (b ∷ bytes) =
+    rw (concat-segments_after (further b bytes) bytes)
     (ap (λ (u : List ℕ). b ∷ u) (take-append-drop (further b bytes) bytes))
 
 pub all_divided : (text : List ℕ) → IsAllDivided text
-all_divided text = concat-segments_behind 0 text
+all_divided text = concat-segments_after 0 text

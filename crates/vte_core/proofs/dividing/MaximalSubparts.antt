@@ -1,16 +1,16 @@
 -- The pieces of a text are the right ones, each where it stands, and no other division has only right ones: of two
 -- right pieces before one text neither is longer. By induction over the pieces.
 use Rattle.vte_core.proofs.Common.{◌≡◌, ℕ, zero, suc, ◌<◌, ◌≤◌, true, List, [], ◌∷◌, ◌++◌, length, take, drop, refl, sym, ap, ◌∙◌, inl, inr, arith, length-append}
-use Rattle.vte_core.proofs.Common.{length-drop, concat, false≢true, take-append-drop, take-append_seam, drop-append_seam, is_well_formed, is_truncated, further, segments_behind, segments}
+use Rattle.vte_core.proofs.Common.{length-drop, concat, false≢true, take-append-drop, take-append_seam, drop-append_seam, is_well_formed, is_truncated, further, segments_after, segments}
 use Rattle.std.proofs.lemmas.List.{length-take}
 use Rattle.vte_core.specs.Division.{IsPiece, IsRightPiece, AreRightPieces}
-use Rattle.vte_core.proofs.dividing.DivisionLemmas.{IsDividedRight, divided_right, all_divided, concat-segments_behind}
+use Rattle.vte_core.proofs.dividing.DivisionLemmas.{IsDividedRight, divided_right, all_divided, concat-segments_after}
 use Rattle.vte_core.proofs.shapes.TextLemmas.{not_well_formed-nothing}
 
-segments_behind-drop : (skip : ℕ) (bytes : List ℕ) → segments_behind skip bytes ≡ segments (drop skip bytes)
-segments_behind-drop zero bytes = refl
-segments_behind-drop (suc skip) [] = refl
-segments_behind-drop (suc skip) (b ∷ bytes) = segments_behind-drop skip bytes
+segments_after-drop : (skip : ℕ) (bytes : List ℕ) → segments_after skip bytes ≡ segments (drop skip bytes)
+segments_after-drop zero bytes = refl
+segments_after-drop (suc skip) [] = refl
+segments_after-drop (suc skip) (b ∷ bytes) = segments_after-drop skip bytes
 
 -- a front of the text is so many of its bytes
 front_of : (u rest bytes : List ℕ) → u ++ rest ≡ bytes → (u ≡ take (length u) bytes) × (length u ≤ length bytes)
@@ -21,8 +21,8 @@ whole_is_piece : (b : ℕ) (bytes : List ℕ) → IsDividedRight b bytes → (fr
 whole_is_piece b bytes d [] rest same well = absurd (false≢true (sym not_well_formed-nothing ∙ well))
 whole_is_piece b bytes d (a ∷ u) rest same well =
     let first : a ≡ b = cc in
-    let behind : u ++ rest ≡ bytes = cc in
-    let front = front_of u rest bytes behind in
+    let later : u ++ rest ≡ bytes = cc in
+    let front = front_of u rest bytes later in
     let stands : is_well_formed (b ∷ take (length u) bytes) ≡ true = rw (← front.0, ← first) well in
     let far : further b bytes ≡ length u = d.whole (length u) front.1 stands in
     rw (far, ← front.0, first) refl
@@ -33,8 +33,8 @@ truncated_is_shorter : (b : ℕ) (bytes : List ℕ) → IsDividedRight b bytes �
 truncated_is_shorter b bytes d [] rest same more = omega arith
 truncated_is_shorter b bytes d (a ∷ u) rest same more =
     let first : a ≡ b = cc in
-    let behind : u ++ rest ≡ bytes = cc in
-    let front = front_of u rest bytes behind in
+    let later : u ++ rest ≡ bytes = cc in
+    let front = front_of u rest bytes later in
     let stands : is_truncated (b ∷ take (length u) bytes) ≡ true = rw (← front.0, ← first) more in
     let far : length u ≤ further b bytes = d.longest (length u) front.1 stands in
     omega (arith, length-take (further b bytes) bytes)
@@ -55,8 +55,8 @@ right_pieces n [] short = tt
 right_pieces zero (b ∷ bytes) short = absurd (omega arith)
 right_pieces (suc n) (b ∷ bytes) short =
     let shorter : length (drop (further b bytes) bytes) ≤ n = omega (arith, length-drop (further b bytes) bytes) in (
-      rw (concat-segments_behind (further b bytes) bytes) (right_piece b bytes),
-      rw (segments_behind-drop (further b bytes) bytes) (right_pieces n (drop (further b bytes) bytes) shorter),
+      rw (concat-segments_after (further b bytes) bytes) (right_piece b bytes),
+      rw (segments_after-drop (further b bytes) bytes) (right_pieces n (drop (further b bytes) bytes) shorter),
     )
 
 pub are_right_pieces : (text : List ℕ) → AreRightPieces (segments text)
@@ -83,8 +83,8 @@ not_longer p x q y same right other = by_kind right.is_piece
 same_front : (p x q y : List ℕ) → p ++ x ≡ q ++ y → length p ≡ length q → (p ≡ q) × (x ≡ y)
 same_front p x q y same long =
     let front : take (length p) (p ++ x) ≡ p = take-append_seam p x in
-    let behind : drop (length p) (p ++ x) ≡ x = drop-append_seam p x in
-    (sym front ∙ rw (same, long) (take-append_seam q y), sym behind ∙ rw (same, long) (drop-append_seam q y))
+    let later : drop (length p) (p ++ x) ≡ x = drop-append_seam p x in
+    (sym front ∙ rw (same, long) (take-append_seam q y), sym later ∙ rw (same, long) (drop-append_seam q y))
 
 one_division : (these those : List (List ℕ)) → AreRightPieces these → AreRightPieces those → concat these ≡ concat those
     → these ≡ those

@@ -1,6 +1,6 @@
 -- A machine with the state of another, what is collected there and its items has read the same: by cases of the state.
 use Rattle.vte_core.proofs.Common.{◌≡◌, Option, ℕ, List, [], sym, subst, Machine, State, Text, Escape, EscapeIntermediate, ControlSequence}
-use Rattle.vte_core.proofs.Common.{DeviceControl, DeviceData, SystemCommand, IgnoredString, Holds, IsBehind, StandsBy, StandsInHead, Place, InText, AtEscape}
+use Rattle.vte_core.proofs.Common.{DeviceControl, DeviceData, SystemCommand, IgnoredString, Holds, HasReadUnder, StandsBy, StandsInHead, Place, InText, AtEscape}
 use Rattle.vte_core.proofs.Common.{InEscape, InControlSequence, InDeviceControl, InData, InSystemCommand, InIgnoredString, SameItems}
 use Rattle.vte_core.proofs.fields.Standing.{keeps-same, stands-by}
 
@@ -23,9 +23,9 @@ by_clone limit _ old new _ same items s = absurd s
 
 pub reads_cloned : {B C : Type 0} (limit : Option ℕ) (old : Machine B) (new : Machine C) → new.state ≡ old.state
     → new.collected ≡ old.collected → SameItems old.command new.command
-    → (stream : List ℕ) → IsBehind limit old stream → IsBehind limit new stream
-reads_cloned limit old new state same items stream behind = record {
-  place = behind.place;
-  stands = stands-by state (by_clone limit old.state old new behind.place same items behind.stands.by);
-  is_after = behind.is_after;
+    → (stream : List ℕ) → HasReadUnder limit old stream → HasReadUnder limit new stream
+reads_cloned limit old new state same items stream has_read = record {
+  place = has_read.place;
+  stands = stands-by state (by_clone limit old.state old new has_read.place same items has_read.stands.by);
+  is_after = has_read.is_after;
 }

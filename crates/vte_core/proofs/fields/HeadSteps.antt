@@ -1,7 +1,7 @@
 -- What one byte makes of the head that is held: by the part of the head that was reached and the byte's class.
 use Rattle.vte_core.proofs.Common.{◌≡◌, ℕ, ◌⊎◌, inl, inr, Bool, true, false, ◌||◌, List, [], ◌∷◌, ◌++◌, length, refl, ap, ◌∙◌, append_assoc, arith, length-append, append-nil, Class}
-use Rattle.vte_core.proofs.Common.{Intermediate, Marker, class_of, is_head, is_intermediate, is_marker, is_parameter_text, Collected, HeadPart, Entry, Parameters, Intermediates, IllShaped, Event}
-use Rattle.vte_core.proofs.Common.{head_of, is_well_shaped, dispatched, Holds, Counts, Settles, HoldsHead, KeepsNumbers, KeepsIntermediates, StandsInHead, StaysIllShaped}
+use Rattle.vte_core.proofs.Common.{Intermediate, Marker, class_of, is_head, is_intermediate, is_marker, is_parameter_text, Collected, HeadPart, Entry, Parameters, Intermediates, Malformed, Event}
+use Rattle.vte_core.proofs.Common.{head_of, is_well_shaped, dispatched, Holds, Counts, Settles, HoldsHead, KeepsNumbers, KeepsIntermediates, StandsInHead, StaysMalformed}
 use Rattle.vte_core.specs.machine.Ready.{IsReady}
 use Rattle.vte_core.proofs.shapes.HeadLemmas.{begins-intermediates, head_of-parts, held-parts, held-well_shaped, list_all-not}
 use Rattle.vte_core.proofs.bytes.PieceLemmas.{AreOf-append}
@@ -19,9 +19,9 @@ Counts-kept old new text k c = record {
 Holds-kept : (old new : Collected) (ints : List ℕ) → KeepsIntermediates old new → Holds old ints → Holds new ints
 Holds-kept old new ints k h = record { kept = cc; too_many = k.too_many ∙ h.too_many }
 
-behind : (head marker parameters intermediates more : List ℕ) → head ≡ marker ++ (parameters ++ intermediates)
+shape_more : (head marker parameters intermediates more : List ℕ) → head ≡ marker ++ (parameters ++ intermediates)
     → head ++ more ≡ marker ++ (parameters ++ (intermediates ++ more))
-behind head marker parameters intermediates more e = rw e (simp append_assoc)
+shape_more head marker parameters intermediates more e = rw e (simp append_assoc)
 
 -- an intermediate, wherever the head has come
 pub holds-intermediate : (old new : Collected) (part : HeadPart) (head : List ℕ) (b : ℕ) → HoldsHead old part head
@@ -32,7 +32,7 @@ holds-intermediate old new part head b h e k more = record {
   marker = h.marker;
   parameters = h.parameters;
   intermediates = h.intermediates ++ b ∷ [];
-  shape = behind head h.marker h.parameters h.intermediates (b ∷ []) h.shape;
+  shape = shape_more head h.marker h.parameters h.intermediates (b ∷ []) h.shape;
   is_marker = h.is_marker;
   are_parameters = h.are_parameters;
   are_intermediates = AreOf-append is_intermediate h.intermediates (b ∷ []) h.are_intermediates (rw e refl, tt);
@@ -92,10 +92,10 @@ holds-parameter old new part head b (inr e) s is k more =
     rw e at s in holds_parameter old new Parameters head b h h.reaches.1 is k more
 
 -- a marker after a marker or a parameter
-ill_shaped-marker : (old : Collected) (head : List ℕ) (b : ℕ) → HoldsHead old Parameters head → class_of b ≡ Marker
-    → StaysIllShaped (head ++ b ∷ [])
+malformed-marker : (old : Collected) (head : List ℕ) (b : ℕ) → HoldsHead old Parameters head → class_of b ≡ Marker
+    → StaysMalformed (head ++ b ∷ [])
 unfolding is_well_shaped
-ill_shaped-marker old head b h is = record {
+malformed-marker old head b h is = record {
   stays = λ more.
       let e : (head ++ b ∷ []) ++ more ≡ h.marker ++ (h.parameters ++ (b ∷ more)) =
       rw (h.shape, h.reaches.1) (simp (append-nil, append_assoc)) in
@@ -106,10 +106,10 @@ ill_shaped-marker old head b h is = record {
 }
 
 -- what is no intermediate after an intermediate
-ill_shaped-behind : (old : Collected) (head : List ℕ) (b : ℕ) → HoldsHead old Intermediates head
-    → is_intermediate (class_of b) ≡ false → StaysIllShaped (head ++ b ∷ [])
+malformed-shape_more : (old : Collected) (head : List ℕ) (b : ℕ) → HoldsHead old Intermediates head
+    → is_intermediate (class_of b) ≡ false → StaysMalformed (head ++ b ∷ [])
 unfolding is_well_shaped
-ill_shaped-behind old head b h is = record {
+malformed-shape_more old head b h is = record {
   stays = λ more.
       let e : (head ++ b ∷ []) ++ more ≡ h.marker ++ (h.parameters ++ (h.intermediates ++ (b ∷ more))) =
       rw h.shape (simp append_assoc) in
@@ -122,11 +122,11 @@ ill_shaped-behind old head b h is = record {
       rw (e, p) (list_all-not h.intermediates b more is);
 }
 
-pub ill_shaped-more : (head : List ℕ) (b : ℕ) → StaysIllShaped head → StaysIllShaped (head ++ b ∷ [])
-ill_shaped-more head b s = record { stays = λ more. rw append_assoc (s.stays (b ∷ more)) }
+pub malformed-more : (head : List ℕ) (b : ℕ) → StaysMalformed head → StaysMalformed (head ++ b ∷ [])
+malformed-more head b s = record { stays = λ more. rw append_assoc (s.stays (b ∷ more)) }
 
-pub ill_shaped-now : (head : List ℕ) → StaysIllShaped head → is_well_shaped (head_of head) ≡ false
-ill_shaped-now head s = rw append-nil at (s.stays [])
+pub malformed-now : (head : List ℕ) → StaysMalformed head → is_well_shaped (head_of head) ≡ false
+malformed-now head s = rw append-nil at (s.stays [])
 
 -- at the end of a head that is well shaped
 pub ready : (old new : Collected) (more ignored : Bool) (part : HeadPart) (head : List ℕ)
@@ -166,15 +166,15 @@ left_is_marker Marker h p i = refl
 left_is_marker _ h p i = cc
 
 -- a marker that does not come first, or a digit or a separator that may not come next
-pub ill_shaped-late : (old : Collected) (part : HeadPart) (head : List ℕ) (b : ℕ) → StandsInHead old part head
+pub malformed-late : (old : Collected) (part : HeadPart) (head : List ℕ) (b : ℕ) → StandsInHead old part head
     → is_head (class_of b) ≡ true
     → is_intermediate (class_of b) ≡ false
     → ((part ≡ Entry) ⊎ (part ≡ Parameters) → is_parameter_text (class_of b) ≡ false)
-    → (part ≡ Entry → ⊥) → StaysIllShaped (head ++ b ∷ [])
-ill_shaped-late old Entry head b s h i p n = absurd (n refl)
-ill_shaped-late old Parameters head b s h i p n = ill_shaped-marker old head b s (left_is_marker _ h (p (inr refl)) i)
-ill_shaped-late old Intermediates head b s h i p n = ill_shaped-behind old head b s i
-ill_shaped-late old IllShaped head b s h i p n = ill_shaped-more head b s
+    → (part ≡ Entry → ⊥) → StaysMalformed (head ++ b ∷ [])
+malformed-late old Entry head b s h i p n = absurd (n refl)
+malformed-late old Parameters head b s h i p n = malformed-marker old head b s (left_is_marker _ h (p (inr refl)) i)
+malformed-late old Intermediates head b s h i p n = malformed-shape_more old head b s i
+malformed-late old Malformed head b s h i p n = malformed-more head b s
 
 -- what is handed over at the end of a head
 pub dispatched-ready : (call : List (List ℕ) → List ℕ → Bool → ℕ → Event) (held : Collected) (ignored : Bool)
@@ -184,7 +184,7 @@ pub dispatched-ready : (call : List (List ℕ) → List ℕ → Bool → ℕ →
 unfolding dispatched
 dispatched-ready call held ignored head final f = rw (f.groups, f.intermediates, f.ignore) refl
 
-pub head-holds : (held : Collected) (part : HeadPart) (head : List ℕ) → (part ≡ IllShaped → ⊥)
+pub head-holds : (held : Collected) (part : HeadPart) (head : List ℕ) → (part ≡ Malformed → ⊥)
     → StandsInHead held part head → HoldsHead held part head
-head-holds held IllShaped head n s = absurd (n refl)
+head-holds held Malformed head n s = absurd (n refl)
 head-holds held part head n s = s

@@ -1,7 +1,7 @@
 -- What is kept of the items of a command, and the pieces of what is kept. By induction over the items, with the piece
 -- that is open carried along.
 use Rattle.vte_core.proofs.Common.{◌≡◌, ℕ, ◌+◌, ◌<◌, ◌≤◌, zero, suc, Bool, true, false, List, [], ◌∷◌, ◌++◌, length, take, Option, Some, None, ◌==◌, refl, sym, arith, append_assoc}
-use Rattle.vte_core.proofs.Common.{length-append, drop_at, take_at, length-take, All, filter, slice_split, onto_first, concat, ltb-true, All-push, FitsStore, semicolon, cut_at, ends_behind}
+use Rattle.vte_core.proofs.Common.{length-append, drop_at, take_at, length-take, All, filter, slice_split, onto_first, concat, ltb-true, All-push, FitsStore, semicolon, cut_at, ends_after}
 use Rattle.vte_core.proofs.Common.{is_data_byte, kept_after, kept_items, most_pieces, pieces_of, ap, inl, inr, cases_Bool, common_steps, eqb, take-nil, drop, take-append-drop, ◌∙◌}
 use Rattle.std.proofs.Common.{append-nil}
 use Rattle.std.proofs.lemmas.List.Folds.{concat-append}
@@ -12,7 +12,7 @@ use Rattle.std.proofs.lemmas.List.Splits.{length-slice_split, slice_split_at, sl
 -- `front` is the beginning of the piece that the text continues
 cut_onto : (earlier front text : List ℕ) → All (λ b. (b == semicolon) ≡ false) front →
     cut_at (length earlier) (earlier ++ (front ++ filter is_data_byte text))
-    (ends_behind (length earlier + length front) text)
+    (ends_after (length earlier + length front) text)
     ≡ slice_split (λ b. b == semicolon) (front ++ text)
 cut_onto earlier front [] none =
     let all = drop_at earlier (front ++ []) (length earlier) refl in
@@ -23,19 +23,19 @@ cut_onto earlier front (item ∷ text) none =
     by_test : (is_end : Bool) → (item == semicolon) ≡ is_end
         → ((earlier front : List ℕ) → All (λ b. (b == semicolon) ≡ false) front →
         cut_at (length earlier) (earlier ++ (front ++ filter is_data_byte text))
-        (ends_behind (length earlier + length front) text)
+        (ends_after (length earlier + length front) text)
         ≡ slice_split (λ b. b == semicolon) (front ++ text))
         → cut_at (length earlier) (earlier ++ (front ++ filter is_data_byte (item ∷ text)))
-        (ends_behind (length earlier + length front) (item ∷ text))
+        (ends_after (length earlier + length front) (item ∷ text))
         ≡ slice_split (λ b. b == semicolon) (front ++ item ∷ text)
     by_test true e rests =
         let more = rests (earlier ++ front) [] (λ k d lt. absurd (omega arith)) in
         let first = slice_split_at (λ b. b == semicolon) front item text none e in
-        let behind = filter is_data_byte text in
+        let later = filter is_data_byte text in
         let counted = length-append earlier front in
-        let joined = append_assoc earlier front behind in
-        let all = drop_at earlier (front ++ behind) (length earlier) refl in
-        let cut = take_at front behind (length front) refl in
+        let joined = append_assoc earlier front later in
+        let all = drop_at earlier (front ++ later) (length earlier) refl in
+        let cut = take_at front later (length front) refl in
         grind (arith, more, first, counted, joined, all, cut)
     by_test false e rests =
         let more = rests earlier (front ++ item ∷ []) (All-push (λ b. (b == semicolon) ≡ false) front item none e) in
@@ -45,7 +45,7 @@ cut_onto earlier front (item ∷ text) none =
         grind (arith, more, counted, joined, same)
 
 pub cut_at_ends : (text : List ℕ)
-    → slice_split (λ b. b == semicolon) text ≡ cut_at 0 (filter is_data_byte text) (ends_behind 0 text)
+    → slice_split (λ b. b == semicolon) text ≡ cut_at 0 (filter is_data_byte text) (ends_after 0 text)
 cut_at_ends text = sym (cut_onto [] [] text (λ k d lt. absurd (omega arith)))
 
 -- ---- how many there are

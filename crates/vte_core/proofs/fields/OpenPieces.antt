@@ -2,7 +2,7 @@
 use Rattle.vte_core.proofs.Common.{◌≡◌, ◌≢◌, ℕ, ◌<◌, suc, zero, None, List, [], ◌∷◌, ◌++◌, length, take, drop, refl, ap, ◌∙◌, arith, length-append, slice_range}
 use Rattle.vte_core.proofs.Common.{◌+◌, All-cons, All-nil, append-nil, concat, drop-append-le, drops_data, nat_tests, take_all, Stored, Keeps, PiecesEnd, cut_at, semicolon, most_pieces, pieces_of}
 use Rattle.std.proofs.lemmas.List.Folds.{concat-append}
-use Rattle.vte_core.proofs.fields.StoreLemmas.{behind_byte, behind_nothing, count-run, ends-within, pieces_held, slice_within}
+use Rattle.vte_core.proofs.fields.StoreLemmas.{after_byte, after_nothing, count-run, ends-within, pieces_held, slice_within}
 
 -- the pieces of held bytes, and those with a byte more
 record GoesOn (start : ℕ) (bytes ends : List ℕ) (byte : ℕ) : Type 0 where
@@ -10,7 +10,7 @@ record GoesOn (start : ℕ) (bytes ends : List ℕ) (byte : ℕ) : Type 0 where
   last : List ℕ
   ended : length pieces ≡ length ends
   before : cut_at start bytes ends ≡ pieces ++ last ∷ []
-  behind : cut_at start (bytes ++ byte ∷ []) ends ≡ pieces ++ (last ++ byte ∷ []) ∷ []
+  later : cut_at start (bytes ++ byte ∷ []) ends ≡ pieces ++ (last ++ byte ∷ []) ∷ []
 
 goes_on : (left start : ℕ) (bytes ends : List ℕ) (byte : ℕ) → PiecesEnd left start ends (length bytes)
     → GoesOn start bytes ends byte
@@ -21,7 +21,7 @@ goes_on left start bytes [] byte are =
       last = drop start bytes;
       ended = refl;
       before = refl;
-      behind = rw (drop-append-le start bytes (byte ∷ []) within) refl;
+      later = rw (drop-append-le start bytes (byte ∷ []) within) refl;
     }
 goes_on zero start bytes (end ∷ ends) byte are = absurd are
 goes_on (suc left) start bytes (end ∷ ends) byte are =
@@ -32,7 +32,7 @@ goes_on (suc left) start bytes (end ∷ ends) byte are =
       last = on.last;
       ended = ap suc on.ended;
       before = ap (λ pieces. slice_range bytes start end ∷ pieces) on.before;
-      behind = rw slice (ap (λ pieces. slice_range bytes start end ∷ pieces) on.behind);
+      later = rw slice (ap (λ pieces. slice_range bytes start end ∷ pieces) on.later);
     }
 
 -- An open command with fewer than 16 `;`: a data byte goes to the piece after them.
@@ -41,7 +41,7 @@ pub record IsOpenFor (items : List ℕ) (byte : ℕ) : Type 0 where
   pub last : List ℕ
   pub few : length pieces < most_pieces
   pub before : pieces_of None items ≡ pieces ++ last ∷ []
-  pub behind : pieces_of None (items ++ byte ∷ []) ≡ pieces ++ (last ++ byte ∷ []) ∷ []
+  pub later : pieces_of None (items ++ byte ∷ []) ≡ pieces ++ (last ++ byte ∷ []) ∷ []
   pub dropped : drops_data None (items ++ byte ∷ []) ≡ drops_data None items
 
 take_pieces : (pieces : List (List ℕ)) (last : List ℕ) → length pieces < most_pieces
@@ -59,12 +59,12 @@ same_drops : (items : List ℕ) (byte : ℕ) (pieces : List (List ℕ)) (last : 
     → pieces_of None (items ++ byte ∷ []) ≡ pieces ++ (last ++ byte ∷ []) ∷ [] → byte ≢ semicolon
     → drops_data None (items ++ byte ∷ []) ≡ drops_data None items
 unfolding drops_data
-same_drops items byte pieces last before behind other =
+same_drops items byte pieces last before later other =
     let more =
     count-run items (byte ∷ []) (All-cons (λ b. b ≢ semicolon) byte [] other (All-nil (λ b. b ≢ semicolon))) in
     rw (
       before,
-      behind,
+      later,
       concat_last pieces last,
       concat_last pieces (last ++ byte ∷ []),
       length-append last
@@ -78,16 +78,16 @@ open_for held items byte keeps few other =
     let g = goes_on most_pieces 0 held.bytes held.ends byte keeps.end in
     let some : length g.pieces < most_pieces = omega (arith, g.ended) in
     let more =
-    keeps.goes_on (byte ∷ []) ∙ behind_byte None held.bytes held.ends refl byte other []
-    ∙ behind_nothing None (held.bytes ++ byte ∷ []) held.ends in
+    keeps.goes_on (byte ∷ []) ∙ after_byte None held.bytes held.ends refl byte other []
+    ∙ after_nothing None (held.bytes ++ byte ∷ []) held.ends in
     let before =
     pieces_held None held items keeps ∙ ap (take most_pieces) g.before ∙ take_pieces g.pieces g.last some in
-    let behind = more ∙ ap (take most_pieces) g.behind ∙ take_pieces g.pieces (g.last ++ byte ∷ []) some in
+    let later = more ∙ ap (take most_pieces) g.later ∙ take_pieces g.pieces (g.last ++ byte ∷ []) some in
     record {
       pieces = g.pieces;
       last = g.last;
       few = some;
       before = before;
-      behind = behind;
-      dropped = same_drops items byte g.pieces g.last before behind other;
+      later = later;
+      dropped = same_drops items byte g.pieces g.last before later other;
     }

@@ -2,7 +2,7 @@
 -- definition reads from the front, so it is first restated with what came before.
 use Rattle.vte_core.proofs.Common.{◌≡◌, ℕ, ◌+◌, ◌-◌, ◌*◌, ◌<◌, ◌≤◌, min, Bool, true, false, List, [], ◌∷◌, ◌++◌, length, take, map, inl, inr, refl, ap, arith, append_assoc, length-append, length-take}
 use Rattle.vte_core.proofs.Common.{All, fold, filter, slice_split, digit_value, cases_Bool, nat_tests, append-nil, All-nil, All-cons, All-head, All-tail, All-push, All-take, fold_push, sum_by-cons}
-use Rattle.vte_core.proofs.Common.{Number, numbers, numbers_of, number_of, is_colon, is_separator, greatest_number, most_numbers, numbers_behind, grouped, groups_of, with_number, count_of, AreGroups}
+use Rattle.vte_core.proofs.Common.{Number, numbers, numbers_of, number_of, is_colon, is_separator, greatest_number, most_numbers, numbers_from, grouped, groups_of, with_number, count_of, AreGroups}
 use Rattle.std.proofs.lemmas.Int.Digits.{digits_value_push}
 use Rattle.std.proofs.lemmas.List.Splits.{slice_split_at, slice_split_none}
 use Rattle.vte_core.proofs.fields.Groups.{numbered}
@@ -12,7 +12,7 @@ use Rattle.vte_core.proofs.fields.Groups.{numbered}
 split_numbers : (joined : Bool) (digits text : List ℕ) → All (λ b. is_separator b ≡ false) digits
     → numbers_of (joined ∷ map is_colon (filter is_separator text))
     (map number_of (slice_split is_separator (digits ++ text)))
-    ≡ numbers_behind joined digits text
+    ≡ numbers_from joined digits text
 split_numbers joined digits [] none = rw (append-nil digits, slice_split_none is_separator digits none) refl
 split_numbers joined digits (b ∷ text) none = elim (cases_Bool (is_separator b)) [
   | inl cuts ↦
@@ -25,7 +25,7 @@ split_numbers joined digits (b ∷ text) none = elim (cases_Bool (is_separator b
       rw stays (rw (append_assoc digits (b ∷ []) text) at rest)
 ]
 
-pub numbers_are : (text : List ℕ) → numbers text ≡ numbers_behind false [] text
+pub numbers_are : (text : List ℕ) → numbers text ≡ numbers_from false [] text
 unfolding numbers
 numbers_are text = split_numbers false [] text (All-nil (λ b. is_separator b ≡ false))
 
@@ -47,22 +47,22 @@ abbrev pub IsSmall : Number → Type 0
 IsSmall n = n.value ≤ greatest_number
 
 -- there is one, and each is at most 65,535
-behind_small : (joined : Bool) (digits text : List ℕ)
-    → (0 < length (numbers_behind joined digits text)) × All IsSmall (numbers_behind joined digits text)
-behind_small joined digits [] =
+numbers_from-small : (joined : Bool) (digits text : List ℕ)
+    → (0 < length (numbers_from joined digits text)) × All IsSmall (numbers_from joined digits text)
+numbers_from-small joined digits [] =
     (omega arith, All-cons IsSmall (numbered joined (number_of digits)) [] (omega arith) (All-nil IsSmall))
-behind_small joined digits (b ∷ text) = elim (cases_Bool (is_separator b)) [
+numbers_from-small joined digits (b ∷ text) = elim (cases_Bool (is_separator b)) [
   | inl ends ↦
       rw ends (
         omega arith,
         All-cons IsSmall (numbered joined (number_of digits)) _ (omega arith)
-            (behind_small (is_colon b) [] text).1,
+            (numbers_from-small (is_colon b) [] text).1,
       )
-  | inr other ↦ rw other (behind_small joined (digits ++ b ∷ []) text)
+  | inr other ↦ rw other (numbers_from-small joined (digits ++ b ∷ []) text)
 ]
 
 pub numbers_small : (text : List ℕ) → (0 < length (numbers text)) × All IsSmall (numbers text)
-numbers_small text = rw (numbers_are text) (behind_small false [] text)
+numbers_small text = rw (numbers_are text) (numbers_from-small false [] text)
 
 -- ---- groups
 

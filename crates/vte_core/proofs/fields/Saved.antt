@@ -1,6 +1,6 @@
 -- A machine that is made of what was saved of another is at the place where that one was: by cases of the state.
 use Rattle.vte_core.proofs.Common.{◌≡◌, ℕ, Option, Some, List, take, arith, refl, subst, ◌∙◌, Machine, State, Text, Escape, EscapeIntermediate, ControlSequence}
-use Rattle.vte_core.proofs.Common.{DeviceControl, DeviceData, SystemCommand, IgnoredString, Holds, IsBehind, StandsBy, StandsInHead, Place, InText, AtEscape}
+use Rattle.vte_core.proofs.Common.{DeviceControl, DeviceData, SystemCommand, IgnoredString, Holds, HasReadUnder, StandsBy, StandsInHead, Place, InText, AtEscape}
 use Rattle.vte_core.proofs.Common.{InEscape, InControlSequence, InDeviceControl, InData, InSystemCommand, InIgnoredString, SameItems}
 use Rattle.vte_core.specs.declared.parser.saved.Saved.{Saved}
 use Rattle.vte_core.specs.machine.Saved.{IsInHead, IsRestored, flag_of, state_bytes}
@@ -67,13 +67,13 @@ by_saved limit _ old new _ h r o n s = absurd s
 
 -- what was saved has read what the machine has
 pub reads_saved : {B : Type 0} (saved : Saved) (machine : Machine B) → HasSaved saved machine
-    → (stream : List ℕ) → IsBehind (Some 1024) machine stream → HasReadSaved saved stream
-reads_saved saved machine h stream behind = record {
+    → (stream : List ℕ) → HasReadUnder (Some 1024) machine stream → HasReadSaved saved stream
+reads_saved saved machine h stream has_read = record {
   reads = λ parser r. record {
-    place = behind.place;
+    place = has_read.place;
     stands = let same : parser.machine.state ≡ machine.state = r.state machine.state h.state in
         stands-by same
-        (by_saved _ machine.state machine parser.machine behind.place h r refl same behind.stands.by);
-    is_after = behind.is_after;
+        (by_saved _ machine.state machine parser.machine has_read.place h r refl same has_read.stands.by);
+    is_after = has_read.is_after;
   };
 }

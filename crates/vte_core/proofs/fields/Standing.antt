@@ -1,9 +1,9 @@
 -- What is known of a parser that is at a place: by cases of its state, to each of which belongs one kind of place.
 use Rattle.vte_core.proofs.Common.{◌≡◌, ℕ, true, Option, List, [], ◌∷◌, ◌++◌, refl, ap, sym, subst, ◌∙◌, append-nil, Machine, State, Text, Escape}
 use Rattle.vte_core.proofs.Common.{SystemCommand, body_outcome, data_outcome, executed, leaves, unfinished, Holds, StandsBy, Stands, Place, InText, AtEscape, InSystemCommand, open_at, left_at}
-use Rattle.vte_core.proofs.Common.{rest_outcome, outcome_behind, events_behind, IsBetween, Stored, Keeps, SameItems, text_outcome, is_truncated, Nothing, is_open}
+use Rattle.vte_core.proofs.Common.{rest_outcome, outcome_from, events_from, IsBetween, Stored, Keeps, SameItems, text_outcome, is_truncated, Nothing, is_open}
 use Rattle.vte_core.specs.IgnoredString.{ignored_string_outcome}
-use Rattle.vte_core.specs.machine.Place.{control_sequence_behind, device_control_behind, escape_behind, system_command_behind}
+use Rattle.vte_core.specs.machine.Place.{control_sequence_from, device_control_from, escape_from, system_command_from}
 use Rattle.vte_core.proofs.shapes.TextLemmas.{text_end, text_nothing}
 
 -- a parser in a state by name: what that state says of the place
@@ -71,19 +71,19 @@ text_open limit (a ∷ u) o = rw append-nil (text_end (a ∷ u) o)
 -- nothing more tells nothing, and leaves open what is open at the place
 pub rest_outcome-nothing : (limit : Option ℕ) (place : Place) → IsPlace place
     → rest_outcome limit place [] ≡ leaves (left_at limit place)
-unfolding body_outcome executed escape_behind control_sequence_behind device_control_behind data_outcome
-    system_command_behind ignored_string_outcome
+unfolding body_outcome executed escape_from control_sequence_from device_control_from data_outcome
+    system_command_from ignored_string_outcome
 rest_outcome-nothing limit (InText u) is = text_open limit u is
 rest_outcome-nothing limit (InSystemCommand items) is = simp append-nil
 rest_outcome-nothing limit _ is = refl
 
-pub outcome_behind-nothing : (limit : Option ℕ) (place : Place) → IsPlace place
-    → outcome_behind limit place [] ≡ leaves (left_at limit place)
-unfolding outcome_behind
-outcome_behind-nothing limit place is = rest_outcome-nothing limit place is
+pub outcome_from-nothing : (limit : Option ℕ) (place : Place) → IsPlace place
+    → outcome_from limit place [] ≡ leaves (left_at limit place)
+unfolding outcome_from
+outcome_from-nothing limit place is = rest_outcome-nothing limit place is
 
-pub events_behind-nothing : (limit : Option ℕ) (place : Place) → IsPlace place → events_behind limit place [] ≡ []
-events_behind-nothing limit place is = ap (λ outcome. outcome.told) (outcome_behind-nothing limit place is)
+pub events_from-nothing : (limit : Option ℕ) (place : Place) → IsPlace place → events_from limit place [] ≡ []
+events_from-nothing limit place is = ap (λ outcome. outcome.told) (outcome_from-nothing limit place is)
 
 pub unfinished-at : (limit : Option ℕ) (place : Place) → unfinished (left_at limit place) ≡ open_at place
 unfinished-at limit (InText []) = refl

@@ -2,7 +2,7 @@
 -- either joins the last piece, ends it, or is dropped.
 use Rattle.vte_core.proofs.Common.{◌≡◌, ◌≢◌, ℕ, ◌+◌, ◌-◌, ◌≤◌, ◌<◌, zero, suc, true, false, List, [], ◌∷◌, ◌++◌, length, take, drop, Option, Some, None, refl}
 use Rattle.vte_core.proofs.Common.{sym, ap, ◌∙◌, arith, append_assoc, length-append, length-drop, length-take, inl, inr, All, concat, filter, slice_range, drop-append-le, take-append-le}
-use Rattle.vte_core.proofs.Common.{All-head, All-tail, take-nil, cases_Bool, ltb-false, ltb-true, ne_eqb, semicolon, Stored, Keeps, PiecesEnd, cut_at, cut_pieces, ends_behind, fitting, pieces_behind}
+use Rattle.vte_core.proofs.Common.{All-head, All-tail, take-nil, cases_Bool, ltb-false, ltb-true, ne_eqb, semicolon, Stored, Keeps, PiecesEnd, cut_at, cut_pieces, ends_after, fitting, pieces_from}
 use Rattle.vte_core.proofs.Common.{Bool, drops_data, has_room, is_data_byte, nat_tests, kept_after, kept_items, most_pieces, pieces_of}
 use Rattle.std.proofs.Common.{append-nil}
 use Rattle.std.specs.Prelude.{◌||◌, nat_lt}
@@ -12,18 +12,18 @@ use Rattle.vte_core.proofs.fields.KeptItems.{cut_at_ends}
 -- ---- the pieces if items follow, item by item
 
 module _ (limit : Option ℕ) (bytes ends : List ℕ) where
-  pub behind_nothing : pieces_behind limit bytes ends [] ≡ cut_pieces bytes ends
-  behind_nothing = rw (append-nil bytes, append-nil ends) refl
+  pub after_nothing : pieces_from limit bytes ends [] ≡ cut_pieces bytes ends
+  after_nothing = rw (append-nil bytes, append-nil ends) refl
 
   -- without room nothing is kept
-  pub behind_full : has_room limit (length bytes) ≡ false → (more : List ℕ)
-      → pieces_behind limit bytes ends more ≡ cut_pieces bytes ends
-  behind_full full [] = behind_nothing
-  behind_full full (item ∷ more) = rw (full, append-nil bytes, append-nil ends) refl
+  pub after_full : has_room limit (length bytes) ≡ false → (more : List ℕ)
+      → pieces_from limit bytes ends more ≡ cut_pieces bytes ends
+  after_full full [] = after_nothing
+  after_full full (item ∷ more) = rw (full, append-nil bytes, append-nil ends) refl
 
-  pub behind_byte : has_room limit (length bytes) ≡ true → (item : ℕ) → item ≢ semicolon → (more : List ℕ) →
-      pieces_behind limit bytes ends (item ∷ more) ≡ pieces_behind limit (bytes ++ item ∷ []) ends more
-  behind_byte room item other more =
+  pub after_byte : has_room limit (length bytes) ≡ true → (item : ℕ) → item ≢ semicolon → (more : List ℕ) →
+      pieces_from limit bytes ends (item ∷ more) ≡ pieces_from limit (bytes ++ item ∷ []) ends more
+  after_byte room item other more =
       let is_byte = ne_eqb item semicolon other in
       let kept = kept_after limit (length bytes + 1) more in
       rw (
@@ -34,9 +34,9 @@ module _ (limit : Option ℕ) (bytes ends : List ℕ) where
             (filter is_data_byte kept),
       ) refl
 
-  behind_end : has_room limit (length bytes) ≡ true → (more : List ℕ) →
-      pieces_behind limit bytes ends (semicolon ∷ more) ≡ pieces_behind limit bytes (ends ++ length bytes ∷ []) more
-  behind_end room more = rw (room, append_assoc ends) refl
+  after_end : has_room limit (length bytes) ≡ true → (more : List ℕ) →
+      pieces_from limit bytes ends (semicolon ∷ more) ≡ pieces_from limit bytes (ends ++ length bytes ∷ []) more
+  after_end room more = rw (room, append_assoc ends) refl
 
 fitting-nothing : (limit : Option ℕ) (count : ℕ) → fitting limit count [] ≡ []
 fitting-nothing None count = refl
@@ -55,22 +55,22 @@ fitting-full (Some limit) count run full =
     let none : limit - count ≡ 0 = omega (arith, ltb-false count limit full) in rw none refl
 
 -- data bytes are kept as far as there is room
-behind_run : (limit : Option ℕ) (bytes ends run more : List ℕ) → All (λ b. b ≢ semicolon) run →
-    pieces_behind limit bytes ends (run ++ more)
-    ≡ pieces_behind limit (bytes ++ fitting limit (length bytes) run) ends more
-behind_run limit bytes ends [] more none = rw (fitting-nothing limit (length bytes), append-nil bytes) refl
-behind_run limit bytes ends (b ∷ run) more none =
-    let rest = behind_run limit (bytes ++ b ∷ []) ends run more (All-tail (λ b. b ≢ semicolon) b run none) in
+after_run : (limit : Option ℕ) (bytes ends run more : List ℕ) → All (λ b. b ≢ semicolon) run →
+    pieces_from limit bytes ends (run ++ more)
+    ≡ pieces_from limit (bytes ++ fitting limit (length bytes) run) ends more
+after_run limit bytes ends [] more none = rw (fitting-nothing limit (length bytes), append-nil bytes) refl
+after_run limit bytes ends (b ∷ run) more none =
+    let rest = after_run limit (bytes ++ b ∷ []) ends run more (All-tail (λ b. b ≢ semicolon) b run none) in
     elim (cases_Bool (has_room limit (length bytes))) [
       | inl room ↦
-          let one = behind_byte limit bytes ends room b (All-head (λ b. b ≢ semicolon) b run none) (run ++ more) in
+          let one = after_byte limit bytes ends room b (All-head (λ b. b ≢ semicolon) b run none) (run ++ more) in
           let kept = fitting-room limit (length bytes) b run room in
           let same : bytes ++ fitting limit (length bytes) (b ∷ run)
           ≡ (bytes ++ b ∷ []) ++ fitting limit (length (bytes ++ b ∷ [])) run =
           rw (kept, length-append bytes (b ∷ []), append_assoc bytes (b ∷ [])) refl in
           rw same (one ∙ rest)
       | inr full ↦
-          let same = behind_full limit bytes ends full in
+          let same = after_full limit bytes ends full in
           rw (fitting-full limit (length bytes) (b ∷ run) full, append-nil bytes)
           (same ((b ∷ run) ++ more) ∙ sym (same more))
     ]
@@ -172,7 +172,7 @@ keeps-nothing limit held no_bytes no_ends none_dropped = record {
 
 -- no item more counts
 abbrev pub IsDone : Option ℕ → Stored → Type 0
-IsDone limit held = (more : List ℕ) → pieces_behind limit held.bytes held.ends more ≡ cut_pieces held.bytes held.ends
+IsDone limit held = (more : List ℕ) → pieces_from limit held.bytes held.ends more ≡ cut_pieces held.bytes held.ends
 
 -- after 16 ends
 pub done-complete : (limit : Option ℕ) (held : Stored) (items : List ℕ) → length held.ends ≡ most_pieces
@@ -180,10 +180,10 @@ pub done-complete : (limit : Option ℕ) (held : Stored) (items : List ℕ) → 
 done-complete limit held items complete keeps more =
     let kept = kept_after limit (length held.bytes) more in
     rw complete at (ends-complete 0 held.bytes held.ends (filter is_data_byte kept)
-    (ends_behind (length held.bytes) kept) (rw complete keeps.end))
+    (ends_after (length held.bytes) kept) (rw complete keeps.end))
 
 none-counts : (limit : Option ℕ) (held : Stored) (items more : List ℕ) → IsDone limit held → Keeps limit held items
-    → (later : List ℕ) → pieces_of limit ((items ++ more) ++ later) ≡ pieces_behind limit held.bytes held.ends later
+    → (later : List ℕ) → pieces_of limit ((items ++ more) ++ later) ≡ pieces_from limit held.bytes held.ends later
 none-counts limit held items more done keeps later =
     rw (append_assoc items more later) (keeps.goes_on (more ++ later) ∙ done (more ++ later) ∙ sym (done later))
 
@@ -230,7 +230,7 @@ keeps-run limit old new items run few none bytes ends dropped keeps =
       goes_on =
           λ more.
           rw (append_assoc items run more, bytes, ends)
-          (keeps.goes_on (run ++ more) ∙ behind_run limit old.bytes old.ends run more none);
+          (keeps.goes_on (run ++ more) ∙ after_run limit old.bytes old.ends run more none);
       end = rw (bytes, ends, length-append old.bytes kept) end;
       fewer = omega (arith, size, keeps.fewer, fit, count-run items run none);
       dropped =
@@ -249,7 +249,7 @@ keeps-end limit old new items few room bytes ends dropped keeps = record {
   goes_on =
       λ more.
       rw (append_assoc items (semicolon ∷ []) more, bytes, ends)
-      (keeps.goes_on (semicolon ∷ more) ∙ behind_end limit old.bytes old.ends room more);
+      (keeps.goes_on (semicolon ∷ more) ∙ after_end limit old.bytes old.ends room more);
   end = rw (bytes, ends) (ends-push most_pieces 0 old.ends (length old.bytes) few keeps.end);
   fewer = rw (bytes, count-end items) keeps.fewer;
   dropped = rw (bytes, count-end items) (dropped ∙ keeps.dropped);
@@ -258,7 +258,7 @@ keeps-end limit old new items few room bytes ends dropped keeps = record {
 -- the pieces, by what a store holds
 pub pieces_held : (limit : Option ℕ) (held : Stored) (items : List ℕ) → Keeps limit held items
     → pieces_of limit items ≡ cut_pieces held.bytes held.ends
-pieces_held limit held items keeps = rw append-nil at (keeps.goes_on [] ∙ behind_nothing limit held.bytes held.ends)
+pieces_held limit held items keeps = rw append-nil at (keeps.goes_on [] ∙ after_nothing limit held.bytes held.ends)
 
 -- all bytes are in them
 pub pieces_stored : (limit : Option ℕ) (held : Stored) (items : List ℕ) → Keeps limit held items

@@ -8,7 +8,7 @@ use Rattle.vte_core.proofs.Common.{InDeviceControl, InData, InSystemCommand, InI
 use Rattle.vte_core.proofs.Common.{malformed_event, is_truncated, is_well_formed, scalar_of, nat_le}
 use Rattle.vte_core.specs.IgnoredString.{ignored_string_outcome}
 use Rattle.vte_core.specs.Key.{ControlSequence, DeviceControl, SystemCommand, IgnoredString}
-use Rattle.vte_core.specs.machine.Place.{control_sequence_behind, device_control_behind, escape_behind, system_command_behind}
+use Rattle.vte_core.specs.machine.Place.{control_sequence_from, device_control_from, escape_from, system_command_from}
 use Rattle.vte_core.proofs.bytes.ClassLemmas.{Spans, spans}
 use Rattle.vte_core.proofs.bytes.PieceLemmas.{head_is_no_control, head_is_no_end}
 use Rattle.vte_core.proofs.shapes.PlainKeys.{is_dropped, is_dropped_in_head, below_finals}
@@ -25,7 +25,7 @@ drops _ = true
 
 pub byte-dropped : (limit : Option ℕ) (place : Place) (b : ℕ) (k : Class) → drops place ≡ true → class_of b ≡ k
     → is_dropped k ≡ true → Leads limit place b [] place
-unfolding body_outcome escape_behind control_sequence_behind device_control_behind ignored_string_outcome executed
+unfolding body_outcome escape_from control_sequence_from device_control_from ignored_string_outcome executed
 byte-dropped limit (InText u) b k at e h = cc
 byte-dropped limit InData b k at e h = cc
 byte-dropped limit (InSystemCommand items) b k at e h = cc
@@ -42,24 +42,24 @@ escape-control limit b e = record { leads = λ rest. simp e }
 
 pub escape-intermediate : (limit : Option ℕ) (b : ℕ) → class_of b ≡ Intermediate
     → Leads limit AtEscape b [] (InEscape (b ∷ []))
-unfolding body_outcome executed escape_outcome escape_behind
+unfolding body_outcome executed escape_outcome escape_from
 escape-intermediate limit b e =
     let s : Spans Intermediate b =
     spans b Intermediate e in record { leads = λ rest. simp (e, below_finals b (omega arith)) }
 
 pub escape-control_sequence : (limit : Option ℕ) (b : ℕ) → class_of b ≡ Final → key_of b ≡ ControlSequence
     → Leads limit AtEscape b [] (InControlSequence [])
-unfolding body_outcome executed control_sequence_outcome control_sequence_behind
+unfolding body_outcome executed control_sequence_outcome control_sequence_from
 escape-control_sequence limit b e k = record { leads = λ rest. simp (e, k) }
 
 pub escape-device_control : (limit : Option ℕ) (b : ℕ) → class_of b ≡ Final → key_of b ≡ DeviceControl
     → Leads limit AtEscape b [] (InDeviceControl [])
-unfolding body_outcome executed device_control_outcome device_control_behind
+unfolding body_outcome executed device_control_outcome device_control_from
 escape-device_control limit b e k = record { leads = λ rest. simp (e, k) }
 
 pub escape-system_command : (limit : Option ℕ) (b : ℕ) → class_of b ≡ Final → key_of b ≡ SystemCommand
     → Leads limit AtEscape b [] (InSystemCommand [])
-unfolding body_outcome executed system_command_outcome system_command_behind
+unfolding body_outcome executed system_command_outcome system_command_from
 escape-system_command limit b e k = record { leads = λ rest. simp (e, k) }
 
 pub escape-ignored_string : (limit : Option ℕ) (b : ℕ) → class_of b ≡ Final → key_of b ≡ IgnoredString
@@ -71,18 +71,18 @@ escape-ignored_string limit b e k = record { leads = λ rest. simp (e, k) }
 
 pub intermediate-control : (limit : Option ℕ) (ints : List ℕ) (b : ℕ) → class_of b ≡ Control
     → Leads limit (InEscape ints) b (Execute b ∷ []) (InEscape ints)
-unfolding escape_behind executed
+unfolding escape_from executed
 intermediate-control limit ints b e = record { leads = λ rest. simp e }
 
 pub intermediate-more : (limit : Option ℕ) (ints : List ℕ) (b : ℕ) → class_of b ≡ Intermediate
     → Leads limit (InEscape ints) b [] (InEscape (ints ++ b ∷ []))
-unfolding escape_behind executed
+unfolding escape_from executed
 intermediate-more limit ints b e = record { leads = λ rest. simp (e, append_assoc) }
 
 pub intermediate-end : (limit : Option ℕ) (ints : List ℕ) (b : ℕ) (k : Class) → class_of b ≡ k
     → dispatches_escape k ≡ true
     → Leads limit (InEscape ints) b (EscDispatch (first_two ints) (are_too_many ints) b ∷ []) (InText [])
-unfolding escape_behind executed
+unfolding escape_from executed
 intermediate-end limit ints b Digit e h = record { leads = λ rest. simp (e, append-nil) }
 intermediate-end limit ints b Colon e h = record { leads = λ rest. simp (e, append-nil) }
 intermediate-end limit ints b Semicolon e h = record { leads = λ rest. simp (e, append-nil) }
@@ -106,12 +106,12 @@ escape-end limit b _ e h key = cc
 
 pub control-control : (limit : Option ℕ) (head : List ℕ) (b : ℕ) → class_of b ≡ Control
     → Leads limit (InControlSequence head) b (Execute b ∷ []) (InControlSequence head)
-unfolding control_sequence_behind executed
+unfolding control_sequence_from executed
 control-control limit head b e = record { leads = λ rest. simp e }
 
 pub control-head : (limit : Option ℕ) (head : List ℕ) (b : ℕ) → is_head (class_of b) ≡ true
     → Leads limit (InControlSequence head) b [] (InControlSequence (head ++ b ∷ []))
-unfolding control_sequence_behind executed
+unfolding control_sequence_from executed
 control-head limit head b is =
     record {
       leads = λ rest.
@@ -121,37 +121,37 @@ control-head limit head b is =
 pub control-dispatched : (limit : Option ℕ) (head : List ℕ) (b : ℕ) → class_of b ≡ Final
     → is_well_shaped (head_of head) ≡ true
     → Leads limit (InControlSequence head) b (dispatched CsiDispatch (head_of head) b ∷ []) (InText [])
-unfolding control_sequence_behind control_sequence_end executed
+unfolding control_sequence_from control_sequence_end executed
 control-dispatched limit head b e well = record { leads = λ rest. simp (e, append-nil, well) }
 
 pub control-silent : (limit : Option ℕ) (head : List ℕ) (b : ℕ) → class_of b ≡ Final
     → is_well_shaped (head_of head) ≡ false → Leads limit (InControlSequence head) b [] (InText [])
-unfolding control_sequence_behind control_sequence_end executed
+unfolding control_sequence_from control_sequence_end executed
 control-silent limit head b e ill = record { leads = λ rest. simp (e, append-nil, ill) }
 
 -- ---- in the head of a device control string
 
 pub device-dropped : (limit : Option ℕ) (head : List ℕ) (b : ℕ) (k : Class) → class_of b ≡ k
     → is_dropped_in_head k ≡ true → Leads limit (InDeviceControl head) b [] (InDeviceControl head)
-unfolding device_control_behind
+unfolding device_control_from
 device-dropped limit head b Control e h = record { leads = λ rest. simp e }
 device-dropped limit head b k e h = byte-dropped limit (InDeviceControl head) b k refl e h
 
 pub device-head : (limit : Option ℕ) (head : List ℕ) (b : ℕ) → is_head (class_of b) ≡ true
     → Leads limit (InDeviceControl head) b [] (InDeviceControl (head ++ b ∷ []))
-unfolding device_control_behind
+unfolding device_control_from
 device-head limit head b is = record { leads = λ rest. simp (is, head_is_no_end (class_of b) is, append_assoc) }
 
 pub device-well_shaped : (limit : Option ℕ) (head : List ℕ) (b : ℕ) → class_of b ≡ Final
     → is_well_shaped (head_of head) ≡ true
     → Leads limit (InDeviceControl head) b (dispatched Hook (head_of head) b ∷ []) InData
-unfolding device_control_behind device_control_end
+unfolding device_control_from device_control_end
 device-well_shaped limit head b e well = record { leads = λ rest. simp (e, append-nil, well) }
 
-pub device-ill_shaped : (limit : Option ℕ) (head : List ℕ) (b : ℕ) → class_of b ≡ Final
+pub device-malformed : (limit : Option ℕ) (head : List ℕ) (b : ℕ) → class_of b ≡ Final
     → is_well_shaped (head_of head) ≡ false → Leads limit (InDeviceControl head) b [] InIgnoredString
-unfolding device_control_behind device_control_end
-device-ill_shaped limit head b e ill = record { leads = λ rest. simp (e, append-nil, ill) }
+unfolding device_control_from device_control_end
+device-malformed limit head b e ill = record { leads = λ rest. simp (e, append-nil, ill) }
 
 -- ---- in the data of a hooked string
 
@@ -182,7 +182,7 @@ item_is_no_end b low = grind (arith, nat_tests)
 
 pub command-item : (limit : Option ℕ) (items : List ℕ) (b : ℕ) → 0x20 ≤ b
     → Leads limit (InSystemCommand items) b [] (InSystemCommand (items ++ b ∷ []))
-unfolding system_command_behind
+unfolding system_command_from
 command-item limit items b low =
     let is : nat_le 0x20 b ≡ true =
     grind (arith, nat_tests) in record { leads = λ rest. simp (item_is_no_end b low, is, append_assoc) }
@@ -190,7 +190,7 @@ command-item limit items b low =
 -- C0 but BEL is dropped
 pub command-control : (limit : Option ℕ) (items : List ℕ) (b : ℕ) → class_of b ≡ Control → eqb b bell ≡ false
     → Leads limit (InSystemCommand items) b [] (InSystemCommand items)
-unfolding system_command_behind
+unfolding system_command_from
 command-control limit items b e other =
     let low : Spans Control b = spans b Control e in
     let none : nat_le 0x20 b ≡ false = grind (arith, nat_tests) in
@@ -198,7 +198,7 @@ command-control limit items b e other =
 
 pub command-bell : (limit : Option ℕ) (items : List ℕ) (b : ℕ) → class_of b ≡ Control → eqb b bell ≡ true
     → Leads limit (InSystemCommand items) b (OscDispatch (pieces_of limit items) true ∷ []) (InText [])
-unfolding system_command_behind
+unfolding system_command_from
 command-bell limit items b e is = record { leads = λ rest. simp (e, is, append-nil) }
 
 -- ---- in a string that means nothing

@@ -15,7 +15,7 @@ use Rattle.vte_core.proofs.bytes.ClassLemmas.{Spans, spans}
 use Rattle.vte_core.proofs.shapes.PlainKeys.{below_finals}
 use Rattle.vte_core.proofs.places.PlaceLeads.{escape-control, escape-intermediate, escape-end, escape-control_sequence, escape-device_control, escape-system_command}
 use Rattle.vte_core.proofs.places.PlaceLeads.{escape-ignored_string, intermediate-control, intermediate-more, intermediate-end, control-control, byte-dropped}
-use Rattle.vte_core.proofs.places.PlaceLeads.{control-head, control-dispatched, control-silent, device-dropped, device-head, device-well_shaped, device-ill_shaped, data-put, data-dropped}
+use Rattle.vte_core.proofs.places.PlaceLeads.{control-head, control-dispatched, control-silent, device-dropped, device-head, device-well_shaped, device-malformed, data-put, data-dropped}
 use Rattle.vte_core.proofs.places.PlaceLeads.{data-terminator, command-item, command-control, command-bell, ignored-more}
 use Rattle.vte_core.proofs.fields.Standing.{IsPlace}
 use Rattle.vte_core.proofs.fields.KeptItems.{few_pieces, pieces_push, some_pieces}
@@ -131,7 +131,7 @@ step-device limit head b Final e o = elim (cases_Bool (is_well_shaped (head_of h
       sequenced absurd refl refl (plain b Final e o) (device-well_shaped limit head b e well) tt
       (λ size _. bounded-hook size (head_of head) b (spans b Final e)) (λ _. other-hook (head_of head) b)
   | inr ill ↦
-      sequenced absurd refl refl (plain b Final e o) (device-ill_shaped limit head b e ill) tt (λ _ _. tt) (λ _. tt)
+      sequenced absurd refl refl (plain b Final e o) (device-malformed limit head b e ill) tt (λ _ _. tt) (λ _. tt)
 ]
 step-device limit head b Delete e o =
     sequenced absurd refl refl (plain b Delete e o) (device-dropped limit head b Delete e refl) tt (λ _ _. tt) (λ _. tt)

@@ -1,6 +1,6 @@
 -- What a first byte begins: nothing, or a character with these ranges to come, as the rows of UTF-8 say.
 use Rattle.vte_core.proofs.Common.{List, [], arith, inl, inr, nat_le, refl, subst, sym, true, ℕ, ◌∙◌, ◌∷◌, ◌≡◌, ◌≢◌, ◌≤◌, and_parts, cases_Bool, cases_eq, cases_lt, false≢true, leb-true, nat_tests}
-use Rattle.vte_core.proofs.Common.{Range, is_in, to, wanted_behind, utf8_rows, second_range, IsPrinted, AreRun, is_layout}
+use Rattle.vte_core.proofs.Common.{Range, is_in, to, rows_after, utf8_rows, second_range, IsPrinted, AreRun, is_layout}
 use Rattle.vte_core.proofs.bytes.Between.{each-one}
 use Rattle.vte_core.proofs.bytes.FirstBytes.{fits, tests_row, tests_two}
 use Rattle.vte_core.proofs.bytes.Printable.{run-ascii, run-layout}
@@ -13,7 +13,7 @@ abbrev pub Completes : ℕ → List Range → Type 0
 Completes b ranges = (u : List ℕ) → fits ranges u ≡ true → AreRun true (b ∷ u)
 
 -- the row of Unicode's table that the byte has
-row : (b : ℕ) (ranges : List Range) → 0xc3 ≤ b → wanted_behind b utf8_rows ≡ ranges ∷ [] → Completes b ranges
+row : (b : ℕ) (ranges : List Range) → 0xc3 ≤ b → rows_after b utf8_rows ≡ ranges ∷ [] → Completes b ranges
 row b ranges low same u fit =
     printable b u (omega (arith, low)) (λ e. absurd (omega (arith, e, low)))
     ((tests_row b ranges same u).is_whole ∙ fit)
@@ -26,10 +26,10 @@ pub data Begins (b : ℕ) : Type 0 where
   opens : (t : AutomatonState) → begun b ≡ t → t ≢ Between → t ≢ Failed → 0xc0 ≤ b → Completes b (still t) → Begins b
 
 opened : (b : ℕ) (t : AutomatonState) → begun b ≡ t → t ≢ Between → t ≢ Failed → 0xc3 ≤ b
-    → wanted_behind b utf8_rows ≡ still t ∷ [] → Begins b
+    → rows_after b utf8_rows ≡ still t ∷ [] → Begins b
 opened b t is not fine low same = opens t is not fine (omega (arith, low)) (row b (still t) low same)
 
--- behind C2 the table also has controls
+-- after C2 the table also has controls
 after_c2 : Completes 0xc2 (to 0xa0 0xbf ∷ [])
 unfolding second_range
 after_c2 [] fit = absurd (false≢true fit)

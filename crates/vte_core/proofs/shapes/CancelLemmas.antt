@@ -3,7 +3,7 @@ use Rattle.vte_core.proofs.Common.{◌≡◌, ℕ, ◌<◌, true, false, eqb, Op
 use Rattle.vte_core.proofs.Common.{replacement, Leads, tell, Place, InText, InData, InSystemCommand, closing_at, left_at, bell}
 use Rattle.vte_core.proofs.Common.{text_outcome, character_event, is_control_character, append-nil, body_outcome, control_sequence_end, data_outcome, device_control_end, executed}
 use Rattle.vte_core.specs.IgnoredString.{ignored_string_outcome}
-use Rattle.vte_core.specs.machine.Place.{control_sequence_behind, device_control_behind, escape_behind, system_command_behind}
+use Rattle.vte_core.specs.machine.Place.{control_sequence_from, device_control_from, escape_from, system_command_from}
 use Rattle.vte_core.proofs.bytes.ClassLemmas.{spans}
 use Rattle.vte_core.proofs.bytes.FirstBytes.{Tests, ascii_alone, ascii_breaks}
 use Rattle.vte_core.proofs.fields.Standing.{IsPlace}
@@ -27,8 +27,8 @@ text_cancel rest b low =
 -- what is closed comes first, then the byte is executed
 pub cancel : (limit : Option ℕ) (place : Place) (b : ℕ) → IsPlace place → class_of b ≡ Cancel
     → Leads limit place b (closing_at limit place ++ Execute b ∷ []) (InText [])
-unfolding body_outcome executed escape_behind control_sequence_behind control_sequence_end device_control_behind
-    device_control_end data_outcome system_command_behind ignored_string_outcome
+unfolding body_outcome executed escape_from control_sequence_from control_sequence_end device_control_from
+    device_control_end data_outcome system_command_from ignored_string_outcome
 cancel limit (InText []) b is e = record { leads = λ rest. text_cancel rest b (spans b Cancel e) }
 cancel limit (InText (a ∷ u)) b is e =
     let low : b < 0x20 = spans b Cancel e in

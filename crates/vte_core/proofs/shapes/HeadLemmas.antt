@@ -1,7 +1,7 @@
 -- The head of a control sequence and of a device control string, byte by byte: its parts are cut off its front, so a
 -- byte more changes only the last part that was reached.
 use Rattle.vte_core.proofs.Common.{◌≡◌, ℕ, true, false, List, [], ◌∷◌, ◌++◌, refl, arith, nat_tests, list_all, Class, Intermediate, Marker, class_of}
-use Rattle.vte_core.proofs.Common.{Bool, ap, append-nil, is_intermediate, is_marker, is_parameter_text, AreOf, head_of, behind_marker, is_well_shaped, IsMarker}
+use Rattle.vte_core.proofs.Common.{Bool, ap, append-nil, is_intermediate, is_marker, is_parameter_text, AreOf, head_of, head_after, is_well_shaped, IsMarker}
 use Rattle.vte_core.proofs.bytes.ClassCases.{intermediate}
 
 -- the bytes don't begin with one of these classes
@@ -13,14 +13,14 @@ parameter_is_no_marker : (k : Class) → is_parameter_text k ≡ true → is_mar
 parameter_is_no_marker Marker h = cc
 parameter_is_no_marker _ h = refl
 
-behind_marker-parts : (marker parameters rest : List ℕ) → AreOf is_parameter_text parameters
+head_after-parts : (marker parameters rest : List ℕ) → AreOf is_parameter_text parameters
     → BeginsWithout is_parameter_text rest
-    → behind_marker marker (parameters ++ rest)
+    → head_after marker (parameters ++ rest)
     ≡ record { marker = marker; parameters = parameters; intermediates = rest }
-behind_marker-parts marker [] [] are none = refl
-behind_marker-parts marker [] (b ∷ rest) are none = rw none refl
-behind_marker-parts marker (p ∷ parameters) rest are none =
-    let more = behind_marker-parts marker parameters rest are.1 none in
+head_after-parts marker [] [] are none = refl
+head_after-parts marker [] (b ∷ rest) are none = rw none refl
+head_after-parts marker (p ∷ parameters) rest are none =
+    let more = head_after-parts marker parameters rest are.1 none in
     rw are.0
     (ap (λ head. record {
       marker = marker;
@@ -38,8 +38,8 @@ unfolding head_of
 head_of-parts [] [] [] is are none no_marker = refl
 head_of-parts [] [] (b ∷ rest) is are none no_marker = rw (no_marker refl, none) refl
 head_of-parts [] (p ∷ parameters) rest is are none _ =
-    rw (parameter_is_no_marker (class_of p) are.0) (behind_marker-parts [] (p ∷ parameters) rest are none)
-head_of-parts (m ∷ []) parameters rest is are none _ = rw is.0 (behind_marker-parts (m ∷ []) parameters rest are none)
+    rw (parameter_is_no_marker (class_of p) are.0) (head_after-parts [] (p ∷ parameters) rest are none)
+head_of-parts (m ∷ []) parameters rest is are none _ = rw is.0 (head_after-parts (m ∷ []) parameters rest are none)
 head_of-parts (m ∷ n ∷ marker) parameters rest is are none _ = absurd is
 
 pub begins-intermediates : (has : Class → Bool) → has Intermediate ≡ false → (intermediates more : List ℕ)

@@ -1,8 +1,8 @@
 -- The division of a text, and what it gives, from the front: a well-formed sequence, a maximal subpart or a byte comes
 -- off, and the rest is divided as a text of its own.
 use Rattle.vte_core.proofs.Common.{◌≡◌, ℕ, ◌≤◌, true, false, List, [], ◌∷◌, ◌++◌, length, refl, sym, ap, subst, ◌∙◌, arith, take-append_seam, false≢true}
-use Rattle.vte_core.proofs.Common.{nat_tests, Event, Print, replacement, NothingOpen, OpenCharacter, leaves, tell, utf8_rows, wanted_behind, wanted, is_well_formed, is_truncated, further}
-use Rattle.vte_core.proofs.Common.{segments_behind, segments, scalar_of, is_control_character, character_event, malformed_event, segment_event, pieces_outcome, text_outcome}
+use Rattle.vte_core.proofs.Common.{nat_tests, Event, Print, replacement, NothingOpen, OpenCharacter, leaves, tell, utf8_rows, rows_after, wanted, is_well_formed, is_truncated, further}
+use Rattle.vte_core.proofs.Common.{segments_after, segments, scalar_of, is_control_character, character_event, malformed_event, segment_event, pieces_outcome, text_outcome}
 use Rattle.std.proofs.Common.{append-nil}
 use Rattle.vte_core.proofs.bytes.Utf8Lemmas.{AtMostOne-first, AtMostOne-wanted, wanted-append, whole_not_open, open_not_whole, neither_whole_nor_open, allowed_none, allowed_whole, allowed_broken}
 use Rattle.vte_core.proofs.bytes.Utf8Lemmas.{allowed_end}
@@ -14,46 +14,46 @@ pub well_formed_not_truncated : (u : List ℕ) → is_well_formed u ≡ true →
 unfolding is_well_formed is_truncated
 well_formed_not_truncated [] whole = refl
 well_formed_not_truncated (a ∷ u) whole =
-    whole_not_open (wanted u (wanted_behind a utf8_rows)) (AtMostOne-wanted u _ (AtMostOne-first a)) whole
+    whole_not_open (wanted u (rows_after a utf8_rows)) (AtMostOne-wanted u _ (AtMostOne-first a)) whole
 
 pub truncated_not_well_formed : (u : List ℕ) → is_truncated u ≡ true → is_well_formed u ≡ false
 unfolding is_well_formed is_truncated
 truncated_not_well_formed [] more = cc
 truncated_not_well_formed (a ∷ u) more =
-    open_not_whole (wanted u (wanted_behind a utf8_rows)) (AtMostOne-wanted u _ (AtMostOne-first a)) more
+    open_not_whole (wanted u (rows_after a utf8_rows)) (AtMostOne-wanted u _ (AtMostOne-first a)) more
 
 -- ---- how far a piece goes
 
 pub further_whole : (a : ℕ) (u x : List ℕ) → is_well_formed (a ∷ u) ≡ true → further a (u ++ x) ≡ length u
 unfolding is_well_formed further
-further_whole a u x whole = allowed_whole (wanted_behind a utf8_rows) u x (AtMostOne-first a) whole
+further_whole a u x whole = allowed_whole (rows_after a utf8_rows) u x (AtMostOne-first a) whole
 
 pub further_broken : (a : ℕ) (u : List ℕ) (b : ℕ) (x : List ℕ) → is_truncated (a ∷ u) ≡ true
     → is_well_formed (a ∷ u ++ b ∷ []) ≡ false → is_truncated (a ∷ u ++ b ∷ []) ≡ false
     → further a (u ++ b ∷ x) ≡ length u
 unfolding is_well_formed is_truncated further
-further_broken a u b x more whole more_behind =
-    allowed_broken (wanted_behind a utf8_rows) u b x more
-    (sym (wanted-append u (b ∷ []) (wanted_behind a utf8_rows)) ∙ neither_whole_nor_open _ whole more_behind)
+further_broken a u b x more whole more_after =
+    allowed_broken (rows_after a utf8_rows) u b x more
+    (sym (wanted-append u (b ∷ []) (rows_after a utf8_rows)) ∙ neither_whole_nor_open _ whole more_after)
 
 pub further_end : (a : ℕ) (u : List ℕ) → is_truncated (a ∷ u) ≡ true → further a u ≡ length u
 unfolding is_truncated further
-further_end a u more = allowed_end (wanted_behind a utf8_rows) u more
+further_end a u more = allowed_end (rows_after a utf8_rows) u more
 
 pub further_lone : (b : ℕ) (x : List ℕ) → is_well_formed (b ∷ []) ≡ false → is_truncated (b ∷ []) ≡ false
     → further b x ≡ 0
 unfolding is_well_formed is_truncated further
-further_lone b x whole more = rw (neither_whole_nor_open (wanted_behind b utf8_rows) whole more) (allowed_none x)
+further_lone b x whole more = rw (neither_whole_nor_open (rows_after b utf8_rows) whole more) (allowed_none x)
 
 -- ---- the first piece of a text
 
-segments_behind-length : (u x : List ℕ) → segments_behind (length u) (u ++ x) ≡ segments x
-segments_behind-length [] x = refl
-segments_behind-length (a ∷ u) x = segments_behind-length u x
+segments_after-length : (u x : List ℕ) → segments_after (length u) (u ++ x) ≡ segments x
+segments_after-length [] x = refl
+segments_after-length (a ∷ u) x = segments_after-length u x
 
 pub segments_first : (a : ℕ) (u x : List ℕ) → further a (u ++ x) ≡ length u
     → segments (a ∷ u ++ x) ≡ (a ∷ u) ∷ segments x
-segments_first a u x far = rw (far, take-append_seam u x, segments_behind-length u x) refl
+segments_first a u x far = rw (far, take-append_seam u x, segments_after-length u x) refl
 
 -- ---- its event
 
@@ -102,8 +102,8 @@ pub text_broken : (u : List ℕ) (b : ℕ) → is_truncated u ≡ true → is_we
     → (x : List ℕ) → text_outcome (u ++ b ∷ x) ≡ tell (Print replacement ∷ []) (text_outcome (b ∷ x))
 unfolding text_outcome is_truncated
 text_broken [] b more _ _ x = cc
-text_broken (a ∷ u) b more whole more_behind x =
-    ap (λ pieces. pieces_outcome pieces) (segments_first a u (b ∷ x) (further_broken a u b x more whole more_behind))
+text_broken (a ∷ u) b more whole more_after x =
+    ap (λ pieces. pieces_outcome pieces) (segments_first a u (b ∷ x) (further_broken a u b x more whole more_after))
     ∙ ap (λ (event : Event). tell (event ∷ []) (text_outcome (b ∷ x))) (segment_event-truncated (a ∷ u) more)
 
 pub text_lone : (x : List ℕ) (b : ℕ) → is_well_formed (b ∷ []) ≡ false → is_truncated (b ∷ []) ≡ false

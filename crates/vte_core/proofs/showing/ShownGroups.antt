@@ -1,7 +1,7 @@
 -- The text of groups, read back: digits give their number back, `:` joins and `;` parts, so the groups are the same.
 use Rattle.vte_core.proofs.Common.{◌≡◌, ℕ, ◌<◌, ◌≤◌, Bool, true, false, if◌then◌else◌, List, [], ◌∷◌, ◌++◌, length, take, drop, subst, map, refl, sym, ap, ◌∙◌, arith, decimal, All, flat_map, fold}
 use Rattle.vte_core.proofs.Common.{nat_tests, flat_map-append, append-nil, take_all, All-nil, All-cons, All-head, All-tail, All-append, All-map, All-weaker, fold-append, class_of}
-use Rattle.vte_core.proofs.Common.{is_parameter_text, AreOf, AreParameters, Number, numbers_behind, colon, semicolon, numbers, number_of, is_colon, is_separator, greatest_number, most_numbers}
+use Rattle.vte_core.proofs.Common.{is_parameter_text, AreOf, AreParameters, Number, numbers_from, colon, semicolon, numbers, number_of, is_colon, is_separator, greatest_number, most_numbers}
 use Rattle.vte_core.proofs.Common.{grouped, groups_of, has_too_many_numbers, with_number, count_of, shown}
 use Rattle.std.specs.Str.Parse.{AllDigits, digits_value}
 use Rattle.std.proofs.lemmas.Fmt.{decimal_is_IsNumeral}
@@ -10,7 +10,7 @@ use Rattle.std.proofs.lemmas.List.Folds.{flat_map-map}
 use Rattle.std.proofs.lemmas.Str.Parse.{digit_from_value}
 use Rattle.vte_core.proofs.fields.Groups.{numbered, with_number-begins, with_number-joins}
 use Rattle.vte_core.proofs.fields.Parameters.{IsSmall, count_of-grouped, numbers_are}
-use Rattle.vte_core.proofs.showing.Shown.{behind_colon, behind_semicolon, group_text_from_front, shown_from_front}
+use Rattle.vte_core.proofs.showing.Shown.{after_colon, after_semicolon, group_text_from_front, shown_from_front}
 
 -- 0 to 9
 abbrev IsDigit : ℕ → Type 0
@@ -51,20 +51,20 @@ is_colon-separator : (n : Number) → is_colon (separator n) ≡ n.joined
 is_colon-separator n =
     elim n.joined as (λ v. is_colon (if v then colon else semicolon) ≡ v) [ true ↦ refl | false ↦ refl ]
 
-digits_behind : (joined : Bool) (digits more text : List ℕ) → All (λ b. is_separator b ≡ false) more
-    → numbers_behind joined digits (more ++ text) ≡ numbers_behind joined (digits ++ more) text
-digits_behind joined digits [] text none = rw (append-nil digits) refl
-digits_behind joined digits (b ∷ more) text none =
-    let rest = digits_behind joined (digits ++ b ∷ []) more text (All-tail (λ b. is_separator b ≡ false) b more none) in
+digits_after : (joined : Bool) (digits more text : List ℕ) → All (λ b. is_separator b ≡ false) more
+    → numbers_from joined digits (more ++ text) ≡ numbers_from joined (digits ++ more) text
+digits_after joined digits [] text none = rw (append-nil digits) refl
+digits_after joined digits (b ∷ more) text none =
+    let rest = digits_after joined (digits ++ b ∷ []) more text (All-tail (λ b. is_separator b ≡ false) b more none) in
     rw (All-head (λ b. is_separator b ≡ false) b more none) (rw (append_assoc digits (b ∷ []) more) at rest)
 
-spelled_behind : (joined : Bool) (digits : List ℕ) (ns : List Number) → All IsSmall ns
-    → numbers_behind joined digits (flat_map spelled ns) ≡ numbered joined (number_of digits) ∷ ns
-spelled_behind joined digits [] all = refl
-spelled_behind joined digits (n ∷ ns) all =
+spelled_after : (joined : Bool) (digits : List ℕ) (ns : List Number) → All IsSmall ns
+    → numbers_from joined digits (flat_map spelled ns) ≡ numbered joined (number_of digits) ∷ ns
+spelled_after joined digits [] all = refl
+spelled_after joined digits (n ∷ ns) all =
     let small = All-head IsSmall n ns all in
-    let rest = digits_behind n.joined [] (decimal n.value) (flat_map spelled ns) (no_separators n.value small)
-    ∙ spelled_behind n.joined (decimal n.value) ns (All-tail IsSmall n ns all)
+    let rest = digits_after n.joined [] (decimal n.value) (flat_map spelled ns) (no_separators n.value small)
+    ∙ spelled_after n.joined (decimal n.value) ns (All-tail IsSmall n ns all)
     ∙ ap (λ value. numbered n.joined value ∷ ns) (number_of-decimal n.value small) in
     rw (separates n, is_colon-separator n) (ap (λ (l : List Number). numbered joined (number_of digits) ∷ l) rest)
 
@@ -77,11 +77,11 @@ in_group (n ∷ ns) = numbered false n ∷ map (numbered true) ns
 abbrev AreFilled : List (List ℕ) → Type 0
 AreFilled groups = All (λ group. 0 < length group) groups
 
-spelled-joined : (ns : List ℕ) → flat_map spelled (map (numbered true) ns) ≡ flat_map behind_colon ns
+spelled-joined : (ns : List ℕ) → flat_map spelled (map (numbered true) ns) ≡ flat_map after_colon ns
 spelled-joined ns = flat_map-map spelled (numbered true) ns
 
 groups-spelled : (groups : List (List ℕ)) → AreFilled groups
-    → flat_map spelled (flat_map in_group groups) ≡ flat_map behind_semicolon groups
+    → flat_map spelled (flat_map in_group groups) ≡ flat_map after_semicolon groups
 unfolding in_group
 groups-spelled [] filled = refl
 groups-spelled ([] ∷ groups) filled =
@@ -145,13 +145,13 @@ grouped-groups before ((n ∷ ns) ∷ groups) filled =
     ∙ grouped-groups (before ++ (n ∷ ns) ∷ []) groups rest
     ∙ append_assoc before ((n ∷ ns) ∷ []) groups
 
--- behind the separator the same numbers follow as from the start
+-- after the separator the same numbers follow as from the start
 numbers-shown : (groups : List (List ℕ)) → AreParameters groups → numbers (shown groups) ≡ flat_map in_group groups
 numbers-shown groups ok =
     let all = IsSmall-groups groups ok.groups_are.small in
-    let behind =
-    ap (numbers_behind false []) (shown-spelled groups ok) ∙ spelled_behind false [] (flat_map in_group groups) all in
-    numbers_are (shown groups) ∙ ap (drop 1) behind
+    let later =
+    ap (numbers_from false []) (shown-spelled groups ok) ∙ spelled_after false [] (flat_map in_group groups) all in
+    numbers_are (shown groups) ∙ ap (drop 1) later
 
 few-groups : (groups : List (List ℕ)) → AreParameters groups → length (flat_map in_group groups) ≤ most_numbers
 few-groups groups ok =

@@ -48,7 +48,7 @@ added_both limit stream front rest =
 replacement_tiny : IsTiny (Print replacement ∷ [])
 replacement_tiny = (refl, refl)
 
--- the bytes after a front add what they add to its stream or, behind a character that they break,
+-- the bytes after a front add what they add to its stream or, after a character that they break,
 -- to the empty one
 pub added_from : (limit : Option ℕ) (stream front rest : List ℕ) (broken : Bool)
     → (broken ≡ true → breaks (open_end (stream ++ front)) rest ≡ true)

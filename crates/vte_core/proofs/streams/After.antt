@@ -1,12 +1,12 @@
 -- What is known of a place after a stream: further bytes give after both the same (`IsAfter`). `after-reads`: so they
 -- do after the bytes that lead from the place to another, whose events are added.
-use Rattle.vte_core.proofs.Common.{◌≡◌, ℕ, Option, List, [], ◌++◌, length, drop, refl, ap, sym, ◌∙◌, append_assoc, append-nil, arith, drop_all, drop-append_seam, Machine, Stands, IsBehind, Event}
-use Rattle.vte_core.proofs.Common.{tell, unfinished, added, events, outcome, open_end, Place, InText, IsAfter, open_at, left_at, outcome_behind, events_behind, Reads}
-use Rattle.vte_core.proofs.fields.Standing.{IsPlace, outcome_behind-nothing, events_behind-nothing, unfinished-at}
+use Rattle.vte_core.proofs.Common.{◌≡◌, ℕ, Option, List, [], ◌++◌, length, drop, refl, ap, sym, ◌∙◌, append_assoc, append-nil, arith, drop_all, drop-append_seam, Machine, Stands, HasReadUnder, Event}
+use Rattle.vte_core.proofs.Common.{tell, unfinished, added, events, outcome, open_end, Place, InText, IsAfter, open_at, left_at, outcome_from, events_from, Reads}
+use Rattle.vte_core.proofs.fields.Standing.{IsPlace, outcome_from-nothing, events_from-nothing, unfinished-at}
 use Rattle.vte_core.proofs.streams.Performing.{events-empty}
 use Rattle.vte_core.proofs.shapes.OutcomeLemmas.{tell-append}
 use Rattle.vte_core.proofs.streams.OpenEnds.{unfinished-any}
-use Rattle.vte_core.proofs.streams.StreamLemmas.{outcome-behind_nothing}
+use Rattle.vte_core.proofs.streams.StreamLemmas.{outcome-after_nothing}
 
 pub added-nothing : (limit : Option ℕ) (stream : List ℕ) → added limit stream [] ≡ []
 added-nothing limit stream =
@@ -20,12 +20,12 @@ events-told limit stream = refl
 pub after-nothing : (limit : Option ℕ) → IsAfter limit [] (InText [])
 after-nothing limit = record {
   goes_on =
-      λ more. outcome-behind_nothing limit more
-      ∙ ap (λ es. tell es (outcome_behind limit (InText []) more)) (sym (events-empty limit));
+      λ more. outcome-after_nothing limit more
+      ∙ ap (λ es. tell es (outcome_from limit (InText []) more)) (sym (events-empty limit));
 }
 
 pub after-events : (limit : Option ℕ) (stream more : List ℕ) (place : Place) → IsAfter limit stream place
-    → events limit (stream ++ more) ≡ events limit stream ++ events_behind limit place more
+    → events limit (stream ++ more) ≡ events limit stream ++ events_from limit place more
 after-events limit stream more place a = events-told limit (stream ++ more) ∙ ap (λ o. o.told) (a.goes_on more)
 
 -- what the stream leaves open is open at the place
@@ -33,7 +33,7 @@ pub after-left : (limit : Option ℕ) (stream : List ℕ) (place : Place) → Is
     → (outcome limit stream).left ≡ left_at limit place
 after-left limit stream place a is =
     ap (λ s. (outcome limit s).left) (sym (append-nil stream)) ∙ ap (λ o. o.left) (a.goes_on [])
-    ∙ ap (λ o. o.left) (outcome_behind-nothing limit place is)
+    ∙ ap (λ o. o.left) (outcome_from-nothing limit place is)
 
 pub after-open_end : (limit : Option ℕ) (stream : List ℕ) (place : Place) → IsAfter limit stream place → IsPlace place
     → open_end stream ≡ open_at place
@@ -45,32 +45,32 @@ pub after-reads : (limit : Option ℕ) (stream bytes : List ℕ) (place next : P
     → IsAfter limit stream place → Reads limit place bytes these next → IsPlace next
     → IsAfter limit (stream ++ bytes) next
 after-reads limit stream bytes place next these a r is = record {
-  goes_on = λ more. go more ∙ ap (λ es. tell es (outcome_behind limit next more)) (sym all);
+  goes_on = λ more. go more ∙ ap (λ es. tell es (outcome_from limit next more)) (sym all);
 }
   where
     go : (more : List ℕ)
         → outcome limit ((stream ++ bytes) ++ more)
-        ≡ tell (events limit stream ++ these) (outcome_behind limit next more)
+        ≡ tell (events limit stream ++ these) (outcome_from limit next more)
     go more =
         ap (outcome limit) (append_assoc stream bytes more)
         ∙ a.goes_on (bytes ++ more)
         ∙ ap (tell (events limit stream)) (r.reads more)
-        ∙ sym (tell-append (events limit stream) these (outcome_behind limit next more))
+        ∙ sym (tell-append (events limit stream) these (outcome_from limit next more))
 
     all : events limit (stream ++ bytes) ≡ events limit stream ++ these
     all =
         ap (events limit) (sym (append-nil (stream ++ bytes)))
         ∙ events-told limit ((stream ++ bytes) ++ [])
         ∙ ap (λ o. o.told) (go [])
-        ∙ ap (λ es. (events limit stream ++ these) ++ es) (events_behind-nothing limit next is)
+        ∙ ap (λ es. (events limit stream ++ these) ++ es) (events_from-nothing limit next is)
         ∙ append-nil (events limit stream ++ these)
 
 -- what is added to a stream is what follows its place
 pub added-after : (limit : Option ℕ) (stream bytes : List ℕ) (place : Place) → IsAfter limit stream place
-    → added limit stream bytes ≡ events_behind limit place bytes
+    → added limit stream bytes ≡ events_from limit place bytes
 added-after limit stream bytes place a =
     ap (drop (length (events limit stream))) (after-events limit stream bytes place a)
-    ∙ drop-append_seam (events limit stream) (events_behind limit place bytes)
+    ∙ drop-append_seam (events limit stream) (events_from limit place bytes)
 
 -- .. and of bytes that lead to a place, what they tell
 pub added-reads : (limit : Option ℕ) (stream bytes : List ℕ) (place next : Place) (these : List Event)
@@ -78,10 +78,10 @@ pub added-reads : (limit : Option ℕ) (stream bytes : List ℕ) (place next : P
     → added limit stream bytes ≡ these
 added-reads limit stream bytes place next these a r is =
     added-after limit stream bytes place a
-    ∙ ap (events_behind limit place) (sym (append-nil bytes)) ∙ ap (λ o. o.told) (r.reads [])
-    ∙ ap (λ es. these ++ es) (events_behind-nothing limit next is) ∙ append-nil these
+    ∙ ap (events_from limit place) (sym (append-nil bytes)) ∙ ap (λ o. o.told) (r.reads [])
+    ∙ ap (λ es. these ++ es) (events_from-nothing limit next is) ∙ append-nil these
 
 -- a parser between characters of a text has read nothing
 pub begins : {B : Type 0} (limit : Option ℕ) (parser : Machine B) → Stands limit parser (InText [])
-    → IsBehind limit parser []
+    → HasReadUnder limit parser []
 begins limit parser s = record { place = InText []; stands = s; is_after = after-nothing limit }

@@ -55,11 +55,11 @@ counts_data stream bytes =
     let a : LeadsTo None stream = leads_to None stream in
     let c = counts (size_at a.place + length bytes) a.place bytes a.is_place (omega arith) in
     let before = ap data_left (after-left None stream a.place a.is_after a.is_place) in
-    let behind =
+    let later =
     ap data_left
     (after-left None (stream ++ bytes) c.next
     (after-reads None stream bytes a.place c.next c.told a.is_after c.reads c.is_place) c.is_place) in
     record {
       told = rw (before, added-reads None stream bytes a.place c.next c.told a.is_after c.reads c.is_place) c.sent;
-      left = omega (arith, before, behind, c.kept);
+      left = omega (arith, before, later, c.kept);
     }

@@ -1,11 +1,11 @@
 -- From a byte to bytes, and from a place to what a parser has read: `Takes` of a byte is `Performs` of one.
 use Rattle.vte_core.proofs.Common.{◌≡◌, ℕ, ◌⊎◌, inl, inr, cases_Bool, true, false, eqb, Option, List, [], ◌∷◌, ◌++◌, refl, ap, sym, ◌∙◌, arith, Machine, Event, Print}
-use Rattle.vte_core.proofs.Common.{replacement, tell, after, Place, InText, AtEscape, closing_at, outcome_behind, events, escape, Takes, Performs, is_open, is_truncated, is_well_formed}
+use Rattle.vte_core.proofs.Common.{replacement, tell, after, Place, InText, AtEscape, closing_at, outcome_from, events, escape, Takes, Performs, is_open, is_truncated, is_well_formed}
 use Rattle.std.proofs.Common.{eqb-true}
 use Rattle.vte_core.proofs.bytes.FirstBytes.{Tests, ascii_breaks}
 use Rattle.vte_core.proofs.shapes.TextLemmas.{text_broken}
-use Rattle.vte_core.proofs.fields.Standing.{is_open-truncated, events_behind-nothing}
-use Rattle.vte_core.proofs.streams.StreamLemmas.{events-behind_nothing, reads-byte, waits-byte, outcome_behind-escape}
+use Rattle.vte_core.proofs.fields.Standing.{is_open-truncated, events_from-nothing}
+use Rattle.vte_core.proofs.streams.StreamLemmas.{events-after_nothing, reads-byte, waits-byte, outcome_from-escape}
 
 pub after-append : {V : Type 0} (step : V → Event → V) (value : V) (xs ys : List Event)
     → after step value (xs ++ ys) ≡ after step (after step value xs) ys
@@ -50,21 +50,21 @@ closing-unfinished limit (a ∷ u) more = refl
 -- a byte that breaks a character is still to be read, ESC too
 pub waits-broken : (limit : Option ℕ) (u : List ℕ) (b : ℕ) (more : List ℕ) → is_truncated u ≡ true
     → is_well_formed (u ++ b ∷ []) ≡ false → is_truncated (u ++ b ∷ []) ≡ false
-    → outcome_behind limit (InText u) (b ∷ more)
-    ≡ tell (Print replacement ∷ []) (outcome_behind limit (InText []) (b ∷ more))
+    → outcome_from limit (InText u) (b ∷ more)
+    ≡ tell (Print replacement ∷ []) (outcome_from limit (InText []) (b ∷ more))
 waits-broken limit u b more begun whole next = elim (cases_Bool (eqb b escape)) [
   | inr other ↦
       waits-byte limit (InText u) (InText []) b (Print replacement ∷ []) more other (text_broken u b begun whole next)
   | inl e ↦
       let is : b ≡ escape = eqb-true b escape e in
-      let there : outcome_behind limit (InText []) (escape ∷ more) ≡ outcome_behind limit AtEscape more =
-      outcome_behind-escape limit (InText []) more refl in
+      let there : outcome_from limit (InText []) (escape ∷ more) ≡ outcome_from limit AtEscape more =
+      outcome_from-escape limit (InText []) more refl in
       rw is (
-      outcome_behind-escape limit (InText u) more (is_open-truncated u begun)
-      ∙ ap (λ es. tell es (outcome_behind limit AtEscape more)) (closing-unfinished limit u begun)
+      outcome_from-escape limit (InText u) more (is_open-truncated u begun)
+      ∙ ap (λ es. tell es (outcome_from limit AtEscape more)) (closing-unfinished limit u begun)
       ∙ ap (tell (Print replacement ∷ [])) (sym there)
       )
 ]
 
 pub events-empty : (limit : Option ℕ) → events limit [] ≡ []
-events-empty limit = events-behind_nothing limit [] ∙ events_behind-nothing limit (InText []) refl
+events-empty limit = events-after_nothing limit [] ∙ events_from-nothing limit (InText []) refl

@@ -1,19 +1,19 @@
 -- What a stream goes on with after a character that the next byte breaks: as a stream that begins with that byte.
 use Rattle.vte_core.proofs.Common.{◌≡◌, ℕ, true, Option, List, [], ◌∷◌, ◌++◌, length, drop, ap, sym, ◌∙◌, append_assoc, and_parts, false≢true, not-true, drop-append_seam}
-use Rattle.vte_core.proofs.Common.{append-nil, breaks, Event, Print, replacement, tell, added, events, outcome, open_end, Place, InText, IsAfter, open_at, outcome_behind}
+use Rattle.vte_core.proofs.Common.{append-nil, breaks, Event, Print, replacement, tell, added, events, outcome, open_end, Place, InText, IsAfter, open_at, outcome_from}
 use Rattle.vte_core.proofs.fields.Standing.{IsPlace}
 use Rattle.vte_core.proofs.streams.Performing.{events-empty, waits-broken}
 use Rattle.vte_core.proofs.stops.Told.{breaks-no_byte}
 use Rattle.vte_core.proofs.shapes.OutcomeLemmas.{tell-append}
-use Rattle.vte_core.proofs.streams.StreamLemmas.{outcome-behind_nothing}
+use Rattle.vte_core.proofs.streams.StreamLemmas.{outcome-after_nothing}
 use Rattle.vte_core.proofs.streams.StreamSteps.{LeadsTo, leads_to}
 use Rattle.vte_core.proofs.streams.After.{after-open_end, events-told}
 
 -- the next byte is the first of those that are unread
 broken_at : (limit : Option ℕ) (place : Place) (b : ℕ) (unread more : List ℕ) → IsPlace place
     → breaks (open_at place) (b ∷ unread) ≡ true
-    → outcome_behind limit place (b ∷ more)
-    ≡ tell (Print replacement ∷ []) (outcome_behind limit (InText []) (b ∷ more))
+    → outcome_from limit place (b ∷ more)
+    ≡ tell (Print replacement ∷ []) (outcome_from limit (InText []) (b ∷ more))
 broken_at limit (InText []) b unread more is broken = absurd (false≢true broken)
 broken_at limit (InText (a ∷ u)) b unread more is broken =
     let parts = and_parts _ _ broken in
@@ -34,9 +34,9 @@ resumes limit stream (b ∷ unread) more broken =
     ∙ ap (tell (events limit stream)) (broken_at limit a.place b unread (unread ++ more) a.is_place here)
     ∙ sym
     (tell-append (events limit stream) (Print replacement ∷ [])
-    (outcome_behind limit (InText []) (b ∷ (unread ++ more))))
+    (outcome_from limit (InText []) (b ∷ (unread ++ more))))
     ∙ ap (tell (events limit stream ++ Print replacement ∷ []))
-    (sym (outcome-behind_nothing limit (b ∷ (unread ++ more))))
+    (sym (outcome-after_nothing limit (b ∷ (unread ++ more))))
 
 events-broken : (limit : Option ℕ) (stream unread more : List ℕ) → breaks (open_end stream) unread ≡ true
     → events limit (stream ++ (unread ++ more))
@@ -49,11 +49,11 @@ pub added-broken : (limit : Option ℕ) (stream unread more : List ℕ) → brea
     → added limit stream (unread ++ more) ≡ Print replacement ∷ added limit [] (unread ++ more)
 added-broken limit stream unread more broken =
     let told : List Event = events limit stream in
-    let behind : List Event = events limit (unread ++ more) in
+    let later : List Event = events limit (unread ++ more) in
     ap (drop (length told))
-    (events-broken limit stream unread more broken ∙ append_assoc told (Print replacement ∷ []) behind)
-    ∙ drop-append_seam told (Print replacement ∷ behind)
-    ∙ ap (λ n. Print replacement ∷ drop n behind) (sym (ap length (events-empty limit)))
+    (events-broken limit stream unread more broken ∙ append_assoc told (Print replacement ∷ []) later)
+    ∙ drop-append_seam told (Print replacement ∷ later)
+    ∙ ap (λ n. Print replacement ∷ drop n later) (sym (ap length (events-empty limit)))
 
 pub resumes-after : (limit : Option ℕ) (stream unread : List ℕ) (place : Place) → breaks (open_end stream) unread ≡ true
     → IsAfter limit unread place
@@ -66,6 +66,6 @@ resumes-after limit stream unread place broken a = record {
       ap (outcome limit) (append_assoc stream unread more)
       ∙ resumes limit stream unread more broken
       ∙ ap (tell told) (a.goes_on more)
-      ∙ sym (tell-append told (events limit unread) (outcome_behind limit place more))
-      ∙ ap (λ es. tell es (outcome_behind limit place more)) (sym all);
+      ∙ sym (tell-append told (events limit unread) (outcome_from limit place more))
+      ∙ ap (λ es. tell es (outcome_from limit place more)) (sym all);
 }

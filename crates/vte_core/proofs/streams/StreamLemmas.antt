@@ -1,34 +1,34 @@
 -- From a text or a body to the whole stream: what a byte does in its part, it does in the stream, since only ESC cuts.
 use Rattle.vte_core.proofs.Common.{◌≡◌, ℕ, false, eqb, Option, List, [], ◌∷◌, ◌++◌, refl, ap, sym, ◌∙◌, append_assoc, arith, nat_tests, Cancel, class_of, ends_all, Event}
-use Rattle.vte_core.proofs.Common.{Leads, Reads, tell, closed, Place, InText, AtEscape, closing_at, rest_outcome, outcome_behind, events_behind, cut_at_escape, with_bodies, outcome, events, escape}
+use Rattle.vte_core.proofs.Common.{Leads, Reads, tell, closed, Place, InText, AtEscape, closing_at, rest_outcome, outcome_from, events_from, cut_at_escape, with_bodies, outcome, events, escape}
 use Rattle.vte_core.proofs.shapes.OutcomeLemmas.{tell-append, with_bodies-tell}
 use Rattle.vte_core.proofs.fields.Standing.{IsPlace, rest_outcome-nothing}
 
 -- a stream is what more bytes give after nothing
-pub outcome-behind_nothing : (limit : Option ℕ) (stream : List ℕ)
-    → outcome limit stream ≡ outcome_behind limit (InText []) stream
-unfolding outcome outcome_behind
-outcome-behind_nothing limit stream = refl
+pub outcome-after_nothing : (limit : Option ℕ) (stream : List ℕ)
+    → outcome limit stream ≡ outcome_from limit (InText []) stream
+unfolding outcome outcome_from
+outcome-after_nothing limit stream = refl
 
-pub events-behind_nothing : (limit : Option ℕ) (stream : List ℕ)
-    → events limit stream ≡ events_behind limit (InText []) stream
+pub events-after_nothing : (limit : Option ℕ) (stream : List ℕ)
+    → events limit stream ≡ events_from limit (InText []) stream
 unfolding events
-events-behind_nothing limit stream = ap (λ outcome. outcome.told) (outcome-behind_nothing limit stream)
+events-after_nothing limit stream = ap (λ outcome. outcome.told) (outcome-after_nothing limit stream)
 
-outcome_behind-byte : (limit : Option ℕ) (place : Place) (b : ℕ) (more : List ℕ) → eqb b escape ≡ false
-    → outcome_behind limit place (b ∷ more)
+outcome_from-byte : (limit : Option ℕ) (place : Place) (b : ℕ) (more : List ℕ) → eqb b escape ≡ false
+    → outcome_from limit place (b ∷ more)
     ≡ with_bodies limit (rest_outcome limit place (b ∷ (cut_at_escape more).text)) (cut_at_escape more).bodies
-unfolding outcome_behind
-outcome_behind-byte limit place b more e = simp e
+unfolding outcome_from
+outcome_from-byte limit place b more e = simp e
 
 -- what a byte does in a text or a body, it does in the stream
 pub reads-byte : (limit : Option ℕ) (place next : Place) (b : ℕ) (told : List Event) → eqb b escape ≡ false
     → Leads limit place b told next → Reads limit place (b ∷ []) told next
-unfolding outcome_behind
+unfolding outcome_from
 reads-byte limit place next b told e l = record {
   reads = λ more.
       let cut = cut_at_escape more in
-      outcome_behind-byte limit place b more e
+      outcome_from-byte limit place b more e
       ∙ ap (λ part. with_bodies limit part cut.bodies) (l.leads cut.text)
       ∙ with_bodies-tell limit told (rest_outcome limit next cut.text) cut.bodies;
 }
@@ -37,24 +37,24 @@ reads-byte limit place next b told e l = record {
 pub waits-byte : (limit : Option ℕ) (place next : Place) (b : ℕ) (told : List Event) (more : List ℕ)
     → eqb b escape ≡ false
     → ((rest : List ℕ) → rest_outcome limit place (b ∷ rest) ≡ tell told (rest_outcome limit next (b ∷ rest)))
-    → outcome_behind limit place (b ∷ more) ≡ tell told (outcome_behind limit next (b ∷ more))
+    → outcome_from limit place (b ∷ more) ≡ tell told (outcome_from limit next (b ∷ more))
 waits-byte limit place next b told more e l =
     let cut = cut_at_escape more in
-    outcome_behind-byte limit place b more e
+    outcome_from-byte limit place b more e
     ∙ ap (λ part. with_bodies limit part cut.bodies) (l cut.text)
     ∙ with_bodies-tell limit told (rest_outcome limit next (b ∷ cut.text)) cut.bodies
-    ∙ ap (tell told) (sym (outcome_behind-byte limit next b more e))
+    ∙ ap (tell told) (sym (outcome_from-byte limit next b more e))
 
 -- ESC closes what stands before it
-pub outcome_behind-escape : (limit : Option ℕ) (place : Place) (more : List ℕ) → IsPlace place
-    → outcome_behind limit place (escape ∷ more) ≡ tell (closing_at limit place) (outcome_behind limit AtEscape more)
-unfolding outcome_behind
-outcome_behind-escape limit place more is =
-    ap (λ part. tell (closed part) (outcome_behind limit AtEscape more)) (rest_outcome-nothing limit place is)
+pub outcome_from-escape : (limit : Option ℕ) (place : Place) (more : List ℕ) → IsPlace place
+    → outcome_from limit place (escape ∷ more) ≡ tell (closing_at limit place) (outcome_from limit AtEscape more)
+unfolding outcome_from
+outcome_from-escape limit place more is =
+    ap (λ part. tell (closed part) (outcome_from limit AtEscape more)) (rest_outcome-nothing limit place is)
 
 pub reads-escape : (limit : Option ℕ) (place : Place) → IsPlace place
     → Reads limit place (escape ∷ []) (closing_at limit place) AtEscape
-reads-escape limit place is = record { reads = λ more. outcome_behind-escape limit place more is }
+reads-escape limit place is = record { reads = λ more. outcome_from-escape limit place more is }
 
 pub reads-nothing : (limit : Option ℕ) (place : Place) → Reads limit place [] [] place
 reads-nothing limit place = record { reads = λ more. refl }
@@ -64,10 +64,10 @@ pub reads-append : (limit : Option ℕ) (place next last : Place) (bytes these :
     → Reads limit place (bytes ++ these) (told ++ more_told) last
 reads-append limit place next last bytes these told more_told r s = record {
   reads = λ more.
-      ap (outcome_behind limit place) (append_assoc bytes these more)
+      ap (outcome_from limit place) (append_assoc bytes these more)
       ∙ r.reads (these ++ more)
       ∙ ap (tell told) (s.reads more)
-      ∙ sym (tell-append told more_told (outcome_behind limit last more));
+      ∙ sym (tell-append told more_told (outcome_from limit last more));
 }
 
 pub no_escape : (b : ℕ) → ends_all (class_of b) ≡ false → eqb b escape ≡ false

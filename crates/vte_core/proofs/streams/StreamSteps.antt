@@ -1,7 +1,7 @@
 -- A stream of any bytes, from its front: each byte leads from a place to a place (`arrives`), so what a stream gives
 -- stays as it is whatever follows, and it begins anew where all places lead to the same.
 use Rattle.vte_core.proofs.Common.{◌≡◌, ℕ, inl, inr, Option, List, [], ◌∷◌, ◌++◌, drop, length, refl, ap, sym, ◌∙◌, append_assoc, All, All-append, All-cons, All-nil, Cancel, class_of}
-use Rattle.vte_core.proofs.Common.{IsBounded, IsBrief, Event, Grows, BeginsAnewBehind, BeginsAnew, OpensSilently, Place, InText, AtEscape, open_at, events_behind, IsAfter, added, events}
+use Rattle.vte_core.proofs.Common.{IsBounded, IsBrief, Event, Grows, ResyncsAfter, Resyncs, OpensSilently, Place, InText, AtEscape, open_at, events_from, IsAfter, added, events}
 use Rattle.vte_core.proofs.Common.{open_end, escape, Reads, InSystemCommand, left_at}
 use Rattle.vte_core.proofs.places.BriefLemmas.{short_bounded}
 use Rattle.vte_core.proofs.shapes.CancelLemmas.{cancel}
@@ -9,7 +9,7 @@ use Rattle.vte_core.proofs.streams.After.{added-after, added-reads, after-events
 use Rattle.vte_core.proofs.places.PlaceSteps.{steps}
 use Rattle.vte_core.proofs.fields.Standing.{IsPlace}
 use Rattle.vte_core.proofs.streams.Performing.{events-empty}
-use Rattle.vte_core.proofs.streams.StreamLemmas.{events-behind_nothing, outcome_behind-escape, reads-byte, reads-escape, reads-nothing, reads-append, cancel_is_no_escape}
+use Rattle.vte_core.proofs.streams.StreamLemmas.{events-after_nothing, outcome_from-escape, reads-byte, reads-escape, reads-nothing, reads-append, cancel_is_no_escape}
 use Rattle.vte_core.proofs.places.TextSteps.{FitsLeft, Steps}
 use Rattle.vte_core.proofs.fields.KeptItems.{pieces_fit}
 
@@ -90,37 +90,37 @@ events_grow limit stream more =
     after-events limit stream more a.place a.is_after
     ∙ ap (λ es. events limit stream ++ es) (sym (added-after limit stream more a.place a.is_after))
 
-grows_behind : (limit : Option ℕ) (stream bytes more : List ℕ) (a : LeadsTo limit stream) (next : Place)
+grows_after : (limit : Option ℕ) (stream bytes more : List ℕ) (a : LeadsTo limit stream) (next : Place)
     (told : List Event) → IsPlace next
     → Reads limit a.place bytes told next
-    → events limit (stream ++ (bytes ++ more)) ≡ events limit (stream ++ bytes) ++ events_behind limit next more
-grows_behind limit stream bytes more a next told is reads =
+    → events limit (stream ++ (bytes ++ more)) ≡ events limit (stream ++ bytes) ++ events_from limit next more
+grows_after limit stream bytes more a next told is reads =
     ap (events limit) (sym (append_assoc stream bytes more))
     ∙ after-events limit (stream ++ bytes) more next
     (after-reads limit stream bytes a.place next told a.is_after reads is)
 
 -- where the byte leads to a text between characters, what follows begins as a new stream
-begins_anew : (limit : Option ℕ) (end : ℕ) → class_of end ≡ Cancel → BeginsAnewBehind limit end
-begins_anew limit end e stream more =
+resyncs_after : (limit : Option ℕ) (end : ℕ) → class_of end ≡ Cancel → ResyncsAfter limit end
+resyncs_after limit end e stream more =
     let a : LeadsTo limit stream = leads_to limit stream in
     let last =
     reads-byte limit a.place (InText []) end _ (cancel_is_no_escape end e) (cancel limit a.place end a.is_place e) in
-    grows_behind limit stream (end ∷ []) more a (InText []) _ refl last
-    ∙ ap (λ es. events limit (stream ++ end ∷ []) ++ es) (sym (events-behind_nothing limit more))
+    grows_after limit stream (end ∷ []) more a (InText []) _ refl last
+    ∙ ap (λ es. events limit (stream ++ end ∷ []) ++ es) (sym (events-after_nothing limit more))
 
-escape_at_first : (limit : Option ℕ) (more : List ℕ) → events limit (escape ∷ more) ≡ events_behind limit AtEscape more
+escape_at_first : (limit : Option ℕ) (more : List ℕ) → events limit (escape ∷ more) ≡ events_from limit AtEscape more
 escape_at_first limit more =
-    events-behind_nothing limit (escape ∷ more)
-    ∙ ap (λ outcome. outcome.told) (outcome_behind-escape limit (InText []) more refl)
+    events-after_nothing limit (escape ∷ more)
+    ∙ ap (λ outcome. outcome.told) (outcome_from-escape limit (InText []) more refl)
 
-pub resynchronises : (limit : Option ℕ) → BeginsAnew limit
+pub resynchronises : (limit : Option ℕ) → Resyncs limit
 unfolding class_of
 resynchronises limit = record {
-  cancel = begins_anew limit 0x18 refl;
-  substitute = begins_anew limit 0x1a refl;
+  cancel = resyncs_after limit 0x18 refl;
+  substitute = resyncs_after limit 0x1a refl;
   escape = λ stream more.
       let a : LeadsTo limit stream = leads_to limit stream in
-      grows_behind limit stream (escape ∷ []) more a AtEscape _ tt (reads-escape limit a.place a.is_place)
+      grows_after limit stream (escape ∷ []) more a AtEscape _ tt (reads-escape limit a.place a.is_place)
       ∙ ap (λ es. events limit (stream ++ escape ∷ []) ++ es) (sym (escape_at_first limit more));
 }
 
@@ -137,12 +137,12 @@ pub adds : (limit : Option ℕ) (stream : List ℕ) (b : ℕ) → Adds limit str
 adds limit stream b =
     let a : LeadsTo limit stream = leads_to limit stream in
     let s : Steps limit a.place b = steps limit a.place b a.is_place in
-    let behind = after-reads limit stream (b ∷ []) a.place s.next s.told a.is_after s.reads s.is_place in
+    let later = after-reads limit stream (b ∷ []) a.place s.next s.told a.is_after s.reads s.is_place in
     record {
       place = a.place;
       begun = after-open_end limit stream a.place a.is_after a.is_place;
       step = s;
-      ends = after-open_end limit (stream ++ b ∷ []) s.next behind s.is_place;
+      ends = after-open_end limit (stream ++ b ∷ []) s.next later s.is_place;
       told = added-reads limit stream (b ∷ []) a.place s.next s.told a.is_after s.reads s.is_place;
     }
 

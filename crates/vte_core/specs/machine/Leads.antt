@@ -1,7 +1,7 @@
 -- What bytes do after a place, according to the grammar.
 use Rattle.std.specs.Prelude.{◌≡◌, ℕ, List, ◌∷◌, ◌++◌, Option}
 use Rattle.vte_core.specs.Event.{Event}
-use Rattle.vte_core.specs.machine.Place.{Place, rest_outcome, outcome_behind}
+use Rattle.vte_core.specs.machine.Place.{Place, rest_outcome, outcome_from}
 use Rattle.vte_core.specs.Outcome.{tell}
 
 -- The byte gives these events and leads to the next place, whatever follows.
@@ -14,4 +14,4 @@ pub record Leads (limit : Option ℕ) (place : Place) (byte : ℕ) (told : List 
 pub record Reads (limit : Option ℕ) (place : Place) (bytes : List ℕ) (told : List Event)
     (next : Place) : Type 0 where
   pub reads : (more : List ℕ)
-      → outcome_behind limit place (bytes ++ more) ≡ tell told (outcome_behind limit next more)
+      → outcome_from limit place (bytes ++ more) ≡ tell told (outcome_from limit next more)

@@ -2,7 +2,7 @@
 use Rattle.std.specs.Prelude.{◌≡◌, ℕ, ◌<◌, Bool, true, false, if◌then◌else◌, Option, List, [], ◌∷◌, ◌++◌, length, take}
 use Rattle.vte_core.specs.declared.head.Collected.{Collected}
 use Rattle.vte_core.specs.declared.head.HeadPart.{HeadPart}
-use Rattle.vte_core.specs.declared.head.HeadPart.TheVariants.{Entry, Parameters, Intermediates, IllShaped}
+use Rattle.vte_core.specs.declared.head.HeadPart.TheVariants.{Entry, Parameters, Intermediates, Malformed}
 use Rattle.vte_core.specs.declared.parser.machine.Machine.{Machine}
 use Rattle.vte_core.specs.declared.parser.State.{State}
 use Rattle.vte_core.specs.declared.parser.State.TheVariants.{Text, Escape, EscapeIntermediate, ControlSequence, DeviceControl, DeviceData, SystemCommand, IgnoredString}
@@ -20,20 +20,20 @@ pub record Holds (collected : Collected) (intermediates : List ℕ) : Type 0 whe
   pub too_many : collected.too_many ≡ are_too_many intermediates
 
 -- The numbers of a text that continues these digits, whose number is joined or not.
-abbrev pub numbers_behind : Bool → List ℕ → List ℕ → List Number
-numbers_behind joined digits [] = record { joined = joined; value = number_of digits } ∷ []
-numbers_behind joined digits (b ∷ text) =
+abbrev pub numbers_from : Bool → List ℕ → List ℕ → List Number
+numbers_from joined digits [] = record { joined = joined; value = number_of digits } ∷ []
+numbers_from joined digits (b ∷ text) =
     if is_separator b
     then record { joined = joined; value = number_of digits }
-    ∷ numbers_behind (is_colon b) [] text
-    else numbers_behind joined (digits ++ b ∷ []) text
+    ∷ numbers_from (is_colon b) [] text
+    else numbers_from joined (digits ++ b ∷ []) text
 
 -- The last number of the text is being read; of those before it the first 32 are held.
 pub record Counts (collected : Collected) (text : List ℕ) : Type 0 where
   pub front : List Number
   pub digits : List ℕ
   pub goes_on : (more : List ℕ)
-      → numbers (text ++ more) ≡ front ++ numbers_behind collected.joined digits more
+      → numbers (text ++ more) ≡ front ++ numbers_from collected.joined digits more
   pub params : collected.params ≡ grouped (take most_numbers front)
   pub number : collected.number ≡ number_of digits
 
@@ -66,7 +66,7 @@ Reaches Entry marker parameters intermediates =
 Reaches Parameters marker parameters intermediates =
     (0 < length (marker ++ parameters)) × (intermediates ≡ [])
 Reaches Intermediates marker parameters intermediates = 0 < length intermediates
-Reaches IllShaped marker parameters intermediates = ⊥
+Reaches Malformed marker parameters intermediates = ⊥
 
 -- The head is well shaped so far, and its numbers and intermediates are held.
 pub record HoldsHead (collected : Collected) (part : HeadPart) (head : List ℕ) : Type 0 where
@@ -82,11 +82,11 @@ pub record HoldsHead (collected : Collected) (part : HeadPart) (head : List ℕ)
   pub counts : Counts collected parameters
 
 -- No further bytes make the head well shaped.
-pub record StaysIllShaped (head : List ℕ) : Type 0 where
+pub record StaysMalformed (head : List ℕ) : Type 0 where
   pub stays : (more : List ℕ) → is_well_shaped (head_of (head ++ more)) ≡ false
 
 abbrev pub StandsInHead : Collected → HeadPart → List ℕ → Type 0
-StandsInHead collected IllShaped head = StaysIllShaped head
+StandsInHead collected Malformed head = StaysMalformed head
 StandsInHead collected part head = HoldsHead collected part head
 
 -- What the state says of the place.
@@ -111,7 +111,7 @@ pub record Stands {B : Type 0} (limit : Option ℕ) (parser : Machine B)
 
 -- The parser continues as one that has read the stream: with more bytes, the stream gives its own
 -- events and then what those bytes give after a place at which the parser stands.
-pub record IsBehind {B : Type 0} (limit : Option ℕ) (parser : Machine B)
+pub record HasReadUnder {B : Type 0} (limit : Option ℕ) (parser : Machine B)
     (stream : List ℕ) : Type 0 where
   pub place : Place
   pub stands : Stands limit parser place

@@ -39,29 +39,29 @@ IsBetween (InText bytes) = bytes ≡ []
 IsBetween _ = Unit {0}
 
 -- The outcome of bytes after the intermediates of an escape sequence ..
-unfoldable pub escape_behind : List ℕ → List ℕ → Outcome
-escape_behind intermediates bytes =
+unfoldable pub escape_from : List ℕ → List ℕ → Outcome
+escape_from intermediates bytes =
     let inside = before (λ b. ends_escape (class_of b)) bytes in
     let all = intermediates ++ filter (λ b. is_intermediate (class_of b)) inside in
     tell (executed inside) (escape_rest all (from_first (λ b. ends_escape (class_of b)) bytes))
 
 -- .. after the head of a control sequence ..
-unfoldable pub control_sequence_behind : List ℕ → List ℕ → Outcome
-control_sequence_behind head bytes =
+unfoldable pub control_sequence_from : List ℕ → List ℕ → Outcome
+control_sequence_from head bytes =
     let inside = before (λ b. ends_head (class_of b)) bytes in
     tell (executed inside)
     (control_sequence_rest (head ++ head_bytes inside)
     (from_first (λ b. ends_head (class_of b)) bytes))
 
 -- .. after that of a device control string ..
-unfoldable pub device_control_behind : List ℕ → List ℕ → Outcome
-device_control_behind head bytes =
+unfoldable pub device_control_from : List ℕ → List ℕ → Outcome
+device_control_from head bytes =
     device_control_rest (head ++ head_bytes (before (λ b. ends_head (class_of b)) bytes))
     (from_first (λ b. ends_head (class_of b)) bytes)
 
 -- .. and after the items of an operating system command
-unfoldable pub system_command_behind : Option ℕ → List ℕ → List ℕ → Outcome
-system_command_behind limit items bytes =
+unfoldable pub system_command_from : Option ℕ → List ℕ → List ℕ → Outcome
+system_command_from limit items bytes =
     let all = items ++ items_of (before ends_command bytes) in
     system_command_rest (pieces_of limit all) (drops_data limit all) (from_first ends_command bytes)
 
@@ -69,11 +69,11 @@ system_command_behind limit items bytes =
 abbrev pub rest_outcome : Option ℕ → Place → List ℕ → Outcome
 rest_outcome limit (InText bytes) rest = text_outcome (bytes ++ rest)
 rest_outcome limit AtEscape rest = body_outcome limit rest
-rest_outcome limit (InEscape intermediates) rest = escape_behind intermediates rest
-rest_outcome limit (InControlSequence head) rest = control_sequence_behind head rest
-rest_outcome limit (InDeviceControl head) rest = device_control_behind head rest
+rest_outcome limit (InEscape intermediates) rest = escape_from intermediates rest
+rest_outcome limit (InControlSequence head) rest = control_sequence_from head rest
+rest_outcome limit (InDeviceControl head) rest = device_control_from head rest
 rest_outcome limit InData rest = data_outcome rest
-rest_outcome limit (InSystemCommand items) rest = system_command_behind limit items rest
+rest_outcome limit (InSystemCommand items) rest = system_command_from limit items rest
 rest_outcome limit InIgnoredString rest = ignored_string_outcome rest
 
 -- What is open at the place.
@@ -88,8 +88,8 @@ abbrev pub closing_at : Option ℕ → Place → List Event
 closing_at limit place = closing (left_at limit place)
 
 -- The outcome of more bytes, which may include ESC.
-unfoldable pub outcome_behind : Option ℕ → Place → List ℕ → Outcome
-outcome_behind limit place more =
+unfoldable pub outcome_from : Option ℕ → Place → List ℕ → Outcome
+outcome_from limit place more =
     let cut = cut_at_escape more in
     with_bodies limit (rest_outcome limit place cut.text) cut.bodies
 
@@ -97,4 +97,4 @@ outcome_behind limit place more =
 pub record IsAfter (limit : Option ℕ) (stream : List ℕ) (place : Place) : Type 0 where
   pub goes_on : (more : List ℕ)
       → outcome limit (stream ++ more)
-      ≡ tell (events limit stream) (outcome_behind limit place more)
+      ≡ tell (events limit stream) (outcome_from limit place more)

@@ -7,10 +7,10 @@ use Rattle.vte_core.specs.Parameters.{semicolon}
 use Rattle.vte_core.specs.SystemCommand.{IsCommandData, is_data_byte, kept_after, most_pieces, pieces_of}
 
 -- For each `;` of a text, how many data bytes come before it, starting from `count`.
-abbrev pub ends_behind : ℕ → List ℕ → List ℕ
-ends_behind count [] = []
-ends_behind count (item ∷ items) =
-    if item == semicolon then count ∷ ends_behind count items else ends_behind (count + 1) items
+abbrev pub ends_after : ℕ → List ℕ → List ℕ
+ends_after count [] = []
+ends_after count (item ∷ items) =
+    if item == semicolon then count ∷ ends_after count items else ends_after (count + 1) items
 
 -- The capacity for data bytes, the data bytes, where the first 16 pieces end, and whether data
 -- bytes were dropped.
@@ -48,10 +48,10 @@ abbrev pub cut_pieces : List ℕ → List ℕ → List (List ℕ)
 cut_pieces bytes ends = take most_pieces (cut_at 0 bytes ends)
 
 -- The pieces of what is held and of the items that follow.
-abbrev pub pieces_behind : Option ℕ → List ℕ → List ℕ → List ℕ → List (List ℕ)
-pieces_behind limit bytes ends more =
+abbrev pub pieces_from : Option ℕ → List ℕ → List ℕ → List ℕ → List (List ℕ)
+pieces_from limit bytes ends more =
     let kept = kept_after limit (length bytes) more in
-    cut_pieces (bytes ++ filter is_data_byte kept) (ends ++ ends_behind (length bytes) kept)
+    cut_pieces (bytes ++ filter is_data_byte kept) (ends ++ ends_after (length bytes) kept)
 
 -- The ends of at most `left` pieces of `count` bytes, in order, from `start` on. If there are so
 -- many, no byte follows the last.
@@ -65,7 +65,7 @@ PiecesEnd (suc left) start (end ∷ ends) count = (start ≤ end) × PiecesEnd l
 -- Each byte is in one of the first 16.
 pub record Keeps (limit : Option ℕ) (held : Stored) (items : List ℕ) : Type 0 where
   pub goes_on : (more : List ℕ)
-      → pieces_of limit (items ++ more) ≡ pieces_behind limit held.bytes held.ends more
+      → pieces_of limit (items ++ more) ≡ pieces_from limit held.bytes held.ends more
   pub end : PiecesEnd most_pieces 0 held.ends (length held.bytes)
   pub fewer : length held.bytes ≤ length (filter is_data_byte items)
   pub dropped : held.dropped ≡ nat_lt (length held.bytes) (length (filter is_data_byte items))

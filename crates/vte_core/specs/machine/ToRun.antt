@@ -12,7 +12,7 @@ use Rattle.vte_core.specs.declared.parser.State.{State}
 use Rattle.vte_core.specs.declared.parser.State.TheVariants.{Text, DeviceData}
 use Rattle.vte_core.specs.Class.{IsPut, class_of, is_data}
 use Rattle.vte_core.specs.Event.{Event, Print, Put}
-use Rattle.vte_core.specs.machine.Parser.{IsBehind}
+use Rattle.vte_core.specs.machine.Parser.{HasReadUnder}
 use Rattle.vte_core.specs.machine.Progress.{StandsAt}
 use Rattle.vte_core.specs.machine.TextRun.{AreRun, EndsRun}
 use Rattle.vte_core.specs.machine.Scans.{IsRange}
@@ -65,17 +65,17 @@ pub record HasRun {B : Type 0} (limit : Option ℕ) (bytes : List ℕ) (place : 
   pub range : IsRange bytes place.start place.end
   pub kind : AreOfKind place.kind (bytes_at bytes place)
   pub whole : IsWholeAt bytes place place.kind
-  pub adds : (stream : List ℕ) → IsBehind limit parser stream
+  pub adds : (stream : List ℕ) → HasReadUnder limit parser stream
       → added limit stream (bytes_at bytes place) ≡ kind_events place.kind (bytes_at bytes place)
-  pub reads : (stream : List ℕ) → IsBehind limit parser stream
-      → IsBehind limit parser (stream ++ bytes_at bytes place)
+  pub reads : (stream : List ℕ) → HasReadUnder limit parser stream
+      → HasReadUnder limit parser (stream ++ bytes_at bytes place)
 
 -- The call came to a run, to its end or to a stop.
 pub record ComesToRun {V B : Type 0} (step : V → Event → V) (is_terminated : V → Bool) (old new : V)
     (limit : Option ℕ) (bytes : List ℕ)
     (place : RunPlace) (before parser : Machine B) : Type 0 where
   pub has : HasRun limit bytes place parser
-  pub stands_at : (stream : List ℕ) → IsBehind limit before stream
+  pub stands_at : (stream : List ℕ) → HasReadUnder limit before stream
       → StandsAt true step is_terminated old new limit stream bytes place.start parser
   pub may_go_on : place.start < place.end → is_terminated new ≡ false
   pub stops : place.end ≡ place.start → place.start < length bytes → is_terminated new ≡ true

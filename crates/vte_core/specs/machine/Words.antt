@@ -23,7 +23,7 @@ pub use Rattle.vte_core.specs.machine.Completes.{Completes}
 pub use Rattle.vte_core.specs.machine.Data.{AreIgnored, ArePut}
 pub use Rattle.vte_core.specs.machine.MayRead.{MayRead, MayReadAt, MayReadByte}
 pub use Rattle.vte_core.specs.machine.Moves.{Costs, Handles, Moves, Refuses, Spends}
-pub use Rattle.vte_core.specs.machine.Parser.{Counts, Holds, HoldsHead, IsBehind, KeepsIntermediates, KeepsNumbers, Settles, Stands, StandsInHead}
+pub use Rattle.vte_core.specs.machine.Parser.{Counts, Holds, HoldsHead, HasReadUnder, KeepsIntermediates, KeepsNumbers, Settles, Stands, StandsInHead}
 pub use Rattle.vte_core.specs.machine.Place.{AtEscape, InControlSequence, InDeviceControl, IsBetween, Place, closing_at}
 pub use Rattle.vte_core.specs.machine.Progress.{Advances, IsSettled, ReadsUpTo, RefusesAt, StandsAt}
 pub use Rattle.vte_core.specs.machine.Reading.{ReadsHeadUpTo, with_open_number}

@@ -59,7 +59,7 @@ impl<B: Buffer> Machine<B> {
         ensures handles { Handles 1 P.step (P.value_of performer.old)
             (P.value_of performer.new) self.old self.new looks.old looks.new }
     {
-        if let HeadPart::IllShaped = part {
+        if let HeadPart::Malformed = part {
             self.state = State::IgnoredString;
             return;
         }

@@ -1,6 +1,6 @@
 //! The loop over the bytes of a call.
 ghost use Rattle.std.specs.Prelude.{◌≡◌, ◌<◌, true, List, ℕ, length, IfErr, IfOk};
-ghost use Rattle.vte_core.specs.machine.Words.{Advances, Costs, IsBehind, IsOutside, IsSettled, MayReadAt, Moves, NoCharacterStops, ReadsUpTo, Refuses, RefusesAt, Spends, StandsAt, TellsOthers};
+ghost use Rattle.vte_core.specs.machine.Words.{Advances, Costs, HasReadUnder, IsOutside, IsSettled, MayReadAt, Moves, NoCharacterStops, ReadsUpTo, Refuses, RefusesAt, Spends, StandsAt, TellsOthers};
 ghost use Rattle.vte_core.specs.machine.Words.{read_count};
 
 use crate::buffer::Buffer;
@@ -46,14 +46,14 @@ impl<B: Buffer> Machine<B> {
         performer: &mut P,
         input: Input<'_, B>,
     ) -> usize
-        ensures stands_at { (stream : List ℕ) → IsBehind B.limit self.old stream →
+        ensures stands_at { (stream : List ℕ) → HasReadUnder B.limit self.old stream →
             StandsAt ASKS P.step P.is_terminated (P.value_of performer.old)
             (P.value_of performer.new) B.limit stream
             input.entry.bytes.now result self.new }
         ensures settled { result < length input.entry.bytes.now → IsSettled self.new.state }
         ensures spends { Spends 2 0 2 input.entry.bytes.now 0 result self.old self.new
             looks.old looks.new }
-        ensures others { (stream : List ℕ) → IsBehind B.limit self.old stream
+        ensures others { (stream : List ℕ) → HasReadUnder B.limit self.old stream
             → TellsOthers B.limit stream input.entry.bytes.now result }
     {
         match self.state {

@@ -1,6 +1,6 @@
 //! The state of a parser, and what it has collected.
 ghost use Rattle.std.specs.Prelude.{◌≡◌, true, false, ℕ, List, []};
-ghost use Rattle.vte_core.specs.machine.Words.{IsBehind, IsFinished, IsLoss, IsUnfinished, Keeps};
+ghost use Rattle.vte_core.specs.machine.Words.{HasReadUnder, IsFinished, IsLoss, IsUnfinished, Keeps};
 ghost use Rattle.vte_core.specs.machine.Words.{drops_data, outcome};
 
 use crate::buffer::Buffer;
@@ -21,7 +21,7 @@ impl<B: Buffer> Machine<B> {
     /// Creates a machine that has read nothing, over an empty buffer.
     pub(crate) fn new(bytes: B) -> Self
         requires { B.held bytes ≡ [] }
-        ensures reads { IsBehind B.limit result [] }
+        ensures reads { HasReadUnder B.limit result [] }
         ensures memory { result.command.capacity ≡ B.capacity bytes }
     {
         Machine {
@@ -36,7 +36,7 @@ impl<B: Buffer> Machine<B> {
     pub(crate) fn command_lost_data(&self) -> bool
         ensures holds { (items : List ℕ) → Keeps B.limit self.now.command items
             → result ≡ drops_data B.limit items }
-        ensures open { (stream : List ℕ) → IsBehind B.limit self.now stream
+        ensures open { (stream : List ℕ) → HasReadUnder B.limit self.now stream
             → IsLoss (outcome B.limit stream).left result }
     {
         self.command.has_dropped()
@@ -44,9 +44,9 @@ impl<B: Buffer> Machine<B> {
 
     /// Returns whether a character or a sequence is unfinished.
     pub(crate) fn is_open(&self) -> bool
-        ensures closed { result ≡ false → (stream : List ℕ) → IsBehind B.limit self.now stream
-            → IsBehind B.limit self.now [] × IsFinished B.limit stream }
-        ensures opens { result ≡ true → (stream : List ℕ) → IsBehind B.limit self.now stream
+        ensures closed { result ≡ false → (stream : List ℕ) → HasReadUnder B.limit self.now stream
+            → HasReadUnder B.limit self.now [] × IsFinished B.limit stream }
+        ensures opens { result ≡ true → (stream : List ℕ) → HasReadUnder B.limit self.now stream
             → IsUnfinished B.limit stream }
     {
         match self.state {

@@ -1,7 +1,7 @@
 //! Runs of text and data in the input, for callers that take them from there.
 ghost use Rattle.std.specs.Prelude.{◌≡◌, ◌+◌, ◌*◌, ◌≤◌, true, false, ℕ, List, IfErr, IfOk};
 ghost use Rattle.vte_core.specs.AdvanceToRun.{ReadsToRun};
-ghost use Rattle.vte_core.specs.machine.Words.{Advances, ComesToRun, Costs, EndsRun, IsBehind, MayReadAt, Moves, Nothing, RefusesAt, TellsOthers, Text, looked, place_count, start_count};
+ghost use Rattle.vte_core.specs.machine.Words.{Advances, ComesToRun, Costs, EndsRun, HasReadUnder, MayReadAt, Moves, Nothing, RefusesAt, TellsOthers, Text, looked, place_count, start_count};
 
 use crate::buffer::Buffer;
 use crate::class::ESCAPE;
@@ -61,7 +61,7 @@ impl<B: Buffer> Machine<B> {
             B.limit input.entry.bytes.now refused.read self.old self.new) }
         ensures costs { Costs 7 input.entry.bytes.now result
             (place_count result) self.old self.new looks.old looks.new }
-        ensures others { (stream : List ℕ) → IsBehind B.limit self.old stream
+        ensures others { (stream : List ℕ) → HasReadUnder B.limit self.old stream
             → TellsOthers B.limit stream input.entry.bytes.now (start_count result) }
     {
         let mut position = self.finish_character::<P, Singly, true>(looks, performer, input);

@@ -3,7 +3,7 @@ ghost use Rattle.std.specs.Option.{ok_or};
 ghost use Rattle.std.specs.Prelude.{◌≡◌, ◌∷◌, [], Some, option_map};
 ghost use Rattle.vte_types.specs.Hex.{hex_number};
 ghost use Rattle.vte_types.specs.RgbText.{hex_color_of, color_of_six, shown_color};
-ghost use Rattle.vte_types.specs.Words.{behind_word};
+ghost use Rattle.vte_types.specs.Words.{after_word};
 
 use super::Rgb;
 use std::fmt;
@@ -28,14 +28,16 @@ impl FromStr for Rgb {
 
     fn from_str(s: &str) -> Result<Rgb, ()> {
         let text = s.as_bytes();
-        let digits = behind(text, b"0x").or(behind(text, b"#")).ok_or(())?;
+        let digits = strip_word(text, b"0x")
+            .or(strip_word(text, b"#"))
+            .ok_or(())?;
         six_digits(digits).ok_or(())
     }
 }
 
 /// Returns what follows a word at the start of the text.
-fn behind<'a>(text: &'a [u8], word: &[u8]) -> Option<&'a [u8]>
-    ensures { option_map (λ rest. rest.now) result ≡ behind_word word.now text.now }
+fn strip_word<'a>(text: &'a [u8], word: &[u8]) -> Option<&'a [u8]>
+    ensures { option_map (λ rest. rest.now) result ≡ after_word word.now text.now }
 {
     text.strip_prefix(word)
 }

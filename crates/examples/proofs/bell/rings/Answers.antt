@@ -15,7 +15,7 @@ stays_all : (events : List Event) → after rung_after true events ≡ true
 stays_all [] = refl
 stays_all (event ∷ events) = ap (λ rung. after rung_after rung events) (stays event) ∙ stays_all events
 
--- Where the call stopped early the bell has rung, and the bytes behind can't change that; else all
+-- Where the call stopped early the bell has rung, and the bytes after can't change that; else all
 -- was read.
 as_all : (rung : Bool) (n : ℕ) (bytes : List ℕ)
     → StopsExactly rung_after (λ has_rung. has_rung) false rung (Some 1024) [] bytes n

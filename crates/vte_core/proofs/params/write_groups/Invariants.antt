@@ -1,9 +1,9 @@
 use Rattle.vte_core.proofs.Common.{◌≡◌, ◌++◌, map, List, ℕ, Bor, HasWritten, IsPlainFormatter, flat_map}
-use Rattle.vte_core.proofs.showing.Shown.{behind_semicolon}
+use Rattle.vte_core.proofs.showing.Shown.{after_semicolon}
 use Rattle.vte_core.proofs.params.write_groups.Given as goal
 
 abbrev pub invariant-loop-group : goal.invariant-loop-group
 invariant-loop-group g l =
     (map (λ (group : Bor (List ℕ)). group.now) l.yielded ++ l.group-iterator ≡ l.initial.group-iterator)
     × (IsPlainFormatter l.initial.f → HasWritten g.W.Write.write_str_gives l.initial.f
-    (flat_map behind_semicolon (map (λ (group : Bor (List ℕ)). group.now) l.yielded)) l.f)
+    (flat_map after_semicolon (map (λ (group : Bor (List ℕ)). group.now) l.yielded)) l.f)

@@ -1,5 +1,5 @@
 use Rattle.event_log.proofs.Common.{◌≡◌, ◌++◌, ◌<◌, ℕ, List, Bor, get_or, length, map, [], refl, sym, ◌∙◌, append-nil, arith, common_steps, All-tail, flat_map, shown}
-use Rattle.event_log.proofs.Common.{behind_semicolon, group_text, groups_written, shown-nil}
+use Rattle.event_log.proofs.Common.{after_semicolon, group_text, groups_written, shown-nil}
 use Rattle.event_log.proofs.Fields.{extends_then}
 use Rattle.event_log.proofs.lines.Lines.push_groups.Goals as goal
 use Rattle.event_log.proofs.lines.Lines.push_groups.Goals.{in-Some+in-None, in_default}
@@ -35,7 +35,7 @@ returns c =
       | in-Some+in-None w ↦
           let h = w.loop-group.invariant in
           let passed = map (λ (group : Bor (List ℕ)). group.now) w.loop-group.yielded in
-          let all : group_text (get_or c.args.params.now 0 []) ++ flat_map behind_semicolon passed
+          let all : group_text (get_or c.args.params.now 0 []) ++ flat_map after_semicolon passed
           ≡ shown c.args.params.now =
           groups_written c.args.params.now _ _ passed _ h.along refl w.in-None.ensures.steps.0 in
           extends_then (rw all at h.pushed) (rw w.self-is at bracket)

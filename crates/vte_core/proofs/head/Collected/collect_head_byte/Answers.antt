@@ -1,13 +1,13 @@
 use Rattle.vte_core.proofs.Common.{◌≡◌, inl, sym, ◌∙◌, Marker, class_of}
 use Rattle.vte_core.proofs.bytes.ClassCases.{intermediate}
-use Rattle.vte_core.proofs.fields.HeadSteps.{head-holds, holds-intermediate, holds-marker, ill_shaped-late, left_is_marker}
+use Rattle.vte_core.proofs.fields.HeadSteps.{head-holds, holds-intermediate, holds-marker, malformed-late, left_is_marker}
 use Rattle.vte_core.proofs.head.Collected.collect_head_byte.Goals as goal
 
 pub returns-then-is_intermediate : goal.returns-then-is_intermediate
 returns-then-is_intermediate c = λ head s.
     let is = intermediate (class_of c.args.byte) (sym c.is_intermediate.ensures ∙ c.if-is_intermediate.true) in
     holds-intermediate _ _ c.args.part head c.args.byte
-    (head-holds _ c.args.part head c.in_default.not-IllShaped s) is c.collect.ensures.numbers c.collect.ensures.holds
+    (head-holds _ c.args.part head c.in_default.not-Malformed s) is c.collect.ensures.numbers c.collect.ensures.holds
 
 pub returns-in-Entry : goal.returns-in-Entry
 returns-in-Entry c = λ head s.
@@ -19,5 +19,5 @@ returns-in-Entry c = λ head s.
 
 pub returns : goal.returns
 returns c = λ head s.
-    ill_shaped-late _ c.args.part head c.args.byte s c.requires.is
+    malformed-late _ c.args.part head c.args.byte s c.requires.is
     (sym c.is_intermediate.ensures ∙ c.if-is_intermediate.false) c.requires.no_number c.in_default-part.not-Entry

@@ -1,8 +1,8 @@
 use Rattle.vte_core.proofs.Common.{◌++◌, get_or, take, decimal, HasWritten, IsPlainFormatter, flat_map}
-use Rattle.vte_core.proofs.showing.Shown.{behind_colon}
+use Rattle.vte_core.proofs.showing.Shown.{after_colon}
 use Rattle.vte_core.proofs.params.GroupDisplay.fmt.Given as goal
 
 abbrev pub invariant-loop-number : goal.invariant-loop-number
 invariant-loop-number g l = IsPlainFormatter l.fn.f
     → HasWritten g.W.Write.write_str_gives l.fn.f
-    (decimal (get_or l.self.0.now 0 0) ++ flat_map behind_colon (take l.number-index l.rest)) l.f
+    (decimal (get_or l.self.0.now 0 0) ++ flat_map after_colon (take l.number-index l.rest)) l.f

@@ -4,8 +4,8 @@ use Rattle.vte_core.proofs.utf8.Unfinished.carried_on.Goals as goal
 pub returns-then-first-lt224 : goal.returns-then-first-lt224
 returns-then-first-lt224 c =
     rw c.in-One.is
-    (λ more. second_whole c.in-One.first c.args.byte _ c.whole.result more
-    (cc) c.if-first-lt224.true c.number_of_two.ensures c.whole.ensures)
+    (λ more. second_whole c.in-One.first c.args.byte _ c.whole_character.result more
+    (cc) c.if-first-lt224.true c.number_of_two.ensures c.whole_character.ensures)
 
 pub returns-else-first-lt224 : goal.returns-else-first-lt224
 returns-else-first-lt224 c =
@@ -17,9 +17,9 @@ returns-in_default c = rw c.in-One.is (λ more. second_broken c.in-One.first c.a
 pub returns-then-first-lt240 : goal.returns-then-first-lt240
 returns-then-first-lt240 c =
     rw c.in-Two.is
-    (λ more. third_whole c.in-Two.first c.in-Two.second c.args.byte _ c.whole-then-first-lt240.result more
+    (λ more. third_whole c.in-Two.first c.in-Two.second c.args.byte _ c.whole_character-then-first-lt240.result more
     (cc) c.if-first-lt240.true
-    c.number_of_three.ensures c.whole-then-first-lt240.ensures)
+    c.number_of_three.ensures c.whole_character-then-first-lt240.ensures)
 
 pub returns-else-first-lt240 : goal.returns-else-first-lt240
 returns-else-first-lt240 c =
@@ -32,7 +32,7 @@ pub returns-in-Three : goal.returns-in-Three
 returns-in-Three c =
     rw c.in-Three.is
     (λ more. fourth_whole c.in-Three.first c.in-Three.second c.in-Three.third c.args.byte _
-    c.whole-in-Three.result more (cc) c.number_of_four.ensures c.whole-in-Three.ensures)
+    c.whole_character-in-Three.result more (cc) c.number_of_four.ensures c.whole_character-in-Three.ensures)
 
 pub returns-in_default-3 : goal.returns-in_default-3
 returns-in_default-3 c =

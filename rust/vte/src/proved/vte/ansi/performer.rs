@@ -54,7 +54,7 @@ impl<'s, 'h, H: InputAs<G>, T: Timeout, J: TextBuffer, G> Perform
     fn unhook(&mut self) {}
 
     fn osc_dispatch(&mut self, params: &[&[u8]], bell_terminated: bool) {
-        if fit(params, self.state.text.capacity()) {
+        if pieces_fit(params, self.state.text.capacity()) {
             perform_system_command(self.handler, &mut self.state.text, params, bell_terminated);
         }
     }
@@ -117,7 +117,7 @@ impl<'s, 'h, H: Handler, T: Timeout, J: TextBuffer, G> Performer<'s, 'h, H, T, J
 }
 
 /// Returns whether the joined pieces fit a buffer of this size.
-fn fit(pieces: &[&[u8]], size: usize) -> bool {
+fn pieces_fit(pieces: &[&[u8]], size: usize) -> bool {
     let mut room = size;
     for piece in pieces {
         if piece.len() >= room {

@@ -1,7 +1,7 @@
 use Rattle.vte.proofs.Common.{◌≡◌, ◌<◌, ◌++◌, length, length-append, refl, sym, ◌∙◌, arith, nat_tests, nat_le, most_held, true, false, and-false, is_held}
 use Rattle.vte.proofs.Common.{is_stopped, meaning, parts, AreNextAt, opened}
 use Rattle.vte.proofs.turns.Slices.{halted_nothing}
-use Rattle.vte.proofs.turns.Turns.{behind-next, ends_turn, kept-next, next-at, stops-next, turned_hold}
+use Rattle.vte.proofs.turns.Turns.{after-next, ends_turn, kept-next, next-at, stops-next, turned_hold}
 use Rattle.vte.proofs.ansi.turns.Turns.turn.Goals as goal
 use Rattle.vte.proofs.ansi.turns.Turns.turn.Goals.{else-pending-via-else-pending, else-pending-via-then-pending+else-has_room, else-pending-2+else-len-gt0, then-pending-2}
 use Rattle.vte.proofs.ansi.turns.Turns.turn.Goals.{then-pending-2-via-else-pending-2+then-len-gt0, then-pending-2-via-then-pending-2}
@@ -47,7 +47,7 @@ returns-then-has_room-clause-turned g c = λ s at.
     let held : is_held c.pending_timeout-pending.result s c.args.bytes.now ≡ true = rw (c.if-pending.true, room) refl in
     record {
       turned = turned_hold _ (rw at.stands.has_parsed.timeout_is at c.pending_timeout-pending.ensures) held refl
-          (behind-next here.memory
+          (after-next here.memory
           (c.hold_bytes.ensures s here.are_at (c.if-not-reserve.ensures.reserved.room refl _ _ _ here.are_at.stands)));
       halted = tt;
     }

@@ -1,14 +1,14 @@
-use Rattle.vte_core.proofs.Common.{ℕ, ◌-◌, ◌<◌, true, List, length, Spends, IsBehind, IsSettled, StandsAt, TellsOthers}
+use Rattle.vte_core.proofs.Common.{ℕ, ◌-◌, ◌<◌, true, List, length, Spends, HasReadUnder, IsSettled, StandsAt, TellsOthers}
 use Rattle.vte_core.proofs.parser.machine.Machine.drive_to_run.Given as goal
 
 abbrev pub invariant-loop-position : goal.invariant-loop-position
 invariant-loop-position g l = record {
-  stands_at : (stream : List ℕ) → IsBehind g.B.Buffer.limit l.fn.self stream
+  stands_at : (stream : List ℕ) → HasReadUnder g.B.Buffer.limit l.fn.self stream
       → StandsAt true g.P.CountedPerform.step g.P.CountedPerform.is_terminated
       (g.P.CountedPerform.value_of l.fn.performer)
       (g.P.CountedPerform.value_of l.performer) g.B.Buffer.limit stream l.input.bytes.now l.position l.self;
   settled : l.position < length l.input.bytes.now → IsSettled l.self.state;
-  others : (stream : List ℕ) → IsBehind g.B.Buffer.limit l.fn.self stream
+  others : (stream : List ℕ) → HasReadUnder g.B.Buffer.limit l.fn.self stream
       → TellsOthers g.B.Buffer.limit stream l.input.bytes.now l.position;
   spends : Spends 7 0 2 l.input.bytes.now 0 l.position l.fn.self l.self l.fn.looks l.looks;
 }

@@ -1,14 +1,14 @@
 use Rattle.vte_core.proofs.Common.{[], ◌∷◌, refl, ap, ◌∙◌, arith, CsiDispatch, head_of, dispatched, InText}
 use Rattle.vte_core.proofs.bytes.ClassCases.{final}
 use Rattle.vte_core.proofs.calls.Runs.{settled-by}
-use Rattle.vte_core.proofs.fields.HeadSteps.{dispatched-ready, head-holds, ill_shaped-now}
+use Rattle.vte_core.proofs.fields.HeadSteps.{dispatched-ready, head-holds, malformed-now}
 use Rattle.vte_core.proofs.places.PlaceLeads.{control-dispatched, control-silent}
 use Rattle.vte_core.proofs.fields.Standing.{stands-text_begun}
 use Rattle.vte_core.proofs.parser.machine.Machine.end_control_sequence.Goals as goal
 
-pub returns-in-IllShaped-clause-takes : goal.returns-in-IllShaped-clause-takes
-returns-in-IllShaped-clause-takes g c = λ head s.
-    let ill = ill_shaped-now head (rw c.in-IllShaped.is at s) in
+pub returns-in-Malformed-clause-takes : goal.returns-in-Malformed-clause-takes
+returns-in-Malformed-clause-takes g c = λ head s.
+    let ill = malformed-now head (rw c.in-Malformed.is at s) in
     record {
       told = [];
       next = InText [];
@@ -19,7 +19,7 @@ returns-in-IllShaped-clause-takes g c = λ head s.
 
 pub returns-clause-takes : goal.returns-clause-takes
 returns-clause-takes g c = λ head s.
-    let ready = c.end_head-ignore.ensures c.args.part head (head-holds _ _ head c.in_default.not-IllShaped s) in
+    let ready = c.end_head-ignore.ensures c.args.part head (head-holds _ _ head c.in_default.not-Malformed s) in
     let d = c.dispatch_control_sequence.ensures.dispatches in
     record {
       told = dispatched CsiDispatch (head_of head) c.args.byte ∷ [];

@@ -1,23 +1,23 @@
 use Rattle.vte_core.proofs.Common.{[], ◌∷◌, refl, ap, ◌∙◌, rules, Hook, head_of, dispatched, InData, InIgnoredString}
 use Rattle.vte_core.proofs.bytes.ClassCases.{final}
-use Rattle.vte_core.proofs.fields.HeadSteps.{dispatched-ready, head-holds, ill_shaped-now}
-use Rattle.vte_core.proofs.places.PlaceLeads.{device-well_shaped, device-ill_shaped}
+use Rattle.vte_core.proofs.fields.HeadSteps.{dispatched-ready, head-holds, malformed-now}
+use Rattle.vte_core.proofs.places.PlaceLeads.{device-well_shaped, device-malformed}
 use Rattle.vte_core.proofs.parser.machine.Machine.hook.Goals as goal
 
-pub returns-in-IllShaped-clause-takes : goal.returns-in-IllShaped-clause-takes
-returns-in-IllShaped-clause-takes g c = λ head s.
-    let ill = ill_shaped-now head (rw c.in-IllShaped.is at s) in
+pub returns-in-Malformed-clause-takes : goal.returns-in-Malformed-clause-takes
+returns-in-Malformed-clause-takes g c = λ head s.
+    let ill = malformed-now head (rw c.in-Malformed.is at s) in
     record {
       told = [];
       next = InIgnoredString;
       performed = refl;
       stands = record { by = tt };
-      leads = device-ill_shaped _ head _ (final _ c.requires) ill;
+      leads = device-malformed _ head _ (final _ c.requires) ill;
     }
 
 pub returns-clause-takes : goal.returns-clause-takes
 returns-clause-takes g c = λ head s.
-    let f = c.end_head-ignore.ensures c.args.part head (head-holds _ _ head c.in_default.not-IllShaped s) in
+    let f = c.end_head-ignore.ensures c.args.part head (head-holds _ _ head c.in_default.not-Malformed s) in
     record {
       told = dispatched Hook (head_of head) c.args.byte ∷ [];
       next = InData;

@@ -1,6 +1,6 @@
 use Rattle.vte.proofs.Common.{arith, Decides-eqb}
 use Rattle.std.proofs.lemmas.Slice.Eq.{strip_prefix_is}
-use Rattle.vte.proofs.ansi.parts.behind.Goals as goal
+use Rattle.vte.proofs.ansi.parts.strip_word.Goals as goal
 
 pub returns : goal.returns
 returns c =

@@ -1,9 +1,9 @@
 use Rattle.std.proofs.lemmas.Bool.Decides.{Decides-eqb}
 use Rattle.std.proofs.lemmas.Slice.Eq.{strip_prefix_is}
-use Rattle.vte_types.proofs.Words.{behind_is}
-use Rattle.vte_types.proofs.color.text.behind.Goals as goal
+use Rattle.vte_types.proofs.Words.{after_is}
+use Rattle.vte_types.proofs.color.text.strip_word.Goals as goal
 
 pub returns : goal.returns
 returns c =
-    behind_is c.args.word.now c.args.text.now _
+    after_is c.args.word.now c.args.text.now _
     (strip_prefix_is Decides-eqb c.args.text.now c.args.word.now _ c.strip_prefix.ensures.cases)

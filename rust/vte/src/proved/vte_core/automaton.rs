@@ -9,7 +9,7 @@ use crate::proved::vte_core::scan::get_block;
 use crate::proved::vte_core::utf8::is_printed_ascii;
 
 // States: between two characters; before one, two or three more bytes 80..BF; after a first byte
-// whose second is bound more closely (Unicode, table 3-7; behind C2, 80..9F are controls); and
+// whose second is bound more closely (Unicode, table 3-7; after C2, 80..9F are controls); and
 // after a byte that fits nowhere, for good.
 const BETWEEN: u64 = 0;
 

@@ -18,7 +18,7 @@ pub(crate) enum HeadPart {
     /// An intermediate was last.
     Intermediates,
     /// It is malformed.
-    IllShaped,
+    Malformed,
 }
 
 impl HeadPart {
@@ -96,8 +96,8 @@ impl Collected {
     /// has been read then.
     #[inline(always)]
     fn collect_head_byte(&mut self, part: HeadPart, byte: u8) -> HeadPart {
-        if let HeadPart::IllShaped = part {
-            return HeadPart::IllShaped;
+        if let HeadPart::Malformed = part {
+            return HeadPart::Malformed;
         }
         if is_intermediate(byte) {
             self.collect(byte);
@@ -108,7 +108,7 @@ impl Collected {
             self.collect(byte);
             return HeadPart::Parameters;
         }
-        HeadPart::IllShaped
+        HeadPart::Malformed
     }
 
     /// Reads the digits at a place of a head, if any, and the separators too if there may be

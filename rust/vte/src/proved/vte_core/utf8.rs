@@ -31,18 +31,18 @@ impl Unfinished {
         match self {
             Unfinished::One(first) if may_be_second(first, byte) => {
                 if first < 0xe0 {
-                    return whole(number_of_two(first, byte));
+                    return whole_character(number_of_two(first, byte));
                 }
                 Carried::Unfinished(Unfinished::Two(first, byte))
             }
             Unfinished::Two(first, second) if is_continuation(byte) => {
                 if first < 0xf0 {
-                    return whole(number_of_three(first, second, byte));
+                    return whole_character(number_of_three(first, second, byte));
                 }
                 Carried::Unfinished(Unfinished::Three(first, second, byte))
             }
             Unfinished::Three(first, second, third) if is_continuation(byte) => {
-                whole(number_of_four(first, second, third, byte))
+                whole_character(number_of_four(first, second, third, byte))
             }
             _ => Carried::Broken,
         }
@@ -110,7 +110,7 @@ fn number_of_four(first: u8, second: u8, third: u8, fourth: u8) -> u32 {
 }
 
 /// Returns the character of this number, which is a surrogate's for no well-formed sequence.
-fn whole(code: u32) -> Carried {
+fn whole_character(code: u32) -> Carried {
     match char::from_u32(code) {
         Some(c) => Carried::Whole(c),
         None => Carried::Broken,

@@ -1,22 +1,22 @@
 // Written by tools/erase from crates/vte/src/ansi/color_text.rt: edit that one.
 //! Colours as texts.
 
-use crate::proved::vte::ansi::parts::{behind, cut};
+use crate::proved::vte::ansi::parts::{split_at_first, strip_word};
 use crate::proved::vte_types::Rgb;
 
 /// Returns the colour that a text names.
 pub(crate) fn xparse_color(text: &[u8]) -> Option<Rgb> {
-    if let Some(parts) = behind(text, b"rgb:") {
+    if let Some(parts) = strip_word(text, b"rgb:") {
         return color_by_parts(parts);
     }
-    color_by_thirds(behind(text, b"#")?)
+    color_by_thirds(strip_word(text, b"#")?)
 }
 
 fn color_by_parts(text: &[u8]) -> Option<Rgb> {
-    let (r, behind_r) = cut(text, b'/');
-    let (g, behind_g) = cut(behind_r?, b'/');
-    let (b, behind_b) = cut(behind_g?, b'/');
-    if behind_b.is_some() {
+    let (r, after_r) = split_at_first(text, b'/');
+    let (g, after_g) = split_at_first(after_r?, b'/');
+    let (b, after_b) = split_at_first(after_g?, b'/');
+    if after_b.is_some() {
         return None;
     }
     Some(Rgb {

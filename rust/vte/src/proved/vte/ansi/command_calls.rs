@@ -3,7 +3,7 @@
 
 use crate::adapter::array_string::ArrayString;
 use crate::proved::vte::ansi::color_text::xparse_color;
-use crate::proved::vte::ansi::parts::{behind, id_in};
+use crate::proved::vte::ansi::parts::{id_in, strip_word};
 use crate::proved::vte::ansi::text_buffer::TextBuffer;
 use crate::proved::vte::ansi::titles::{
     join_texts, parse_number, perform_title, push_number, text_in,
@@ -145,7 +145,7 @@ fn icon_named(name: &[u8]) -> Option<CursorIcon> {
 
 fn set_shape<H: Handler>(handler: &mut H, texts: &[&[u8]]) {
     if let [text, ..] = texts {
-        match behind(text, b"CursorShape=") {
+        match strip_word(text, b"CursorShape=") {
             Some([b'0', ..]) => handler.set_cursor_shape(CursorShape::Block),
             Some([b'1', ..]) => handler.set_cursor_shape(CursorShape::Beam),
             Some([b'2', ..]) => handler.set_cursor_shape(CursorShape::Underline),

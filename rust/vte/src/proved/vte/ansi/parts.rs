@@ -3,13 +3,13 @@
 
 /// Returns what follows a word at the start of the text, or `None` if the text doesn't start with
 /// it.
-pub(crate) fn behind<'a>(text: &'a [u8], word: &[u8]) -> Option<&'a [u8]> {
+pub(crate) fn strip_word<'a>(text: &'a [u8], word: &[u8]) -> Option<&'a [u8]> {
     text.strip_prefix(word)
 }
 
 /// Splits a text at its first separator: returns the part before it, and what follows it if there
 /// is one.
-pub(crate) fn cut(text: &[u8], separator: u8) -> (&[u8], Option<&[u8]>) {
+pub(crate) fn split_at_first(text: &[u8], separator: u8) -> (&[u8], Option<&[u8]>) {
     match text.iter().position(|byte| *byte == separator) {
         Some(place) => (&text[..place], Some(&text[place + 1..])),
         None => (text, None),
@@ -20,8 +20,8 @@ pub(crate) fn cut(text: &[u8], separator: u8) -> (&[u8], Option<&[u8]>) {
 pub(crate) fn id_in(parameters: &[u8]) -> Option<&[u8]> {
     let mut left = Some(parameters);
     while let Some(text) = left {
-        let (part, rest) = cut(text, b':');
-        let id = behind(part, b"id=");
+        let (part, rest) = split_at_first(text, b':');
+        let id = strip_word(part, b"id=");
         if id.is_some() {
             return id;
         }

@@ -74,7 +74,7 @@ impl<B: Buffer> Machine<B> {
         byte: u8,
         position: usize,
     ) -> usize {
-        if let HeadPart::IllShaped = part {
+        if let HeadPart::Malformed = part {
             self.state = State::Text(Unfinished::Nothing);
             return position + 1;
         }

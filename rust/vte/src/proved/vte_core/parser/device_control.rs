@@ -39,7 +39,7 @@ impl<B: Buffer> Machine<B> {
 
     /// Hooks the string at the final byte of its head, or ignores it if the head is malformed.
     fn hook<P: PerformAs<G>, G: Grain>(&mut self, performer: &mut P, part: HeadPart, byte: u8) {
-        if let HeadPart::IllShaped = part {
+        if let HeadPart::Malformed = part {
             self.state = State::IgnoredString;
             return;
         }

@@ -40,7 +40,7 @@ fn copy_to_front<T: Copy>(elements: &[T], array: &mut [T]) -> usize {
 }
 
 /// Returns the first elements of an array: `count` of them, or all if there are fewer.
-fn front<T: Copy>(array: &[T], count: usize) -> &[T] {
+fn first_elements<T: Copy>(array: &[T], count: usize) -> &[T] {
     &array[..count.min(array.len())]
 }
 
@@ -51,7 +51,7 @@ fn collect_front<T: Copy + Default, const N: usize>(
 ) -> ArrayVec<T, N> {
     let mut collected = ArrayVec::new();
     // They fit.
-    let _ = collected.try_extend_from_slice(front(array, count));
+    let _ = collected.try_extend_from_slice(first_elements(array, count));
     collected
 }
 
@@ -67,11 +67,11 @@ fn saved_state(state: State) -> [u8; 4] {
         State::ControlSequence(HeadPart::Entry) => [6, 0, 0, 0],
         State::ControlSequence(HeadPart::Parameters) => [7, 0, 0, 0],
         State::ControlSequence(HeadPart::Intermediates) => [8, 0, 0, 0],
-        State::ControlSequence(HeadPart::IllShaped) => [9, 0, 0, 0],
+        State::ControlSequence(HeadPart::Malformed) => [9, 0, 0, 0],
         State::DeviceControl(HeadPart::Entry) => [10, 0, 0, 0],
         State::DeviceControl(HeadPart::Parameters) => [11, 0, 0, 0],
         State::DeviceControl(HeadPart::Intermediates) => [12, 0, 0, 0],
-        State::DeviceControl(HeadPart::IllShaped) => [13, 0, 0, 0],
+        State::DeviceControl(HeadPart::Malformed) => [13, 0, 0, 0],
         State::DeviceData => [14, 0, 0, 0],
         State::SystemCommand => [15, 0, 0, 0],
         State::IgnoredString => [16, 0, 0, 0],
@@ -91,11 +91,11 @@ fn restored_state(saved: [u8; 4]) -> State {
         6 => State::ControlSequence(HeadPart::Entry),
         7 => State::ControlSequence(HeadPart::Parameters),
         8 => State::ControlSequence(HeadPart::Intermediates),
-        9 => State::ControlSequence(HeadPart::IllShaped),
+        9 => State::ControlSequence(HeadPart::Malformed),
         10 => State::DeviceControl(HeadPart::Entry),
         11 => State::DeviceControl(HeadPart::Parameters),
         12 => State::DeviceControl(HeadPart::Intermediates),
-        13 => State::DeviceControl(HeadPart::IllShaped),
+        13 => State::DeviceControl(HeadPart::Malformed),
         14 => State::DeviceData,
         15 => State::SystemCommand,
         _ => State::IgnoredString,
@@ -169,8 +169,8 @@ impl Parser<MAX_OSC_RAW> {
                 );
             }
             State::SystemCommand => {
-                let bytes = front(&saved.bytes, saved.byte_count);
-                let ends = front(&saved.ends, saved.end_count);
+                let bytes = first_elements(&saved.bytes, saved.byte_count);
+                let ends = first_elements(&saved.ends, saved.end_count);
                 machine.command.restore(bytes, ends, saved.dropped != 0);
             }
             _ => {}

@@ -19,13 +19,15 @@ impl FromStr for Rgb {
 
     fn from_str(s: &str) -> Result<Rgb, ()> {
         let text = s.as_bytes();
-        let digits = behind(text, b"0x").or(behind(text, b"#")).ok_or(())?;
+        let digits = strip_word(text, b"0x")
+            .or(strip_word(text, b"#"))
+            .ok_or(())?;
         six_digits(digits).ok_or(())
     }
 }
 
 /// Returns what follows a word at the start of the text.
-fn behind<'a>(text: &'a [u8], word: &[u8]) -> Option<&'a [u8]> {
+fn strip_word<'a>(text: &'a [u8], word: &[u8]) -> Option<&'a [u8]> {
     text.strip_prefix(word)
 }
 

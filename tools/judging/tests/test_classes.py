@@ -4,7 +4,8 @@ import re
 from itertools import count
 
 import pytest
-from judging import candidate, cases, classes, definition, house, kinds, report, shrinking, views
+from judging import (candidate, cases, classes, definition, house, judgement, kinds, report,
+                     shrinking, views)
 from judging.classes import Difference
 from judging.judgement import Judge, is_alike
 from judging.rules import CUT, LEVELS, RULES
@@ -78,8 +79,9 @@ def test_a_breach_of_a_house_rule_has_its_rule(breach, rules):
 # for streams in a row, what is replaced in the lines, and the streams that each class counts
 @pytest.mark.parametrize("faults, streams, found", [
     # what isn't shrunk any more counts for the first class of its rule
-    ({"execute 0f": "execute 1f", "execute 0e\nexecute 10": "print 0010", "execute 0e\n": ""},
-     [b"\x0f", b"\x0e", *[b"\x0e\x10"] * 4], {"control/character": 2, "control/missing": 4}),
+    ({"execute 0f": "execute 1f", "execute 0e\nexecute 10": "print 0010", "execute 0e\n": "",
+      "esc - false 41": "unhook"}, [b"\x1bA", b"\x0f", b"\x0e", *[b"\x0e\x10"] * 4],
+     {"escape-sequence/other": 1, "control/character": 2, "control/missing": 4}),
     # a kind that only shows beside another rule is looked for till it shows alone
     ({"execute 0e\n": "", "esc - false 41": "execute 41", "execute 0f": "execute 1f"},
      [b"\x0e", b"\x1bA", *[b"\x0e\x1bA"] * 9, b"\x0f"],
@@ -103,6 +105,13 @@ def test_what_is_counted(faults, streams, found):
     assert {name: it.streams for name, it in result.findings.items()} == found
     assert result.unexplained == len(streams) - sum(found.values())
     assert len(asked) < 200 + 8 * len(streams)
+
+
+@pytest.mark.parametrize("most, is_smallest", [(2000, True), (2, False)])
+def test_what_is_not_shrunk_to_the_end(monkeypatch, most, is_smallest):
+    monkeypatch.setattr(judgement, "MOST_CASES", most)
+    result = judge_of(lambda *_: []).run([cases.Case("", [b"abc\x1b[m"])])
+    assert [it.is_smallest for it in result.findings.values()] == [is_smallest]
 
 
 # each class, and what binds a parser there

@@ -87,15 +87,13 @@ def is_about(rule, kind):
 
 
 def steps_at_cuts(steps, cuts):
-    """For each cut the index of the smallest step that it divides. What is malformed or unfinished
-    is found to be so after its end."""
+    """For each cut the index of the step that it divides. What is malformed or unfinished is found
+    to be so after its end."""
     found = dict.fromkeys(cuts)
     for index, step in enumerate(steps):
         last = step.end if step.rules[0] in ("malformed", "unfinished") else step.end - 1
         for cut in cuts[bisect_right(cuts, step.start):bisect_right(cuts, last)]:
-            other = found[cut]
-            if other is None or step.end - step.start < steps[other].end - steps[other].start:
-                found[cut] = index
+            found[cut] = index
     return found
 
 

@@ -236,8 +236,6 @@ class Judge:
     def find(self, case, left, excluded, kind=None):
         """Shrinks a difference without some rules, and reports its class if it is new. The name of
         the class, or None."""
-        if not self.steady(case, left):
-            return None
         tries, most = count(), MOST_CASES // (4 if kind else 1)
 
         def asked(streams):

@@ -4,7 +4,8 @@ import re
 from itertools import count
 
 import pytest
-from judging import candidate, cases, classes, definition, house, kinds, report, shrinking, views
+from judging import (candidate, cases, classes, definition, house, judgement, kinds, report,
+                     shrinking, views)
 from judging.classes import Difference
 from judging.judgement import Judge, is_alike
 from judging.rules import CUT, LEVELS, RULES
@@ -78,8 +79,9 @@ def test_a_breach_of_a_house_rule_has_its_rule(breach, rules):
 # for streams in a row, what is replaced in the lines, and the streams that each class counts
 @pytest.mark.parametrize("faults, streams, found", [
     # what isn't shrunk any more counts for the first class of its rule
-    ({"execute 0f": "execute 1f", "execute 0e\nexecute 10": "print 0010", "execute 0e\n": ""},
-     [b"\x0f", b"\x0e", *[b"\x0e\x10"] * 4], {"control/character": 2, "control/missing": 4}),
+    ({"execute 0f": "execute 1f", "execute 0e\nexecute 10": "print 0010", "execute 0e\n": "",
+      "esc - false 41": "unhook"}, [b"\x1bA", b"\x0f", b"\x0e", *[b"\x0e\x10"] * 4],
+     {"escape-sequence/other": 1, "control/character": 2, "control/missing": 4}),
     # a kind that only shows beside another rule is looked for till it shows alone
     ({"execute 0e\n": "", "esc - false 41": "execute 41", "execute 0f": "execute 1f"},
      [b"\x0e", b"\x1bA", *[b"\x0e\x1bA"] * 9, b"\x0f"],
@@ -105,6 +107,13 @@ def test_what_is_counted(faults, streams, found):
     assert len(asked) < 200 + 8 * len(streams)
 
 
+@pytest.mark.parametrize("most, is_smallest", [(2000, True), (2, False)])
+def test_what_is_not_shrunk_to_the_end(monkeypatch, most, is_smallest):
+    monkeypatch.setattr(judgement, "MOST_CASES", most)
+    result = judge_of(lambda *_: []).run([cases.Case("", [b"abc\x1b[m"])])
+    assert [it.is_smallest for it in result.findings.values()] == [is_smallest]
+
+
 # each class, and what binds a parser there
 @pytest.mark.parametrize("name, level", [
     ("text/missing", "must"), ("malformed/character", "must"), ("malformed/replacement", "should"),
@@ -125,7 +134,7 @@ def test_what_a_class_is():
         assert classes.is_class(name)
     for name in "x", "largest/x", "cut:x", "between", "cut", "/missing":
         assert not classes.is_class(name)
-    assert [rule.says for rule in classes.rule_of("cut:text/data")] == [CUT.says, RULES["text"].says]
+    assert classes.rule_of("cut:text/data") == [CUT, RULES["text"]]
     assert classes.rule_of("cut:between") == [CUT]
 
 
@@ -153,6 +162,9 @@ def test_what_binds_has_a_sentence():
     (b"\x1b[1;m", "6d", "6e", "parameters/final"), (b"\x1bPq", "71", "72", "device-control/final"),
     (b"\x1b]" + b";" * 20 + b"\x07", "16 ", "15 ", "pieces/pieces"),
     (b"\x1b]" + b"a" * 2000 + b"\x07", "(61){999}", "61", "limit/data"),
+    # what follows matters if an event isn't there; the first of several differences counts
+    (b"a\x7f", "print 0061\nprint 007f", "print 007f", "delete/missing"),
+    (b"\x0ea\x0f", "0e\nprint 0061\nexecute 0f", "0d\nprint 0061", "control/character"),
     (b"a\x1b]b\x1b\\", "0061", "0062", "text/character"),
     (b"a\x1b]b\x1b\\", "5c", "5d", "terminator/final")])
 def test_which_rule_is_named(stream, pattern, other, name):
@@ -177,9 +189,18 @@ def test_a_freed_case_has_none_of_its_rules(case):
     assert classes.freed(case.pieces, cuts, house.DEFAULT) == [stream]
 
 
+def test_what_is_freed_keeps_its_cuts():
+    for rule, freed in (
+            ("delete", [b"a", b"b", b"", b"c"]), ("text", [b"\x7f", b"", b"\x7f", b""]),
+            ("cut:between", [b"a\x7fb\x7fc"]), ("cut:text", [b"a\x7f", b"b", b"\x7f", b"c"])):
+        assert classes.freed([b"a\x7f", b"b", b"\x7f", b"c"], {rule}, house.DEFAULT) == freed
+    for rule, freed in (("cut:text", [b"\xc3\xa9a"]), ("cut:unfinished", [b"\xc3", b"\xa9a"])):
+        assert classes.freed([b"\xc3", b"\xa9a"], {rule}, house.DEFAULT) == freed
+
+
 @pytest.mark.parametrize("stream, cuts, found", [
     (b"ab", [1], [None]), (b"\xc3\xa9", [1], [0]), (b"\xc3\xa9a", [1, 2], [0, None]),
-    # what is malformed is found to be so after its end; of several steps it is the smallest
+    # what is malformed is found to be so after its end
     (b"a\xc3b", [1, 2], [None, 1]), (b"\x1b[\n1m", [1, 2, 3, 4], [1, 1, 1, 1]),
     (b"\x1b]a\x07\xff\x1b", [3, 4, 5], [0, None, 1])])
 def test_what_a_cut_divides(stream, cuts, found):

@@ -106,6 +106,12 @@ def test_standard_error_is_shown_of_a_case(judge, words, is_shown):
     assert "(crash: status 3)" in said and ("why" in said) == is_shown
 
 
+def test_a_program_that_does_not_answer_at_all(judge):
+    said = judge(1, "echo", "hello")
+    assert "NEW   protocol:" in said and "ended early: the program doesn't answer" in said
+    assert "1 streams, 1 differ; 1 classes, 1 of them new" in said
+
+
 def test_programs_that_never_answer_fail(judge):
     judge(1, "--pieces", "--seconds", 0.5, "sleep", "9")
     judge(1, "--pieces", "--timeout", 0.5, "--case", "61*100000", "yes", "end")

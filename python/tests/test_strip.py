@@ -1,7 +1,5 @@
 """Tests of plain text."""
-import copy
 import itertools
-import pickle
 import subprocess
 import sys
 
@@ -24,10 +22,6 @@ BYTES = [*(bytes([byte]) for byte in range(256)),
 
 class Letters(str):
     """A str of another type."""
-
-
-class OwnStripper(vte.Stripper):
-    """A stripper of another type."""
 
 
 @pytest.mark.parametrize("first", LINES + BYTES)
@@ -63,12 +57,6 @@ def test_each_line_comes_as_it_is_taken():
         raise AssertionError("the second line was asked for")
 
     assert next(vte.strip_lines(lines())) == b"a"
-
-
-@pytest.mark.parametrize("wrong", [b"a", "a", bytearray(b"a")])
-def test_what_is_no_lines(wrong):
-    with pytest.raises(TypeError, match=f"iterable over lines, not {type(wrong).__name__}"):
-        vte.strip_lines(wrong)
 
 
 def test_bytes_and_str():
@@ -113,18 +101,6 @@ def test_bytes_that_are_not_utf8_stay():
         text, wanted_text = (it.decode(errors="surrogateescape") for it in (data, wanted))
         found = vte.strip_lines([data, text], errors="surrogateescape")
         assert list(found) == [wanted, wanted_text]
-    with pytest.raises(UnicodeEncodeError):
-        vte.strip("\ud800", errors="surrogateescape")
-    with pytest.raises(ValueError, match="errors must be 'replace' or 'surrogateescape', not"):
-        vte.strip(b"", errors="ignore")
-
-
-def test_copies():
-    stripper = OwnStripper()
-    stripper.strip(b"\x1b]")
-    for made in copy.copy(stripper), copy.deepcopy(stripper), pickle.loads(pickle.dumps(stripper)):
-        assert type(made) is OwnStripper
-        assert (made.strip(b"x\x07y"), made.strip(b"\x1b[mz")) == (b"y", b"z")
 
 
 @pytest.mark.parametrize("words", [["strip_lines.py"], ["strip_files.py", "FILE"]])

@@ -81,6 +81,19 @@ impl Field for &[u8] {
     }
 }
 
+/// A tuple of fields.
+pub struct Tuple<I>(pub I);
+
+impl<I: Iterator + Clone> Field for Tuple<I>
+where
+    I::Item: Field,
+{
+    fn record(self, tape: &mut Tape) {
+        tape.with(Value(Is::Tuple, self.0.clone().count() as i64));
+        self.0.for_each(|field| field.record(tape));
+    }
+}
+
 impl<T: Field> Field for Option<T> {
     fn record(self, tape: &mut Tape) {
         match self {
@@ -154,17 +167,6 @@ impl Tape {
     #[inline]
     pub fn with(&mut self, field: impl Field) -> &mut Self {
         field.record(self);
-        self
-    }
-
-    /// Adds a tuple of as many fields.
-    pub fn with_tuple<T: Field>(
-        &mut self,
-        count: usize,
-        fields: impl Iterator<Item = T>,
-    ) -> &mut Self {
-        self.with(Value(Is::Tuple, count as i64));
-        fields.for_each(|field| field.record(self));
         self
     }
 

@@ -28,10 +28,6 @@ def optional(value, show=shown):
     return "None" if value is None else f"Some({show(value)})"
 
 
-def mode(number, names):
-    return f"Named({names[number]})" if number in names else f"Unknown({number})"
-
-
 def color(value):
     if isinstance(value, Rgb):
         return f"Spec({shown(value)})"
@@ -55,8 +51,14 @@ def link(call):
     return "None" if call.uri is None else f"Some({parts})"
 
 
+def mode(call):
+    names = PRIVATE_MODES if "Private" in type(call).__name__ else MODES
+    return f"Named({names[call.mode]})" if call.mode in names else f"Unknown({call.mode})"
+
+
 # how the fields of a call are written, if not one after another
 SHOWN = {
+    **{f"{what}{of}Mode": mode for what in ("Set", "Unset", "Report") for of in ("", "Private")},
     "TerminalAttribute": attribute,
     "SetCursorStyle": style,
     "SetHyperlink": link,
@@ -81,8 +83,5 @@ def lines_of(call):
     name = type(call).__name__
     if name == "Input":
         return [f"input {ord(c):04x}" for c in call.text]
-    if re.fullmatch("(Set|Unset|Report)(Private)?Mode", name):
-        text = mode(call.mode, PRIVATE_MODES if "Private" in name else MODES)
-    else:
-        text = SHOWN[name](call) if name in SHOWN else " ".join(map(shown, call))
+    text = SHOWN[name](call) if name in SHOWN else " ".join(map(shown, call))
     return [f"{name_of(type(call))} {text}".rstrip()]

@@ -42,7 +42,6 @@ def test_each_name_is_documented(name):
 
 READERS = [(vte.Parser, "feed"), (lambda: vte.Parser(limit=1024), "feed"), (vte.Processor, "feed"),
            (vte.Stripper, "strip")]
-OPENED = "open takes a path, a file descriptor or a binary file, not "
 
 
 @pytest.mark.parametrize("error, message, function, words", [
@@ -53,9 +52,9 @@ OPENED = "open takes a path, a file descriptor or a binary file, not "
     *((ValueError, f"limit must be None or 1024, not {limit!r}", vte.Parser, [limit])
       for limit in (0, 1, 5, 1023, 1025, -1024, False, "1024")),
     (ValueError, "stops can't have vte.Text or vte.Data", vte.Parser().feed_until, [b"", [Text]]),
-    (TypeError, f"{OPENED}NoneType", vte.open, [None]), (TypeError, f"{OPENED}bytes", vte.open, [b""]),
-    (TypeError, f"{OPENED}StringIO", vte.open, [io.StringIO("a")]),
-    (TypeError, f"{OPENED}TextIOWrapper", vte.open, [sys.__stdout__]),
+    *((TypeError, "open takes a path, a file descriptor or a binary file, not "
+       + type(wrong).__name__, vte.open, [wrong])
+      for wrong in (None, b"path", io.StringIO("a"), sys.__stdout__)),
     (TypeError, "kinds must be types of events", vte.open, [io.BytesIO(), 9, {int}]),
     *((ValueError, f"size must be at least 1, not {size!r}", vte.open, [io.BytesIO(), size])
       for size in (0, -1, 1.5, None, "9")),

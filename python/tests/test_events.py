@@ -35,16 +35,6 @@ def test_documentation():
     assert doctest.testmod(vte).failed == 0
 
 
-def test_a_text_is_one_event(make):
-    parser = make()
-    assert parser.feed(b"\xf0\x9f\x98") == []
-    # a character of two calls, characters of the input, malformed bytes
-    assert parser.feed(b"\x80xy\xff\xffz\xc3\xbc\n\xe2") == [
-        Text("\U0001f600xy\ufffd\ufffdz\u00fc"), Execute(0x0A)]
-    assert parser.feed(b"a\x1b]0;t\x07b\xff\x1b[1m\xc3") == [
-        Text("\ufffda"), Osc((b"0", b"t"), True), Text("b\ufffd"), Csi(((1,),), b"", False, "m")]
-
-
 @pytest.mark.parametrize("stream, wanted", [
     (b"x" * 100_000, [Text("x" * 100_000)]),
     (b"\xff" * 100_000, [Text("\ufffd" * 100_000)]),

@@ -43,13 +43,6 @@ def test_updates():
     assert (processor.sync_bytes_count, processor.sync_timeout) == (0, None)
 
 
-def test_a_text_is_one_call():
-    processor = vte.Processor()
-    text = "a\ufffdüb\ufffd" * 999 + "a\ufffdüb"
-    assert processor.feed(b"a\xff\xc3\xbc\x00b\xe2\x82" * 1000) == [Input(text)]
-    assert processor.feed(b"\xac\x1b[Aa") == [Input("\u20ac"), calls.MoveUp(1), Input("a")]
-
-
 def test_many_calls_of_few_bytes():
     assert vte.Processor().feed(b"\x1b]104\x07") == [calls.ResetColor(it) for it in range(256)]
     assert vte.Processor().feed(b"a\x1b[65535b" * 9) == [Input("a" * 65536 * 9)]

@@ -5,7 +5,7 @@ import subprocess
 
 import pytest
 from common import feed, joined, parsers
-from test_vectors import call_lines, event_lines
+from test_vectors import event_lines
 
 import vte
 from vte import Csi, Data, Esc, Execute, Hook, Osc, Put, Text, Unhook
@@ -36,13 +36,11 @@ def test_kinds(stream):
     for parser, other in zip(parsers(), parsers()):
         for piece, kinds in stream:
             found, everything = parser.feed(piece, kinds), other.feed(piece)
-            kinds = {Text, *ENDS} if kinds is None else kinds
-            if Data in kinds:
-                data = bytes(event.byte for event in everything if isinstance(event, Put))
-                runs = [event.data for event in found if isinstance(event, Data)]
-                assert b"".join(runs) == data
-                found, kinds = [it for it in found if not isinstance(it, Data)], kinds - {Put}
-            assert found == [event for event in everything if type(event) in kinds]
+            if kinds and Data in kinds:
+                # the data of each string are one event
+                everything = joined(Data(bytes(event)) if isinstance(event, Put) else event
+                                    for event in everything)
+            assert found == [it for it in everything if kinds is None or type(it) in kinds]
 
 
 @often
@@ -73,8 +71,7 @@ def test_texts_and_calls(stream):
     kept = rb"[\x80-\xff]{1,3}".join(map(re.escape, plain.split("\ufffd".encode())))
     assert re.fullmatch(kept, vte.strip(whole, errors="surrogateescape"))
     if b"2026" not in whole:
-        calls = call_lines(feed(vte.Processor(), stream))
-        assert calls == call_lines(vte.Processor().feed(whole))
+        assert joined(feed(vte.Processor(), stream)) == vte.Processor().feed(whole)
 
 
 @pytest.mark.skipif(not VTLOG, reason="no $VTLOG")

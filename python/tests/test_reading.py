@@ -113,28 +113,12 @@ def test_a_piece_is_read_when_it_is_wanted():
     assert list(vte.open(io.BytesIO(b"abcdefg"), 3)) == [Text("abc"), Text("def"), Text("g")]
 
 
-def test_a_piece_is_what_is_there(tmp_path):
+def test_a_piece_is_what_is_there():
     class Live(io.BytesIO):
         def read(self, size=-1):
             raise AssertionError("it waits for more")
 
     assert next(vte.open(Live(b"a"))) == Text("a")
-    path, has_come = tmp_path / "pipe", threading.Event()
-    os.mkfifo(path)
-
-    def write():
-        with open(path, "wb", buffering=0) as pipe:
-            pipe.write(b"a")
-            has_come.wait(60)
-            pipe.write(b"b")
-
-    writer = threading.Thread(target=write, daemon=True)
-    writer.start()
-    with vte.open(path) as events:
-        first = next(events)
-        has_come.set()
-        assert [first, *events] == [Text("a"), Text("b")]
-    writer.join()
 
 
 def test_pty():

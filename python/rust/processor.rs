@@ -47,7 +47,6 @@ impl Processor {
     ///
     /// If memory is refused, it raises `vte.Refused`; a `MemoryError` of another class says that
     /// calls of these bytes were lost.
-    #[pyo3(signature = (data))]
     fn feed(slf: &Bound<'_, Self>, data: &Bound<'_, PyAny>) -> PyResult<PyObject> {
         let source = bytes_of(data)?;
         Ok(read(slf.py(), &mut *borrowed(slf)?, source.as_bytes())?.0)

@@ -8,31 +8,15 @@ from common import EXAMPLES, STREAM, text_of
 
 import vte
 
-# a line that is its own text, one that isn't, and one that follows what is open
-LINES = [
-    b"", b"\n", b"plain\t\r\n", "ü\u20ac\n".encode(), b"\xc2\x85x", b"\xe2a\x82\xac", b"\xff\n",
-    b"\x7f", b"\x00", b"a\x1b[1mb\n", b"\x1b]0;t", b"x\x07y\n", b"\xe2\x82", b"\xac\n", b"\x1bP1q",
-    b"\x1b\\z", "\U0010ffffq\n".encode(), "\xa0\n".encode(), b"x" * 9000, b"a\x0cb\n", b"\x0b\n",
-    "\u20ac\x0c\n".encode(), "\u2028\x1f".encode(), "\u20ac\x80\n".encode(), b"\xc2", b"\x9f",
-    b"\xc2\x9f\xc2\xab", b"b\n\x18", b"a\xc3", "a\U0010ffffb".encode(),
-]
-BYTES = [*(bytes([byte]) for byte in range(256)),
-         *(f"a{chr(code)}".encode() for code in range(0x80, 0x100))]
-
 
 class Letters(str):
     """A str of another type."""
 
 
-@pytest.mark.parametrize("first", LINES + BYTES)
-def test_text_is_that_of_events(first):
-    latin = first.decode("latin-1")
-    assert vte.strip(first) == text_of(vte.Parser().feed(first))
-    assert vte.strip(latin) == text_of(vte.Parser().feed(latin.encode())).decode()
-    for second in LINES:
-        stripper, parser = vte.Stripper(), vte.Parser()
-        for line in first, second, b"end":
-            assert stripper.strip(line) == text_of(parser.feed(line)), second
+def test_controls_and_characters_of_latin_1():
+    for code in range(256):
+        for data in bytes([code]), f"a{chr(code)}b".encode():
+            assert vte.strip(data) == text_of(vte.Parser().feed(data))
 
 
 def test_lines():
@@ -61,14 +45,6 @@ def test_bytes_and_str():
         ways = map(vte.strip, lines), map(vte.Stripper().strip, lines), vte.strip_lines(lines)
         for texts in ways:
             assert [(type(text), text) for text in texts] == [(str, "ab"), (str, "plain")]
-
-
-def test_pieces():
-    stripper = vte.Stripper()
-    assert [*map(stripper.strip, [b"a\x1b", b"[1", b"m\xc3", b"\xbc"])] == [
-        b"a", b"", b"", b"\xc3\xbc"]
-    assert [*map(stripper.strip, ["a\x1b", "[1", "mü" * 3, "\ud800"])] == [
-        "a", "", "ümümü", "\ufffd"]
 
 
 def test_text_may_have_three_times_the_bytes():

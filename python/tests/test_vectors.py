@@ -91,10 +91,7 @@ def test_updates(row):
 
 
 @pytest.mark.skipif(not FOLDER.is_dir(), reason="no vectors")
-def test_enough_vectors():
-    counts = [len(vectors(*of)) for of in (
-        ("events.json", "events"), ("calls.json", "calls"), ("calls.json", "updates"))]
-    assert all(count >= least for count, least in zip(counts, (198, 552, 50)))
-    # each call is made by some vector, but for those that no sequence makes
+def test_each_call_has_vectors():
+    # but for those that no sequence makes
     made = {text.split()[0] for row in vectors("calls.json", "calls") for text in row["calls"]}
     assert len(made & set(map(name_of, calls.KINDS))) >= 69

@@ -76,13 +76,6 @@ impl Recorder {
         self.tape.end_run();
         self.kinds.has(kind).then(|| self.tape.begin(kind))
     }
-
-    fn add_run<T: Field + AsRef<[u8]>>(&mut self, kind: Kind, run: T) {
-        match self.kinds.has(kind) {
-            true => self.tape.add_run(kind, run),
-            false => self.tape.end_run(),
-        }
-    }
 }
 
 fields! {
@@ -147,12 +140,15 @@ impl Perform for Recorder {
 
 impl PerformText for Recorder {
     fn print_text(&mut self, text: &str) {
-        self.add_run(Kind::Text, text);
+        match self.kinds.has(Kind::Text) {
+            true => self.tape.add_run(Kind::Text, text),
+            false => self.tape.end_run(),
+        }
     }
 
     fn put_slice(&mut self, data: &[u8]) {
         match self.kinds.has(Kind::Data) {
-            true => self.add_run(Kind::Data, data),
+            true => self.tape.add_run(Kind::Data, data),
             false => data.iter().for_each(|byte| self.put(*byte)),
         }
     }

@@ -82,11 +82,10 @@ impl Processor {
             None => return Ok(py.None()),
         };
         let now = monotonic(py)?.call0(py)?.extract::<f64>(py)?;
+        // one of these two is 0
         let left = deadline.saturating_duration_since(Instant::now());
-        real(
-            py,
-            now + left.as_secs_f64() - deadline.elapsed().as_secs_f64(),
-        )
+        let over = deadline.elapsed();
+        real(py, now + left.as_secs_f64() - over.as_secs_f64())
     }
 }
 

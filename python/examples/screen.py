@@ -30,19 +30,19 @@ class Cell(NamedTuple):
 class Screen:
     """A grid of cells, and a cursor that never leaves it."""
 
-    def __init__(self) -> None:
+    def __init__(self):
         self.lines = [[Cell()] * COLUMNS for _ in range(ROWS)]
         # the column is COLUMNS after a character in the last one: the next goes to the next row
         self._row = self._column = 0
         # that of the next character
         self._look = Cell().look
 
-    def __str__(self) -> str:
+    def __str__(self):
         """The characters of all rows, without blanks at their ends."""
         rows = ("".join(cell.character for cell in line) for line in self.lines)
         return "".join(row.rstrip() + "\n" for row in rows)
 
-    def take(self, call: calls.Call) -> None:
+    def take(self, call):
         """Does what a call asks for."""
         row, column = self._row, min(self._column, COLUMNS - 1)
         match call:
@@ -75,11 +75,11 @@ class Screen:
             case calls.TerminalAttribute(attribute, color):
                 self._change(attribute, color)
 
-    def _move(self, row: int, column: int) -> None:
+    def _move(self, row, column):
         self._row = max(0, min(row, ROWS - 1))
         self._column = max(0, min(column, COLUMNS - 1))
 
-    def _show(self, text: str) -> None:
+    def _show(self, text):
         for character in text:
             if self._column == COLUMNS:
                 self._feed_line()
@@ -87,24 +87,24 @@ class Screen:
             self.lines[self._row][self._column] = Cell(character, self._look)
             self._column += 1
 
-    def _feed_line(self) -> None:
+    def _feed_line(self):
         if self._row + 1 == ROWS:
             self.lines.append([self._erased()] * COLUMNS)
             del self.lines[0]
         self._move(self._row + 1, self._column)
 
-    def _erased(self) -> Cell:
+    def _erased(self):
         kept = Attribute.Background
         return Cell(" ", {kept: self._look[kept]} if kept in self._look else {})
 
-    def _erase(self, part: int, rows: range) -> None:
+    def _erase(self, part, rows):
         """Blanks what is behind the cursor, before it, or everything, of some rows."""
         cursor = self._row, min(self._column, COLUMNS - 1)
         for place in itertools.product(rows, range(COLUMNS)):
             if part == 2 or part == 0 and place >= cursor or part == 1 and place <= cursor:
                 self.lines[place[0]][place[1]] = self._erased()
 
-    def _change(self, attribute: Attribute, color: calls.Color | None) -> None:
+    def _change(self, attribute, color):
         if attribute == Attribute.Reset:
             self._look = {}
         elif attribute.name in REMOVED:

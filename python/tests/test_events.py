@@ -31,6 +31,12 @@ class OwnStripper(vte.Stripper):
     """A stripper of another type."""
 
 
+@pytest.fixture(params=[None, 1024], ids="limit={}".format)
+def make(request):
+    """Makes parsers without a limit, and with one."""
+    return lambda: vte.Parser(limit=request.param)
+
+
 def test_documentation():
     assert doctest.testmod(vte).failed == 0
 

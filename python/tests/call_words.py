@@ -49,9 +49,9 @@ def lines_of(call):
         case calls.SetMouseCursorIcon(keyword):
             return [[name, keyword.title().replace("-", "")]]
         case calls.TerminalAttribute(attribute, None) if attribute.name != "UnderlineColor":
-            call = attribute,
+            call = (attribute,)
         case calls.SetCursorStyle(None) | calls.SetHyperlink(uri=None):
-            call = None,
+            call = (None,)
         case calls.ClipboardStore(clipboard, rest) | calls.ClipboardLoad(clipboard, rest):
             call = clipboard.encode("latin-1"), rest
     return [[name, *words_of(call)]]

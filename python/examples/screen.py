@@ -34,7 +34,7 @@ class Screen:
         self.lines = [[Cell()] * COLUMNS for _ in range(ROWS)]
         # the column is COLUMNS after a character in the last one: the next goes to the next row
         self._row = self._column = 0
-        # that of the next character
+        # the look of the next character
         self._look = Cell().look
 
     def __str__(self):

@@ -1,6 +1,6 @@
 """Writes FILE.txt, the text of each FILE, on all cores, or by the workers of a Dask scheduler.
 
-These may be on as many machines as it has. They need the package vte, and the files.
+The workers, on as many machines as the scheduler has, need the package vte and the files.
 """
 import argparse
 import concurrent.futures

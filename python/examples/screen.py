@@ -3,50 +3,46 @@
 Shows the one that its standard input leaves. It knows what crates/examples knows: text, the cursor,
 erasing, and how cells look.
 """
-from __future__ import annotations
-
+import itertools
 import sys
 from typing import NamedTuple
 
 import vte
 from vte import calls
-from vte.calls import Attribute, NamedColor
+from vte.calls import Attribute
 
 COLUMNS, ROWS = 80, 24
+# what attributes take away
+REMOVED = {
+    "CancelBold": "Bold", "CancelBoldDim": "Bold Dim", "CancelItalic": "Italic",
+    "CancelUnderline": "Underline DoubleUnderline Undercurl DottedUnderline DashedUnderline",
+    "CancelBlink": "BlinkSlow BlinkFast", "CancelReverse": "Reverse", "CancelHidden": "Hidden",
+    "CancelStrike": "Strike",
+}
 
 
 class Cell(NamedTuple):
     character: str = " "
-    foreground: calls.Color | None = None
-    background: calls.Color | None = None
-    attributes: frozenset[Attribute] = frozenset()
-
-
-# what an attribute takes away
-REMOVED = {
-    Attribute.CancelBoldDim: Attribute.Bold,
-    Attribute.CancelItalic: Attribute.Italic,
-    Attribute.CancelUnderline: Attribute.Underline,
-    Attribute.CancelReverse: Attribute.Reverse,
-}
+    # attributes, with the colours of those that have one
+    look: dict[Attribute, calls.Color | None] = {}
 
 
 class Screen:
     """A grid of cells, and a cursor that never leaves it."""
 
-    def __init__(self) -> None:
+    def __init__(self):
         self.lines = [[Cell()] * COLUMNS for _ in range(ROWS)]
         # the column is COLUMNS after a character in the last one: the next goes to the next row
         self._row = self._column = 0
-        # a blank that looks as the next character
-        self._pen = Cell()
+        # the look of the next character
+        self._look = Cell().look
 
-    def __str__(self) -> str:
+    def __str__(self):
         """The characters of all rows, without blanks at their ends."""
         rows = ("".join(cell.character for cell in line) for line in self.lines)
         return "".join(row.rstrip() + "\n" for row in rows)
 
-    def take(self, call: calls.Call) -> None:
+    def take(self, call):
         """Does what a call asks for."""
         row, column = self._row, min(self._column, COLUMNS - 1)
         match call:
@@ -79,51 +75,43 @@ class Screen:
             case calls.TerminalAttribute(attribute, color):
                 self._change(attribute, color)
 
-    def _move(self, row: int, column: int) -> None:
+    def _move(self, row, column):
         self._row = max(0, min(row, ROWS - 1))
         self._column = max(0, min(column, COLUMNS - 1))
 
-    def _show(self, text: str) -> None:
+    def _show(self, text):
         for character in text:
             if self._column == COLUMNS:
                 self._feed_line()
                 self._column = 0
-            self.lines[self._row][self._column] = self._pen._replace(character=character)
+            self.lines[self._row][self._column] = Cell(character, self._look)
             self._column += 1
 
-    def _feed_line(self) -> None:
+    def _feed_line(self):
         if self._row + 1 == ROWS:
             self.lines.append([self._erased()] * COLUMNS)
             del self.lines[0]
         self._move(self._row + 1, self._column)
 
-    def _erased(self) -> Cell:
-        return self._pen._replace(attributes=frozenset())
+    def _erased(self):
+        kept = Attribute.Background
+        return Cell(" ", {kept: self._look[kept]} if kept in self._look else {})
 
-    def _erase(self, part: int, rows: range) -> None:
+    def _erase(self, part, rows):
         """Blanks what is behind the cursor, before it, or everything, of some rows."""
         cursor = self._row, min(self._column, COLUMNS - 1)
-        for row in rows:
-            for column in range(COLUMNS):
-                place = row, column
-                if part == 2 or part == 0 and place >= cursor or part == 1 and place <= cursor:
-                    self.lines[row][column] = self._erased()
+        for place in itertools.product(rows, range(COLUMNS)):
+            if part == 2 or part == 0 and place >= cursor or part == 1 and place <= cursor:
+                self.lines[place[0]][place[1]] = self._erased()
 
-    def _change(self, attribute: Attribute, color: calls.Color | None) -> None:
-        if color in (NamedColor.Foreground, NamedColor.Background):
-            color = None
-        pen = self._pen
-        match attribute:
-            case Attribute.Reset:
-                self._pen = Cell()
-            case Attribute.Foreground:
-                self._pen = pen._replace(foreground=color)
-            case Attribute.Background:
-                self._pen = pen._replace(background=color)
-            case _:
-                kept = pen.attributes - {REMOVED.get(attribute, attribute)}
-                added = {attribute}.intersection(REMOVED.values())
-                self._pen = pen._replace(attributes=kept | added)
+    def _change(self, attribute, color):
+        if attribute == Attribute.Reset:
+            self._look = {}
+        elif attribute.name in REMOVED:
+            removed = REMOVED[attribute.name].split()
+            self._look = {it: color for it, color in self._look.items() if it.name not in removed}
+        else:
+            self._look = {**self._look, attribute: color}
 
 
 if __name__ == "__main__":

@@ -1,7 +1,6 @@
-"""Writes FILE.txt, the text of each FILE, on all cores: strip_files.py [--scheduler ADDRESS] FILE..
+"""Writes FILE.txt, the text of each FILE, on all cores, or by the workers of a Dask scheduler.
 
-With the address of a Dask scheduler, its workers do it, on as many machines as it has. They need the
-package vte, and a file system that has the files.
+The workers, on as many machines as the scheduler has, need the package vte and the files.
 """
 import argparse
 import concurrent.futures
@@ -18,21 +17,18 @@ def strip(name):
     return len(stream), len(text)
 
 
-def pool_of(scheduler):
-    if scheduler is None:
-        return concurrent.futures.ProcessPoolExecutor()
-    from distributed import Client
-
-    return Client(scheduler).get_executor()
-
-
 def main():
-    parser = argparse.ArgumentParser(description=__doc__.strip(),
-                                     formatter_class=argparse.RawDescriptionHelpFormatter)
+    parser = argparse.ArgumentParser(description=__doc__)
     parser.add_argument("files", nargs="+", metavar="FILE")
     parser.add_argument("--scheduler", metavar="ADDRESS")
     given = parser.parse_args()
-    with pool_of(given.scheduler) as pool:
+    if given.scheduler is None:
+        pool = concurrent.futures.ProcessPoolExecutor()
+    else:
+        from distributed import Client
+
+        pool = Client(given.scheduler).get_executor()
+    with pool:
         for name, (before, after) in zip(given.files, pool.map(strip, given.files)):
             print(f"{name}: {before} bytes, {after} of them text")
 

@@ -1,7 +1,7 @@
 //! The events of a stream.
 
 use crate::calls::Kind;
-use crate::tape::{classes, Field, Is, Tape, Value};
+use crate::tape::{classes, fields, Field, Is, Tape, Tuple, Value};
 use pyo3::exceptions::PyTypeError;
 use pyo3::prelude::*;
 use vte::{Params, Perform, PerformText};
@@ -22,17 +22,15 @@ impl Kinds {
     /// Those that an iterable over classes names.
     pub fn of(kinds: &Bound<'_, PyAny>) -> PyResult<Self> {
         let events = &classes(kinds.py())?[..=Kind::Data as usize];
-        let mut made = Kinds::default();
-        for kind in kinds.iter()? {
+        kinds.iter()?.try_fold(Kinds::default(), |made, kind| {
             let kind = kind?;
-            let wrong = || {
-                let wrong = format!("kinds must be types of events, such as vte.Osc, not {kind:?}");
-                PyTypeError::new_err(wrong)
-            };
-            let place = events.iter().position(|class| class.is(&kind));
-            made.0 |= 1 << place.ok_or_else(wrong)?;
-        }
-        Ok(made)
+            match events.iter().position(|class| class.is(&kind)) {
+                Some(place) => Ok(Kinds(made.0 | 1 << place)),
+                None => Err(PyTypeError::new_err(format!(
+                    "kinds must be types of events, such as vte.Osc, not {kind:?}"
+                ))),
+            }
+        })
     }
 }
 
@@ -78,25 +76,12 @@ impl Recorder {
         self.tape.end_run();
         self.kinds.has(kind).then(|| self.tape.begin(kind))
     }
-
-    fn add_run<T: Field + AsRef<[u8]>>(&mut self, kind: Kind, run: T) {
-        match self.kinds.has(kind) {
-            true => self.tape.add_run(kind, run),
-            false => self.tape.end_run(),
-        }
-    }
 }
 
-impl Field for &Params {
-    fn record(self, tape: &mut Tape) {
-        tape.with_tuple(self.iter().count(), self.iter());
-    }
-}
-
-impl Field for &[u16] {
-    fn record(self, tape: &mut Tape) {
-        tape.with_tuple(self.len(), self.iter().copied());
-    }
+fields! {
+    &Params: groups => Tuple(groups.iter());
+    &[u16]: group => Tuple(group.iter().copied());
+    &[&[u8]]: pieces => Tuple(pieces.iter().copied());
 }
 
 /// At most seven bytes.
@@ -107,53 +92,44 @@ fn brief(bytes: &[u8]) -> Value {
     Value(Is::Bytes, i64::from_le_bytes(all))
 }
 
+/// Records an event with its fields, if it is wanted.
+macro_rules! record {
+    ($recorder:ident, $kind:ident, $($field:expr),+) => {
+        if let Some(tape) = $recorder.begin(Kind::$kind) {
+            tape$(.with($field))+;
+        }
+    };
+}
+
 impl Perform for Recorder {
     fn execute(&mut self, byte: u8) {
-        if let Some(tape) = self.begin(Kind::Execute) {
-            tape.with(u16::from(byte));
-        }
+        record!(self, Execute, u16::from(byte));
     }
 
     fn put(&mut self, byte: u8) {
-        if let Some(tape) = self.begin(Kind::Put) {
-            tape.with(u16::from(byte));
-        }
+        record!(self, Put, u16::from(byte));
     }
 
     fn unhook(&mut self) {
         self.begin(Kind::Unhook);
     }
 
-    fn hook(&mut self, params: &Params, intermediates: &[u8], ignore: bool, action: char) {
-        if let Some(tape) = self.begin(Kind::Hook) {
-            tape.with(params)
-                .with(brief(intermediates))
-                .with(ignore)
-                .with(action);
-        }
+    fn hook(&mut self, groups: &Params, intermediates: &[u8], ignore: bool, end: char) {
+        record!(self, Hook, groups, brief(intermediates), ignore, end);
     }
 
-    fn csi_dispatch(&mut self, params: &Params, intermediates: &[u8], ignore: bool, action: char) {
-        if let Some(tape) = self.begin(Kind::Csi) {
-            tape.with(params)
-                .with(brief(intermediates))
-                .with(ignore)
-                .with(action);
-        }
+    fn csi_dispatch(&mut self, groups: &Params, intermediates: &[u8], ignore: bool, end: char) {
+        record!(self, Csi, groups, brief(intermediates), ignore, end);
     }
 
-    fn esc_dispatch(&mut self, intermediates: &[u8], ignore: bool, byte: u8) {
-        if let Some(tape) = self.begin(Kind::Esc) {
-            tape.with(brief(intermediates))
-                .with(ignore)
-                .with(char::from(byte));
-        }
+    fn esc_dispatch(&mut self, intermediates: &[u8], ignore: bool, end: u8) {
+        record!(self, Esc, brief(intermediates), ignore, char::from(end));
     }
 
     fn osc_dispatch(&mut self, pieces: &[&[u8]], bell_terminated: bool) {
         if let Some(tape) = self.begin(Kind::Osc) {
-            tape.with_tuple(pieces.len(), pieces.iter().copied());
-            self.truncated = Some(tape.with(bell_terminated).with(false).last_value());
+            tape.with(pieces).with(bell_terminated).with(false);
+            self.truncated = Some(tape.last_value());
         }
     }
 
@@ -164,12 +140,15 @@ impl Perform for Recorder {
 
 impl PerformText for Recorder {
     fn print_text(&mut self, text: &str) {
-        self.add_run(Kind::Text, text);
+        match self.kinds.has(Kind::Text) {
+            true => self.tape.add_run(Kind::Text, text),
+            false => self.tape.end_run(),
+        }
     }
 
     fn put_slice(&mut self, data: &[u8]) {
         match self.kinds.has(Kind::Data) {
-            true => self.add_run(Kind::Data, data),
+            true => self.tape.add_run(Kind::Data, data),
             false => data.iter().for_each(|byte| self.put(*byte)),
         }
     }

@@ -6,7 +6,6 @@ use std::os::raw::c_void;
 
 extern "C" {
     fn PyMem_RawMalloc(size: usize) -> *mut c_void;
-    fn PyMem_RawRealloc(place: *mut c_void, size: usize) -> *mut c_void;
     fn PyMem_RawFree(place: *mut c_void);
 }
 
@@ -15,22 +14,14 @@ struct PythonMemory;
 #[global_allocator]
 static MEMORY: PythonMemory = PythonMemory;
 
-/// The alignment of what Python returns.
-const ALIGNMENT: usize = 16;
-
-// SAFETY: Python's functions are `malloc`, `realloc` and `free` for any thread, and nothing here
-// needs a larger alignment
+// SAFETY: Python's functions are `malloc` and `free` for any thread, with an alignment of 16
 unsafe impl GlobalAlloc for PythonMemory {
     unsafe fn alloc(&self, layout: Layout) -> *mut u8 {
-        assert!(layout.align() <= ALIGNMENT);
+        assert!(layout.align() <= 16);
         unsafe { PyMem_RawMalloc(layout.size()).cast() }
     }
 
     unsafe fn dealloc(&self, place: *mut u8, _: Layout) {
         unsafe { PyMem_RawFree(place.cast()) }
-    }
-
-    unsafe fn realloc(&self, place: *mut u8, _: Layout, size: usize) -> *mut u8 {
-        unsafe { PyMem_RawRealloc(place.cast(), size).cast() }
     }
 }

@@ -6,7 +6,7 @@
 
 use pyo3::exceptions::PyRuntimeError;
 use pyo3::pyclass::boolean_struct::False;
-use pyo3::types::{PyBytes, PyList, PyString, PyTuple, PyType};
+use pyo3::types::{PyBytes, PyList, PyMemoryView, PyString, PyTuple, PyType};
 use pyo3::{ffi, prelude::*, PyClass, PyTypeInfo};
 
 /// From how many bytes on other threads may run meanwhile. Below, a release costs more than it
@@ -42,13 +42,10 @@ pub fn bytes_of<'py>(data: &Bound<'py, PyAny>) -> PyResult<Bound<'py, PyBytes>> 
     if let Ok(bytes) = data.downcast::<PyBytes>() {
         return Ok(bytes.clone());
     }
-    let py = data.py();
-    // SAFETY: new references
-    let copied = unsafe {
-        made(py, ffi::PyMemoryView_FromObject(data.as_ptr()))
-            .and_then(|view| made(py, ffi::PyBytes_FromObject(view.as_ptr())))
-    };
-    Ok(copied?.into_bound(py).downcast_into()?)
+    let view = PyMemoryView::from_bound(data)?;
+    // SAFETY: a new reference
+    let copied = unsafe { made(data.py(), ffi::PyBytes_FromObject(view.as_ptr()))? };
+    Ok(copied.into_bound(data.py()).downcast_into()?)
 }
 
 /// A `str` in UTF-8. What errors of codecs do is named by a text that ends in NUL.

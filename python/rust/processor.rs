@@ -47,7 +47,6 @@ impl Processor {
     ///
     /// If memory is refused, it raises `vte.Refused`; a `MemoryError` of another class says that
     /// calls of these bytes were lost.
-    #[pyo3(signature = (data))]
     fn feed(slf: &Bound<'_, Self>, data: &Bound<'_, PyAny>) -> PyResult<PyObject> {
         let source = bytes_of(data)?;
         Ok(read(slf.py(), &mut *borrowed(slf)?, source.as_bytes())?.0)
@@ -83,11 +82,10 @@ impl Processor {
             None => return Ok(py.None()),
         };
         let now = monotonic(py)?.call0(py)?.extract::<f64>(py)?;
+        // one of these two is 0
         let left = deadline.saturating_duration_since(Instant::now());
-        real(
-            py,
-            now + left.as_secs_f64() - deadline.elapsed().as_secs_f64(),
-        )
+        let over = deadline.elapsed();
+        real(py, now + left.as_secs_f64() - over.as_secs_f64())
     }
 }
 

@@ -197,7 +197,6 @@ impl Stripper {
     /// characters, HT, LF and CR.
     ///
     /// Of a `str` the text is a `str`, and of bytes it is in UTF-8.
-    #[pyo3(signature = (data))]
     fn strip(slf: &Bound<'_, Self>, data: &Bound<'_, PyAny>) -> PyResult<PyObject> {
         let mut stripper = borrowed(slf)?;
         let parser = &mut stripper.0;

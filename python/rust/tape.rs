@@ -55,29 +55,45 @@ fields! {
     char: letter => Value(Is::Letter, u32::from(letter).into());
     // what is a number of the stream, or a place in what was sent
     usize: number => Value(Is::Number, number as i64);
+    &str: text => Content(text.as_bytes()), Value(Is::Text, text.len() as i64);
+    &[u8]: data => Content(data), Value(Is::Data, data.len() as i64);
 }
 
 impl Field for Value {
     #[inline]
     fn record(self, tape: &mut Tape) {
-        match tape.values.try_reserve(1) {
-            Ok(()) => tape.values.push(self),
-            Err(_) => tape.is_refused = true,
-        }
+        extend(&mut tape.values, &[self], &mut tape.is_refused);
     }
 }
 
-impl Field for &str {
+/// What a text or data has.
+struct Content<'a>(&'a [u8]);
+
+impl Field for Content<'_> {
     fn record(self, tape: &mut Tape) {
-        tape.store(self.as_bytes());
-        tape.with(Value(Is::Text, self.len() as i64));
+        extend(&mut tape.content, self.0, &mut tape.is_refused);
     }
 }
 
-impl Field for &[u8] {
+/// Adds to a vector, or says that memory is refused.
+#[inline]
+fn extend<T: Copy>(vector: &mut Vec<T>, more: &[T], is_refused: &mut bool) {
+    match vector.try_reserve(more.len()) {
+        Ok(()) => vector.extend_from_slice(more),
+        Err(_) => *is_refused = true,
+    }
+}
+
+/// A tuple of fields.
+pub struct Tuple<I>(pub I);
+
+impl<I: Iterator + Clone> Field for Tuple<I>
+where
+    I::Item: Field,
+{
     fn record(self, tape: &mut Tape) {
-        tape.store(self);
-        tape.with(Value(Is::Data, self.len() as i64));
+        tape.with(Value(Is::Tuple, self.0.clone().count() as i64));
+        self.0.for_each(|field| field.record(tape));
     }
 }
 
@@ -142,10 +158,7 @@ impl Tape {
     #[inline]
     pub fn begin(&mut self, object: impl Field) -> &mut Self {
         let place = (self.values.len(), self.content.len());
-        match self.places.try_reserve(1) {
-            Ok(()) => self.places.push(place),
-            Err(_) => self.is_refused = true,
-        }
+        extend(&mut self.places, &[place], &mut self.is_refused);
         self.is_open = false;
         self.with(object)
     }
@@ -157,24 +170,13 @@ impl Tape {
         self
     }
 
-    /// Adds a tuple of as many fields.
-    pub fn with_tuple<T: Field>(
-        &mut self,
-        count: usize,
-        fields: impl Iterator<Item = T>,
-    ) -> &mut Self {
-        self.with(Value(Is::Tuple, count as i64));
-        fields.for_each(|field| field.record(self));
-        self
-    }
-
     /// Adds to the text or data that is open, or begins one.
     #[inline]
     pub fn add_run<T: Field + AsRef<[u8]>>(&mut self, kind: Kind, run: T) {
         match self.values.last_mut() {
             Some(Value(_, length)) if self.is_open => {
                 *length += run.as_ref().len() as i64;
-                self.store(run.as_ref());
+                self.with(Content(run.as_ref()));
             }
             _ => {
                 self.begin(kind).with(run);
@@ -186,13 +188,6 @@ impl Tape {
     /// Ends a text or data.
     pub fn end_run(&mut self) {
         self.is_open = false;
-    }
-
-    fn store(&mut self, content: &[u8]) {
-        match self.content.try_reserve(content.len()) {
-            Ok(()) => self.content.extend_from_slice(content),
-            Err(_) => self.is_refused = true,
-        }
     }
 
     /// The place of the last value, which can be changed there.

@@ -13,39 +13,34 @@ import pytest
 from common import EVENTS, STREAM, cut, feed, joined, parsers, text_of
 
 import vte
-from vte import Csi, Data, Esc, Execute, Hook, Osc, Put, Text, Unhook, calls
+from vte import Csi, Data, Esc, Execute, Hook, Osc, Put, Text, calls
 
-both = pytest.mark.parametrize("make", [vte.Parser, lambda: vte.Parser(limit=1024)])
 TITLE = b"\x1b]0;" + b"t" * 1000 + b"\x07"
 MOST = b"a" * 1024
-LOST = b"\x1b]" + b"a;" * 16 + b"b"
-WHOLE, CUT = Osc((b"0", b"c"), True), Osc((b"a",) * 16, False, True)
-
-
-class OwnParser(vte.Parser):
-    """A parser of another type."""
 
 
 class Bytes(bytes):
     """Bytes of another type."""
 
 
+class OwnParser(vte.Parser):
+    """A parser of another type."""
+
+
+class OwnStripper(vte.Stripper):
+    """A stripper of another type."""
+
+
+@pytest.fixture(params=[None, 1024], ids="limit={}".format)
+def make(request):
+    """Makes parsers without a limit, and with one."""
+    return lambda: vte.Parser(limit=request.param)
+
+
 def test_documentation():
     assert doctest.testmod(vte).failed == 0
 
 
-@both
-def test_a_text_is_one_event(make):
-    parser = make()
-    assert parser.feed(b"\xf0\x9f\x98") == []
-    # a character of two calls, characters of the input, malformed bytes
-    assert parser.feed(b"\x80xy\xff\xffz\xc3\xbc\n\xe2") == [
-        Text("\U0001f600xy\ufffd\ufffdz\u00fc"), Execute(0x0A)]
-    assert parser.feed(b"a\x1b]0;t\x07b\xff\x1b[1m\xc3") == [
-        Text("\ufffda"), Osc((b"0", b"t"), True), Text("b\ufffd"), Csi(((1,),), b"", False, "m")]
-
-
-@both
 @pytest.mark.parametrize("stream, wanted", [
     (b"x" * 100_000, [Text("x" * 100_000)]),
     (b"\xff" * 100_000, [Text("\ufffd" * 100_000)]),
@@ -64,42 +59,32 @@ def test_many_events(make, stream, wanted):
     assert (make().feed(stream) == wanted) is True
 
 
-@pytest.mark.parametrize("end, bell", [(b"\x07", True), (b"\x1b", False)])
-@pytest.mark.parametrize("data, pieces, truncated", [
-    (MOST, [MOST], False), (MOST + b"a", [MOST], True), (MOST + b";;", [MOST], False),
-    (MOST + b";;b", [MOST], True), (MOST[1:] + b";b", [MOST[1:], b"b"], False),
-    (MOST[1:] + b";bc", [MOST[1:], b"b"], True), (b";" + MOST, [b"", MOST], False),
-])
-def test_a_command_around_the_limit(data, pieces, truncated, end, bell):
-    stream, wanted = b"\x1b]" + data + end, Osc(tuple(pieces), bell, truncated)
-    assert vte.Parser(limit=1024).feed(stream + stream) == [wanted, wanted]
-    assert feed(vte.Parser(limit=1024), cut(stream, 1)) == [wanted]
+@pytest.mark.parametrize("end, bell, after", [
+    (b"\x07", True, []), (b"\x1b", False, []), (b"\x18", False, [Execute(0x18)])])
+@pytest.mark.parametrize("limits, data, pieces, truncated", [
+    ([1024], MOST, [MOST], False), ([1024], MOST + b"a", [MOST], True),
+    ([1024], MOST + b";;", [MOST], False), ([1024], MOST + b";;b", [MOST], True),
+    ([1024], MOST[1:] + b";b", [MOST[1:], b"b"], False),
+    ([1024], MOST[1:] + b";bc", [MOST[1:], b"b"], True),
+    ([1024], b";" + MOST, [b"", MOST], False),
+    # pieces after the sixteenth are dropped
+    *(([None, 1024], b"a;" * 15 + b"b" + more, [b"a"] * 15 + [b"b"], truncated)
+      for more, truncated in [
+          (b"", False), (b";", False), (b";;;", False), (b";x", True), (b";;x", True)])])
+def test_commands_that_lost_data_say_so(limits, data, pieces, truncated, end, bell, after):
+    stream, wanted = b"\x1b]" + data + end, [Osc(tuple(pieces), bell, truncated), *after]
+    for limit in limits:
+        several = stream + b"\x1b]c\x07" + stream
+        assert vte.Parser(limit).feed(several) == [*wanted, Osc((b"c",), True), *wanted]
+        assert feed(vte.Parser(limit), cut(stream, 1)) == wanted
 
 
-@both
-@pytest.mark.parametrize("tail, truncated", [
-    (b"", False), (b";", False), (b";;;", False), (b";x", True), (b";;x", True)])
-def test_pieces_after_the_sixteenth_are_dropped(make, tail, truncated):
-    wanted = [Osc((b"a",) * 15 + (b"b",), True, truncated), WHOLE]
-    assert make().feed(b"\x1b]" + b"a;" * 15 + b"b" + tail + b"\x07\x1b]0;c\x07") == wanted
-
-
-@both
-def test_only_a_command_that_lost_data_says_so(make):
-    # CAN ends a command, and is an event after it
-    parser, stream = make(), b"\x1b]0;c\x07" + LOST + b"\x18\x1b]0;c\x07" + LOST
-    assert parser.feed(stream) == [WHOLE, CUT, Execute(0x18), WHOLE]
-    assert parser.feed(b"\x18b") == [CUT, Execute(0x18), Text("b")]
-    assert not Osc((MOST,), True).truncated
-
-
-@both
 @pytest.mark.parametrize("size", [7, 4096, 1 << 20])
 @pytest.mark.parametrize("kinds", [None, {Osc}, {Text}, {Osc, Text}, {Csi}, {Data}, {Hook, Data}])
 def test_long_strings_in_pieces(make, size, kinds):
     long = bytes(range(0x20, 0x7F)) * 900
     commands = [(b"52", b"c", b"Q" * 1000), tuple(b"%d" % it for it in range(16))]
-    if make is vte.Parser:
+    if make().limit is None:
         commands.append((b"x" * 100_000,))
     stream = b"".join(b"a\x1b]" + b";".join(pieces) + b"\x07\xff" for pieces in commands)
     stream += b"\x1bP1q" + long + b"\n\x1b\\\x1bPqx\x18"
@@ -112,24 +97,19 @@ def test_long_strings_in_pieces(make, size, kinds):
     assert joined(found) == joined(it for it in wanted if kinds is None or type(it) in kinds)
 
 
-@both
 def test_each_string_has_its_own_data(make):
     parser, strings = make(), b"\x1bPqab\x1b\\\x1bPqc\x18\x1bPqd\x80e\x7f\xfffg"
     assert parser.feed(strings, {Data}) == [Data(b"ab"), Data(b"c"), Data(b"defg")]
     assert parser.feed(b"\x18" + strings, {Put}) == [Put(byte) for byte in b"abcdefg"]
 
 
-# ---- types of events and calls
-
-FIELDS = {
-    Text: "text", Execute: "byte", Hook: "groups intermediates ignore final", Put: "byte",
-    Data: "data", Unhook: "", Osc: "pieces bell_terminated truncated",
-    Csi: "groups intermediates ignore final", Esc: "intermediates ignore final",
-}
-
-
-def test_fields():
-    assert {kind: " ".join(kind._fields) for kind in typing.get_args(vte.Event)} == FIELDS
+def test_stops(make):
+    parser, end = make(), STREAM.index(b"\x07") + 1
+    assert parser.feed_until(STREAM, {Osc}) == (EVENTS[:-1], end)
+    assert parser.feed_until(STREAM[end:], {Osc}) == (EVENTS[-1:], 5)
+    assert parser.feed_until(STREAM, {Esc, Csi}, {Csi}) == (EVENTS[1:2], STREAM.index(b"m") + 1)
+    stream = b"text\x1b]0;a\x07more\x1b[1m\x1b]0;b\x07end"
+    assert make().feed_until(stream, {Osc}, {Osc}) == ([Osc((b"0", b"a"), True)], 10)
 
 
 @pytest.mark.parametrize("kind", [*typing.get_args(vte.Event), *calls.KINDS])
@@ -146,44 +126,25 @@ def test_made_events_hash_as_others():
     assert {*vte.Parser().feed(STREAM)} == {*EVENTS}
 
 
-# ---- what functions take
-
 def mapped(data):
     made = mmap.mmap(-1, len(data))
     made[:] = data
     return made
 
 
-@pytest.mark.parametrize("make", [
-    bytes, Bytes, bytearray, memoryview, lambda data: array.array("B", data), mapped,
-    lambda data: memoryview(data + data)[:len(data)]])
-def test_any_object_with_a_buffer(make):
-    data = make(STREAM)
-    for parser in parsers():
-        assert parser.feed(data) == EVENTS
-    texts = [vte.strip(data), vte.Stripper().strip(data), *vte.strip_lines([data])]
-    assert [(type(text), text) for text in texts] == [(bytes, text_of(EVENTS))] * 3
-    assert vte.Processor().feed(data) == vte.Processor().feed(STREAM)
-
-
 @pytest.mark.parametrize("data, wanted", [
+    *((kind(STREAM), EVENTS) for kind in (bytes, Bytes, bytearray, memoryview, mapped)),
+    (array.array("B", STREAM), EVENTS), (memoryview(STREAM * 2)[:len(STREAM)], EVENTS),
     (memoryview(b"a-b-c")[::2], [Text("abc")]), (array.array("H", b"abcd"), [Text("abcd")]),
     (b"", []), (bytearray(), [])])
-def test_buffers_of_other_shapes(data, wanted):
+def test_any_object_with_a_buffer(data, wanted):
     for parser in parsers():
-        assert (parser.feed(data), vte.strip(data)) == (wanted, text_of(wanted))
+        assert parser.feed(data) == wanted
+    texts = [vte.strip(data), vte.Stripper().strip(data), *vte.strip_lines([data])]
+    assert [(type(text), text) for text in texts] == [(bytes, text_of(wanted))] * 3
+    assert vte.Processor().feed(data) == vte.Processor().feed(bytes(data))
 
 
-@both
-@pytest.mark.parametrize("wrong", ["a", 1, None, ["a"], [97]])
-def test_wrong_data(make, wrong):
-    functions = [make().feed, vte.Processor().feed]
-    for function in functions if wrong == "a" else [*functions, vte.strip, vte.Stripper().strip]:
-        with pytest.raises(TypeError, match=f"bytes-like object is .*not '{type(wrong).__name__}'"):
-            function(wrong)
-
-
-@both
 @pytest.mark.parametrize("wrong", [{int}, [Text, None], Text, 5, "Osc", [[]], [Text("a")]])
 def test_wrong_kinds_leave_the_stream(make, wrong):
     parser = make()
@@ -193,45 +154,18 @@ def test_wrong_kinds_leave_the_stream(make, wrong):
     assert parser.feed(b"ma") == [Csi(((1,),), b"", False, "m"), Text("a")]
 
 
-@pytest.mark.parametrize("limit", [0, 1, 5, 1023, 1025, -1024, False, "1024"])
-def test_wrong_limits(limit):
-    with pytest.raises(ValueError, match=f"limit must be None or 1024, not {limit!r}"):
-        vte.Parser(limit=limit)
-
-
-def test_limits():
-    assert [made.limit for made in (*parsers(), vte.Parser(1024))] == [None, 1024, 1024]
-
-
-# ---- a stop at an event
-
-@both
-def test_stops(make):
-    parser, end = make(), STREAM.index(b"\x07") + 1
-    assert parser.feed_until(STREAM, {Osc}) == (EVENTS[:-1], end)
-    assert parser.feed_until(STREAM[end:], {Osc}) == (EVENTS[-1:], 5)
-    assert parser.feed_until(STREAM, {Esc, Csi}, {Csi}) == (EVENTS[1:2], STREAM.index(b"m") + 1)
-    stream = b"text\x1b]0;a\x07more\x1b[1m\x1b]0;b\x07end"
-    events, read = make().feed_until(stream, {Osc}, {Osc})
-    assert (events, stream[:read]) == ([Osc((b"0", b"a"), True)], b"text\x1b]0;a\x07")
-    with pytest.raises(ValueError, match="stops can't have vte.Text or vte.Data"):
-        parser.feed_until(b"", {Text})
-
-
 # ---- copies
 
-def test_copies():
+@pytest.mark.parametrize("copied", [
+    copy.copy, copy.deepcopy, lambda reader: pickle.loads(pickle.dumps(reader))])
+def test_copies(copied):
     for at in range(len(STREAM) + 1):
-        parser = vte.Parser(limit=1024)
-        first = parser.feed(STREAM[:at])
-        for made in copy.copy(parser), copy.deepcopy(parser), pickle.loads(pickle.dumps(parser)):
-            assert joined(first + made.feed(STREAM[at:])) == EVENTS
-    copied = pickle.loads(pickle.dumps(OwnParser(limit=1024)))
-    assert (type(copied), copied.limit) == (OwnParser, 1024)
-
-
-@pytest.mark.parametrize("copied", [copy.copy, copy.deepcopy, pickle.dumps])
-def test_others_have_no_copies(copied):
+        parser, stripper = OwnParser(limit=1024), OwnStripper()
+        events, text = parser.feed(STREAM[:at]), stripper.strip(STREAM[:at])
+        parser, stripper = copied(parser), copied(stripper)
+        assert (type(parser), parser.limit, type(stripper)) == (OwnParser, 1024, OwnStripper)
+        assert joined(events + parser.feed(STREAM[at:])) == EVENTS
+        assert text + stripper.strip(STREAM[at:]) == text_of(EVENTS)
     with pytest.raises(TypeError, match="only parsers with a limit can be copied"):
         copied(vte.Parser())
     with pytest.raises(TypeError, match="cannot pickle '.*Processor' object"):
@@ -267,10 +201,10 @@ leave(24 << 20)
 try:
     parser.feed(stream, {vte.Osc})
     raise SystemExit("it isn't refused")
-except MemoryError as error:
+except vte.Refused as error:
     read = error.read
     assert str(error) == f"no memory, after {read} bytes"
-    assert isinstance(error, vte.Refused) and error.events == [vte.Osc((b"2", b"t"), True)]
+    assert error.events == [vte.Osc((b"2", b"t"), True)]
 leave(1 << 30)
 assert 6 < read < len(stream) and parser.feed(stream[read:]) == [vte.Osc((b"52", b"c", text), True)]
 del parser
@@ -289,4 +223,5 @@ def test_little_memory():
 
 def test_refused():
     refused = pickle.loads(pickle.dumps(vte.Refused(3, [Text("a")])))
+    assert isinstance(refused, MemoryError)
     assert (type(refused), refused.read, refused.events) == (vte.Refused, 3, [Text("a")])

@@ -1,6 +1,7 @@
-"""Tests of the package as a whole: names, threads, signals, leaks."""
+"""Tests of the package as a whole: names, wrong arguments, threads, signals, leaks."""
 import gc
 import importlib.metadata
+import io
 import pickle
 import resource
 import signal
@@ -12,7 +13,7 @@ import pytest
 from common import parsers
 
 import vte
-from vte import Csi, Osc, calls
+from vte import Csi, Osc, Text, calls
 from vte.calls import Attribute, TerminalAttribute
 
 NAMES = {f"vte.{name}": getattr(vte, name) for name in vte.__all__ if name != "Event"}
@@ -24,11 +25,11 @@ NAMES |= {f"{name}.{of}": part for name, value in NAMES.items()
 
 def test_names():
     modules = {name for name, value in vars(vte).items() if isinstance(value, type(vte))}
-    public = {name for name in vars(vte) if not name.startswith("_")}
-    assert set(vte.__all__) == public - modules | {"calls"}
+    assert set(vte.__all__) == {name for name in vars(vte) if name[0] != "_"} - modules | {"calls"}
     for name in set(vte.__all__) - {"calls", "Event"}:
         assert getattr(vte, name).__module__ in ("vte", "vte._reader", "vte._vte")
     assert importlib.metadata.version("naqshuve-vte") == vte.__version__
+    assert [made.limit for made in (*parsers(), vte.Parser(1024))] == [None, 1024, 1024]
 
 
 @pytest.mark.parametrize("name", NAMES)
@@ -39,16 +40,36 @@ def test_each_name_is_documented(name):
     assert not (isinstance(value, type) and value.__doc__.startswith(f"{value.__name__}("))
 
 
-@pytest.mark.parametrize("name", ["limits", "limit", "sync_timeouts"])
-def test_attributes_that_cannot_be_set(name):
-    for made in *parsers(), vte.Stripper(), vte.Processor():
-        with pytest.raises(AttributeError):
-            setattr(made, name, 1)
+READERS = [(vte.Parser, "feed"), (lambda: vte.Parser(limit=1024), "feed"), (vte.Processor, "feed"),
+           (vte.Stripper, "strip")]
 
 
-@pytest.mark.parametrize("make, read", [
-    (vte.Parser, "feed"), (lambda: vte.Parser(limit=1024), "feed"), (vte.Processor, "feed"),
-    (vte.Stripper, "strip")])
+@pytest.mark.parametrize("error, message, function, words", [
+    *((TypeError, f"bytes-like object is .*not '{type(wrong).__name__}'", function, [wrong])
+      for wrong in ("a", 1, None, ["a"], [97])
+      for function in [*(getattr(make(), read) for make, read in READERS), vte.strip]
+      if wrong != "a" or function.__name__ == "feed"),
+    *((ValueError, f"limit must be None or 1024, not {limit!r}", vte.Parser, [limit])
+      for limit in (0, 1, 5, 1023, 1025, -1024, False, "1024")),
+    (ValueError, "stops can't have vte.Text or vte.Data", vte.Parser().feed_until, [b"", [Text]]),
+    *((TypeError, "open takes a path, a file descriptor or a binary file, not "
+       + type(wrong).__name__, vte.open, [wrong])
+      for wrong in (None, b"path", io.StringIO("a"), sys.__stdout__)),
+    (TypeError, "kinds must be types of events", vte.open, [io.BytesIO(), 9, {int}]),
+    *((ValueError, f"size must be at least 1, not {size!r}", vte.open, [io.BytesIO(), size])
+      for size in (0, -1, 1.5, None, "9")),
+    *((TypeError, f"iterable over lines, not {type(wrong).__name__}", vte.strip_lines, [wrong])
+      for wrong in (b"a", "a", bytearray(b"a"))),
+    (UnicodeEncodeError, "surrogates not allowed", vte.strip, ["\ud800", "surrogateescape"]),
+    (ValueError, "errors must be 'replace' or 'surrogateescape', not", vte.strip, [b"", "ignore"]),
+    *((AttributeError, name, setattr, [made(), name, 1])
+      for name in ("limits", "limit", "sync_timeouts") for made, _ in READERS)])
+def test_wrong_arguments(error, message, function, words):
+    with pytest.raises(error, match=message):
+        function(*words)
+
+
+@pytest.mark.parametrize("make, read", READERS)
 def test_a_shared_object_raises(make, read):
     data, shared, answers = b"a\x1b[1m" * 40_000, make(), []
     wanted = getattr(make(), read)(data)

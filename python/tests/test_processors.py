@@ -1,5 +1,4 @@
-"""Tests of processors and of their calls."""
-import re
+"""Tests of processors, of their calls, and of a screen that takes these."""
 import subprocess
 import sys
 import time
@@ -9,33 +8,21 @@ from common import EXAMPLES
 
 import vte
 from vte import calls
-from vte.calls import Attribute, Input, NamedColor, Rgb, TerminalAttribute
+from vte.calls import Attribute, Input, Rgb, TerminalAttribute
 
 sys.path.insert(0, str(EXAMPLES))
 from screen import Screen  # noqa: E402
 
 STREAM = (b"h\xc3\xbc\x1b[5;3H\x1b[1;38;2;1;2;3m\x1b]0;t;i\x07\xff\x1b]8;id=abc;y\x1b\\\x1b[3r"
-          b"\x1b[23;24m\x1b]52;c;YQ==\x07")
+          b"\x1b[23m\x1b]52;c;YQ==\x07\x1b]4;9;?\x07")
 CALLS = [
-    Input("hü"), calls.Goto(4, 2), TerminalAttribute(Attribute.Bold, None),
-    TerminalAttribute(Attribute.Foreground, Rgb(1, 2, 3)), calls.SetTitle("t;i"), Input("\ufffd"),
-    calls.SetHyperlink("abc", "y"), calls.SetScrollingRegion(3, None),
-    TerminalAttribute(Attribute.CancelItalic, None),
-    TerminalAttribute(Attribute.CancelUnderline, None), calls.ClipboardStore("c", b"YQ=="),
+    Input(text="hü"), calls.Goto(line=4, col=2), TerminalAttribute(Attribute.Bold, None),
+    TerminalAttribute(attribute=Attribute.Foreground, color=Rgb(red=1, green=2, blue=3)),
+    calls.SetTitle(title="t;i"), Input("\ufffd"), calls.SetHyperlink(id="abc", uri="y"),
+    calls.SetScrollingRegion(top=3, bottom=None), TerminalAttribute(Attribute.CancelItalic, None),
+    calls.ClipboardStore(clipboard="c", data=b"YQ=="),
+    calls.DynamicColorSequence(prefix="4;9", index=9, terminator="\x07"),
 ]
-
-
-def test_fields():
-    # Rust lists calls and their values by the same names
-    source = (EXAMPLES.parent / "rust" / "calls.rs").read_text()
-    listed = source[source.index("Input;"):source.index("impl TakeText")]
-    fields = {name: tuple(re.findall(r"\w+", values))
-              for name, values in re.findall(r"(\w+)(?:\((.*?)\))?", listed)}
-    # but for a value that makes several fields
-    fields |= {"Input": ("text",), "TerminalAttribute": ("attribute", "color"),
-               "SetHyperlink": ("id", "uri"), "SetCursorStyle": ("shape", "blinking")}
-    assert {kind.__name__: kind._fields for kind in calls.KINDS} == fields
-    assert (Rgb._fields, len(fields)) == (("red", "green", "blue"), 71)
 
 
 def test_calls():
@@ -54,13 +41,6 @@ def test_updates():
     assert now + 0.149 < processor.sync_timeout < time.monotonic() + 0.151
     assert processor.stop_sync() == [Input("ab"), calls.UnsetPrivateMode(2026)]
     assert (processor.sync_bytes_count, processor.sync_timeout) == (0, None)
-
-
-def test_a_text_is_one_call():
-    processor = vte.Processor()
-    text = "a\ufffdüb\ufffd" * 999 + "a\ufffdüb"
-    assert processor.feed(b"a\xff\xc3\xbc\x00b\xe2\x82" * 1000) == [Input(text)]
-    assert processor.feed(b"\xac\x1b[Aa") == [Input("\u20ac"), calls.MoveUp(1), Input("a")]
 
 
 def test_many_calls_of_few_bytes():
@@ -92,22 +72,17 @@ def test_cells(stream, row, column, character):
     assert screen.lines[row][column].character == character
 
 
-@pytest.mark.parametrize("rendition, foreground, background, attributes", [
-    (b"31;1;4", "Red", None, "Bold Underline"), (b"22;39;44", None, "Blue", "Underline"),
-    (b"24;49;3;7", None, None, "Italic Reverse"), (b"23;27", None, None, ""),
-    (b"1;32;45", "Green", "Magenta", "Bold"), (b"0", None, None, "")])
-def test_looks(rendition, foreground, background, attributes):
-    show(b"\x1b[H\x1b[%smx" % rendition)
-    cell = screen.lines[0][0]
-    colors = [color and color.name for color in (cell.foreground, cell.background)]
-    assert colors == [foreground, background]
-    assert {it.name for it in cell.attributes} == set(attributes.split())
-
-
-def test_erasing():
-    # what is erased has the background, and no attributes
-    show(b"\x1b[41;1m\x1b[2J")
-    assert screen.lines[3][4] == (" ", None, NamedColor.Red, frozenset())
+@pytest.mark.parametrize("rendition, look", [
+    (b"31;1;4", "Foreground=Red Bold Underline"), (b"3;7;23", "Reverse"),
+    (b"1;31;44;39;22", "Foreground=Foreground Background=Blue"), (b"3;0;45", "Background=Magenta"),
+    (b"1;2;4:3;5;8;9", "Bold Dim Undercurl BlinkSlow Hidden Strike"),
+    (b"1;2;4:3;5;7;8;9;22;24;25;27;28;29", "")])
+def test_looks(rendition, look):
+    show(b"\x1b[m\x1b[H\x1b[%smx\n\x1b[2K" % rendition)
+    shown = [[it.name if color is None else f"{it.name}={color.name}"
+              for it, color in screen.lines[row][0].look.items()] for row in range(2)]
+    # what is erased has the background alone
+    assert shown == [look.split(), [it for it in look.split() if it.startswith("Background=")]]
 
 
 def test_screen():

@@ -4,8 +4,8 @@ import re
 import subprocess
 
 import pytest
-from common import feed, joined, parsers
-from test_vectors import call_lines, event_lines
+from common import feed, joined, parsers, text_of
+from test_vectors import event_lines
 
 import vte
 from vte import Csi, Data, Esc, Execute, Hook, Osc, Put, Text, Unhook
@@ -19,7 +19,7 @@ PARTS = [
     b"m", b"H", b"?", b"$", b" ", b"(", b"\n", b"\t", b"\r", b"a", b"text", "ü€😀".encode(),
     b"\xc3", b"\xe2\x82", b"\xac", b"\xf0\x9f\x98", b"\x85", b"\x9b", b"\x9c", b"\xff",
     b"\x1b[1;31m", b"\x1b]0;title\x07", b"\x1bP1$qdata\x1b\\", b"\x1b[?2026h", b"\x1b[?2026l",
-    b"\x1b]52;c;", b"x" * 600,
+    b"\x1b]52;c;", b"x" * 600, b"\x7f", b"\x0b", b"\xc2\x9f", "\u2028\U0010ffff".encode(),
 ]
 ENDS = [Execute, Hook, Put, Unhook, Osc, Csi, Esc]
 pieces = strategies.lists(
@@ -36,13 +36,11 @@ def test_kinds(stream):
     for parser, other in zip(parsers(), parsers()):
         for piece, kinds in stream:
             found, everything = parser.feed(piece, kinds), other.feed(piece)
-            kinds = {Text, *ENDS} if kinds is None else kinds
-            if Data in kinds:
-                data = bytes(event.byte for event in everything if isinstance(event, Put))
-                runs = [event.data for event in found if isinstance(event, Data)]
-                assert b"".join(runs) == data
-                found, kinds = [it for it in found if not isinstance(it, Data)], kinds - {Put}
-            assert found == [event for event in everything if type(event) in kinds]
+            if kinds and Data in kinds:
+                # the data of each string are one event
+                everything = joined(Data(bytes(event)) if isinstance(event, Put) else event
+                                    for event in everything)
+            assert found == [it for it in everything if kinds is None or type(it) in kinds]
 
 
 @often
@@ -64,17 +62,19 @@ def test_pieces_and_stops(stream, stops):
 @often
 @given(streams)
 def test_texts_and_calls(stream):
-    whole = b"".join(stream)
-    plain, text = vte.strip(whole), whole.decode(errors="replace")
-    assert b"".join(map(vte.Stripper().strip, stream)) == plain
-    assert list(vte.strip_lines(stream)) == [vte.strip(piece) for piece in stream]
-    assert vte.strip(text) == vte.strip(text.encode()).decode()
+    whole, texts = b"".join(stream), [piece.decode(errors="replace") for piece in stream]
+    plain, parser = vte.strip(whole), vte.Parser()
+    pieces = [*map(vte.Stripper().strip, stream)]
+    assert pieces == [text_of(parser.feed(piece)) for piece in stream]
+    assert b"".join(pieces) == plain
+    assert "".join(map(vte.Stripper().strip, texts)) == vte.strip("".join(texts))
+    assert list(vte.strip_lines(stream + texts)) == [*map(vte.strip, stream + texts)]
+    assert vte.strip("".join(texts)) == vte.strip("".join(texts).encode()).decode()
     # in the place of each U+FFFD it or malformed bytes may stand
     kept = rb"[\x80-\xff]{1,3}".join(map(re.escape, plain.split("\ufffd".encode())))
     assert re.fullmatch(kept, vte.strip(whole, errors="surrogateescape"))
     if b"2026" not in whole:
-        calls = call_lines(feed(vte.Processor(), stream))
-        assert calls == call_lines(vte.Processor().feed(whole))
+        assert joined(feed(vte.Processor(), stream)) == vte.Processor().feed(whole)
 
 
 @pytest.mark.skipif(not VTLOG, reason="no $VTLOG")

@@ -7,7 +7,7 @@ import sys
 import threading
 
 import pytest
-from common import EVENTS, EXAMPLES, STREAM, joined
+from common import EVENTS, EXAMPLES, STREAM, joined, parsers
 
 import vte
 from vte import Csi, Esc, Execute, Hook, Osc, Put, Text
@@ -23,15 +23,12 @@ def path(tmp_path):
 @pytest.fixture(params=["str", "path", "entry", "buffered", "unbuffered", "descriptor", "memory"])
 def source(request, path):
     """A file as `open` takes it."""
-    if request.param == "memory":
-        yield io.BytesIO(STREAM)
-    elif request.param in ("str", "path", "entry"):
+    # a file without a buffer has no `read1`
+    with open(path, "rb") as buffered, open(path, "rb", 0) as unbuffered:
         [entry] = os.scandir(path.parent)
-        yield {"str": str(path), "path": path, "entry": entry}[request.param]
-    else:
-        # a file without a buffer has no `read1`
-        with open(path, "rb", -1 if request.param == "buffered" else 0) as file:
-            yield file.fileno() if request.param == "descriptor" else file
+        yield {"str": str(path), "path": path, "entry": entry, "buffered": buffered,
+               "unbuffered": unbuffered, "descriptor": buffered.fileno(),
+               "memory": io.BytesIO(STREAM)}[request.param]
 
 
 @pytest.mark.parametrize("size", [1, 3, 65536])
@@ -46,7 +43,7 @@ def test_files(source, size):
 @pytest.mark.parametrize("given", [lambda kinds: kinds, iter])
 def test_kinds(source, kinds, given):
     wanted = [event for event in EVENTS if type(event) in set(kinds)]
-    for parser in vte.Parser(), vte.Parser(limit=1024):
+    for parser in parsers():
         assert parser.feed(STREAM, given(kinds)) + parser.feed(STREAM, given(kinds)) == wanted * 2
     with vte.open(source, 5, given(kinds)) as events:
         assert joined(events) == wanted
@@ -86,20 +83,6 @@ def test_files_that_cannot_be_read(path):
     os.close(folder)
 
 
-@pytest.mark.parametrize("wrong, message", [
-    (lambda: vte.open(None), "open takes a path, a file descriptor or a binary file, not NoneType"),
-    (lambda: vte.open(b"path"), "open takes a path, a file descriptor or a binary file, not bytes"),
-    (lambda: vte.open(io.StringIO("a")), "a binary file, not StringIO"),
-    (lambda: vte.open(sys.__stdout__), "a binary file, not TextIOWrapper"),
-    (lambda: vte.open(io.BytesIO(), kinds={int}), "kinds must be types of events"),
-    *((lambda size=size: vte.open(io.BytesIO(), size), f"size must be at least 1, not {size!r}")
-      for size in (0, -1, 1.5, None, "9")),
-])
-def test_wrong_arguments(wrong, message):
-    with pytest.raises((TypeError, ValueError), match=message):
-        wrong()
-
-
 def test_files_that_have_nothing_yet():
     reading, writing = os.pipe()
     os.set_blocking(reading, False)
@@ -130,28 +113,12 @@ def test_a_piece_is_read_when_it_is_wanted():
     assert list(vte.open(io.BytesIO(b"abcdefg"), 3)) == [Text("abc"), Text("def"), Text("g")]
 
 
-def test_a_piece_is_what_is_there(tmp_path):
+def test_a_piece_is_what_is_there():
     class Live(io.BytesIO):
         def read(self, size=-1):
             raise AssertionError("it waits for more")
 
     assert next(vte.open(Live(b"a"))) == Text("a")
-    path, has_come = tmp_path / "pipe", threading.Event()
-    os.mkfifo(path)
-
-    def write():
-        with open(path, "wb", buffering=0) as pipe:
-            pipe.write(b"a")
-            has_come.wait(60)
-            pipe.write(b"b")
-
-    writer = threading.Thread(target=write, daemon=True)
-    writer.start()
-    with vte.open(path) as events:
-        first = next(events)
-        has_come.set()
-        assert [first, *events] == [Text("a"), Text("b")]
-    writer.join()
 
 
 def test_pty():

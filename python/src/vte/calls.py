@@ -4,6 +4,8 @@ docs/CALLS.md says which sequences make which. Lines and columns are counted fro
 scrolling region from 1. Modes and the bits of keyboard modes are numbers. A call equals another of
 the same type with the same values.
 """
+# a field may have the name of a method of tuples
+# mypy: disable-error-code="assignment"
 import enum
 from typing import NamedTuple, Union, get_args
 
@@ -106,7 +108,7 @@ class Backspace(NamedTuple):
 
 class PutTab(NamedTuple):
     """HT: to the next tab stop; `count` is 1."""
-    count: int  # type: ignore[assignment]
+    count: int
 
 
 class Linefeed(NamedTuple):
@@ -215,12 +217,12 @@ class SetTabs(NamedTuple):
 
 class MoveForwardTabs(NamedTuple):
     """CHT, `CSI I`: some tab stops forward."""
-    count: int  # type: ignore[assignment]
+    count: int
 
 
 class MoveBackwardTabs(NamedTuple):
     """CBT, `CSI Z`: some tab stops back."""
-    count: int  # type: ignore[assignment]
+    count: int
 
 
 class InsertBlank(NamedTuple):
@@ -273,13 +275,13 @@ class TerminalAttribute(NamedTuple):
 
 class SetColor(NamedTuple):
     """OSC 4, 10, 11, 12: a colour of the palette, or of 256 text, 257 background, 258 cursor."""
-    index: int  # type: ignore[assignment]
+    index: int
     color: Rgb
 
 
 class ResetColor(NamedTuple):
     """OSC 104, 110, 111, 112: the colour of an index is reset to its first value."""
-    index: int  # type: ignore[assignment]
+    index: int
 
 
 class DynamicColorSequence(NamedTuple):
@@ -288,7 +290,7 @@ class DynamicColorSequence(NamedTuple):
     The answer is `ESC ]`, the prefix, `;`, the colour and the terminator.
     """
     prefix: str
-    index: int  # type: ignore[assignment]
+    index: int
     terminator: str
 
 
@@ -316,12 +318,12 @@ class SetMouseCursorIcon(NamedTuple):
 
 class SetActiveCharset(NamedTuple):
     """SI and SO: characters come from the set G0 or G1."""
-    index: int  # type: ignore[assignment]
+    index: int
 
 
 class ConfigureCharset(NamedTuple):
     """SCS, `ESC (`, `)`, `*` or `+`, and `B` or `0`: what the set G0, G1, G2 or G3 is."""
-    index: int  # type: ignore[assignment]
+    index: int
     charset: Charset
 
 
@@ -380,7 +382,7 @@ class PushKeyboardMode(NamedTuple):
 
 class PopKeyboardModes(NamedTuple):
     """`CSI < u`: pop keyboard modes off their stack."""
-    count: int  # type: ignore[assignment]
+    count: int
 
 
 class SetKeyboardMode(NamedTuple):

@@ -1,6 +1,6 @@
 """The programs and streams of a benchmark, and the time that a program takes."""
-import argparse
 import functools
+import random
 import subprocess
 import sys
 from concurrent.futures import ThreadPoolExecutor
@@ -19,67 +19,37 @@ STRIPPERS = {"rust": "strip_runs", "advance": "strip", "copy": "copy", "console"
              "strip-ansi-escapes": "strip_ansi_escapes"}
 # the minimum time of a side in a round
 SECONDS = 0.05
-# the bytes of a stream whose checksums are compared: the crate takes quadratic time for malformed
-# text in one call
-CHECKED = 50_000
 
-
-# ---- arguments
-
-def one_of(names):
-    def known(word):
-        if word not in names:
-            raise argparse.ArgumentTypeError(f"unknown: {word!r}; choose from {', '.join(names)}")
-        return word
-    return known
-
-
-def listed(kind):
-    return lambda text: [kind(word) for word in text.split(",")]
-
-
-def positive(text):
-    if not text.isdigit() or int(text) == 0:
-        raise argparse.ArgumentTypeError(f"not a number from 1 on: {text!r}")
-    return int(text)
-
-
-# ---- programs
 
 class Course:
-    """The programs, a folder for streams, and the options."""
+    """The programs, those in Rust in so many placements of their code, and a folder for streams."""
 
-    def __init__(self, given, folder):
-        self.given = given
+    def __init__(self, folder, placements=1):
         self.folder = Path(folder)
-
-    def peer(self, side):
-        return self.placed_peers(side, 1)[0]
+        self.placements = placements
 
     @functools.cache
-    def placed_peers(self, side, placements):
+    def peers(self, side):
         """The program of a side of IN_RUST, once for each placement of its code. It has the default
         features of the crate, and so of rust/vte: commands have no limit."""
         return rust_builds.placed_peers(side in OURS_IN_RUST, self.folder / side, IN_RUST[side],
-                                        placements)
+                                        self.placements)
 
     @functools.cached_property
     def race(self):
-        return rattle_builds.program("race", self.given.race, ["parser", "1", "1"])
+        return rattle_builds.program("race", ["parser", "1", "1"])
 
     def racers(self, kind):
         """The commands of each side: one for each placement of its code. Rattle's build has one."""
-        count = self.given.placements
-        commands = {"ours": [[self.race, kind]] * count}
-        for side in IN_RUST:
-            programs = self.placed_peers(side, count)
-            commands[side] = [[program, kind] for program in programs]
-        return commands
+        programs = {"ours": [self.race] * self.placements,
+                    **{side: self.peers(side) for side in IN_RUST}}
+        return {side: [[program, kind] for program in of_side]
+                for side, of_side in programs.items()}
 
     @functools.cached_property
     def strippers(self):
         """The commands of each of STRIPPERS."""
-        programs = rust_builds.strippers(self.folder / "strippers", self.given.placements)
+        programs = rust_builds.strippers(self.folder / "strippers", self.placements)
         return {side: [[program, kind] for program in programs]
                 for side, kind in STRIPPERS.items()}
 
@@ -89,9 +59,8 @@ class Course:
             _ = self.strippers
         if set(kinds) - {"strip"}:
             _ = self.race
-            count = self.given.placements
             with ThreadPoolExecutor() as pool:
-                list(pool.map(lambda side: self.placed_peers(side, count), IN_RUST))
+                list(pool.map(self.peers, IN_RUST))
 
     def stream(self, name, size):
         """A file with a prefix of a stream."""
@@ -106,7 +75,7 @@ def run(words, place):
     with open(place, "rb") as stream:
         done = subprocess.run(words, stdin=stream, capture_output=True, text=True)
     if done.returncode != 0:
-        rattle_builds.stop(f"{' '.join(map(str, words))}: status {done.returncode}: {done.stderr}")
+        rust_builds.stop(f"{' '.join(map(str, words))}: status {done.returncode}: {done.stderr}")
     return done.stdout, done.stderr
 
 
@@ -114,17 +83,13 @@ def in_rounds(rounds, sides):
     """The seconds of each side, round by round: a list, with one number for each of its programs.
 
     A round runs the first program of each side, one right after the other, then the second of
-    each, and so on. It begins with another side than the one before."""
-    names = list(sides)
-    times = {name: [] for name in names}
+    each, and so on, in an order of its own."""
+    times = {name: [[] for _ in range(rounds)] for name in sides}
     for count in range(rounds):
-        first = count % len(names)
-        order = names[first:] + names[:first]
-        for name in names:
-            times[name].append([])
+        order = random.sample([*sides], len(sides))
         for programs in zip(*(sides[name] for name in order)):
             for name, seconds in zip(order, programs):
-                times[name][-1].append(seconds())
+                times[name][count].append(seconds())
     return times
 
 
@@ -143,4 +108,4 @@ def compare_checksums(name, sides, place):
     size = str(place.stat().st_size)
     told = {side: run([*commands[0], size, "1"], place)[0] for side, commands in sides.items()}
     if len(set(told.values())) > 1:
-        rattle_builds.stop(f"the checksums of {name} differ: {told}")
+        rust_builds.stop(f"the checksums of {name} differ: {told}")

@@ -19,18 +19,17 @@ ALONE = {
     "terminal": {4096: SCREEN_STREAMS}}
 # streams of commands with more than the 1,024 bytes that Rattle's parser and processor keep
 BEYOND_THE_LIMIT = ["osc_clipboard"]
+# the bytes of a stream whose checksums are compared: the crate takes quadratic time for malformed
+# text in one call
+CHECKED = 50_000
 # streams to strip of sequences
 STRIPPED = ["ascii", "prose", "cjk", "cyrillic", "ls_color", "coloured", "random"]
 
 
 def row(race, stream, piece, size, times):
-    """A row of figures, in nanoseconds per byte. A round has one number, or one for each placement
-    of the code."""
-    def of_round(seconds):
-        numbers = [round(its / size * 1e9, 4) for its in seconds]
-        return numbers if len(numbers) > 1 else numbers[0]
-
-    figures = {side: list(map(of_round, of_side)) for side, of_side in times.items()}
+    """A row of figures, in nanoseconds per byte: for each round a number per placement."""
+    figures = {side: [[round(its / size * 1e9, 4) for its in seconds] for seconds in of_side]
+               for side, of_side in times.items()}
     return {"race": race, "stream": stream, "piece": piece, "nanoseconds": figures}
 
 
@@ -40,35 +39,33 @@ def timed(commands, place, piece):
             for side, of_side in commands.items()}
 
 
-def strip(course):
+def strip(course, given):
     """What puts text into memory: ours in pieces, others at once, and `console` only for streams of
     UTF-8, which it wants."""
-    for name in course.given.streams or STRIPPED:
+    for name in given.streams or STRIPPED:
         # more than the second cache has room for; whole lines of a stream that isn't repeated, so
         # that no character is cut
         place = course.folder / f"{name}_lines"
         lines = streams.generate(name, streams.PERIOD).rsplit(b"\n", 1)[0]
         place.write_bytes(lines)
-        is_text = lines == lines.decode(errors="ignore").encode()
         others = dict(course.strippers)
         ours = {side: others.pop(side) for side in ("rust", "advance")}
-        if not is_text:
+        if lines != lines.decode(errors="ignore").encode():
             del others["console"]
         timing.compare_checksums(name, ours, place)
         sides = {**timed(ours, place, 4096), **timed(others, place, len(lines))}
-        times = timing.in_rounds(course.given.rounds, sides)
-        yield row("strip", name, 4096, len(lines), times)
+        yield row("strip", name, 4096, len(lines), timing.in_rounds(given.rounds, sides))
 
 
-def alone(race, course):
+def alone(race, course, given):
     """Each side in memory, for the given streams and pieces."""
-    racers, size = course.racers(race), course.given.bytes
-    for name, piece in asked_for(course.given, ALONE[race]):
+    racers = course.racers(race)
+    for name, piece in asked_for(given, ALONE[race]):
         commands = {side: of_side for side, of_side in racers.items()
                     if side != "ours" or name not in BEYOND_THE_LIMIT}
-        timing.compare_checksums(name, commands, course.stream(name, timing.CHECKED))
-        sides = timed(commands, course.stream(name, size), piece)
-        yield row(race, name, piece, size, timing.in_rounds(course.given.rounds, sides))
+        timing.compare_checksums(name, commands, course.stream(name, CHECKED))
+        sides = timed(commands, course.stream(name, given.bytes), piece)
+        yield row(race, name, piece, given.bytes, timing.in_rounds(given.rounds, sides))
 
 
 def asked_for(given, default):

@@ -47,7 +47,10 @@ use until_cleared::UntilCleared;
 /// checksum of that, and what begins a pass. Its time is that of the fastest pass. `race_of`
 /// chooses one.
 macro_rules! races {
-    ($($(#[$runs:meta])? $kind:ident: $reader:expr, $receiver:expr, $advance:expr, $checksum:expr $(, $begin:expr)?;)*) => {
+    ($(
+        $(#[$runs:meta])?
+        $kind:ident: $reader:expr, $receiver:expr, $advance:expr, $checksum:expr $(, $begin:expr)?;
+    )*) => {
         $(
             $(#[$runs])?
             fn $kind(stream: &[u8], piece: usize, passes: usize) -> (Checksum, Duration) {
@@ -55,7 +58,9 @@ macro_rules! races {
                 let pass = |_| {
                     $($begin(&mut receiver);)?
                     let start = Instant::now();
-                    black_box(stream).chunks(piece).for_each(|bytes| $advance(&mut reader, &mut receiver, bytes));
+                    for bytes in black_box(stream).chunks(piece) {
+                        $advance(&mut reader, &mut receiver, bytes);
+                    }
                     start.elapsed()
                 };
                 let time = (0..passes).map(pass).min().unwrap_or_default();
@@ -74,27 +79,50 @@ macro_rules! races {
 
 races! {
     parser: Parser::<1024>::default(), Checksum::default(), Parser::advance, |checksum| checksum;
-    screen: Parser::<1024>::default(), Screen::new(), Parser::advance, |screen| shown(&screen);
+    screen: Parser::<1024>::default(), Screen::new(), Parser::advance, of_screen;
     strip: Parser::<1024>::default(), Text::default(), Parser::advance, Text::checksum, Text::clear;
-    processor: Processor::<UntilCleared>::new(), ByCall(CallChecksum::new()), Processor::advance, |calls: ByCall<CallChecksum>| calls.0.checksum;
-    terminal: Processor::<UntilCleared>::new(), ByCall(Screen::new()), Processor::advance, |calls: ByCall<Screen>| shown(&calls.0);
-    filter: Processor::<UntilCleared>::new(), ByCall(Text::default()), Processor::advance, |calls: ByCall<Text>| calls.0.checksum();
+    processor: Updating::new(), ByCall(CallChecksum::new()), Processor::advance, of_calls;
+    terminal: Updating::new(), ByCall(Screen::new()), Processor::advance, of_terminal;
+    filter: Updating::new(), ByCall(Text::default()), Processor::advance, of_text;
     #[cfg(runs)]
-    screen_runs: Parser::<1024>::default(), Screen::new(), Parser::advance_text, |screen| shown(&screen);
+    screen_runs: Parser::<1024>::default(), Screen::new(), Parser::advance_text, of_screen;
     #[cfg(runs)]
-    strip_runs: Parser::<1024>::default(), Text::default(), Parser::advance_text, Text::checksum, Text::clear;
+    strip_runs: Parser::<1024>::default(), Text::default(), Parser::advance_text,
+        Text::checksum, Text::clear;
     #[cfg(runs)]
-    terminal_runs: Processor::<UntilCleared>::new(), ByCall(Screen::new()), Processor::advance_text, |calls: ByCall<Screen>| shown(&calls.0);
+    terminal_runs: Updating::new(), ByCall(Screen::new()), Processor::advance_text, of_terminal;
     #[cfg(runs)]
-    filter_runs: Processor::<UntilCleared>::new(), ByCall(Text::default()), Processor::advance_text, |calls: ByCall<Text>| calls.0.checksum();
+    filter_runs: Updating::new(), ByCall(Text::default()), Processor::advance_text, of_text;
     #[cfg(strippers)]
-    copy: (), Text::default(), |_, text: &mut Text, bytes| text.put(bytes), Text::checksum, Text::clear;
-    #[cfg(strippers)]
-    console: (), Text::default(), |_, text: &mut Text, bytes| text.put(strip_ansi_codes(from_utf8(bytes).expect("UTF-8")).as_bytes()),
+    copy: (), Text::default(), |_, text: &mut Text, bytes| text.put(bytes),
         Text::checksum, Text::clear;
     #[cfg(strippers)]
-    strip_ansi_escapes: (), Text::default(), |_, text: &mut Text, bytes| text.put(&strip_ansi_escapes::strip(bytes)),
-        Text::checksum, Text::clear;
+    console: (), Text::default(), |_, text: &mut Text, bytes| {
+        let valid = from_utf8(bytes).expect("UTF-8");
+        text.put(strip_ansi_codes(valid).as_bytes())
+    }, Text::checksum, Text::clear;
+    #[cfg(strippers)]
+    strip_ansi_escapes: (), Text::default(), |_, text: &mut Text, bytes| {
+        text.put(&strip_ansi_escapes::strip(bytes))
+    }, Text::checksum, Text::clear;
+}
+
+type Updating = Processor<UntilCleared>;
+
+fn of_screen(screen: Screen) -> Checksum {
+    shown(&screen)
+}
+
+fn of_calls(calls: ByCall<CallChecksum>) -> Checksum {
+    calls.0.checksum
+}
+
+fn of_terminal(calls: ByCall<Screen>) -> Checksum {
+    shown(&calls.0)
+}
+
+fn of_text(calls: ByCall<Text>) -> Checksum {
+    calls.0.checksum()
 }
 
 /// Ends the program for words that aren't understood.

@@ -1,11 +1,11 @@
-//! Times the parser or processor of the crate `vte` 0.15.0, or of rust/vte (`--cfg runs`), alone, as
-//! crates/race does ours, for bench/: `peer KIND PIECE PASSES` reads a stream from standard input.
-//! Standard output gets the checksum, standard error the nanoseconds of the fastest pass. The kinds
-//! are `parser` and `processor`, with a performer or handler that folds all into a checksum,
-//! `screen` and `terminal`, with a screen as the parser's performer or the processor's handler, and
-//! `strip` and `filter`, which put text into memory. Over rust/vte the last four are there with
-//! `_runs` too, and get text in runs. With `--cfg strippers` there are also what else strips, and a
-//! copy. Status 2 for words that aren't understood.
+//! Times the parser or processor of the crate `vte` 0.15.0, or of rust/vte (`--cfg runs`), alone,
+//! as crates/race does ours, for bench/: `peer KIND PIECE PASSES` reads a stream from standard
+//! input. Standard output gets the checksum, standard error the nanoseconds of the fastest pass.
+//! The kinds are `parser` and `processor`, with a performer or handler that folds all into a
+//! checksum, `screen` and `terminal`, with a screen as the parser's performer or the processor's
+//! handler, and `strip` and `filter`, which put text into memory. Over rust/vte the last four are
+//! there with `_runs` too, and get text in runs. With `--cfg strippers` there are also what else
+//! strips, and a copy. Status 2 for words that aren't understood.
 
 mod text;
 

@@ -11,11 +11,13 @@ from c_library.library import CRATE, EXAMPLES, SANITIZERS, TOOLS, miss, output_o
 # before glibc 2.34 pseudo-terminals were in a library of their own
 OF_PTY = "-lutil"
 STREAM = b"a\xc3\xbc\x1b[1;31m\x1b]2;a;b\x07\xff\n"
-# what each example writes: those of a pty run a program that writes the stream, and a pty writes CR before LF
+# what each example writes: those of a pty run a program that writes the stream, and a pty writes CR
+# before LF
 PRINTS = r"printf 'a\303\274\033[1;31m\033]2;a;b\007\377\n'"
 EVENTS = "text aü\ncsi 6d\nosc 00\ntext \ufffd\nexecute 0d\nexecute 0a\n".encode()
 TEXT = "aü\ufffd\n".encode()
-# what comes slowly, and what must be written of each at once: by a title watcher on standard error, by a stripper on output
+# what comes slowly, and what must be written of each at once: by a title watcher on standard error,
+# by a stripper on output
 SLOWLY = [(title, title, said) for title, said in (
     (b"a\x1b]2;hi\x07", b"title: hi\n"), (b"b\x1b]1;icon\x07\x1b]21;x\x07\x1b]0;you\x1b\\", b"title: you\n"))]
 LINES = [(b"\x1b[1mone\x1b[m\n", b"one\n", b""), (b"two\n", b"two\n", b"")]

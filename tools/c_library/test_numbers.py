@@ -8,7 +8,8 @@ import pytest
 from c_library.library import BESIDE, HERE, TOOLS, miss, output_of
 
 TYPES = TOOLS.parent / "rust/vte/src/proved/vte_types"
-# Rust's type, and how the names of C begin, but for those that C names otherwise, which handler.cpp tries
+# Rust's type, and how the names of C begin, but for those that C names otherwise, which handler.cpp
+# tries
 ENUMS = {
     "Attr": "VTE_", "NamedColor": None, "LineClearMode": "VTE_LINE_", "ClearMode": "VTE_SCREEN_",
     "TabulationClearMode": "VTE_TAB_", "CursorShape": "VTE_SHAPE_", "StandardCharset": None,

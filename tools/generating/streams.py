@@ -29,7 +29,8 @@ EMOJI = characters(range(0x1F300, 0x1F650), range(0x1F680, 0x1F6D0), range(0x1F9
 JOINED = ["\U0001F468\u200D\U0001F469\u200D\U0001F467", "\U0001F44D\U0001F3FD", "\u2764\uFE0F", "\U0001F1E9\U0001F1EA",
           "e\u0301", "a\u0308\u0323", "1\uFE0F\u20E3"]
 LATIN = list("abcdefghijklmnopqrstuvwxyz      " * 3 + "\u00E4\u00F6\u00FC\u00DF\u00E9\u00E8\u00E0\u00F1")
-# name: (what it is, a function from a random.Random to parts without end, whether the parts come by chance)
+# name: (what it is, a function from a random.Random to parts without end, whether the parts come by
+# chance)
 STREAMS = {}
 
 

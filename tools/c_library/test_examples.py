@@ -32,7 +32,8 @@ def program(library, place, *words):
     if compiler != "go":
         return library.program(source, OF_PTY, *words, compiler=compiler)
     made = library.folder / f"{source.parent.name}_go"
-    environment = {"CGO_ENABLED": "1", "CGO_CFLAGS": f"-I{CRATE / 'include'}", "CGO_LDFLAGS": f"{library.archive} {OF_PTY}",
+    environment = {"CGO_ENABLED": "1", "CGO_CFLAGS": f"-I{CRATE / 'include'}",
+                   "CGO_LDFLAGS": f"{library.archive} {OF_PTY}",
                    "GO111MODULE": "off", "GOFLAGS": "-mod=mod"}
     assert output_of(["go", "build", "-o", made, source], **environment) == b""
     return made
@@ -55,9 +56,13 @@ def assert_slow(words, pieces):
 
 
 def read_soon(stream, count):
-    """Reads so many bytes, or fewer if they don't come within minutes: beside a gate that takes all cores, a start takes long."""
+    """Reads so many bytes, or fewer if they don't come within minutes: beside a gate that takes all
+    cores, a start takes long."""
     read = b""
-    while len(read) < count and select.select([stream], [], [], 300)[0] and (more := os.read(stream.fileno(), count - len(read))):
+    while len(read) < count and select.select([stream], [], [], 300)[0]:
+        more = os.read(stream.fileno(), count - len(read))
+        if not more:
+            break
         read += more
     return read
 
@@ -101,8 +106,10 @@ def test_pty_events(library, place, tmp_path):
 def test_forward(library):
     """Streams are passed on without clipboards, however they are cut."""
     forward = program(library, "c/forward.c", *(SANITIZERS if library.sanitized else ()))
-    kept = [b"a\xc3\xbc\xff\x1b[1;31m", b"b\x1b]2;a;b\x07\x1bPq+\x1b\\", b"\x1b]521;x\x07\x1b_52;c\x1b\\", b"\x1b[mc\xc3\r\n", b"\x1b]2;t\x1b\\d\x1b]5"]
-    clipboards = [b"\x1b]52;c;YQ==\x07", b"\x1b]52;c;" + b"YQ==" * 3000 + b"\x1b\\", b"\x1b]52\x18", b"\x1b]52;c;x"]
+    kept = [b"a\xc3\xbc\xff\x1b[1;31m", b"b\x1b]2;a;b\x07\x1bPq+\x1b\\",
+            b"\x1b]521;x\x07\x1b_52;c\x1b\\", b"\x1b[mc\xc3\r\n", b"\x1b]2;t\x1b\\d\x1b]5"]
+    clipboards = [b"\x1b]52;c;YQ==\x07", b"\x1b]52;c;" + b"YQ==" * 3000 + b"\x1b\\", b"\x1b]52\x18",
+                  b"\x1b]52;c;x"]
     stream = b"".join(a + b for a, b in zip(kept, [*clipboards, b""]))
     assert output_of([forward], stream) == b"".join(kept)
     # one that another sequence ends isn't followed by ST
@@ -114,8 +121,10 @@ def test_forward(library):
 
 def test_clipboards(whole, tmp_path):
     texts = [b"Q" * 1_000_000, b"", b"YWJj"] + [b"YQ=="] * 20
-    stream = b"a\x1b]52;c;?\x07\x1b]2;c;title\x07\x1b]52;c\x07" + b"".join(b"b\x1b]52;c;" + text + b"\x1b\\" for text in texts)
-    clipboards, few_files = program(whole, "c/clipboards.c"), ["sh", "-c", 'ulimit -n 12; exec "$0" "$1"']
+    stream = b"a\x1b]52;c;?\x07\x1b]2;c;title\x07\x1b]52;c\x07" + b"".join(
+        b"b\x1b]52;c;%b\x1b\\" % text for text in texts)
+    clipboards = program(whole, "c/clipboards.c")
+    few_files = ["sh", "-c", 'ulimit -n 12; exec "$0" "$1"']
     assert output_of([*few_files, clipboards, tmp_path], stream) == b"23\n"
     assert [(tmp_path / str(at)).read_bytes() for at in range(23)] == texts
     for words in [], [tmp_path, tmp_path], [tmp_path / "none"]:
@@ -124,5 +133,6 @@ def test_clipboards(whole, tmp_path):
 
 def test_outline(whole):
     outline = program(whole, "cpp/outline.cpp", "-std=c++17")
-    assert output_of([outline], STREAM + b"\x1b[3;5H\x1b[?2026hend") == "aü[bold][title a;b]\ufffd[go to 2, 4]end".encode()
+    said = output_of([outline], STREAM + b"\x1b[3;5H\x1b[?2026hend").decode()
+    assert said == "aü[bold][title a;b]\ufffd[go to 2, 4]end"
     assert_slow([outline], [(b"a\x1b[1m", b"a[bold]"), (b"b", b"b")])

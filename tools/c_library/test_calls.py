@@ -99,7 +99,8 @@ SHOWN = {
     "set_hyperlink": link,
     "identify_terminal": letter,
     "set_title": lambda title: optional(quoted(title)),
-    "set_scrolling_region": lambda top, bottom: f"{top} {optional(None if bottom == '0' else bottom)}",
+    "set_scrolling_region": lambda top, bottom: (
+        f"{top} {optional(None if bottom == '0' else bottom)}"),
     "set_color": each(str, rgb),
     "dynamic_color_sequence": each(quoted, str, quoted),
     "set_mouse_cursor_icon": lambda icon: "".join(

@@ -19,7 +19,8 @@ TEXT = "aü\ufffd\n".encode()
 # what comes slowly, and what must be written of each at once: by a title watcher on standard error,
 # by a stripper on output
 SLOWLY = [(title, title, said) for title, said in (
-    (b"a\x1b]2;hi\x07", b"title: hi\n"), (b"b\x1b]1;icon\x07\x1b]21;x\x07\x1b]0;you\x1b\\", b"title: you\n"))]
+    (b"a\x1b]2;hi\x07", b"title: hi\n"),
+    (b"b\x1b]1;icon\x07\x1b]21;x\x07\x1b]0;you\x1b\\", b"title: you\n"))]
 LINES = [(b"\x1b[1mone\x1b[m\n", b"one\n", b""), (b"two\n", b"two\n", b"")]
 
 

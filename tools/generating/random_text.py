@@ -7,8 +7,8 @@ CHARACTERS = [chr(code).encode() for code in (
 MALFORMED = [bytes.fromhex(text) for text in (
     "80 85 9c a0 bf c0 c1 c080 c0af c1bf c2 df e0 e080 e08080 e09f e09fbf e0a0 e1 e4bf ed ed9f "
     "eda0 eda080 ee80 f0 f080 f0808080 f08f f08fbfbf f090 f09080 f09f98 f1 f48f f48fbf f490 "
-    "f4908080 f5 f5808080 fe ff c3c3a9 e4bde4bda0 f09f98f09f9880 e4bf18 e4bf0a c37f f09f981b e21b5b6d c21b5d "
-    "f18080c285").split()]
+    "f4908080 f5 f5808080 fe ff c3c3a9 e4bde4bda0 f09f98f09f9880 e4bf18 e4bf0a c37f f09f981b "
+    "e21b5b6d c21b5d f18080c285").split()]
 
 
 def cut_at_random(chance, stream, share):

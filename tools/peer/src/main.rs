@@ -5,7 +5,7 @@
 //! checksum, `screen` and `terminal`, with a screen as the parser's performer or the processor's
 //! handler, and `strip` and `filter`, which put text into memory. Over rust/vte the last four are
 //! there with `_runs` too, and get text in runs. With `--cfg strippers` there are also what else
-//! strips, and a copy. Status 2 for words that aren't understood.
+//! strips, and a copy.
 
 mod text;
 
@@ -25,8 +25,6 @@ mod visitor;
 
 use std::hint::black_box;
 use std::io::Read;
-use std::num::NonZeroUsize;
-use std::process::exit;
 use std::time::{Duration, Instant};
 
 #[cfg(strippers)]
@@ -71,7 +69,7 @@ macro_rules! races {
         fn race_of(kind: &str) -> fn(&[u8], usize, usize) -> (Checksum, Duration) {
             match kind {
                 $($(#[$runs])? stringify!($kind) => $kind,)*
-                _ => usage(&format!("no such race here: {kind}")),
+                _ => panic!("no such race here: {kind}"),
             }
         }
     };
@@ -125,32 +123,16 @@ fn of_text(calls: ByCall<Text>) -> Checksum {
     calls.0.checksum()
 }
 
-/// Ends the program for words that aren't understood.
-fn usage(message: &str) -> ! {
-    eprintln!("peer: {message}");
-    exit(2)
-}
-
-/// A number from 1 on.
-fn positive(word: &str) -> usize {
-    word.parse().map_or_else(
-        |_| usage(&format!("a number from 1 on is wanted, not {word}")),
-        NonZeroUsize::get,
-    )
-}
-
 fn main() {
     let words: Vec<String> = std::env::args().skip(1).collect();
     let [kind, piece, passes] = &words[..] else {
-        usage("KIND, PIECE and PASSES are wanted")
+        panic!("KIND, PIECE and PASSES are wanted");
     };
-    let (race, piece, passes) = (race_of(kind), positive(piece), positive(passes));
+    let number = |word: &String| word.parse().expect("a number is wanted");
     let mut stream = Vec::new();
-    std::io::stdin()
-        .lock()
-        .read_to_end(&mut stream)
-        .expect("the read failed");
-    let (checksum, time) = race(&stream, piece, passes);
+    let read = std::io::stdin().lock().read_to_end(&mut stream);
+    read.expect("the read failed");
+    let (checksum, time) = race_of(kind)(&stream, number(piece), number(passes));
     println!("{checksum}");
     eprintln!("{}", time.as_nanos());
 }

@@ -33,16 +33,13 @@ static void *parse(void *user) {
         vte_counts counts, more;
         vte_parser stripper = {{0}};
         size_t written, all = sizeof bytes - 1;
-        if (vte_feed(parser, bytes, all, VTE_ALL_KINDS, 0, events, 16, data, sizeof data, &counts)
-            != all)
-            return user;
-        if (vte_long_feed(long_parser, bytes, all, VTE_ALL_KINDS, 0, events, 16, &area, &more)
-                != all
-            || more.events != counts.events)
-            return user;
-        if (vte_strip(&stripper, bytes, all, text, sizeof text, &written) != all
-            || vte_is_open(parser))
-            return user;
+        size_t read = vte_feed(parser, bytes, all, VTE_ALL_KINDS, 0, events, 16, data, sizeof data,
+                               &counts);
+        if (read != all) return user;
+        read = vte_long_feed(long_parser, bytes, all, VTE_ALL_KINDS, 0, events, 16, &area, &more);
+        if (read != all || more.events != counts.events) return user;
+        read = vte_strip(&stripper, bytes, all, text, sizeof text, &written);
+        if (read != all || vte_is_open(parser)) return user;
     }
     vte_long_parser_free(long_parser);
     return NULL;

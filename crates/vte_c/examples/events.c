@@ -145,14 +145,13 @@ int main(int argc, char **argv) {
         if (takes) {
             *(argv[1][0] == 'k' ? &kinds : &stops) = (uint32_t)strtoul(argv[2], NULL, 10);
             argc--, argv++;
-        }
-        else if (strcmp(argv[1], "losses") == 0) losses = 1;
+        } else if (strcmp(argv[1], "losses") == 0) losses = 1;
         else if (strcmp(argv[1], "strip") == 0) strips = 1;
         else if (strcmp(argv[1], "long") == 0) is_long = 1;
         else return 2;
     }
-    size_t piece = number_at(argc - 1, argv + 1, 0), first = number_at(argc - 1, argv + 1, 1),
-           second = number_at(argc - 1, argv + 1, 2);
+    size_t piece = number_at(argc - 1, argv + 1, 0);
+    size_t first = number_at(argc - 1, argv + 1, 1), second = number_at(argc - 1, argv + 1, 2);
     if (vte_version() != VTE_VERSION || vte_parser_size() != sizeof(vte_parser)
         || vte_event_size() != sizeof(vte_event) || vte_least_events() != VTE_LEAST_EVENTS
         || vte_least_data() != VTE_LEAST_DATA || vte_least_text() != VTE_LEAST_TEXT) {

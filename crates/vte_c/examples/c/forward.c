@@ -32,9 +32,8 @@ static int is_clipboard(const vte_event *event, const uint8_t *data) {
  * follows: ST's `\`, or another sequence. */
 static void pass(const vte_event *events, size_t count, const uint8_t *data) {
     static int ends;
-    int drops = count > 0
-                && (is_clipboard(events, data)
-                    || (ends && events->kind == VTE_ESC && events->code == '\\'));
+    int is_end = ends && count > 0 && events->kind == VTE_ESC && events->code == '\\';
+    int drops = is_end || (count > 0 && is_clipboard(events, data));
     ends = drops && events->kind == VTE_OSC && kept[kept_length - 1] == '\033';
     if (!drops) fwrite(kept, 1, kept_length, stdout);
     kept_length = 0;

@@ -1,23 +1,16 @@
 """The figures of a benchmark: ratios, medians and quartiles."""
-import itertools
 import statistics
-
-
-def by_round(row, side):
-    """The times of a side: a list per round, with one number for each placement of its code.
-    Without a side each is a nanosecond."""
-    if not side:
-        return itertools.repeat([1])
-    return [each if isinstance(each, list) else [each] for each in row["nanoseconds"][side]]
 
 
 class Comparison:
     """Our time over the other's, or alone: the median of all ratios, and the quartiles."""
 
     def __init__(self, row, other, ours="ours"):
+        of_ours = row["nanoseconds"][ours]
+        of_others = row["nanoseconds"][other] if other else [[1]] * len(of_ours)
         # in each round that of each placement of our code over each of theirs
-        rounds = zip(by_round(row, ours), by_round(row, other))
-        found = [one / its for of_ours, of_others in rounds for one in of_ours for its in of_others]
+        found = [one / its for round_of_ours, round_of_others in zip(of_ours, of_others)
+                 for one in round_of_ours for its in round_of_others]
         # the quartiles of one number are that
         found = found if len(found) > 1 else 2 * found
         self.low, self.median, self.high = statistics.quantiles(found, n=4, method="inclusive")

@@ -1,9 +1,26 @@
-"""The kinds of benchmarks. Each yields rows: what was measured, and the nanoseconds per byte of
-each side, per round."""
-from functools import partial
+"""The kinds of benchmarks, and the programs and streams that they take.
 
-import course as timing
+Each kind yields rows: what was measured, and the nanoseconds per byte of each side, per round."""
+import functools
+import random
+import subprocess
+import sys
+from concurrent.futures import ThreadPoolExecutor
+from pathlib import Path
+
+sys.path.insert(0, str(Path(__file__).resolve().parent.parent / "tools"))
+from building import rattle_builds, rust_builds
 from generating import streams
+
+# The sides: ours as rt proves and builds it, the same text in the crates of rust/, and the crate,
+# these two in the best build (fat link-time optimization) and in cargo's default release profile.
+IN_RUST = {"rust": "fat", "rust_release": "release", "best": "fat", "release": "release"}
+OURS_IN_RUST = ("rust", "rust_release")
+# the kinds of tools/peer that put text into memory, or only copy it, all in cargo's best build
+STRIPPERS = {"rust": "strip_runs", "advance": "strip", "copy": "copy", "console": "console",
+             "strip-ansi-escapes": "strip_ansi_escapes"}
+# the minimum time of a side in a round
+SECONDS = 0.05
 
 STREAMS = ["ascii", "prose", "cjk", "latin1", "ls_color", "coloured", "dense_cells", "random",
            "bad_ff", "bad_trunc4", "bad_alternate", "lead_esc", "osc_title", "osc_clipboard",
@@ -19,56 +36,143 @@ ALONE = {
     "terminal": {4096: SCREEN_STREAMS}}
 # streams of commands with more than the 1,024 bytes that Rattle's parser and processor keep
 BEYOND_THE_LIMIT = ["osc_clipboard"]
+# the bytes of a stream whose checksums are compared: the crate takes quadratic time for malformed
+# text in one call
+CHECKED = 50_000
 # streams to strip of sequences
 STRIPPED = ["ascii", "prose", "cjk", "cyrillic", "ls_color", "coloured", "random"]
 
 
-def row(race, stream, piece, size, times):
-    """A row of figures, in nanoseconds per byte. A round has one number, or one for each placement
-    of the code."""
-    def of_round(seconds):
-        numbers = [round(its / size * 1e9, 4) for its in seconds]
-        return numbers if len(numbers) > 1 else numbers[0]
+class Course:
+    """The programs, those in Rust in so many placements of their code, and a folder for streams."""
 
-    figures = {side: list(map(of_round, of_side)) for side, of_side in times.items()}
+    def __init__(self, folder, placements=1):
+        self.folder = Path(folder)
+        self.placements = placements
+
+    @functools.cache
+    def peers(self, side):
+        """The program of a side of IN_RUST, once for each placement of its code. It has the default
+        features of the crate, and so of rust/vte: commands have no limit."""
+        return rust_builds.placed_peers(side in OURS_IN_RUST, self.folder / side, IN_RUST[side],
+                                        self.placements)
+
+    @functools.cached_property
+    def race(self):
+        return rattle_builds.program("race", ["parser", "1", "1"])
+
+    def racers(self, kind):
+        """The commands of each side: one for each placement of its code. Rattle's build has one."""
+        programs = {"ours": [self.race] * self.placements,
+                    **{side: self.peers(side) for side in IN_RUST}}
+        return {side: [[program, kind] for program in of_side]
+                for side, of_side in programs.items()}
+
+    @functools.cached_property
+    def strippers(self):
+        """The commands of each of STRIPPERS."""
+        programs = rust_builds.strippers(self.folder / "strippers", self.placements)
+        return {side: [[program, kind] for program in programs]
+                for side, kind in STRIPPERS.items()}
+
+    def build(self, kinds):
+        """Builds every program that these kinds run, before one is measured."""
+        if "strip" in kinds:
+            _ = self.strippers
+        if set(kinds) - {"strip"}:
+            _ = self.race
+            with ThreadPoolExecutor() as pool:
+                list(pool.map(self.peers, IN_RUST))
+
+    def stream(self, name, size):
+        """A file with a prefix of a stream."""
+        place = self.folder / f"{name}_{size}"
+        if not place.exists():
+            place.write_bytes(streams.generate(name, size))
+        return place
+
+
+def run(words, place):
+    """The standard output and standard error of a program for the stream in a file."""
+    with open(place, "rb") as stream:
+        done = subprocess.run(words, stdin=stream, capture_output=True, text=True)
+    if done.returncode != 0:
+        rust_builds.stop(f"{' '.join(map(str, words))}: status {done.returncode}: {done.stderr}")
+    return done.stdout, done.stderr
+
+
+def in_rounds(rounds, sides):
+    """The seconds of each side, round by round: a list, with one number for each of its programs.
+
+    A round runs the first program of each side, one right after the other, then the second of
+    each, and so on, in an order of its own."""
+    times = {name: [[] for _ in range(rounds)] for name in sides}
+    for count in range(rounds):
+        order = random.sample([*sides], len(sides))
+        for programs in zip(*(sides[name] for name in order)):
+            for name, seconds in zip(order, programs):
+                times[name][count].append(seconds())
+    return times
+
+
+def in_passes(words, place, piece):
+    """A function that runs a program over a stream, and returns the seconds of its fastest pass."""
+    def seconds(passes):
+        return int(run([*words, str(piece), str(passes)], place)[1]) / 1e9
+
+    passes = max(1, round(SECONDS / seconds(1)))
+    return lambda: seconds(passes)
+
+
+def compare_checksums(name, sides, place):
+    """Stops if the sides' checksums of a stream differ. They get it in one call, because the
+    crate's events can be wrong in pieces."""
+    size = str(place.stat().st_size)
+    told = {side: run([*commands[0], size, "1"], place)[0] for side, commands in sides.items()}
+    if len(set(told.values())) > 1:
+        rust_builds.stop(f"the checksums of {name} differ: {told}")
+
+
+def row(race, stream, piece, size, times):
+    """A row of figures, in nanoseconds per byte: for each round a number per placement."""
+    figures = {side: [[round(its / size * 1e9, 4) for its in seconds] for seconds in of_side]
+               for side, of_side in times.items()}
     return {"race": race, "stream": stream, "piece": piece, "nanoseconds": figures}
 
 
 def timed(commands, place, piece):
     """What `in_rounds` runs for the commands of each side."""
-    return {side: [timing.in_passes(words, place, piece) for words in of_side]
+    return {side: [in_passes(words, place, piece) for words in of_side]
             for side, of_side in commands.items()}
 
 
-def strip(course):
+def strip(course, given):
     """What puts text into memory: ours in pieces, others at once, and `console` only for streams of
     UTF-8, which it wants."""
-    for name in course.given.streams or STRIPPED:
+    for name in given.streams or STRIPPED:
         # more than the second cache has room for; whole lines of a stream that isn't repeated, so
         # that no character is cut
         place = course.folder / f"{name}_lines"
         lines = streams.generate(name, streams.PERIOD).rsplit(b"\n", 1)[0]
         place.write_bytes(lines)
-        is_text = lines == lines.decode(errors="ignore").encode()
         others = dict(course.strippers)
         ours = {side: others.pop(side) for side in ("rust", "advance")}
-        if not is_text:
+        if lines != lines.decode(errors="ignore").encode():
             del others["console"]
-        timing.compare_checksums(name, ours, place)
+        compare_checksums(name, ours, place)
         sides = {**timed(ours, place, 4096), **timed(others, place, len(lines))}
-        times = timing.in_rounds(course.given.rounds, sides)
-        yield row("strip", name, 4096, len(lines), times)
+        yield row("strip", name, 4096, len(lines), in_rounds(given.rounds, sides))
 
 
-def alone(race, course):
+def alone(race, course, given):
     """Each side in memory, for the given streams and pieces."""
-    racers, size = course.racers(race), course.given.bytes
-    for name, piece in asked_for(course.given, ALONE[race]):
+    racers = course.racers(race)
+    for name, piece in asked_for(given, ALONE[race]):
         commands = {side: of_side for side, of_side in racers.items()
                     if side != "ours" or name not in BEYOND_THE_LIMIT}
-        timing.compare_checksums(name, commands, course.stream(name, timing.CHECKED))
-        sides = timed(commands, course.stream(name, size), piece)
-        yield row(race, name, piece, size, timing.in_rounds(course.given.rounds, sides))
+        compare_checksums(name, commands, course.stream(name, CHECKED))
+        sides = timed(commands, course.stream(name, given.bytes), piece)
+        yield row(race, name, piece, given.bytes, in_rounds(given.rounds, sides))
 
 
 def asked_for(given, default):
@@ -79,4 +183,4 @@ def asked_for(given, default):
     return [(name, piece) for name in names for piece in given.pieces or [4096]]
 
 
-RACES = {**{race: partial(alone, race) for race in ALONE}, "strip": strip}
+RACES = {**{race: functools.partial(alone, race) for race in ALONE}, "strip": strip}

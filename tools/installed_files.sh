@@ -1,7 +1,7 @@
 # The files that tools/install installs and tools/uninstall removes. Both source this file.
 #
-# PREFIX is where the files are used (default: /usr/local), and LIBDIR where libraries are (default: its lib). DESTDIR is a folder to put
-# before both, for packages.
+# PREFIX is where the files are used (default: /usr/local), and LIBDIR where libraries are (default:
+# its lib). DESTDIR is a folder to put before both, for packages.
 
 PREFIX=$(realpath -ms -- "${PREFIX:-/usr/local}")
 LIBDIR=$(realpath -ms -- "${LIBDIR:-$PREFIX/lib}")

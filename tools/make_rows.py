@@ -7,14 +7,11 @@ that rust/vte/tests/rows/block.rs describes. Both are blocks of lines, separated
 
 With --check nothing is written, and the status is 1 if a file isn't up to date.
 """
-import argparse
 import itertools
-import sys
-from pathlib import Path
 
-from generating.rows import all_rows, bytes_of, lines_of, parts, split_repeated
+from generating.rows import (
+    all_rows, bytes_of, lines_of, parts, split_repeated, write_or_check)
 
-TOP = Path(__file__).resolve().parents[1]
 # the stages whose runs are streams
 CALL_STAGES = ["handler: controls, ESC and CSI", "SGR and colours"]
 # runs that are repeated, cut at every place with a stop there
@@ -144,17 +141,5 @@ def files():
         yield name, "\n\n".join("\n".join(block) for block in blocks) + "\n"
 
 
-def main():
-    parser = argparse.ArgumentParser(description=__doc__,
-                                     formatter_class=argparse.RawDescriptionHelpFormatter)
-    parser.add_argument("--check", action="store_true")
-    is_check = parser.parse_args().check
-    for name, text in files():
-        if not is_check:
-            (TOP / name).write_text(text)
-        elif not (TOP / name).is_file() or (TOP / name).read_text() != text:
-            sys.exit(f"tools/make_rows.py: {name} isn't up to date; run tools/make_rows.py")
-
-
 if __name__ == "__main__":
-    main()
+    write_or_check(__doc__, files)

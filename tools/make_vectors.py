@@ -10,7 +10,6 @@ which the answer depends. Rows that only test this repository's own interface ar
 vectors/ids.txt lists all ids there have been; one that is gone is an error. With --check nothing is
 written, and the status is 1 if a file isn't up to date.
 """
-import argparse
 import json
 import re
 import sys
@@ -19,14 +18,13 @@ from pathlib import Path
 
 sys.dont_write_bytecode = True
 
-from generating.rows import all_rows, bytes_of, lines_of  # noqa: E402
+from generating.rows import all_rows, bytes_of, lines_of, write_or_check  # noqa: E402
 from judging import definition  # noqa: E402
 from judging.cases import pieces_of  # noqa: E402
 from judging.house import CHOICES, House  # noqa: E402
 from judging.rules import LEVELS, MUST, RULES  # noqa: E402
 
 TOOLS = Path(__file__).resolve().parent
-FOLDER = TOOLS.parent / "vectors"
 # increases with each incompatible change of the form
 VERSION = 3
 # streams and answers beyond this size keep their repetitions, in a list of their own
@@ -176,7 +174,7 @@ def text_of(vectors):
 
 
 def texts():
-    """The text of each file, by its name."""
+    """The path and the text of each file."""
     own = [{"kind": "lines", "size": 1024, **row}
            for row in json.loads((TOOLS / "vector_rows.json").read_text())]
     vectors = [{"name": row["name"], **vector}
@@ -184,26 +182,14 @@ def texts():
     events = [vector for vector in vectors if vector["kind"] == "events"]
     calls = [vector for vector in vectors if vector["kind"] != "events"]
     ids = {*ids_of(events), *ids_of(calls)}
-    before = (FOLDER / "ids.txt").read_text().split()
+    before = (TOOLS.parent / "vectors/ids.txt").read_text().split()
     if gone := sorted({*before} - ids):
         sys.exit(f"tools/make_vectors.py: these ids are gone: {', '.join(gone)}; "
                  "a row keeps its name")
-    return {"events.json": text_of(events), "calls.json": text_of(calls),
-            "ids.txt": "\n".join([*before, *sorted(ids.difference(before))]) + "\n"}
-
-
-def main():
-    parser = argparse.ArgumentParser(description=__doc__,
-                                     formatter_class=argparse.RawDescriptionHelpFormatter)
-    parser.add_argument("--check", action="store_true")
-    is_check = parser.parse_args().check
-    for name, text in texts().items():
-        if not is_check:
-            (FOLDER / name).write_text(text)
-        elif (FOLDER / name).read_text() != text:
-            sys.exit(f"tools/make_vectors.py: vectors/{name} isn't up to date; "
-                     "run tools/make_vectors.py")
+    yield "vectors/events.json", text_of(events)
+    yield "vectors/calls.json", text_of(calls)
+    yield "vectors/ids.txt", "\n".join([*before, *sorted(ids.difference(before))]) + "\n"
 
 
 if __name__ == "__main__":
-    main()
+    write_or_check(__doc__, texts)

@@ -1,8 +1,8 @@
 // Tries a parser on events.json: go run run.go my_parser.go [WORD ..] <events.json
 //
 // my_parser.go, of package main, has parsePieces, a function from pieces to event lines. Each
-// vector is tried as it is, in one piece, and byte by byte. A word is a level, a rule, or a house rule
-// (docs/VECTORS.md): vectors that have it are left out.
+// vector is tried as it is, in one piece, and byte by byte. A word is a level, a rule, or a house
+// rule (docs/VECTORS.md): vectors that have it are left out.
 package main
 
 import (

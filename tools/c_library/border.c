@@ -1,5 +1,6 @@
-/* Calls at the edges of what vte.h allows: no bytes, NULL for none, one element less than the least room, kinds that don't exist, and
- * commands around their limit. Counts have other values before each call. It writes what doesn't hold, and the status is then 1. */
+/* Calls at the edges of what vte.h allows: no bytes, NULL for none, one element less than the least
+ * room, kinds that don't exist, and commands around their limit. Counts have other values before
+ * each call. It writes what doesn't hold, and the status is then 1. */
 #ifdef WITH_LONG
 #include "vte_handler.h"
 #include "vte_long.h"
@@ -47,11 +48,19 @@ static void edge(const char *what, size_t length, uint32_t kinds, uint32_t stops
 #endif
 }
 
+/* Feeds bytes, with room for what they add. */
+static size_t feed(vte_parser *parser, const uint8_t *from, size_t length, uint32_t kinds,
+                   uint32_t stops, vte_counts *counts) {
+    return vte_feed(parser, from, length, kinds, stops, events, 64, data, sizeof data, counts);
+}
+
 static size_t strip(size_t length, size_t room, size_t wanted, const char *what) {
     vte_parser parser = new_parser;
-    size_t written = 77, read = vte_strip(&parser, length ? bytes : NULL, length, room ? text : NULL, room, &written);
+    size_t written = 77, read = vte_strip(&parser, length ? bytes : NULL, length,
+                                          room ? text : NULL, room, &written);
     holds(written == wanted, what);
-    holds(read != VTE_NO_ROOM || memcmp(&parser, &new_parser, sizeof parser) == 0, "a parser without room for text");
+    holds(read != VTE_NO_ROOM || memcmp(&parser, &new_parser, sizeof parser) == 0,
+          "a parser without room for text");
     return read;
 }
 
@@ -91,14 +100,15 @@ static void test_command(vte_parser *parser, const command *given, size_t step) 
     length += (size_t)sprintf((char *)sent + length, "%s", given->after);
     for (size_t at = 0; at < length;) {
         vte_counts counts;
-        at += vte_feed(parser, sent + at, at + step < length ? step : length - at, VTE_ALL_KINDS, 0, events, 64, data,
-                       sizeof data, &counts);
+        size_t piece = at + step < length ? step : length - at;
+        at += feed(parser, sent + at, piece, VTE_ALL_KINDS, 0, &counts);
         if (counts.events == 0) continue;
         vte_items pieces = vte_items_of(events, data);
         size_t count = 0, size = 0;
         for (; vte_next_piece(&pieces); count++) size += pieces.length;
         holds(events[0].flag == given->flags, "flags of a command");
-        holds(count == given->count && size == given->size && counts.data == 4 * count + size, "data of a command");
+        holds(count == given->count && size == given->size && counts.data == 4 * count + size,
+              "data of a command");
         found += counts.events;
     }
     holds(found == 1, "a command is one event");
@@ -107,7 +117,8 @@ static void test_command(vte_parser *parser, const command *given, size_t step) 
 static void test_commands(void) {
     vte_parser parser = new_parser;
     for (size_t step = 1; step <= 4096; step += 4095)
-        for (size_t i = 0; i < sizeof commands / sizeof *commands; i++) test_command(&parser, &commands[i], step);
+        for (size_t i = 0; i < sizeof commands / sizeof *commands; i++)
+            test_command(&parser, &commands[i], step);
 }
 
 /* Data of device control strings are in the bytes of the call. Each string has its own. */
@@ -120,7 +131,8 @@ static void test_data(void) {
         size_t size = 0, in_area = 0;
         for (size_t at = 0; at < all; at += step) {
             vte_counts counts;
-            holds(vte_feed(&parser, sent + at, step, VTE_ALL_KINDS, 0, events, 64, data, sizeof data, &counts) == step, "data are read");
+            size_t read = feed(&parser, sent + at, step, VTE_ALL_KINDS, 0, &counts);
+            holds(read == step, "data are read");
             for (size_t i = 0; i < counts.events; i++) {
                 if (events[i].kind == VTE_UNHOOK) found[size++] = '|';
                 if (events[i].kind != VTE_DATA) continue;
@@ -133,8 +145,11 @@ static void test_data(void) {
     }
     vte_parser parser = new_parser;
     vte_counts counts;
-    holds(vte_feed(&parser, sent, all, VTE_ALL_KINDS, VTE_KIND(VTE_DATA), events, 64, data, sizeof data, &counts) == 8 && counts.events == 3, "data stop");
-    holds(events[2].kind == VTE_DATA && events[2].start == 4 && events[2].code == 4 && !events[2].flag, "the place of data");
+    size_t read = feed(&parser, sent, all, VTE_ALL_KINDS, VTE_KIND(VTE_DATA), &counts);
+    holds(read == 8 && counts.events == 3, "data stop");
+    holds(events[2].kind == VTE_DATA && events[2].start == 4 && events[2].code == 4
+              && !events[2].flag,
+          "the place of data");
 }
 
 /* Whether something is open is known at each byte. */
@@ -144,28 +159,30 @@ static void test_open(void) {
     vte_parser parser = new_parser;
     for (size_t at = 0; at < sizeof sent - 1; at++) {
         vte_counts counts;
-        vte_feed(&parser, sent + at, 1, 0, 0, events, 64, data, sizeof data, &counts);
+        feed(&parser, sent + at, 1, 0, 0, &counts);
         holds(counts.events == 0 && vte_is_open(&parser) == open[at] - '0', "what is open");
     }
 }
 
 static const uint8_t all_kinds[] = "a\r\033P1q+\033\\\033]t\007\033[1mb\033(B\033Pq-\030\033Pqxyz";
 
-/* Each kind stops after its first event, of which there is no other before; one that isn't reported doesn't stop. */
+/* Each kind stops after its first event, of which there is no other before; one that isn't reported
+ * doesn't stop. */
 static void test_stops(void) {
     const size_t all = sizeof all_kinds - 1;
     vte_counts counts;
     for (int kind = VTE_TEXT; kind <= VTE_ESC; kind++) {
         vte_parser parser = new_parser;
-        size_t at, read = vte_feed(&parser, all_kinds, all, VTE_ALL_KINDS, VTE_KIND(kind), events, 64, data, sizeof data, &counts);
+        size_t at, read = feed(&parser, all_kinds, all, VTE_ALL_KINDS, VTE_KIND(kind), &counts);
         for (at = 0; at < counts.events && events[at].kind != kind; at++) continue;
         holds(read < all && at < counts.events && at + 2 >= counts.events, "a kind stops");
         parser = new_parser;
-        read = vte_feed(&parser, all_kinds, all, VTE_KIND(kind), 0, events, 64, data, sizeof data, &counts);
+        read = feed(&parser, all_kinds, all, VTE_KIND(kind), 0, &counts);
         for (at = 0; at < counts.events && events[at].kind == kind; at++) continue;
         holds(read == all && at > 0 && at == counts.events, "a kind alone");
         parser = new_parser;
-        read = vte_feed(&parser, all_kinds, all, VTE_ALL_KINDS & ~VTE_KIND(kind), VTE_KIND(kind), events, 64, data, sizeof data, &counts);
+        uint32_t others = VTE_ALL_KINDS & ~VTE_KIND(kind);
+        read = feed(&parser, all_kinds, all, others, VTE_KIND(kind), &counts);
         holds(read == all, "a kind that isn't reported");
     }
 }
@@ -182,19 +199,31 @@ static void test_long_commands(void) {
         size_t length = 4, rest = letters[i / 2];
         memset(sent + length, 'a', rest);
         sent[length += rest] = i % 2 ? '\a' : 030;
-        holds(vte_long_feed(parser, sent, length + 1, VTE_KIND(VTE_OSC), 0, events, 64, &area, &counts) == length + 1 && counts.events == 1, "a long command");
+        size_t read = vte_long_feed(parser, sent, length + 1, VTE_KIND(VTE_OSC), 0, events, 64,
+                                    &area, &counts);
+        holds(read == length + 1 && counts.events == 1, "a long command");
         vte_items pieces = vte_items_of(events, area);
-        holds(events[0].flag == (i % 2 ? VTE_BELL : 0) && events[0].count == 2, "flags of a long command");
-        holds(vte_next_piece(&pieces) && pieces.length == 1 && vte_next_piece(&pieces) && pieces.length == rest
-              && memcmp(pieces.at, sent + 4, rest) == 0 && !vte_next_piece(&pieces) && !vte_next_piece(&pieces), "pieces of a long command");
+        holds(events[0].flag == (i % 2 ? VTE_BELL : 0) && events[0].count == 2,
+              "flags of a long command");
+        holds(vte_next_piece(&pieces) && pieces.length == 1 && vte_next_piece(&pieces)
+                  && pieces.length == rest && memcmp(pieces.at, sent + 4, rest) == 0
+                  && !vte_next_piece(&pieces) && !vte_next_piece(&pieces),
+              "pieces of a long command");
     }
     /* data after the 16th piece are lost */
     for (int drops = 0; drops < 2; drops++) {
-        size_t length = (size_t)sprintf((char *)sent, "\033]a;a;a;a;a;a;a;a;a;a;a;a;a;a;a;b;%s\a", drops ? "c" : "");
-        holds(vte_long_feed(parser, sent, length, VTE_KIND(VTE_OSC), 0, events, 64, &area, &counts) == length && counts.events == 1
-              && events[0].count == 16 && events[0].flag == (drops ? VTE_BELL | VTE_TRUNCATED : VTE_BELL), "a command of 17 pieces");
+        size_t length = (size_t)sprintf((char *)sent, "\033]a;a;a;a;a;a;a;a;a;a;a;a;a;a;a;b;%s\a",
+                                        drops ? "c" : "");
+        size_t read = vte_long_feed(parser, sent, length, VTE_KIND(VTE_OSC), 0, events, 64, &area,
+                                    &counts);
+        holds(read == length && counts.events == 1 && events[0].count == 16
+                  && events[0].flag == (drops ? VTE_BELL | VTE_TRUNCATED : VTE_BELL),
+              "a command of 17 pieces");
     }
-    holds(!vte_long_is_open(parser) && vte_long_feed(parser, sent, 3, 0, 0, events, 64, &area, &counts) == 3 && vte_long_is_open(parser), "a command is open");
+    holds(!vte_long_is_open(parser)
+              && vte_long_feed(parser, sent, 3, 0, 0, events, 64, &area, &counts) == 3
+              && vte_long_is_open(parser),
+          "a command is open");
     vte_long_parser_free(parser);
 }
 
@@ -208,12 +237,14 @@ static void test_places(void) {
     for (size_t from = 0; from < sizeof sent; from += read) {
         const uint8_t *area;
         vte_counts counts;
-        read = vte_long_feed(parser, sent + from, sizeof sent - from, VTE_ALL_KINDS, 0, events, VTE_LEAST_EVENTS + from % 3, &area, &counts);
+        read = vte_long_feed(parser, sent + from, sizeof sent - from, VTE_ALL_KINDS, 0, events,
+                             VTE_LEAST_EVENTS + from % 3, &area, &counts);
         holds(read > 0 && read <= 65536 && counts.data == 0, "a long text");
         end = 0;
         for (size_t i = 0; i < counts.events; i++) {
             int is_text = events[i].kind == VTE_TEXT;
-            holds(!is_text || (events[i].start == end && !events[i].flag), "the place of a long text");
+            holds(!is_text || (events[i].start == end && !events[i].flag),
+                  "the place of a long text");
             end += is_text ? events[i].code : 1;
             holds(is_text || sent[from + end - 1] == '\r', "a control in a long text");
         }
@@ -231,7 +262,8 @@ static void count_input(void *user, const uint8_t *input, size_t length) {
 /* A text comes in runs, also one that was held. */
 static void test_runs(void) {
     const vte_handler handler = {.input = count_input};
-    static const char stream[] = "aaaaaaaaaaaaaaaaaaaaaaaaaaaaaaaaaaaaaaaa\033[?2026haaaaaaaaaaaaaaaaaaaaaaaaaaaaaaaaaaaaaaaa";
+    static const char stream[] = "aaaaaaaaaaaaaaaaaaaaaaaaaaaaaaaaaaaaaaaa\033[?2026h"
+                                 "aaaaaaaaaaaaaaaaaaaaaaaaaaaaaaaaaaaaaaaa";
     size_t count = 0, read;
     vte_processor *processor = vte_processor_new(&handler, sizeof handler, &count);
     vte_processor_advance(processor, (const uint8_t *)stream, sizeof stream - 1, &read);
@@ -262,41 +294,56 @@ static void test_tables(void) {
 /* A table may have no function, and a call no bytes. */
 static void test_processor(void) {
     const vte_handler none = {0};
+    static const uint8_t update[] = "\030\033[?2026hab";
     vte_processor *processor = vte_processor_new(&none, sizeof none, NULL);
     vte_sync sync;
     size_t read = 77;
     holds(vte_processor_free(NULL) == VTE_OK, "NULL is no processor");
-    holds(vte_processor_advance(processor, NULL, 0, &read) == VTE_OK && read == 0, "no bytes are processed");
-    holds(vte_processor_advance(processor, all_kinds, sizeof all_kinds - 1, &read) == VTE_OK && read == sizeof all_kinds - 1, "no function");
-    holds(vte_processor_advance(processor, (const uint8_t *)"\030\033[?2026hab", 11, &read) == VTE_OK && read == 11, "an update");
-    holds(vte_processor_sync(processor, &sync) == VTE_OK && sync.bytes_count == 2 && sync.is_pending == 1, "an update is held");
+    holds(vte_processor_advance(processor, NULL, 0, &read) == VTE_OK && read == 0,
+          "no bytes are processed");
+    const size_t all = sizeof all_kinds - 1, of_update = sizeof update - 1;
+    holds(vte_processor_advance(processor, all_kinds, all, &read) == VTE_OK && read == all,
+          "no function");
+    holds(vte_processor_advance(processor, update, of_update, &read) == VTE_OK && read == of_update,
+          "an update");
+    holds(vte_processor_sync(processor, &sync) == VTE_OK && sync.bytes_count == 2
+              && sync.is_pending == 1,
+          "an update is held");
     holds(vte_processor_stop_sync(processor) == VTE_OK, "an update is stopped");
-    holds(vte_processor_sync(processor, &sync) == VTE_OK && sync.bytes_count == 0 && sync.is_pending == 0 && sync.deadline == 0, "nothing is held");
+    holds(vte_processor_sync(processor, &sync) == VTE_OK && sync.bytes_count == 0
+              && sync.is_pending == 0 && sync.deadline == 0,
+          "nothing is held");
     holds(vte_processor_free(processor) == VTE_OK, "a processor is freed");
 }
 
 #endif
 
-/* A call reads at most 4 GiB less one byte, so that a place has four bytes. The pages are all the same one. */
+/* A call reads at most 4 GiB less one byte, so that a place has four bytes. The pages are all the
+ * same one. */
 static void test_most(void) {
     const size_t most = UINT32_MAX, length = most + 10;
-    uint8_t *zeros = mmap(NULL, length, PROT_READ, MAP_PRIVATE | MAP_ANONYMOUS | MAP_NORESERVE, -1, 0);
+    uint8_t *zeros =
+        mmap(NULL, length, PROT_READ, MAP_PRIVATE | MAP_ANONYMOUS | MAP_NORESERVE, -1, 0);
     vte_parser parser = new_parser;
     vte_counts counts;
-    holds(zeros != MAP_FAILED && vte_feed(&parser, zeros, length, VTE_KIND(VTE_OSC), 0, events, 64, data, sizeof data, &counts) == most, "4 GiB are read");
+    holds(zeros != MAP_FAILED, "4 GiB are mapped");
+    holds(feed(&parser, zeros, length, VTE_KIND(VTE_OSC), 0, &counts) == most, "4 GiB are read");
     munmap(zeros, length);
 }
 
 /* A text after any other event is one event, in the bytes of the call. */
 static void test_texts(void) {
-    static const uint8_t texts[] = "ab\rcd\033]t\007ef\033[1mgh\033(Bij\033P1q+\033\\kl\033Pq\030mn\302\205op";
+    static const uint8_t texts[] =
+        "ab\rcd\033]t\007ef\033[1mgh\033(Bij\033P1q+\033\\kl\033Pq\030mn\302\205op";
     vte_parser parser = new_parser;
     vte_counts counts;
     size_t count = 0;
-    holds(vte_feed(&parser, texts, sizeof texts - 1, VTE_ALL_KINDS, 0, events, 64, data, sizeof data, &counts) == sizeof texts - 1, "all texts are read");
+    const size_t all = sizeof texts - 1;
+    holds(feed(&parser, texts, all, VTE_ALL_KINDS, 0, &counts) == all, "all texts are read");
     for (size_t i = 0; i < counts.events; i++) {
         if (events[i].kind != VTE_TEXT) continue;
-        holds(events[i].code == 2 && !events[i].flag && texts[events[i].start] == "acegikmo"[count], "a text is whole");
+        holds(events[i].code == 2 && !events[i].flag && texts[events[i].start] == "acegikmo"[count],
+              "a text is whole");
         count++;
     }
     holds(count == 8, "each text is one event");
@@ -343,7 +390,8 @@ int main(void) {
     holds(strip(0, VTE_LEAST_TEXT, 0, "text of no bytes") == 0, "no bytes are stripped");
     for (size_t room = 0; room < VTE_LEAST_TEXT; room++) {
         holds(strip(all, room, 0, "text without room") == VTE_NO_ROOM, "room for too little text");
-        holds(strip(0, room, 0, "no text without room") == VTE_NO_ROOM, "no bytes, and room for too little text");
+        holds(strip(0, room, 0, "no text without room") == VTE_NO_ROOM,
+              "no bytes, and room for too little text");
     }
     holds(strip(all, VTE_LEAST_TEXT, 2, "text of all") == all, "the least text is enough");
     test_commands();

@@ -1,8 +1,10 @@
-/* Writes the calls of a processor, one per line: the name, and what was passed: numbers, `tHEX` for a text, `-` for none, and `c` and
- * five numbers for a colour. It reads acts: `new`, `advance HEX`, and `stop_sync`. Behind each it writes how many bytes are held.
+/* Writes the calls of a processor, one per line: the name, and what was passed: numbers, `tHEX` for
+ * a text, `-` for none, and `c` and five numbers for a colour. It reads acts: `new`, `advance HEX`,
+ * and `stop_sync`. Behind each it writes how many bytes are held.
  *
- * As C its handler is a table of vte_handler.h, and as C++ a class of vte.hpp. It is linked with --wrap for clock_gettime, and writes
- * `set_timeout 150` when the clock is asked: an update's end is 150 ms after that. */
+ * As C its handler is a table of vte_handler.h, and as C++ a class of vte.hpp. It is linked with
+ * --wrap for clock_gettime, and writes `set_timeout 150` when the clock is asked: an update's end
+ * is 150 ms after that. */
 #ifdef __cplusplus
 #include "vte.hpp"
 #include <optional>
@@ -25,10 +27,14 @@ static void text(const uint8_t *bytes, size_t length) {
     for (size_t i = 0; i < length; i++) printf("%02x", bytes[i]);
 }
 
-static void color(vte_color of) { printf(" c%d,%d,%d,%d,%u", of.kind, of.red, of.green, of.blue, of.index); }
+static void color(vte_color of) {
+    printf(" c%d,%d,%d,%d,%u", of.kind, of.red, of.green, of.blue, of.index);
+}
 
 #ifdef __cplusplus
-static void shown(std::string_view of) { text(reinterpret_cast<const uint8_t *>(of.data()), of.size()); }
+static void shown(std::string_view of) {
+    text(reinterpret_cast<const uint8_t *>(of.data()), of.size());
+}
 #define TEXT(name) std::string_view name
 #define SHOWN(name) shown(name)
 #define NONE(name) void name() override
@@ -53,7 +59,10 @@ static void begin(const char *name, void *user) {
 
 #define PLAIN(name) NONE(name) { BEGIN(#name), puts(""); }
 #define ONE(name, type) SOME(name, type value) { BEGIN(#name), number((long long)value), puts(""); }
-#define TWO(name, first, second) SOME(name, first one, second two) { BEGIN(#name), number((long long)one), number((long long)two), puts(""); }
+#define TWO(name, first, second)                                                                   \
+    SOME(name, first one, second two) {                                                            \
+        BEGIN(#name), number((long long)one), number((long long)two), puts("");                    \
+    }
 #define ONE_TEXT(name) SOME(name, TEXT(value)) { BEGIN(#name), SHOWN(value), puts(""); }
 
 /* the calls but for `bell` and those below it, by what they pass */
@@ -82,14 +91,24 @@ static void begin(const char *name, void *user) {
 
 CALLS(PLAIN, ONE, TWO, ONE_TEXT)
 
-SOME(terminal_attribute, uint8_t attribute, vte_color of) { BEGIN("terminal_attribute"), number(attribute), color(of), puts(""); }
-SOME(set_color, size_t index, vte_color of) { BEGIN("set_color"), number((long long)index), color(of), puts(""); }
+SOME(terminal_attribute, uint8_t attribute, vte_color of) {
+    BEGIN("terminal_attribute"), number(attribute), color(of), puts("");
+}
+SOME(set_color, size_t index, vte_color of) {
+    BEGIN("set_color"), number((long long)index), color(of), puts("");
+}
 SOME(dynamic_color_sequence, TEXT(prefix), size_t index, TEXT(end)) {
     BEGIN("dynamic_color_sequence"), SHOWN(prefix), number((long long)index), SHOWN(end), puts("");
 }
-SOME(set_hyperlink, TEXT(id), TEXT(uri)) { BEGIN("set_hyperlink"), SHOWN(id), SHOWN(uri), puts(""); }
-SOME(clipboard_store, uint8_t clipboard, TEXT(bytes)) { BEGIN("clipboard_store"), number(clipboard), SHOWN(bytes), puts(""); }
-SOME(clipboard_load, uint8_t clipboard, TEXT(end)) { BEGIN("clipboard_load"), number(clipboard), SHOWN(end), puts(""); }
+SOME(set_hyperlink, TEXT(id), TEXT(uri)) {
+    BEGIN("set_hyperlink"), SHOWN(id), SHOWN(uri), puts("");
+}
+SOME(clipboard_store, uint8_t clipboard, TEXT(bytes)) {
+    BEGIN("clipboard_store"), number(clipboard), SHOWN(bytes), puts("");
+}
+SOME(clipboard_load, uint8_t clipboard, TEXT(end)) {
+    BEGIN("clipboard_load"), number(clipboard), SHOWN(end), puts("");
+}
 
 /* A call may not use its processor, which says so, and goes on. */
 #ifdef __cplusplus
@@ -144,8 +163,11 @@ extern "C" int __wrap_clock_gettime(clockid_t, struct timespec *);
 NONE(bell) {
     size_t read = 7;
     vte_sync sync;
-    if (vte_processor_advance(processor, (const uint8_t *)"x", 1, &read) != VTE_BUSY || read != 0) abort();
-    if (vte_processor_stop_sync(processor) != VTE_BUSY || vte_processor_sync(processor, &sync) != VTE_BUSY) abort();
+    if (vte_processor_advance(processor, (const uint8_t *)"x", 1, &read) != VTE_BUSY || read != 0)
+        abort();
+    if (vte_processor_stop_sync(processor) != VTE_BUSY
+        || vte_processor_sync(processor, &sync) != VTE_BUSY)
+        abort();
     if (vte_processor_free(processor) != VTE_BUSY) abort();
     BEGIN("bell"), puts("");
 }
@@ -204,7 +226,8 @@ static int digit(char c) { return c <= '9' ? c - '0' : c - 'a' + 10; }
 static int advance(const char *hex) {
     size_t length = strlen(hex) / 2;
     uint8_t *bytes = (uint8_t *)malloc(length ? length : 1);
-    for (size_t i = 0; i < length; i++) bytes[i] = (uint8_t)(digit(hex[2 * i]) << 4 | digit(hex[2 * i + 1]));
+    for (size_t i = 0; i < length; i++)
+        bytes[i] = (uint8_t)(digit(hex[2 * i]) << 4 | digit(hex[2 * i + 1]));
     int failed = read_bytes(bytes, length);
     free(bytes);
     return failed;
@@ -218,7 +241,8 @@ int main(void) {
         if (strcmp(line, "new") == 0) renew(), puts("new");
         else if (strncmp(line, "advance ", 8) == 0 ? advance(line + 8) : stop()) return 1;
         vte_sync sync = held();
-        if (sync.is_pending > 1 || sync.deadline != (sync.is_pending ? now + 150000000 : 0)) return 1;
+        if (sync.is_pending > 1 || sync.deadline != (sync.is_pending ? now + 150000000 : 0))
+            return 1;
         printf("held %zu %d\n", sync.bytes_count, sync.is_pending);
     }
     end();

@@ -1,5 +1,6 @@
-// Compares the numbers that calls pass with those that vte_handler.h names otherwise than Rust, by sequences of docs/CALLS.md, and refuses
-// memory to a processor: it is linked with --wrap for malloc and realloc. The status is 0 if all is as it should be.
+// Compares the numbers that calls pass with those that vte_handler.h names otherwise than Rust, by
+// sequences of docs/CALLS.md, and refuses memory to a processor: it is linked with --wrap for
+// malloc and realloc. The status is 0 if all is as it should be.
 #include <cstdio>
 #include <cstdlib>
 #include <exception>
@@ -14,15 +15,19 @@
 #include <vte_handler.h>
 #include <vte_long.h>
 
-static_assert(std::has_virtual_destructor_v<vte::Handler> && !std::is_convertible_v<vte::Handler &, vte::Processor>);
-static_assert(!std::is_copy_constructible_v<vte::Processor> && std::is_nothrow_move_assignable_v<vte::Processor>);
+static_assert(std::has_virtual_destructor_v<vte::Handler>);
+static_assert(!std::is_convertible_v<vte::Handler &, vte::Processor>);
+static_assert(!std::is_copy_constructible_v<vte::Processor>);
+static_assert(std::is_nothrow_move_assignable_v<vte::Processor>);
 
 extern "C" {
 static bool refuses;
 void *__real_malloc(size_t size);
 void *__real_realloc(void *place, size_t size);
 void *__wrap_malloc(size_t size) { return refuses ? nullptr : __real_malloc(size); }
-void *__wrap_realloc(void *place, size_t size) { return refuses ? nullptr : __real_realloc(place, size); }
+void *__wrap_realloc(void *place, size_t size) {
+    return refuses ? nullptr : __real_realloc(place, size);
+}
 }
 
 struct Last : vte::Handler {
@@ -39,13 +44,22 @@ static const struct {
     const char *bytes;
     int number;
 } wanted[] = {
-    {"\033[m", VTE_COLOR_NONE}, {"\033[31m", VTE_COLOR_NAMED}, {"\033[48;2;1;2;3m", VTE_COLOR_RGB}, {"\033[58;5;1m", VTE_COLOR_INDEXED},
-    {"\033[0 q", VTE_SHAPE_OWN}, {"\033(B", VTE_CHARSET_ASCII}, {"\033(0", VTE_CHARSET_LINE_DRAWING},
+    {"\033[m", VTE_COLOR_NONE},
+    {"\033[31m", VTE_COLOR_NAMED},
+    {"\033[48;2;1;2;3m", VTE_COLOR_RGB},
+    {"\033[58;5;1m", VTE_COLOR_INDEXED},
+    {"\033[0 q", VTE_SHAPE_OWN},
+    {"\033(B", VTE_CHARSET_ASCII},
+    {"\033(0", VTE_CHARSET_LINE_DRAWING},
     {"\033[0;0 k", 10 * VTE_PATH_DEFAULT + VTE_UPDATE_DEFAULT},
     {"\033[1;2 k", 10 * VTE_PATH_LEFT_TO_RIGHT + VTE_UPDATE_PRESENTATION_TO_DATA},
-    {"\033[2;1 k", 10 * VTE_PATH_RIGHT_TO_LEFT + VTE_UPDATE_DATA_TO_PRESENTATION}, {"\033[=1;1u", VTE_KEYBOARD_REPLACE},
-    {"\033[=1;2u", VTE_KEYBOARD_ADD}, {"\033[=1;3u", VTE_KEYBOARD_REMOVE}, {"\033[>4;0m", VTE_OTHER_KEYS_RESET},
-    {"\033[>4;1m", VTE_OTHER_KEYS_EXCEPT_WELL_DEFINED}, {"\033[>4;2m", VTE_OTHER_KEYS_ALL},
+    {"\033[2;1 k", 10 * VTE_PATH_RIGHT_TO_LEFT + VTE_UPDATE_DATA_TO_PRESENTATION},
+    {"\033[=1;1u", VTE_KEYBOARD_REPLACE},
+    {"\033[=1;2u", VTE_KEYBOARD_ADD},
+    {"\033[=1;3u", VTE_KEYBOARD_REMOVE},
+    {"\033[>4;0m", VTE_OTHER_KEYS_RESET},
+    {"\033[>4;1m", VTE_OTHER_KEYS_EXCEPT_WELL_DEFINED},
+    {"\033[>4;2m", VTE_OTHER_KEYS_ALL},
 };
 
 template <typename Act> static bool is_refused(Act act) {
@@ -77,7 +91,8 @@ static bool ends_the_program(std::string_view bytes) {
         std::set_terminate([] { _exit(7); });
         try {
             Throwing throwing;
-            vte::Processor(throwing).advance(reinterpret_cast<const uint8_t *>(bytes.data()), bytes.size());
+            vte::Processor(throwing).advance(reinterpret_cast<const uint8_t *>(bytes.data()),
+                                             bytes.size());
         } catch (int) {
         }
         _exit(8);
@@ -100,7 +115,8 @@ struct Nested : vte::Handler {
 };
 
 int main() {
-    for (const char *bytes : {"a", "\a", "\033[A", "\033]10;?\a", "\033]8;;x\a", "\033]52;c;YQ==\a", "\033]52;c;?\a"})
+    for (const char *bytes :
+         {"a", "\a", "\033[A", "\033]10;?\a", "\033]8;;x\a", "\033]52;c;YQ==\a", "\033]52;c;?\a"})
         if (!ends_the_program(bytes)) return 5;
     // the functions of C have their names here too
     vte_long_parser_free(vte_long_parser_new());
@@ -111,7 +127,8 @@ int main() {
     if (!is_refused([&] { vte::Processor made(last); })) return 2;
     vte::Processor processor(last);
     if (is_refused([&] { processor.stop_sync(); })) return 3;
-    if (!is_refused([&] { processor.advance(reinterpret_cast<const uint8_t *>("x"), 1); })) return 4;
+    if (!is_refused([&] { processor.advance(reinterpret_cast<const uint8_t *>("x"), 1); }))
+        return 4;
     for (const auto &one : wanted) {
         std::string_view bytes = one.bytes;
         last.number = -2;

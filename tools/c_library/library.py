@@ -43,9 +43,10 @@ def at_once(test, cases):
         list(pool.map(test, cases))
 
 
-def compiles(words):
+def compiles(words, **environment):
     """Whether this compiler command succeeds, and what it says."""
-    done = subprocess.run(words, stdout=subprocess.PIPE, stderr=subprocess.STDOUT, text=True)
+    done = subprocess.run(words, env={**os.environ, **environment}, text=True,
+                          stdout=subprocess.PIPE, stderr=subprocess.STDOUT)
     return done.returncode == 0, done.stdout
 
 

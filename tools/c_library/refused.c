@@ -1,5 +1,6 @@
-/* Refuses memory at each allocation in turn: the parser without a limit and the processor say so, and go on with the rest. It is linked
- * with --wrap for malloc, realloc and free. The status is 0 if each run gives what one with all its memory does, and gives that back. */
+/* Refuses memory at each allocation in turn: the parser without a limit and the processor say so,
+ * and go on with the rest. It is linked with --wrap for malloc, realloc and free. The status is 0
+ * if each run gives what one with all its memory does, and gives that back. */
 #include "vte_handler.h"
 #include "vte_long.h"
 #include <stdio.h>
@@ -23,7 +24,9 @@ static int refuses(void) {
 }
 
 void *__wrap_malloc(size_t size) { return refuses() ? NULL : (used++, __real_malloc(size)); }
-void *__wrap_realloc(void *place, size_t size) { return refuses() ? NULL : (used += place == NULL, __real_realloc(place, size)); }
+void *__wrap_realloc(void *place, size_t size) {
+    return refuses() ? NULL : (used += place == NULL, __real_realloc(place, size));
+}
 void __wrap_free(void *place) { used -= place != NULL, __real_free(place); }
 
 enum { COMMAND = 100000, MOST = 4 * COMMAND };
@@ -51,7 +54,8 @@ static void put_stream(const char *text) {
 
 static void make_stream(void) {
     /* what has much data for its bytes: pieces without a byte take eight each */
-    put_stream("\033];;;;;;;;;;;;;;;\007\033[1;2;3;4;5;6;7;8;9;10;11;12;13;14;15;16;17;18;19;20;21;22;23;24;25;26;27;28;29;30;31;32m");
+    put_stream("\033];;;;;;;;;;;;;;;\007\033[1;2;3;4;5;6;7;8;9;10;11;12;13;14;15;16;17;"
+               "18;19;20;21;22;23;24;25;26;27;28;29;30;31;32m");
     for (int i = 0; i < 5000; i++) put_stream("\033];;;;;;;;;;;;;;;\007");
     put_stream("text\033]52;c;");
     memset(stream + stream_length, 'Q', COMMAND);
@@ -79,25 +83,36 @@ static int read_long(void) {
     if (parser == NULL) return 0;
     for (size_t at = 0; at < stream_length;) {
         size_t length = stream_length - at < most ? stream_length - at : most;
-        size_t read = vte_long_feed(parser, stream + at, length, kinds, 0, events, 4096, &data, &counts);
+        size_t read =
+            vte_long_feed(parser, stream + at, length, kinds, 0, events, 4096, &data, &counts);
         if (read == VTE_REFUSED ? !refused || counts.events != 0 : read == 0) abort();
         for (size_t i = 0; i < counts.events; i++) show(&events[i], stream + at, data);
         if (read != VTE_REFUSED) at += read;
     }
-    if (vte_long_feed(parser, stream, 1, VTE_ALL_KINDS, 0, events, 3, &data, &counts) != VTE_NO_ROOM) abort();
+    size_t least = vte_long_feed(parser, stream, 1, VTE_ALL_KINDS, 0, events, 3, &data, &counts);
+    if (least != VTE_NO_ROOM) abort();
     vte_long_parser_free(parser);
     return 1;
 }
 
 static void input(void *user, const uint8_t *text, size_t length) { (void)user, put(text, length); }
-static void title(void *user, const uint8_t *text, size_t length) { (void)user, put("[", 1), put(text, length); }
-static void store(void *user, uint8_t clipboard, const uint8_t *text, size_t length) { title(user, text, length), put(&clipboard, 1); }
-static void attribute(void *user, uint8_t number, vte_color color) { (void)user, (void)color, put(&number, 1); }
+static void title(void *user, const uint8_t *text, size_t length) {
+    (void)user, put("[", 1), put(text, length);
+}
+static void store(void *user, uint8_t clipboard, const uint8_t *text, size_t length) {
+    title(user, text, length), put(&clipboard, 1);
+}
+static void attribute(void *user, uint8_t number, vte_color color) {
+    (void)user, (void)color, put(&number, 1);
+}
 
 static void unset(void *user, uint16_t mode) { (void)user, put(&mode, sizeof mode); }
 
 static int process(void) {
-    vte_handler calls = {.input = input, .set_title = title, .clipboard_store = store, .terminal_attribute = attribute,
+    vte_handler calls = {.input = input,
+                         .set_title = title,
+                         .clipboard_store = store,
+                         .terminal_attribute = attribute,
                          .unset_private_mode = unset};
     vte_processor *processor = vte_processor_new(&calls, sizeof calls, NULL);
     if (processor == NULL) return 0;
@@ -113,7 +128,8 @@ static int process(void) {
     return 1;
 }
 
-/* Tries a way to read, and refuses the first allocation, the second and so on. Returns how many were refused. */
+/* Tries a way to read, and refuses the first allocation, the second and so on. Returns how many
+ * were refused. */
 static int try_all(int (*way)(void)) {
     static uint8_t wanted[sizeof written];
     int count = 0;
@@ -125,7 +141,9 @@ static int try_all(int (*way)(void)) {
         left = count++, refused = 0, written_length = 0;
         int done = way();
         if (used != 0) abort();
-        if (done ? written_length != wanted_length || memcmp(written, wanted, wanted_length) != 0 : !refused) abort();
+        if (done ? written_length != wanted_length || memcmp(written, wanted, wanted_length) != 0
+                 : !refused)
+            abort();
     } while (refused);
     return count - 1;
 }

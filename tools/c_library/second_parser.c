@@ -49,7 +49,8 @@ int main(void) {
         vte_feed(&parser, stream, length, VTE_ALL_KINDS, 0, events, 64, data, sizeof data, &counts);
         for (size_t at = 0; at < counts.events; at++) kinds |= VTE_KIND(events[at].kind);
         if (count != streams[i].calls || kinds != streams[i].kinds
-            || events[0].flag != streams[i].flag || events[counts.events - 1].code != streams[i].last)
+            || events[0].flag != streams[i].flag
+            || events[counts.events - 1].code != streams[i].last)
             printf("ESC %s\n", streams[i].bytes + 1);
     }
     return 0;

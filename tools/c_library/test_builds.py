@@ -1,70 +1,77 @@
 """The symbols of the library, and programs that try its edges, under sanitizers."""
-import os
 import re
 import shutil
-import subprocess
 
 import pytest
 
 from c_library.library import (
-    BESIDE, CRATE, EXAMPLES, HERE, INCLUDES, OLD_CALLS, OLD_PROGRAM, SANITIZERS, TOOLS, compiles, miss, output_of)
+    BESIDE, CRATE, EXAMPLES, HERE, INCLUDES, OLD_CALLS, OLD_PROGRAM, SANITIZERS, TOOLS, compiles,
+    miss, output_of)
 
 # the only functions that the library of each build may need
 NEEDED = {"rt": {"memcpy", "memmove", "memset"},
-          "cargo": {"abort", "clock_gettime", "free", "malloc", "memchr", "memcpy", "memmove", "memrchr", "memset", "realloc"}}
-# what is in the names of Rust's functions that panic, and of those for an index, which rustc checks where it can't see the proof, and
-# the handler that they call
+          "cargo": {"abort", "clock_gettime", "free", "malloc", "memchr", "memcpy", "memmove",
+                    "memrchr", "memset", "realloc"}}
+# what is in the names of Rust's functions that panic, and of those for an index, which rustc checks
+# where it can't see the proof, and the handler that they call
 OF_PANICS = re.compile(r"panic|begin_unwind|_fail\b|_failed|unwrap|expect")
-OF_INDICES = re.compile(r"panicking\d+panic_(bounds_check|fmt|nounwind_fmt)|slice_\w*index\w*_fail|len_mismatch_fail|rust_begin_unwind")
+OF_INDICES = re.compile(r"panicking\d+panic_(bounds_check|fmt|nounwind_fmt)|slice_\w*index\w*_fail|"
+                        r"len_mismatch_fail|rust_begin_unwind")
 
 
 def declared(library):
     """The functions that the library's headers declare and don't define."""
-    headers = [CRATE / "include/vte.h", *(sorted((BESIDE / "include").glob("*.h")) if library.is_whole else [])]
-    text = "".join(header.read_text() for header in headers)
-    return set(re.findall(r"^(?!static|typedef|#| \*)\w[\w ]*[ *](vte_\w+)\([^;{]*\);", text, re.M | re.S))
+    others = sorted((BESIDE / "include").glob("*.h")) if library.is_whole else []
+    text = "".join(header.read_text() for header in [CRATE / "include/vte.h", *others])
+    function = r"^(?!static|typedef|#| \*)\w[\w ]*[ *](vte_\w+)\([^;{]*\);"
+    return set(re.findall(function, text, re.M | re.S))
 
 
 def symbols(library, *options):
     """The names that nm lists with their letters."""
-    listed = subprocess.run(["nm", *options, library], capture_output=True, text=True, check=True).stdout
-    return [(words[-2], words[-1]) for words in map(str.split, listed.splitlines()) if len(words) > 1]
+    listed = output_of(["nm", *options, library]).decode().splitlines()
+    return [(words[-2], words[-1]) for words in map(str.split, listed) if len(words) > 1]
 
 
 def test_symbols(library):
-    """It has the functions of its headers and needs few of C. rt's has no panic, and cargo's none but those of an index and of memory."""
+    """It has the functions of its headers and needs few of C. rt's has no panic, and cargo's none
+    but those of an index and of memory."""
     if shutil.which("nm") is None:
         miss("nm (Debian: binutils), so the library's symbols were not checked")
     wanted = declared(library)
     assert {name for _, name in symbols(library.archive, "-g", "--defined-only")} == wanted
     assert {name for _, name in symbols(library.shared, "-D", "--defined-only")} == wanted
     assert b"soname: [libvte_c.so.6]" in output_of(["readelf", "-d", library.shared])
-    assert {name for letter, name in symbols(library.archive) if letter == "U"} <= NEEDED[library.build]
-    panics = [name for _, name in symbols(library.archive) if OF_PANICS.search(name)]
+    all_names = symbols(library.archive)
+    assert {name for letter, name in all_names if letter == "U"} <= NEEDED[library.build]
+    panics = [name for _, name in all_names if OF_PANICS.search(name)]
     assert [name for name in panics if library.build == "rt" or not OF_INDICES.search(name)] == []
 
 
 def sanitizers(library):
     if library.sanitized is None:
-        miss("the address and undefined-behaviour sanitizers of cc, so the C library was tested without them")
+        miss("the address and undefined-behaviour sanitizers of cc")
     return SANITIZERS
 
 
 def test_edges(library):
     """Random bytes as a parser, and the edges of what vte.h allows."""
-    assert output_of([library.program(EXAMPLES / "any_parser.c", *sanitizers(library))]) == b""
-    assert output_of([library.program(HERE / "border.c", *library.of_events, *sanitizers(library))]) == b""
+    words = sanitizers(library)
+    assert output_of([library.program(EXAMPLES / "any_parser.c", *words)]) == b""
+    assert output_of([library.program(HERE / "border.c", *library.of_events, *words)]) == b""
     library.program(EXAMPLES / "time_calls.c", "-std=c99", "-pedantic-errors")
 
 
-@pytest.mark.parametrize("source, wanted", [(OLD_PROGRAM, OLD_CALLS), (HERE / "second_parser.c", b"")], ids=["old", "second"])
+@pytest.mark.parametrize("source, wanted", [
+    (OLD_PROGRAM, OLD_CALLS), (HERE / "second_parser.c", b"")], ids=["old", "second"])
 def test_processors(whole, source, wanted):
     """An old program, and a second parser for what a processor doesn't pass on."""
     assert output_of([whole.program(source, *sanitizers(whole))]) == wanted
 
 
 def test_refused_memory(whole):
-    """Memory is refused to the parser without a limit and to the processor, at each allocation in turn."""
+    """Memory is refused to the parser without a limit and to the processor, at each allocation in
+    turn."""
     words = [f"-Wl,--wrap={name}" for name in ("malloc", "realloc", "free")]
     assert output_of([whole.program(HERE / "refused.c", *words)]) == b"1 1\n" * 4
 
@@ -77,10 +84,11 @@ def test_threads(whole):
 def test_threads_sanitized(whole):
     """The same, with the library and the program under the thread sanitizer."""
     folder = whole.folder / "for_threads"
-    environment = {**os.environ, "RUSTC_BOOTSTRAP": "1", "RUSTFLAGS": "-Zsanitizer=thread -Cunsafe-allow-abi-mismatch=sanitizer",
-                   "CARGO_TARGET_DIR": str(folder / "target")}
-    built = subprocess.run([TOOLS / "build_c_library", "--cargo", folder], env=environment, capture_output=True)
-    words = ["cc", "-O1", "-g", "-fsanitize=thread", "-pthread", *INCLUDES, HERE / "threads.c", folder / "libvte_c.a", "-o", folder / "threads"]
-    if built.returncode != 0 or not compiles(words)[0]:
+    environment = {"RUSTC_BOOTSTRAP": "1", "CARGO_TARGET_DIR": str(folder / "target"),
+                   "RUSTFLAGS": "-Zsanitizer=thread -Cunsafe-allow-abi-mismatch=sanitizer"}
+    build = [TOOLS / "build_c_library", "--cargo", folder]
+    words = ["cc", "-O1", "-g", "-fsanitize=thread", "-pthread", *INCLUDES, HERE / "threads.c",
+             folder / "libvte_c.a", "-o", folder / "threads"]
+    if not compiles(build, **environment)[0] or not compiles(words)[0]:
         miss("the thread sanitizer of rustc and cc, so threads were tested without it")
     assert output_of([folder / "threads"]) == b"busy\n"

@@ -11,13 +11,16 @@ from c_library.library import CRATE, EXAMPLES, SANITIZERS, TOOLS, miss, output_o
 # before glibc 2.34 pseudo-terminals were in a library of their own
 OF_PTY = "-lutil"
 STREAM = b"a\xc3\xbc\x1b[1;31m\x1b]2;a;b\x07\xff\n"
-# what each example writes: those of a pty run a program that writes the stream, and a pty writes CR before LF
+# what each example writes: those of a pty run a program that writes the stream, and a pty writes CR
+# before LF
 PRINTS = r"printf 'a\303\274\033[1;31m\033]2;a;b\007\377\n'"
 EVENTS = "text aü\ncsi 6d\nosc 00\ntext \ufffd\nexecute 0d\nexecute 0a\n".encode()
 TEXT = "aü\ufffd\n".encode()
-# what comes slowly, and what must be written of each at once: by a title watcher on standard error, by a stripper on output
+# what comes slowly, and what must be written of each at once: by a title watcher on standard error,
+# by a stripper on output
 SLOWLY = [(title, title, said) for title, said in (
-    (b"a\x1b]2;hi\x07", b"title: hi\n"), (b"b\x1b]1;icon\x07\x1b]21;x\x07\x1b]0;you\x1b\\", b"title: you\n"))]
+    (b"a\x1b]2;hi\x07", b"title: hi\n"),
+    (b"b\x1b]1;icon\x07\x1b]21;x\x07\x1b]0;you\x1b\\", b"title: you\n"))]
 LINES = [(b"\x1b[1mone\x1b[m\n", b"one\n", b""), (b"two\n", b"two\n", b"")]
 
 
@@ -30,7 +33,8 @@ def program(library, place, *words):
     if compiler != "go":
         return library.program(source, OF_PTY, *words, compiler=compiler)
     made = library.folder / f"{source.parent.name}_go"
-    environment = {"CGO_ENABLED": "1", "CGO_CFLAGS": f"-I{CRATE / 'include'}", "CGO_LDFLAGS": f"{library.archive} {OF_PTY}",
+    environment = {"CGO_ENABLED": "1", "CGO_CFLAGS": f"-I{CRATE / 'include'}",
+                   "CGO_LDFLAGS": f"{library.archive} {OF_PTY}",
                    "GO111MODULE": "off", "GOFLAGS": "-mod=mod"}
     assert output_of(["go", "build", "-o", made, source], **environment) == b""
     return made
@@ -53,9 +57,13 @@ def assert_slow(words, pieces):
 
 
 def read_soon(stream, count):
-    """Reads so many bytes, or fewer if they don't come within minutes: beside a gate that takes all cores, a start takes long."""
+    """Reads so many bytes, or fewer if they don't come within minutes: beside a gate that takes all
+    cores, a start takes long."""
     read = b""
-    while len(read) < count and select.select([stream], [], [], 300)[0] and (more := os.read(stream.fileno(), count - len(read))):
+    while len(read) < count and select.select([stream], [], [], 300)[0]:
+        more = os.read(stream.fileno(), count - len(read))
+        if not more:
+            break
         read += more
     return read
 
@@ -99,8 +107,10 @@ def test_pty_events(library, place, tmp_path):
 def test_forward(library):
     """Streams are passed on without clipboards, however they are cut."""
     forward = program(library, "c/forward.c", *(SANITIZERS if library.sanitized else ()))
-    kept = [b"a\xc3\xbc\xff\x1b[1;31m", b"b\x1b]2;a;b\x07\x1bPq+\x1b\\", b"\x1b]521;x\x07\x1b_52;c\x1b\\", b"\x1b[mc\xc3\r\n", b"\x1b]2;t\x1b\\d\x1b]5"]
-    clipboards = [b"\x1b]52;c;YQ==\x07", b"\x1b]52;c;" + b"YQ==" * 3000 + b"\x1b\\", b"\x1b]52\x18", b"\x1b]52;c;x"]
+    kept = [b"a\xc3\xbc\xff\x1b[1;31m", b"b\x1b]2;a;b\x07\x1bPq+\x1b\\",
+            b"\x1b]521;x\x07\x1b_52;c\x1b\\", b"\x1b[mc\xc3\r\n", b"\x1b]2;t\x1b\\d\x1b]5"]
+    clipboards = [b"\x1b]52;c;YQ==\x07", b"\x1b]52;c;" + b"YQ==" * 3000 + b"\x1b\\", b"\x1b]52\x18",
+                  b"\x1b]52;c;x"]
     stream = b"".join(a + b for a, b in zip(kept, [*clipboards, b""]))
     assert output_of([forward], stream) == b"".join(kept)
     # one that another sequence ends isn't followed by ST
@@ -112,8 +122,10 @@ def test_forward(library):
 
 def test_clipboards(whole, tmp_path):
     texts = [b"Q" * 1_000_000, b"", b"YWJj"] + [b"YQ=="] * 20
-    stream = b"a\x1b]52;c;?\x07\x1b]2;c;title\x07\x1b]52;c\x07" + b"".join(b"b\x1b]52;c;" + text + b"\x1b\\" for text in texts)
-    clipboards, few_files = program(whole, "c/clipboards.c"), ["sh", "-c", 'ulimit -n 12; exec "$0" "$1"']
+    stream = b"a\x1b]52;c;?\x07\x1b]2;c;title\x07\x1b]52;c\x07" + b"".join(
+        b"b\x1b]52;c;%b\x1b\\" % text for text in texts)
+    clipboards = program(whole, "c/clipboards.c")
+    few_files = ["sh", "-c", 'ulimit -n 12; exec "$0" "$1"']
     assert output_of([*few_files, clipboards, tmp_path], stream) == b"23\n"
     assert [(tmp_path / str(at)).read_bytes() for at in range(23)] == texts
     for words in [], [tmp_path, tmp_path], [tmp_path / "none"]:
@@ -122,5 +134,6 @@ def test_clipboards(whole, tmp_path):
 
 def test_outline(whole):
     outline = program(whole, "cpp/outline.cpp", "-std=c++17")
-    assert output_of([outline], STREAM + b"\x1b[3;5H\x1b[?2026hend") == "aü[bold][title a;b]\ufffd[go to 2, 4]end".encode()
+    said = output_of([outline], STREAM + b"\x1b[3;5H\x1b[?2026hend").decode()
+    assert said == "aü[bold][title a;b]\ufffd[go to 2, 4]end"
     assert_slow([outline], [(b"a\x1b[1m", b"a[bold]"), (b"b", b"b")])

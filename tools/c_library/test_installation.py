@@ -1,4 +1,5 @@
-"""tools/install, tools/build_c_library and tools/uninstall, and programs over an installed library."""
+"""tools/install, tools/build_c_library and tools/uninstall, and programs over an installed
+library."""
 import os
 import shutil
 import subprocess
@@ -11,9 +12,11 @@ from c_library.test_examples import STREAM, TEXT
 
 # the files of an installed library
 HEADERS = "vte.h", "vte_long.h", "vte_handler.h", "vte.hpp"
-OF_LIBRARY = {f"include/{name}" for name in HEADERS} | {f"lib/{name}" for name in (
-    "libvte_c.a", "libvte_c.so", "libvte_c.so.6", "pkgconfig/libvte_c.pc", "cmake/vte_c/vte_c-config.cmake", "cmake/vte_c/vte_c-config-version.cmake")} | {
-    "share/man/man3/vte.3", "share/doc/libvte_c/LICENSE", "share/doc/libvte_c/NOTICE"}
+OF_LIBRARY = {
+    *(f"include/{name}" for name in HEADERS), "lib/libvte_c.a", "lib/libvte_c.so",
+    "lib/libvte_c.so.6", "lib/pkgconfig/libvte_c.pc", "lib/cmake/vte_c/vte_c-config.cmake",
+    "lib/cmake/vte_c/vte_c-config-version.cmake", "share/man/man3/vte.3",
+    "share/doc/libvte_c/LICENSE", "share/doc/libvte_c/NOTICE"}
 OF_VTLOG = {"bin/vtlog", "share/man/man1/vtlog.1"}
 
 
@@ -24,37 +27,47 @@ class Place:
         self.library, self.folder = library, folder
         (folder / "temporary").mkdir()
         self.environment = {
-            **os.environ, "PREFIX": "prefix", "VTE_ARCHIVE": str(library.archive), "VTLOG": "/bin/true", "TMPDIR": str(folder / "temporary"),
-            "PKG_CONFIG_PATH": "prefix/lib/pkgconfig", "LD_LIBRARY_PATH": str(folder / "prefix/lib")}
-        self.wanted = OF_LIBRARY if library.is_whole else OF_LIBRARY - {f"include/{name}" for name in HEADERS[1:]}
+            **os.environ, "PREFIX": "prefix", "VTE_ARCHIVE": str(library.archive),
+            "VTLOG": "/bin/true", "TMPDIR": str(folder / "temporary"),
+            "PKG_CONFIG_PATH": "prefix/lib/pkgconfig",
+            "LD_LIBRARY_PATH": str(folder / "prefix/lib")}
+        others = () if library.is_whole else HEADERS[1:]
+        self.wanted = OF_LIBRARY - {f"include/{name}" for name in others}
 
     def run(self, *words, status=0, says="", **variables):
-        """Runs a program, or one of tools/, which leaves no temporary files, and returns its output."""
+        """Runs a program, or one of tools/, which leaves no temporary files, and returns its
+        output."""
         if (TOOLS / words[0]).is_file():
             words = (TOOLS / words[0], *words[1:])
-        done = subprocess.run(words, cwd=self.folder, env={**self.environment, **variables}, capture_output=True, text=True)
+        done = subprocess.run(words, cwd=self.folder, env={**self.environment, **variables},
+                              capture_output=True, text=True)
         assert done.returncode == status and says in done.stderr, done
         assert not any((self.folder / "temporary").iterdir())
         return done.stdout
 
     def installed(self, folder):
-        return {str(file.relative_to(self.folder / folder)) for file in (self.folder / folder).rglob("*") if not file.is_dir()}
+        top = self.folder / folder
+        return {str(file.relative_to(top)) for file in top.rglob("*") if not file.is_dir()}
 
     def uninstall(self, folder, **variables):
-        """Removes what is below a folder, which everybody could use, and leaves what is another's."""
-        files = self.installed(folder)
-        modes = {file: (self.folder / folder / file).stat().st_mode & 0o777 for file in files}
-        assert modes == {file: 0o755 if "bin/" in file or ".so" in file else 0o644 for file in files}
-        others = {str(Path(file).parent / "another's") for file in files if "/vte_c/" not in file and "/libvte_c/" not in file}
+        """Removes what is below a folder, which everybody could use, and leaves what is
+        another's."""
+        top, files = self.folder / folder, self.installed(folder)
+        for file in files:
+            mode = 0o755 if "bin/" in file or ".so" in file else 0o644
+            assert (top / file).stat().st_mode & 0o777 == mode, file
+        others = {str(Path(file).parent / "another's") for file in files
+                  if "/vte_c/" not in file and "/libvte_c/" not in file}
         for file in others:
-            (self.folder / folder / file).touch()
+            (top / file).touch()
         said = self.run("uninstall", **variables)
         assert self.installed(folder) == others
-        assert set(said.splitlines()) == {f"{self.folder}/{folder}/{file}" for file in files}
-        assert not [file for file in (self.folder / folder).rglob("vte*") if file.is_dir()]
+        assert set(said.splitlines()) == {f"{top}/{file}" for file in files}
+        assert not [file for file in top.rglob("vte*") if file.is_dir()]
 
     def assert_strips(self, program):
-        assert output_of([self.folder / program], STREAM, LD_LIBRARY_PATH=self.environment["LD_LIBRARY_PATH"]) == TEXT
+        libraries = self.environment["LD_LIBRARY_PATH"]
+        assert output_of([self.folder / program], STREAM, LD_LIBRARY_PATH=libraries) == TEXT
 
 
 @pytest.fixture
@@ -74,7 +87,8 @@ def prefix(place):
     place.uninstall("prefix")
 
 
-@pytest.mark.parametrize("tool, words", [("install", " [--cargo | --rt]"), ("build_c_library", " [--cargo | --rt]"), ("uninstall", "")])
+@pytest.mark.parametrize("tool, words", [
+    ("install", " [--cargo | --rt]"), ("build_c_library", " [--cargo | --rt]"), ("uninstall", "")])
 def test_arguments(place, tool, words):
     for word in "-h", "--help":
         said = place.run(tool, word)
@@ -85,9 +99,10 @@ def test_arguments(place, tool, words):
 
 
 def test_build_in_a_folder_with_a_blank(place):
-    said = place.run("build_c_library", f"--{place.library.build}", "a folder")
+    build = place.library.build
+    said = place.run("build_c_library", f"--{build}", "a folder")
     assert place.installed("a folder") == {"libvte_c.a", "libvte_c.so"}
-    assert said.startswith("built ") and f" {place.library.build}: " in said and said.count("\n") == 1
+    assert said.startswith("built ") and f" {build}: " in said and said.count("\n") == 1
 
 
 def test_pkg_config(prefix):
@@ -96,7 +111,8 @@ def test_pkg_config(prefix):
     assert "soname: [libvte_c.so.6]" in prefix.run("readelf", "-d", "prefix/lib/libvte_c.so")
     prefix.run("pkg-config", "--exists", "libvte_c >= 6")
     prefix.run("pkg-config", "--exists", "libvte_c >= 7", status=1)
-    assert prefix.run("pkg-config", "--variable=build", "libvte_c") == ("cargo\n" if prefix.library.is_whole else "given\n")
+    build = "cargo" if prefix.library.is_whole else "given"
+    assert prefix.run("pkg-config", "--variable=build", "libvte_c") == f"{build}\n"
     flags = prefix.run("pkg-config", "--cflags", "--libs", "libvte_c").split()
     prefix.run("cc", EXAMPLES / "c/stripper.c", *flags, "-o", "stripper")
     prefix.assert_strips("stripper")
@@ -113,12 +129,14 @@ def test_pkg_config(prefix):
 def cmake(place, *words, **how):
     if shutil.which("cmake") is None:
         miss("cmake, so the installed library was not looked for by it")
-    place.run("cmake", f"-DSOURCE={EXAMPLES / 'c/stripper.c'}", *words, "-S", HERE, "-B", "built", **how)
+    source = f"-DSOURCE={EXAMPLES / 'c/stripper.c'}"
+    place.run("cmake", source, *words, "-S", HERE, "-B", "built", **how)
 
 
 def test_cmake(prefix):
     for version, status in (5, 1), (7, 1), (6, 0), ("", 0):
-        cmake(prefix, f"-DCMAKE_PREFIX_PATH={prefix.folder / 'prefix'}", f"-DVERSION={version}", status=status)
+        cmake(prefix, f"-DCMAKE_PREFIX_PATH={prefix.folder / 'prefix'}", f"-DVERSION={version}",
+              status=status)
     prefix.run("cmake", "--build", "built")
     prefix.assert_strips("built/vte_c")
     prefix.assert_strips("built/static")
@@ -127,32 +145,38 @@ def test_cmake(prefix):
 
 def test_given_archive(place):
     """What it has says which headers it gets, whichever build was asked for."""
+    build = "--rt" if place.library.is_whole else "--cargo"
     for _ in range(2):
-        place.run("install", "--rt" if place.library.is_whole else "--cargo", "--library", says="library is given")
+        place.run("install", build, "--library", says="library is given")
     assert place.installed("prefix") == place.wanted
     place.uninstall("prefix")
 
 
 def test_package(place):
-    """Everything for a package, with libraries in a folder of their machine, is used where it is, and removed."""
+    """Everything for a package, with libraries in a folder of their machine, is used where it is,
+    and removed."""
     staged, machine = place.folder / "staged here", "usr/lib/x86_64-linux-gnu"
     package = {"PREFIX": "/usr", "LIBDIR": f"/{machine}", "DESTDIR": str(staged)}
     place.run("install", "--cargo", **package)
-    assert place.installed(staged) == {f"usr/{name}".replace("usr/lib", machine) for name in place.wanted | OF_VTLOG}
+    assert place.installed(staged) == {f"usr/{name}".replace("usr/lib", machine)
+                                       for name in place.wanted | OF_VTLOG}
     assert os.readlink(staged / machine / "libvte_c.so") == "libvte_c.so.6"
     described = (staged / machine / "pkgconfig/libvte_c.pc").read_text().splitlines()
     assert {"prefix=/usr", f"libdir=/{machine}", "build=given"} <= {*described}
     if shutil.which("man"):
         page = place.run("man", staged / "usr/share/man/man3/vte.3", MANWIDTH="160")
-        assert all(name in page for name in ("vte_feed(vte_parser", "vte_long_feed", "vte_processor_new"))
+        names = "vte_feed(vte_parser", "vte_long_feed", "vte_processor_new"
+        assert all(name in page for name in names)
     assert (staged / "usr/bin/vtlog").read_bytes() == Path("/bin/true").read_bytes()
-    cmake(place, f"-DCMAKE_PREFIX_PATH={staged / 'usr'}", "-DCMAKE_LIBRARY_ARCHITECTURE=x86_64-linux-gnu", "-DVERSION=6")
+    cmake(place, f"-DCMAKE_PREFIX_PATH={staged / 'usr'}",
+          "-DCMAKE_LIBRARY_ARCHITECTURE=x86_64-linux-gnu", "-DVERSION=6")
     place.run("cmake", "--build", "built")
     place.uninstall("staged here", **package)
 
 
 def test_without_tools(place):
-    """Everything is installed below the usual prefix where there is no C compiler, or no cargo that can build."""
+    """Everything is installed below the usual prefix if there is no C compiler, or no cargo that
+    can build."""
     tools = place.folder / "cc"
     tools.mkdir()
     for folder in os.environ["PATH"].split(os.pathsep):
@@ -168,7 +192,9 @@ def test_without_tools(place):
     place.run(*build, status=70, says="cargo isn't installed", **variables)
     (tools / "cargo").write_text("#!/bin/sh\necho it is too old >&2\nexit 1\n")
     (tools / "cargo").chmod(0o755)
-    place.run(*build, status=70, says="it is too old\nbuild_c_library: the library could not be built", **variables)
-    said = "it is too old\ninstall: cargo could not build vtlog, as above: the program was left out\ninstall: the library is given as "
+    said = "it is too old\nbuild_c_library: the library could not be built"
+    place.run(*build, status=70, says=said, **variables)
+    said = ("it is too old\ninstall: cargo could not build vtlog, as above: the program was left "
+            "out\ninstall: the library is given as ")
     place.run("install", "--cargo", **{**variables, "VTLOG": ""}, says=said)
     assert not {name for name in place.installed("without_cc") if "vtlog" in name}

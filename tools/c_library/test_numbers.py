@@ -8,12 +8,13 @@ import pytest
 from c_library.library import BESIDE, HERE, TOOLS, miss, output_of
 
 TYPES = TOOLS.parent / "rust/vte/src/proved/vte_types"
-# Rust's type, and how the names of C begin, but for those that C names otherwise, which handler.cpp tries
+# Rust's type, and how the names of C begin, but for those that C names otherwise, which handler.cpp
+# tries
 ENUMS = {
     "Attr": "VTE_", "NamedColor": None, "LineClearMode": "VTE_LINE_", "ClearMode": "VTE_SCREEN_",
     "TabulationClearMode": "VTE_TAB_", "CursorShape": "VTE_SHAPE_", "StandardCharset": None,
-    "ScpCharPath": None, "ScpUpdateMode": None, "KeyboardModesApplyBehavior": None, "ModifyOtherKeys": None,
-    "NamedMode": None, "NamedPrivateMode": None,
+    "ScpCharPath": None, "ScpUpdateMode": None, "KeyboardModesApplyBehavior": None,
+    "ModifyOtherKeys": None, "NamedMode": None, "NamedPrivateMode": None,
 }
 # an enum of the declarations of C or Rust, and its names
 LIST = r"\benum{} {{([^}}]*)}}"
@@ -37,12 +38,14 @@ def of_rust():
 
 def of_c():
     lists = re.findall(LIST.format(""), (BESIDE / "include/vte_handler.h").read_text())
-    return {name: number for text in lists for name, number in numbered(re.sub(r"/\*.*?\*/", "", text).replace(",", "\n")).items()}
+    items = (re.sub(r"/\*.*?\*/", "", text).replace(",", "\n") for text in lists)
+    return {name: number for text in items for name, number in numbered(text).items()}
 
 
 @pytest.mark.parametrize("name", [name for name in ENUMS if ENUMS[name]])
 def test_names(name):
-    wanted = {ENUMS[name] + re.sub("(?<!^)(?=[A-Z])", "_", one).upper(): number for one, number in of_rust()[name].items()}
+    wanted = {ENUMS[name] + re.sub("(?<!^)(?=[A-Z])", "_", one).upper(): number
+              for one, number in of_rust()[name].items()}
     assert {one: of_c().get(one) for one in wanted} == wanted
 
 

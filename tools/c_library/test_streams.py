@@ -10,7 +10,8 @@ STRIP_WAYS = [["strip", *way[:2]] for way in (["1"], ["4096"], ["0"], ["7", "16"
 STOPS_WAYS = [["stops", str(1 << kind), "4096"] for kind in range(8)] + [["stops", "255", "4096"]]
 LONG_WAYS = [["long", *way[:2]] for way in WAYS]
 # sets of kinds, and the words of their lines
-KINDS = {"32": ("osc",), "96": ("osc", "csi"), "86": ("execute", "hook", "unhook", "csi"), "1": ("print",), "28": ("hook", "put", "unhook")}
+KINDS = {"32": ("osc",), "96": ("osc", "csi"), "86": ("execute", "hook", "unhook", "csi"),
+         "1": ("print",), "28": ("hook", "put", "unhook")}
 LIMIT = 1024
 
 
@@ -19,36 +20,44 @@ def compare(library, name, stream, wanted, ways):
     for program in filter(None, [library.events, library.sanitized]):
         for way in ways:
             if library.is_whole or "long" not in way:
-                assert output_of([program, *way], stream) == wanted, f"{name}, {program.name} {' '.join(way)}, {stream[:60]}"
+                found = output_of([program, *way], stream)
+                assert found == wanted, f"{name}, {program.name} {' '.join(way)}, {stream[:60]}"
 
 
 def compare_lines(library, name, stream, lines, ways):
-    """Compares the events. A parser without a limit has the same, unless a command is as long as that allows."""
-    is_long = any(line.startswith(b"osc ") and len(line) >= 2 * LIMIT for line in lines.splitlines())
+    """Compares the events. A parser without a limit has the same, unless a command is as long as
+    that allows."""
+    each = lines.splitlines(True)
+    is_long = any(line.startswith(b"osc ") and len(line) >= 2 * LIMIT for line in each)
     compare(library, name, stream, lines, ways if is_long else ways + LONG_WAYS)
     for kinds, words in KINDS.items():
-        kept = b"".join(line for line in lines.splitlines(True) if line.split()[0].decode() in words)
-        compare(library, name, stream, kept, [["kinds", kinds, "0"], *[["long", "kinds", kinds, "0"]] * (not is_long)])
+        kept = b"".join(line for line in each if line.split()[0].decode() in words)
+        way = ["kinds", kinds, "0"]
+        compare(library, name, stream, kept, [way] if is_long else [way, ["long", *way]])
 
 
 def compare_losses(library, name, stream):
-    """Compares the flags of commands with the definition: a command lost data if it has more without limits."""
+    """Compares the flags of commands with the definition: a command lost data if it has more
+    without limits."""
     for parser, limit in ([], LIMIT), (["long"], None):
-        compare(library, name, stream, losses(stream, limit), [[*parser, "losses", piece] for piece in ("1", "4096", "0")])
+        ways = [[*parser, "losses", piece] for piece in ("1", "4096", "0")]
+        compare(library, name, stream, losses(stream, limit), ways)
 
 
 def losses(stream, limit):
     """A line for each command: whether a parser with this limit loses data of it."""
     def sizes(of):
-        commands = (line.split()[3:] for line in definition.lines_of(stream, of) if line.startswith("osc "))
-        return [sum(len(piece) // 2 for piece in pieces) for pieces in commands]
+        return [sum(len(piece) // 2 for piece in line.split()[3:])
+                for line in definition.lines_of(stream, of) if line.startswith("osc ")]
 
     kept, all_data = sizes(house.House(limit=limit)), sizes(house.House(limit=None, pieces=None))
-    return "".join("kept\n" if has == wanted else "lost\n" for has, wanted in zip(kept, all_data)).encode()
+    return b"".join(b"kept\n" if has == wanted else b"lost\n"
+                    for has, wanted in zip(kept, all_data))
 
 
 def test_rows(library):
-    """Events and text are those that were worked out by hand, for a parser that keeps 1,024 bytes."""
+    """Events and text are those that were worked out by hand, for a parser that keeps 1,024
+    bytes."""
     def test_row(row):
         stream, name = bytes_of(row["pieces"]), f"row: {row['name']}"
         compare_losses(library, name, stream)
@@ -58,29 +67,36 @@ def test_rows(library):
         else:
             compare(library, name, stream, bytes_of(row["expect"]), [STRIP_WAYS[0], STRIP_WAYS[2]])
 
-    at_once(test_row, [row for row in all_rows() if row["kind"] in ("lines", "plain") and row.get("size") == LIMIT])
+    at_once(test_row, [row for row in all_rows()
+                       if row["kind"] in ("lines", "plain") and row.get("size") == LIMIT])
 
 
 def all_streams(given):
-    """Recorded streams and groups of random ones, with their names. With --short no recorded one is longer than 10,000 bytes."""
+    """Recorded streams and groups of random ones, with their names. With --short no recorded one is
+    longer than 10,000 bytes."""
     for file in sorted((TOOLS / "recorded").glob("*.bin")):
         yield file.name, file.read_bytes()[:10_000 if given.short else None]
     count = given.streams or (400 if given.short else 20_000)
-    random_streams = [b"".join(hostile_stream(given.seed, number, OF_TEXT)) for number in range(count)]
     for at in range(0, count, 200):
+        group = (b"".join(hostile_stream(given.seed, number, OF_TEXT))
+                 for number in range(at, min(at + 200, count)))
         # CAN is between them, after which a stream starts afresh
-        yield f"random streams {at // 200}", b"\x18".join(random_streams[at:at + 200])
+        yield f"random streams {at // 200}", b"\x18".join(group)
 
 
 def test_streams(library, vtlog, request):
-    """All programs write, in all ways, what vtlog does. With --short, what the C program does in pieces of 65,536 bytes, with stops after
-    one kind of event."""
+    """All programs write, in all ways, what vtlog does. With --short, what the C program does in
+    pieces of 65,536 bytes, with stops after one kind of event."""
+    by = [vtlog] if vtlog else [library.events]
+    piece = [] if vtlog else ["65536"]
+
     def test_stream(numbered):
         number, (name, stream) = numbered
-        words, of_text = ([vtlog], [vtlog, "text"]) if vtlog else ([library.events, "65536"], [library.events, "strip", "65536"])
-        lines, text = output_of(words, stream), output_of(of_text, stream)
+        lines = output_of([*by, *piece], stream)
+        text = output_of([*by, "text" if vtlog else "strip", *piece], stream)
         stops = STOPS_WAYS[:2] if name.startswith("random") else STOPS_WAYS
-        compare_lines(library, name, stream, lines, WAYS + (stops if vtlog else [STOPS_WAYS[number % 9]]))
+        stops = stops if vtlog else [STOPS_WAYS[number % 9]]
+        compare_lines(library, name, stream, lines, WAYS + stops)
         compare(library, name, stream, text, STRIP_WAYS)
         compare_losses(library, name, stream)
 

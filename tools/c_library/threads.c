@@ -1,5 +1,6 @@
-/* Uses two parsers in two threads, and one processor in two: a call gets VTE_BUSY while another is under way. Under the thread sanitizer,
- * with the library compiled for it, it is seen that the functions of the table never run at once. */
+/* Uses two parsers in two threads, and one processor in two: a call gets VTE_BUSY while another is
+ * under way. Under the thread sanitizer, with the library compiled for it, it is seen that the
+ * functions of the table never run at once. */
 #include "vte_handler.h"
 #include "vte_long.h"
 #include <pthread.h>
@@ -32,15 +33,21 @@ static void *parse(void *user) {
         vte_counts counts, more;
         vte_parser stripper = {{0}};
         size_t written, all = sizeof bytes - 1;
-        if (vte_feed(parser, bytes, all, VTE_ALL_KINDS, 0, events, 16, data, sizeof data, &counts) != all) return user;
-        if (vte_long_feed(long_parser, bytes, all, VTE_ALL_KINDS, 0, events, 16, &area, &more) != all || more.events != counts.events) return user;
-        if (vte_strip(&stripper, bytes, all, text, sizeof text, &written) != all || vte_is_open(parser)) return user;
+        size_t read = vte_feed(parser, bytes, all, VTE_ALL_KINDS, 0, events, 16, data, sizeof data,
+                               &counts);
+        if (read != all) return user;
+        read = vte_long_feed(long_parser, bytes, all, VTE_ALL_KINDS, 0, events, 16, &area, &more);
+        if (read != all || more.events != counts.events) return user;
+        read = vte_strip(&stripper, bytes, all, text, sizeof text, &written);
+        if (read != all || vte_is_open(parser)) return user;
     }
     vte_long_parser_free(long_parser);
     return NULL;
 }
 
-static void input(void *user, const uint8_t *text, size_t length) { (void)text, (void)length, ++*(size_t *)user; }
+static void input(void *user, const uint8_t *text, size_t length) {
+    (void)text, (void)length, ++*(size_t *)user;
+}
 
 static void *process(void *user) {
     int own = *(int *)user;
@@ -48,8 +55,10 @@ static void *process(void *user) {
     for (int i = 0; i < CALLS; i++) {
         vte_sync sync;
         size_t read;
-        int status = i % 5 == 0 ? vte_processor_sync(processor, &sync) : i % 7 == 0 ? vte_processor_stop_sync(processor)
-                                                                             : vte_processor_advance(processor, (const uint8_t *)"a\r", 2, &read);
+        int status;
+        if (i % 5 == 0) status = vte_processor_sync(processor, &sync);
+        else if (i % 7 == 0) status = vte_processor_stop_sync(processor);
+        else status = vte_processor_advance(processor, (const uint8_t *)"a\r", 2, &read);
         if (status == VTE_BUSY) busy[own]++;
         else if (status != VTE_OK) return user;
         else done[own] += i % 5 != 0 && i % 7 != 0;

@@ -1,7 +1,8 @@
 """Generated streams by name, and the recorded ones.
 
-A name and a size always give the same bytes, and a shorter stream is the front of a longer one. A stream is cut at its
-size, so it may end inside a character or a sequence. What comes by chance repeats after 2 MB."""
+A name and a size always give the same bytes, and a shorter stream is the front of a longer one. A
+stream is cut at its size, so it may end inside a character or a sequence. What comes by chance
+repeats after 2 MB."""
 import itertools
 import json
 import random
@@ -12,9 +13,10 @@ from generating.random_text import cut_at
 
 COLUMNS, ROWS = 80, 24
 PERIOD = 2 << 20
-WORDS = ("the of terminal stream parser escape sequence cursor colour screen buffer margin scroll region title window pane "
-         "status line character cell width glyph paste bracket update frame hold stop reset bold a to in is").split()
-BASE64 = b"ABCDEFGHIJKLMNOPQRSTUVWXYZabcdefghijklmnopqrstuvwxyz0123456789+/"
+WORDS = ("the of terminal stream parser escape sequence cursor colour screen buffer margin scroll "
+         "region title window pane status line character cell width glyph paste bracket update "
+         "frame hold stop reset bold a to in is").split()
+DIGITS = b"ABCDEFGHIJKLMNOPQRSTUVWXYZabcdefghijklmnopqrstuvwxyz0123456789+/"
 
 
 def characters(*ranges):
@@ -26,10 +28,11 @@ KANA = characters(range(0x3041, 0x30FA))
 HANGUL = characters(range(0xAC00, 0xD7A4, 13))
 CYRILLIC = characters(range(0x410, 0x450))
 EMOJI = characters(range(0x1F300, 0x1F650), range(0x1F680, 0x1F6D0), range(0x1F900, 0x1FA00))
-JOINED = ["\U0001F468\u200D\U0001F469\u200D\U0001F467", "\U0001F44D\U0001F3FD", "\u2764\uFE0F", "\U0001F1E9\U0001F1EA",
-          "e\u0301", "a\u0308\u0323", "1\uFE0F\u20E3"]
-LATIN = list("abcdefghijklmnopqrstuvwxyz      " * 3 + "\u00E4\u00F6\u00FC\u00DF\u00E9\u00E8\u00E0\u00F1")
-# name: (what it is, a function from a random.Random to parts without end, whether the parts come by chance)
+JOINED = ["\U0001F468\u200D\U0001F469\u200D\U0001F467", "\U0001F44D\U0001F3FD", "\u2764\uFE0F",
+          "\U0001F1E9\U0001F1EA", "e\u0301", "a\u0308\u0323", "1\uFE0F\u20E3"]
+LATIN = list("abcdefghijklmnopqrstuvwxyz      " * 3 + "äöüßéèàñ")
+# name: (what it is, a function from a random.Random to parts without end, whether the parts come by
+# chance)
 STREAMS = {}
 
 
@@ -52,12 +55,22 @@ def pick(chance, choices, count):
     return "".join(chance.choice(choices) for _ in range(count))
 
 
+def base64(chance, count):
+    return bytes(chance.choices(DIGITS, k=count))
+
+
 # ---- text
 
 def script(choices, end):
     def line(chance):
         text = pick(chance, choices, chance.randint(10, 40)) + end
         return (text + "\r\n" if chance.random() < 0.3 else text).encode()
+    return line
+
+
+def western(letters, encoding):
+    def line(chance):
+        return (pick(chance, letters, chance.randint(30, 100)) + "\r\n").encode(encoding)
     return line
 
 
@@ -72,8 +85,8 @@ def unicode_lines(chance):
 
 @stream("ls_color", "as `ls -lR --color` writes")
 def ls_color(chance):
-    kinds = [("01;34", ""), ("01;32", ""), ("01;36", " -> \x1b[0m\x1b[01;34mtarget\x1b[0m"), ("01;31", ".gz"),
-             ("01;35", ".png"), (None, ".txt"), (None, ".c")]
+    kinds = [("01;34", ""), ("01;32", ""), ("01;36", " -> \x1b[0m\x1b[01;34mtarget\x1b[0m"),
+             ("01;31", ".gz"), ("01;35", ".png"), (None, ".txt"), (None, ".c")]
     path = "/".join(chance.choice(WORDS) for _ in range(chance.randint(1, 5)))
     lines = [f"\r\n./{path}:\r\ntotal {chance.randrange(9999)}\r\n"]
     for _ in range(chance.randint(2, 30)):
@@ -81,7 +94,8 @@ def ls_color(chance):
         name = "-".join(chance.choice(WORDS) for _ in range(chance.randint(1, 3)))
         name = f"\x1b[0m\x1b[{colour}m{name}\x1b[0m{end}" if colour else name + end
         size = chance.randrange(10 ** chance.randint(1, 8))
-        lines.append(f"-rw-r--r-- {chance.randint(1, 9):2} demo demo {size:8} Jan {chance.randint(1, 28):2} "
+        lines.append(f"-rw-r--r-- {chance.randint(1, 9):2} demo demo {size:8} "
+                     f"Jan {chance.randint(1, 28):2} "
                      f"{chance.randrange(24):02}:{chance.randrange(60):02} {name}\r\n")
     return "".join(lines).encode()
 
@@ -89,34 +103,42 @@ def ls_color(chance):
 @stream("coloured", "text with a colour or an attribute at each second word")
 def coloured(chance):
     attributes = [0, 1, 3, 4, 7, 22, 24, 27, 31, 32, 33, 34, 35, 36, 39, 42, 49, 91, 97]
-    line = [b"\x1b[%dm" % chance.choice(attributes) * (chance.random() < 0.5) + chance.choice(WORDS).encode() + b" " for _ in range(12)]
+    line = [b"\x1b[%dm" % chance.choice(attributes) * (chance.random() < 0.5)
+            + chance.choice(WORDS).encode() + b" " for _ in range(12)]
     return b"".join(line) + b"\r\n"
 
 
 def dense_cells(_chance):
     for shift in itertools.count():
         for letter in range(0x41, 0x5B):
-            cells = (line + column + shift for line in range(ROWS) for column in range(COLUMNS))
-            yield b"\x1b[H" + b"".join(b"\x1b[38;5;%d;48;5;%d;1;3;4m%c" % (cell % 156 + 100, 255 - cell % 156, letter) for cell in cells)
+            colours = ((line + column + shift) % 156 for line in range(ROWS)
+                       for column in range(COLUMNS))
+            yield b"\x1b[H" + b"".join(
+                b"\x1b[38;5;%d;48;5;%d;1;3;4m%c" % (colour + 100, 255 - colour, letter)
+                for colour in colours)
 
 
-STREAMS["dense_cells"] = ("each cell with two colours of 256, bold, italic and underlined", dense_cells, True)
+STREAMS["dense_cells"] = ("each cell with two colours of 256, bold, italic and underlined",
+                          dense_cells, True)
 
 
 @stream("dense_rgb", "each cell with two colours of 24 bits, in both spellings, and half a block")
 def dense_rgb(chance):
-    forms = [b"\x1b[38:2::%d:%d:%d;48:2::%d:%d:%dm\xe2\x96\x84", b"\x1b[38;2;%d;%d;%d;48;2;%d;%d;%dm\xe2\x96\x80"]
-    cells = [forms[column % 2] % tuple(chance.choices(range(256), k=6)) for column in range(COLUMNS)]
+    forms = [b"\x1b[38:2::%d:%d:%d;48:2::%d:%d:%dm\xe2\x96\x84",
+             b"\x1b[38;2;%d;%d;%d;48;2;%d;%d;%dm\xe2\x96\x80"]
+    cells = [forms[column % 2] % tuple(chance.choices(range(256), k=6))
+             for column in range(COLUMNS)]
     return b"".join(cells) + b"\x1b[0m\r\n"
 
 
 @stream("cursor", "motions and erasures of all kinds, as full-screen programs write")
 def cursor(chance):
-    others = [b"\x1b7", b"\x1b8", b"\x1bM", b"\x1b(0", b"\x1b(B", b"\x0e", b"\x0f", b"\x08", b"\t", b"\r\n",
-              b"\x1b[?25l", b"\x1b[?25h", b"\x1b[?7l", b"\x1b[?1049h"]
+    others = [b"\x1b7", b"\x1b8", b"\x1bM", b"\x1b(0", b"\x1b(B", b"\x0e", b"\x0f", b"\x08", b"\t",
+              b"\r\n", b"\x1b[?25l", b"\x1b[?25h", b"\x1b[?7l", b"\x1b[?1049h"]
     kind = chance.random()
     if kind < 0.6:
-        numbers = [b"", b"%d" % chance.randint(0, 99), b"%d;%d" % (chance.randint(1, 50), chance.randint(1, 132))]
+        numbers = [b"", b"%d" % chance.randint(0, 99),
+                   b"%d;%d" % (chance.randint(1, 50), chance.randint(1, 132))]
         return b"\x1b[%s%c" % (chance.choice(numbers), chance.choice(b"ABCDEFGdGHfJKLMPSTX@`ae"))
     return chance.choice(others) if kind < 0.7 else words(chance, 1, 20)
 
@@ -132,33 +154,40 @@ def osc_title(chance):
 @stream("sixel", "sixel images of some 30 kB")
 def sixel(chance):
     def band():
-        runs = [b"!%d%c" % (chance.randint(2, 90), chance.randrange(63, 127)) if chance.random() < 0.5
-                else bytes(chance.choices(range(63, 127), k=chance.randint(1, 20))) for _ in range(8)]
+        runs = [b"!%d%c" % (chance.randint(2, 90), chance.randrange(63, 127))
+                if chance.random() < 0.5
+                else bytes(chance.choices(range(63, 127), k=chance.randint(1, 20)))
+                for _ in range(8)]
         return b"#%d" % chance.randrange(16) + b"".join(runs) + b"$"
 
-    colours = [b"#%d;2;%d;%d;%d" % (index, *chance.choices(range(101), k=3)) for index in range(16)]
+    colours = [b"#%d;2;%d;%d;%d" % (index, *chance.choices(range(101), k=3))
+               for index in range(16)]
     lines = [b"".join(band() for _ in range(6)) + b"-\n" for _ in range(40)]
     return b'\x1bP0;1;8q"1;1;400;240' + b"".join([*colours, *lines]) + b"\x1b\\\r\n"
 
 
 # what each part of a stream is
 PARTS = {
-    "ascii": ("lines of 20 to 120 ASCII characters", lambda chance: words(chance, 20, 120) + b"\r\n"),
-    "prose": ("western text in UTF-8, one letter in thirteen above ASCII, with typographic quotes and dashes",
-              lambda chance: (pick(chance, [*LATIN, "\u2019", "\u2013"], chance.randint(30, 100)) + "\r\n").encode()),
+    "ascii": ("lines of 20 to 120 ASCII characters",
+              lambda chance: words(chance, 20, 120) + b"\r\n"),
+    "prose": ("western text in UTF-8, one letter in thirteen above ASCII, with typographic quotes "
+              "and dashes", western([*LATIN, "\u2019", "\u2013"], "utf-8")),
     "latin1": ("western text in Latin-1: one byte in thirteen is malformed UTF-8",
-               lambda chance: (pick(chance, LATIN, chance.randint(30, 100)) + "\r\n").encode("latin-1")),
+               western(LATIN, "latin-1")),
     "cjk": ("characters of three bytes almost alone", script(CJK, "")),
     "cyrillic": ("characters of two bytes, and blanks", script(CYRILLIC, " ")),
     "emoji": ("characters of four bytes almost alone", script(EMOJI, "")),
     "updates": ("frames of coloured text inside synchronized updates",
-                lambda chance: b"\x1b[?2026h\x1b[H" + b"".join(coloured(chance) for _ in range(ROWS)) + b"\x1b[?2026l"),
+                lambda chance: b"\x1b[?2026h\x1b[H%b\x1b[?2026l" % b"".join(
+                    coloured(chance) for _ in range(ROWS))),
     "osc_clipboard": ("64 kB for the clipboard each, past the store",
-                      lambda chance: b"\x1b]52;c;" + bytes(chance.choices(BASE64, k=65536)) + b"\x07text\r\n"),
-    "osc_pieces": ("colours of the palette, 2 to 40 semicolons each", lambda chance: b"\x1b]4" + b"".join(
-        b";%d;#%06x" % (chance.randrange(256), chance.randrange(1 << 24)) for _ in range(chance.randint(1, 20))) + b"\x07"),
+                      lambda chance: b"\x1b]52;c;%b\x07text\r\n" % base64(chance, 65536)),
+    "osc_pieces": ("colours of the palette, 2 to 40 semicolons each",
+                   lambda chance: b"\x1b]4%b\x07" % b"".join(
+                       b";%d;#%06x" % (chance.randrange(256), chance.randrange(1 << 24))
+                       for _ in range(chance.randint(1, 20)))),
     "ignored": ("strings of 4 kB that mean nothing, as Kitty's images",
-                lambda chance: b"\x1b_Gm=1;" + bytes(chance.choices(BASE64, k=4096)) + b"\x1b\\"),
+                lambda chance: b"\x1b_Gm=1;%b\x1b\\" % base64(chance, 4096)),
     "random": ("random bytes", lambda chance: chance.randbytes(4096)),
 }
 for name, (what, part) in PARTS.items():

@@ -77,7 +77,8 @@ def _token_at(text, at):
 
 
 def _ghost_end(text, at, stops):
-    """Where ghost text ends: after one of `stops` outside braces. It isn't Rust, so only its braces, strings and comments are looked at."""
+    """Where ghost text ends: after one of `stops` outside braces. It isn't Rust, so only its
+    braces, strings and comments are looked at."""
     depth = 0
     for found in GHOST_MARK.finditer(text, at):
         mark = found[0]

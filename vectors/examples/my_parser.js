@@ -2,4 +2,6 @@
 const hex = (byte, digits) => byte.toString(16).padStart(digits, "0");
 
 module.exports = (pieces) =>
-  [...Buffer.concat(pieces)].map((byte) => (byte < 0x20 ? `execute ${hex(byte, 2)}` : `print ${hex(byte, 4)}`));
+  [...Buffer.concat(pieces)].map((byte) =>
+    byte < 0x20 ? `execute ${hex(byte, 2)}` : `print ${hex(byte, 4)}`,
+  );

@@ -2,4 +2,5 @@
 
 
 def parse_pieces(pieces):
-    return [f"execute {byte:02x}" if byte < 0x20 else f"print {byte:04x}" for byte in b"".join(pieces)]
+    return [f"execute {byte:02x}" if byte < 0x20 else f"print {byte:04x}"
+            for byte in b"".join(pieces)]

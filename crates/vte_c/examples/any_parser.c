@@ -1,4 +1,5 @@
-/* Feeds bytes to parsers of random content, with buffers of exactly their size, so that a sanitizer reports an access past one. */
+/* Feeds bytes to parsers of random content, with buffers of exactly their size, so that a sanitizer
+ * reports an access past one. */
 #include "vte.h"
 #include <stdlib.h>
 #include <string.h>
@@ -14,7 +15,8 @@ static void fill(void *room, size_t size, int small) {
     for (size_t i = 0; i < size; i++) ((uint8_t *)room)[i] = small ? next_byte() % 33 : next_byte();
 }
 
-/* Whether a call has read no more than there is, or says that there is too little room, exactly if that is so. */
+/* Whether a call has read no more than there is, or says that there is too little room, exactly if
+ * that is so. */
 static int has_answered(size_t read, size_t length, int has_room) {
     return has_room ? read <= length : read == VTE_NO_ROOM;
 }
@@ -22,15 +24,18 @@ static int has_answered(size_t read, size_t length, int has_room) {
 int main(void) {
     static const char ends[] = "1;2:3m\033\\\007\030\302\205\033[\033]x;y\007";
     for (int round = 0; round < 100000; round++) {
-        size_t event_room = next_byte() % 16, data_room = 2000 + next_byte() % 200u, text_room = next_byte() % 40, written;
+        size_t event_room = next_byte() % 16, data_room = 2000 + next_byte() % 200u;
+        size_t text_room = next_byte() % 40, written;
         vte_parser parser, other;
         vte_event *events = malloc(event_room * sizeof *events + 1);
         uint8_t *data = malloc(data_room), *text = malloc(text_room + 1);
         vte_counts counts;
         fill(&parser, sizeof parser, round % 2);
         other = parser;
-        size_t read = vte_feed(&parser, (const uint8_t *)ends, sizeof ends - 1, VTE_ALL_KINDS, 0, events, event_room, data, data_room, &counts);
-        if (!has_answered(read, sizeof ends - 1, event_room >= VTE_LEAST_EVENTS && data_room >= VTE_LEAST_DATA)) return 1;
+        size_t read = vte_feed(&parser, (const uint8_t *)ends, sizeof ends - 1, VTE_ALL_KINDS, 0,
+                               events, event_room, data, data_room, &counts);
+        int has_room = event_room >= VTE_LEAST_EVENTS && data_room >= VTE_LEAST_DATA;
+        if (!has_answered(read, sizeof ends - 1, has_room)) return 1;
         for (size_t i = 0; i < counts.events; i++) {
             vte_items items = vte_items_of(&events[i], data);
             if (events[i].kind == VTE_TEXT || events[i].kind == VTE_DATA) {

@@ -1,9 +1,10 @@
 /* Writes the events of its standard input, one line each, as vtlog does.
  *
- * events [WORD..] [PIECE [ROOM [DATA]]]: reads pieces of PIECE bytes, with room for ROOM events and DATA data bytes. With a PIECE of 0,
- * pieces and room have random sizes. Words: `kinds N` and `stops N` are the masks of vte_feed, `losses` writes of each command only
- * whether it lost data, `strip` writes the text, with room for ROOM bytes, and `long` keeps commands of any length, if this is compiled
- * with WITH_LONG. */
+ * events [WORD..] [PIECE [ROOM [DATA]]]: reads pieces of PIECE bytes, with room for ROOM events and
+ * DATA data bytes. With a PIECE of 0, pieces and room have random sizes. Words: `kinds N` and
+ * `stops N` are the masks of vte_feed, `losses` writes of each command only whether it lost data,
+ * `strip` writes the text, with room for ROOM bytes, and `long` keeps commands of any length, if
+ * this is compiled with WITH_LONG. */
 #ifdef WITH_LONG
 #include "vte_long.h"
 #else
@@ -13,7 +14,8 @@
 #include <stdlib.h>
 #include <string.h>
 
-static const char *const names[] = {"text", "execute", "hook", "data", "unhook", "osc", "csi", "esc"};
+static const char *const names[] = {"text", "execute", "hook", "data",
+                                    "unhook", "osc", "csi", "esc"};
 
 static uint32_t kinds = VTE_ALL_KINDS, stops;
 static int losses;
@@ -29,7 +31,8 @@ static void show_groups(const vte_event *event, const uint8_t *data) {
     const char *before = "";
     printf(" [");
     while (vte_next_group(&items)) {
-        for (size_t i = 0; i < items.length; i++) printf("%s%u", i ? ":" : before, vte_number(&items, i));
+        for (size_t i = 0; i < items.length; i++)
+            printf("%s%u", i ? ":" : before, vte_number(&items, i));
         before = ";";
     }
     putchar(']');
@@ -37,14 +40,17 @@ static void show_groups(const vte_event *event, const uint8_t *data) {
 
 /* Reads a character, which the library has found to be whole and well formed. */
 static uint32_t next_character(const uint8_t **at) {
-    uint32_t first = *(*at)++, number = first < 0x80 ? first : first < 0xe0 ? first & 0x1f : first < 0xf0 ? first & 0x0f : first & 0x07;
-    for (int more = first < 0x80 ? 0 : first < 0xe0 ? 1 : first < 0xf0 ? 2 : 3; more > 0; more--) number = number << 6 | (*(*at)++ & 0x3f);
+    uint32_t first = *(*at)++;
+    int more = first < 0x80 ? 0 : first < 0xe0 ? 1 : first < 0xf0 ? 2 : 3;
+    uint32_t number = more == 0 ? first : first & (0x3f >> more);
+    for (; more > 0; more--) number = number << 6 | (*(*at)++ & 0x3f);
     return number;
 }
 
 /* A line for each character. */
 static void show_text(const uint8_t *text, size_t length) {
-    for (const uint8_t *end = text + length; text < end;) printf("print %04x\n", next_character(&text));
+    for (const uint8_t *end = text + length; text < end;)
+        printf("print %04x\n", next_character(&text));
 }
 
 static void show(const vte_event *event, const uint8_t *bytes, const uint8_t *data) {
@@ -57,7 +63,8 @@ static void show(const vte_event *event, const uint8_t *bytes, const uint8_t *da
         return;
     }
     if (event->kind == VTE_DATA) {
-        for (uint32_t i = 0; i < event->code; i++) printf("put %02x\n", vte_text_of(event, bytes, data)[i]);
+        for (uint32_t i = 0; i < event->code; i++)
+            printf("put %02x\n", vte_text_of(event, bytes, data)[i]);
         return;
     }
     vte_items items = vte_items_of(event, data);
@@ -90,11 +97,13 @@ static void *room_for(size_t size) {
     return room;
 }
 
-static size_t feed(vte_parser *parser, const uint8_t *bytes, size_t length, size_t event_room, size_t data_room) {
+static size_t feed(vte_parser *parser, const uint8_t *bytes, size_t length, size_t event_room,
+                   size_t data_room) {
     vte_event *events = room_for(event_room * sizeof *events);
     uint8_t *data = room_for(data_room);
     vte_counts counts;
-    size_t read = vte_feed(parser, bytes, length, kinds, stops, events, event_room, data, data_room, &counts);
+    size_t read =
+        vte_feed(parser, bytes, length, kinds, stops, events, event_room, data, data_room, &counts);
     for (size_t i = 0; i < counts.events; i++) show(&events[i], bytes, data);
     free(events);
     free(data);
@@ -102,11 +111,13 @@ static size_t feed(vte_parser *parser, const uint8_t *bytes, size_t length, size
 }
 
 #ifdef WITH_LONG
-static size_t feed_long(vte_long_parser *parser, const uint8_t *bytes, size_t length, size_t event_room) {
+static size_t feed_long(vte_long_parser *parser, const uint8_t *bytes, size_t length,
+                        size_t event_room) {
     vte_event *events = room_for(event_room * sizeof *events);
     const uint8_t *data;
     vte_counts counts;
-    size_t read = vte_long_feed(parser, bytes, length, kinds, stops, events, event_room, &data, &counts);
+    size_t read =
+        vte_long_feed(parser, bytes, length, kinds, stops, events, event_room, &data, &counts);
     if (read == VTE_REFUSED) exit(1);
     for (size_t i = 0; i < counts.events; i++) show(&events[i], bytes, data);
     free(events);
@@ -131,15 +142,19 @@ int main(int argc, char **argv) {
     int strips = 0, is_long = 0;
     for (; argc > 1 && (argv[1][0] < '0' || argv[1][0] > '9'); argc--, argv++) {
         int takes = argc > 2 && (strcmp(argv[1], "kinds") == 0 || strcmp(argv[1], "stops") == 0);
-        if (takes) *(argv[1][0] == 'k' ? &kinds : &stops) = (uint32_t)strtoul(argv[2], NULL, 10), argc--, argv++;
-        else if (strcmp(argv[1], "losses") == 0) losses = 1;
+        if (takes) {
+            *(argv[1][0] == 'k' ? &kinds : &stops) = (uint32_t)strtoul(argv[2], NULL, 10);
+            argc--, argv++;
+        } else if (strcmp(argv[1], "losses") == 0) losses = 1;
         else if (strcmp(argv[1], "strip") == 0) strips = 1;
         else if (strcmp(argv[1], "long") == 0) is_long = 1;
         else return 2;
     }
-    size_t piece = number_at(argc - 1, argv + 1, 0), first = number_at(argc - 1, argv + 1, 1), second = number_at(argc - 1, argv + 1, 2);
-    if (vte_version() != VTE_VERSION || vte_parser_size() != sizeof(vte_parser) || vte_event_size() != sizeof(vte_event)
-        || vte_least_events() != VTE_LEAST_EVENTS || vte_least_data() != VTE_LEAST_DATA || vte_least_text() != VTE_LEAST_TEXT) {
+    size_t piece = number_at(argc - 1, argv + 1, 0);
+    size_t first = number_at(argc - 1, argv + 1, 1), second = number_at(argc - 1, argv + 1, 2);
+    if (vte_version() != VTE_VERSION || vte_parser_size() != sizeof(vte_parser)
+        || vte_event_size() != sizeof(vte_event) || vte_least_events() != VTE_LEAST_EVENTS
+        || vte_least_data() != VTE_LEAST_DATA || vte_least_text() != VTE_LEAST_TEXT) {
         fputs("events: the library is not the one that vte.h describes\n", stderr);
         return 1;
     }
@@ -154,11 +169,16 @@ int main(int argc, char **argv) {
         size_t length = fread(bytes, 1, most, stdin);
         for (size_t at = 0; at < length;)
 #ifdef WITH_LONG
-            if (is_long) at += feed_long(long_parser, bytes + at, length - at, size_of(first, VTE_LEAST_EVENTS, 100));
+            if (is_long)
+                at += feed_long(long_parser, bytes + at, length - at,
+                                size_of(first, VTE_LEAST_EVENTS, 100));
             else
 #endif
-            at += strips ? strip(&parser, bytes + at, length - at, size_of(first, VTE_LEAST_TEXT, 200))
-                         : feed(&parser, bytes + at, length - at, size_of(first, VTE_LEAST_EVENTS, 100), size_of(second, VTE_LEAST_DATA, 5000));
+                at += strips ? strip(&parser, bytes + at, length - at,
+                                     size_of(first, VTE_LEAST_TEXT, 200))
+                             : feed(&parser, bytes + at, length - at,
+                                    size_of(first, VTE_LEAST_EVENTS, 100),
+                                    size_of(second, VTE_LEAST_DATA, 5000));
         free(bytes);
         if (length == 0) break;
     }

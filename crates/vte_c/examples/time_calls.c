@@ -1,5 +1,5 @@
-/* Times calls of vte_feed in nanoseconds, the best of many: an empty call, which is what taking a parser out and putting it back
- * costs, and a call with a piece of 4,096 bytes.
+/* Times calls of vte_feed in nanoseconds, the best of many: an empty call, which is what taking a
+ * parser out and putting it back costs, and a call with a piece of 4,096 bytes.
  *
  * time_calls FILE..: also the mean over the pieces of each file. */
 #define _POSIX_C_SOURCE 199309L
@@ -22,7 +22,8 @@ static double now(void) {
 static void feed(vte_parser *parser, const uint8_t *bytes, size_t length) {
     vte_counts counts;
     do {
-        size_t read = vte_feed(parser, bytes, length, VTE_ALL_KINDS, 0, events, ROOM, data, sizeof data, &counts);
+        size_t read = vte_feed(parser, bytes, length, VTE_ALL_KINDS, 0, events, ROOM, data,
+                               sizeof data, &counts);
         bytes += read;
         length -= read;
     } while (length > 0);
@@ -44,7 +45,8 @@ static double best_time(const vte_parser *start, const uint8_t *bytes, size_t le
 static void time_state(const char *name, const char *before, const uint8_t *piece) {
     vte_parser parser = {{0}};
     feed(&parser, (const uint8_t *)before, strlen(before));
-    printf("%-24s empty call %6.0f, piece %6.0f\n", name, best_time(&parser, piece, 0, 5000), best_time(&parser, piece, PIECE, 2000));
+    printf("%-24s empty call %6.0f, piece %6.0f\n", name, best_time(&parser, piece, 0, 5000),
+           best_time(&parser, piece, PIECE, 2000));
 }
 
 static int time_file(const char *name) {

@@ -1,26 +1,31 @@
 /* vte.h: a parser of the bytes that programs send to a terminal.
  *
- * Link with libvte_c.a or libvte_c.so. These functions allocate no memory, keep no pointer and have no state of their own: a parser is
- * plain data that you own, and so are the buffers for what it reports.
+ * Link with libvte_c.a or libvte_c.so. These functions allocate no memory, keep no pointer and have
+ * no state of their own: a parser is plain data that you own, and so are the buffers for what it
+ * reports.
  *
  *     vte_parser parser = {0};
  *     vte_event events[256];
  *     uint8_t data[8192];
  *     vte_counts counts;
  *     while (length > 0) {
- *         size_t read = vte_feed(&parser, bytes, length, VTE_ALL_KINDS, 0, events, 256, data, sizeof data, &counts);
+ *         size_t read = vte_feed(&parser, bytes, length, VTE_ALL_KINDS, 0, events, 256, data,
+ *                                sizeof data, &counts);
  *         for (size_t i = 0; i < counts.events; i++)
- *             if (events[i].kind == VTE_TEXT) draw(vte_text_of(&events[i], bytes, data), events[i].code);
+ *             if (events[i].kind == VTE_TEXT)
+ *                 draw(vte_text_of(&events[i], bytes, data), events[i].code);
  *         bytes += read;
  *         length -= read;
  *     }
  *
- * The events are those of the whole stream, in order, however you split the input, and however large the buffers are. There is
- * nothing to call at the end of the stream. A VTE_TEXT stands for the characters of a text, one after another, and a VTE_DATA for bytes of
- * data. How these are split into events depends on the input and the buffers.
+ * The events are those of the whole stream, in order, however you split the input, and however
+ * large the buffers are. There is nothing to call at the end of the stream. A VTE_TEXT stands for
+ * the characters of a text, one after another, and a VTE_DATA for bytes of data. How these are
+ * split into events depends on the input and the buffers.
  *
- * A pointer to bytes, events or text may be NULL if its length is 0; no other may. What a call writes may not overlap anything else that is
- * passed. Threads may use different parsers at once. Nothing protects one parser: give it to one call at a time.
+ * A pointer to bytes, events or text may be NULL if its length is 0; no other may. What a call
+ * writes may not overlap anything else that is passed. Threads may use different parsers at once.
+ * Nothing protects one parser: give it to one call at a time.
  */
 #ifndef VTE_H
 #define VTE_H
@@ -35,25 +40,29 @@ extern "C" {
 /* The version of this interface; vte_version() returns that of the library. */
 #define VTE_VERSION 6
 
-/* A parser. All zeros is a new parser. It can be copied, stored and compared as bytes. With any other bytes, calls still keep to your
- * buffers, but what they report means nothing. */
+/* A parser. All zeros is a new parser. It can be copied, stored and compared as bytes. With any
+ * other bytes, calls still keep to your buffers, but what they report means nothing. */
 typedef struct {
     uint64_t words[164];
 } vte_parser;
 
 /* The kinds of events. */
 enum {
-    VTE_TEXT = 0,    /* characters to show, one or more: vte_text_of says where their UTF-8 is, and code how many bytes it has. A flag
-                        says that it is in the data area, and otherwise it is in the bytes of the call */
+    VTE_TEXT = 0,    /* characters to show, one or more: vte_text_of says where their UTF-8 is, and
+                        code how many bytes it has. A flag says that it is in the data area, and
+                        otherwise it is in the bytes of the call */
     VTE_EXECUTE = 1, /* a control function of one byte, 00..1F or 80..9F: code */
     VTE_HOOK = 2,    /* a device control string begins: as VTE_CSI */
     VTE_DATA = 3,    /* bytes of its data, one or more: vte_text_of and code as with VTE_TEXT */
     VTE_UNHOOK = 4,  /* its end */
-    VTE_OSC = 5,     /* an operating system command: pieces, at most 16, with 1,024 data bytes. Flag has VTE_BELL if BEL ended it, and
-                        VTE_TRUNCATED if data bytes were dropped: later ones, and those of later pieces */
-    VTE_CSI = 6,     /* a control sequence: groups of numbers, intermediates, and the final byte in code; flag says whether
-                        numbers or intermediates were left out because there were too many */
-    VTE_ESC = 7      /* an escape sequence: intermediates, and the final byte in code; flag as with VTE_CSI */
+    VTE_OSC = 5,     /* an operating system command: pieces, at most 16, with 1,024 data bytes. Flag
+                        has VTE_BELL if BEL ended it, and VTE_TRUNCATED if data bytes were dropped:
+                        later ones, and those of later pieces */
+    VTE_CSI = 6,     /* a control sequence: groups of numbers, intermediates, and the final byte in
+                        code; flag says whether numbers or intermediates were left out because
+                        there were too many */
+    VTE_ESC = 7      /* an escape sequence: intermediates, and the final byte in code; flag as with
+                        VTE_CSI */
 };
 
 /* Sets of kinds: VTE_KIND(VTE_OSC) | VTE_KIND(VTE_CSI). */
@@ -75,7 +84,8 @@ typedef struct {
     uint8_t intermediates[2];   /* including a private marker `<`..`?` */
     uint16_t unused;
     uint32_t code;
-    uint32_t start; /* where its groups or pieces start in the data area; where its text or data starts */
+    uint32_t start;             /* where its groups or pieces start in the data area; where its text
+                                   or data starts */
 } vte_event;
 
 /* How many events, and how many bytes of the data area, a call wrote. */
@@ -84,28 +94,34 @@ typedef struct {
     size_t data;
 } vte_counts;
 
-/* With less room than this a call reads nothing, sets its counts to 0, and returns VTE_NO_ROOM, even if there are no bytes to read. */
+/* With less room than this a call reads nothing, sets its counts to 0, and returns VTE_NO_ROOM,
+ * even if there are no bytes to read. */
 #define VTE_LEAST_EVENTS 4
 #define VTE_LEAST_DATA 2112
 #define VTE_LEAST_TEXT 16
 #define VTE_NO_ROOM ((size_t)-1)
 
-/* Reads bytes, and writes the events of some kinds that they add to the stream. Returns how many bytes were read, or VTE_NO_ROOM.
+/* Reads bytes, and writes the events of some kinds that they add to the stream. Returns how many
+ * bytes were read, or VTE_NO_ROOM.
  *
- * It stops early when the buffers are nearly full, after 4 GiB, and after the first event of the kinds `stops` that it writes: call it again
- * with the rest, or with the rest and more. At most one event follows that which stops, and only if the same byte gives both. If texts stop,
- * it may write one and return 0, because the first byte breaks a character.
+ * It stops early when the buffers are nearly full, after 4 GiB, and after the first event of the
+ * kinds `stops` that it writes: call it again with the rest, or with the rest and more. At most one
+ * event follows that which stops, and only if the same byte gives both. If texts stop, it may write
+ * one and return 0, because the first byte breaks a character.
  *
- * A sequence or a character that is unfinished at the end of the bytes continues in the next call. Texts and data stay in the bytes: keep
- * these until you have read the events. */
-size_t vte_feed(vte_parser *parser, const uint8_t *bytes, size_t length, uint32_t kinds, uint32_t stops, vte_event *events,
-                size_t event_room, uint8_t *data, size_t data_room, vte_counts *counts);
+ * A sequence or a character that is unfinished at the end of the bytes continues in the next call.
+ * Texts and data stay in the bytes: keep these until you have read the events. */
+size_t vte_feed(vte_parser *parser, const uint8_t *bytes, size_t length, uint32_t kinds,
+                uint32_t stops, vte_event *events, size_t event_room, uint8_t *data,
+                size_t data_room, vte_counts *counts);
 
-/* Reads bytes, and writes the text that is left without the sequences: characters in UTF-8, HT, LF and CR. Returns how many
- * bytes were read, or VTE_NO_ROOM. It stops early when the buffer is nearly full, as vte_feed does.
+/* Reads bytes, and writes the text that is left without the sequences: characters in UTF-8, HT, LF
+ * and CR. Returns how many bytes were read, or VTE_NO_ROOM. It stops early when the buffer is
+ * nearly full, as vte_feed does.
  *
  * Use a parser either for events or for text. */
-size_t vte_strip(vte_parser *parser, const uint8_t *bytes, size_t length, uint8_t *text, size_t text_room, size_t *written);
+size_t vte_strip(vte_parser *parser, const uint8_t *bytes, size_t length, uint8_t *text,
+                 size_t text_room, size_t *written);
 
 /* Returns whether a sequence or a character is unfinished. */
 uint8_t vte_is_open(const vte_parser *parser);
@@ -120,9 +136,11 @@ size_t vte_least_text(void);
 
 /* ---- texts, groups and pieces ---- */
 
-/* Returns the text of a VTE_TEXT, which has event->code bytes: whole characters in UTF-8, and none of them a control; or the data of a
- * VTE_DATA. `bytes` are those of the call that wrote the event. */
-static inline const uint8_t *vte_text_of(const vte_event *event, const uint8_t *bytes, const uint8_t *data) {
+/* Returns the text of a VTE_TEXT, which has event->code bytes: whole characters in UTF-8, and none
+ * of them a control; or the data of a VTE_DATA. `bytes` are those of the call that wrote the
+ * event. */
+static inline const uint8_t *vte_text_of(const vte_event *event, const uint8_t *bytes,
+                                         const uint8_t *data) {
     return (event->flag ? data : bytes) + event->start;
 }
 

@@ -1,4 +1,5 @@
-// vte.hpp: the processor of vte_handler.h for C++17. Derive from vte::Handler, and override what matters:
+// vte.hpp: the processor of vte_handler.h for C++17. Derive from vte::Handler, and override what
+// matters:
 //
 //     struct Screen : vte::Handler {
 //         void input(std::string_view text) override { .. }
@@ -104,32 +105,41 @@ public:
 namespace detail {
 
 inline std::string_view view(const uint8_t *text, size_t length) {
-    return text ? std::string_view(reinterpret_cast<const char *>(text), length) : std::string_view();
+    return text ? std::string_view(reinterpret_cast<const char *>(text), length)
+                : std::string_view();
 }
 
 template <auto method> struct Call;
 template <typename... Given, void (Handler::*method)(Given...)> struct Call<method> {
-    static void call(void *user, Given... given) noexcept { (static_cast<Handler *>(user)->*method)(given...); }
+    static void call(void *user, Given... given) noexcept {
+        (static_cast<Handler *>(user)->*method)(given...);
+    }
 };
 
 template <void (Handler::*method)(std::string_view)> struct Text {
-    static void call(void *user, const uint8_t *text, size_t length) noexcept { (static_cast<Handler *>(user)->*method)(view(text, length)); }
+    static void call(void *user, const uint8_t *text, size_t length) noexcept {
+        (static_cast<Handler *>(user)->*method)(view(text, length));
+    }
 };
 
-inline void dynamic_color_sequence(void *user, const uint8_t *prefix, size_t length, size_t index, const uint8_t *end,
-                                   size_t end_length) noexcept {
-    static_cast<Handler *>(user)->dynamic_color_sequence(view(prefix, length), index, view(end, end_length));
+inline void dynamic_color_sequence(void *user, const uint8_t *prefix, size_t length, size_t index,
+                                   const uint8_t *end, size_t end_length) noexcept {
+    static_cast<Handler *>(user)->dynamic_color_sequence(view(prefix, length), index,
+                                                         view(end, end_length));
 }
 
-inline void set_hyperlink(void *user, const uint8_t *id, size_t length, const uint8_t *uri, size_t uri_length) noexcept {
+inline void set_hyperlink(void *user, const uint8_t *id, size_t length, const uint8_t *uri,
+                          size_t uri_length) noexcept {
     static_cast<Handler *>(user)->set_hyperlink(view(id, length), view(uri, uri_length));
 }
 
-inline void clipboard_store(void *user, uint8_t clipboard, const uint8_t *bytes, size_t length) noexcept {
+inline void clipboard_store(void *user, uint8_t clipboard, const uint8_t *bytes,
+                            size_t length) noexcept {
     static_cast<Handler *>(user)->clipboard_store(clipboard, view(bytes, length));
 }
 
-inline void clipboard_load(void *user, uint8_t clipboard, const uint8_t *end, size_t length) noexcept {
+inline void clipboard_load(void *user, uint8_t clipboard, const uint8_t *end,
+                           size_t length) noexcept {
     static_cast<Handler *>(user)->clipboard_load(clipboard, view(end, length));
 }
 
@@ -150,44 +160,65 @@ class Processor {
 
     static const vte_handler &calls() {
         static const vte_handler table = {
-            detail::Text<&Handler::input>::call, detail::Call<&Handler::bell>::call, detail::Call<&Handler::backspace>::call,
-            detail::Call<&Handler::put_tab>::call, detail::Call<&Handler::linefeed>::call,
-            detail::Call<&Handler::carriage_return>::call, detail::Call<&Handler::newline>::call,
-            detail::Call<&Handler::substitute>::call, detail::Call<&Handler::go_to>::call, detail::Call<&Handler::goto_line>::call,
-            detail::Call<&Handler::goto_col>::call, detail::Call<&Handler::move_up>::call, detail::Call<&Handler::move_down>::call,
-            detail::Call<&Handler::move_forward>::call, detail::Call<&Handler::move_backward>::call,
-            detail::Call<&Handler::move_down_and_cr>::call, detail::Call<&Handler::move_up_and_cr>::call,
-            detail::Call<&Handler::save_cursor_position>::call, detail::Call<&Handler::restore_cursor_position>::call,
+            detail::Text<&Handler::input>::call, detail::Call<&Handler::bell>::call,
+            detail::Call<&Handler::backspace>::call, detail::Call<&Handler::put_tab>::call,
+            detail::Call<&Handler::linefeed>::call, detail::Call<&Handler::carriage_return>::call,
+            detail::Call<&Handler::newline>::call, detail::Call<&Handler::substitute>::call,
+            detail::Call<&Handler::go_to>::call, detail::Call<&Handler::goto_line>::call,
+            detail::Call<&Handler::goto_col>::call, detail::Call<&Handler::move_up>::call,
+            detail::Call<&Handler::move_down>::call, detail::Call<&Handler::move_forward>::call,
+            detail::Call<&Handler::move_backward>::call,
+            detail::Call<&Handler::move_down_and_cr>::call,
+            detail::Call<&Handler::move_up_and_cr>::call,
+            detail::Call<&Handler::save_cursor_position>::call,
+            detail::Call<&Handler::restore_cursor_position>::call,
             detail::Call<&Handler::reverse_index>::call, detail::Call<&Handler::scroll_up>::call,
-            detail::Call<&Handler::scroll_down>::call, detail::Call<&Handler::set_scrolling_region>::call,
-            detail::Call<&Handler::set_horizontal_tabstop>::call, detail::Call<&Handler::clear_tabs>::call,
-            detail::Call<&Handler::set_tabs>::call, detail::Call<&Handler::move_forward_tabs>::call,
-            detail::Call<&Handler::move_backward_tabs>::call, detail::Call<&Handler::insert_blank>::call,
-            detail::Call<&Handler::insert_blank_lines>::call, detail::Call<&Handler::delete_chars>::call,
-            detail::Call<&Handler::delete_lines>::call, detail::Call<&Handler::erase_chars>::call,
-            detail::Call<&Handler::clear_line>::call, detail::Call<&Handler::clear_screen>::call,
-            detail::Call<&Handler::decaln>::call, detail::Call<&Handler::terminal_attribute>::call,
-            detail::Call<&Handler::set_color>::call, detail::Call<&Handler::reset_color>::call, detail::dynamic_color_sequence,
-            detail::set_hyperlink, detail::Call<&Handler::set_cursor_style>::call, detail::Call<&Handler::set_cursor_shape>::call,
-            detail::Text<&Handler::set_mouse_cursor_icon>::call, detail::Call<&Handler::set_active_charset>::call,
+            detail::Call<&Handler::scroll_down>::call,
+            detail::Call<&Handler::set_scrolling_region>::call,
+            detail::Call<&Handler::set_horizontal_tabstop>::call,
+            detail::Call<&Handler::clear_tabs>::call, detail::Call<&Handler::set_tabs>::call,
+            detail::Call<&Handler::move_forward_tabs>::call,
+            detail::Call<&Handler::move_backward_tabs>::call,
+            detail::Call<&Handler::insert_blank>::call,
+            detail::Call<&Handler::insert_blank_lines>::call,
+            detail::Call<&Handler::delete_chars>::call, detail::Call<&Handler::delete_lines>::call,
+            detail::Call<&Handler::erase_chars>::call, detail::Call<&Handler::clear_line>::call,
+            detail::Call<&Handler::clear_screen>::call, detail::Call<&Handler::decaln>::call,
+            detail::Call<&Handler::terminal_attribute>::call,
+            detail::Call<&Handler::set_color>::call, detail::Call<&Handler::reset_color>::call,
+            detail::dynamic_color_sequence, detail::set_hyperlink,
+            detail::Call<&Handler::set_cursor_style>::call,
+            detail::Call<&Handler::set_cursor_shape>::call,
+            detail::Text<&Handler::set_mouse_cursor_icon>::call,
+            detail::Call<&Handler::set_active_charset>::call,
             detail::Call<&Handler::configure_charset>::call, detail::Call<&Handler::set_scp>::call,
             detail::Call<&Handler::set_mode>::call, detail::Call<&Handler::unset_mode>::call,
-            detail::Call<&Handler::report_mode>::call, detail::Call<&Handler::set_private_mode>::call,
-            detail::Call<&Handler::unset_private_mode>::call, detail::Call<&Handler::report_private_mode>::call,
-            detail::Call<&Handler::reset_state>::call, detail::Call<&Handler::set_keypad_application_mode>::call,
-            detail::Call<&Handler::unset_keypad_application_mode>::call, detail::Call<&Handler::push_keyboard_mode>::call,
-            detail::Call<&Handler::pop_keyboard_modes>::call, detail::Call<&Handler::set_keyboard_mode>::call,
-            detail::Call<&Handler::report_keyboard_mode>::call, detail::Call<&Handler::set_modify_other_keys>::call,
-            detail::Call<&Handler::report_modify_other_keys>::call, detail::Text<&Handler::set_title>::call,
-            detail::Call<&Handler::push_title>::call, detail::Call<&Handler::pop_title>::call, detail::clipboard_store,
-            detail::clipboard_load, detail::Call<&Handler::device_status>::call, detail::Call<&Handler::identify_terminal>::call,
-            detail::Call<&Handler::text_area_size_pixels>::call, detail::Call<&Handler::text_area_size_chars>::call,
+            detail::Call<&Handler::report_mode>::call,
+            detail::Call<&Handler::set_private_mode>::call,
+            detail::Call<&Handler::unset_private_mode>::call,
+            detail::Call<&Handler::report_private_mode>::call,
+            detail::Call<&Handler::reset_state>::call,
+            detail::Call<&Handler::set_keypad_application_mode>::call,
+            detail::Call<&Handler::unset_keypad_application_mode>::call,
+            detail::Call<&Handler::push_keyboard_mode>::call,
+            detail::Call<&Handler::pop_keyboard_modes>::call,
+            detail::Call<&Handler::set_keyboard_mode>::call,
+            detail::Call<&Handler::report_keyboard_mode>::call,
+            detail::Call<&Handler::set_modify_other_keys>::call,
+            detail::Call<&Handler::report_modify_other_keys>::call,
+            detail::Text<&Handler::set_title>::call, detail::Call<&Handler::push_title>::call,
+            detail::Call<&Handler::pop_title>::call, detail::clipboard_store,
+            detail::clipboard_load, detail::Call<&Handler::device_status>::call,
+            detail::Call<&Handler::identify_terminal>::call,
+            detail::Call<&Handler::text_area_size_pixels>::call,
+            detail::Call<&Handler::text_area_size_chars>::call,
         };
         return table;
     }
 
 public:
-    explicit Processor(Handler &handler) : processor(vte_processor_new(&calls(), sizeof calls(), &handler)) {
+    explicit Processor(Handler &handler)
+        : processor(vte_processor_new(&calls(), sizeof calls(), &handler)) {
         if (!processor) throw std::bad_alloc();
     }
 

@@ -1,7 +1,8 @@
 /* vte_handler.h: a processor, which calls functions for what a stream asks of a terminal.
  *
- * A processor reads the same bytes as a parser, and knows what they mean: move the cursor, set a colour, begin an update. It calls the
- * functions of a table, which may have NULL for what doesn't matter:
+ * A processor reads the same bytes as a parser, and knows what they mean: move the cursor, set a
+ * colour, begin an update. It calls the functions of a table, which may have NULL for what doesn't
+ * matter:
  *
  *     static void input(void *user, const uint8_t *text, size_t length) { .. }
  *     static void go(void *user, int32_t line, size_t column) { .. }
@@ -11,16 +12,19 @@
  *     vte_processor_advance(processor, bytes, length, &read);
  *     vte_processor_free(processor);
  *
- * The calls are those of the whole stream, in order, however you split it. A text is passed in runs, of which there may be several one after
- * another, and which aren't terminated by 0; a text that a call passes is valid until the call returns. A call must return, and not by an
- * exception or longjmp. The calls come in the thread that calls vte_processor_advance or vte_processor_stop_sync.
+ * The calls are those of the whole stream, in order, however you split it. A text is passed in
+ * runs, of which there may be several one after another, and which aren't terminated by 0; a text
+ * that a call passes is valid until the call returns. A call must return, and not by an exception
+ * or longjmp. The calls come in the thread that calls vte_processor_advance or
+ * vte_processor_stop_sync.
  *
- * Threads may use different processors at once. Of one, the first call is made, and others get VTE_BUSY until it returns: those of another
- * thread, and those that a function of the table makes. So do those of vte_processor_free, which then frees nothing. Free a processor
- * once, when no other call can come.
+ * Threads may use different processors at once. Of one, the first call is made, and others get
+ * VTE_BUSY until it returns: those of another thread, and those that a function of the table makes.
+ * So do those of vte_processor_free, which then frees nothing. Free a processor once, when no other
+ * call can come.
  *
- * A processor takes its memory from malloc: 2 MiB for updates, and as much as the longest command has. It is in the library that cargo
- * builds.
+ * A processor takes its memory from malloc: 2 MiB for updates, and as much as the longest command
+ * has. It is in the library that cargo builds.
  */
 #ifndef VTE_HANDLER_H
 #define VTE_HANDLER_H
@@ -44,7 +48,10 @@ enum { VTE_SCREEN_BELOW, VTE_SCREEN_ABOVE, VTE_SCREEN_ALL, VTE_SCREEN_SAVED };
 enum { VTE_TAB_CURRENT, VTE_TAB_ALL };
 
 /* Shapes of the cursor, or VTE_SHAPE_OWN for the terminal's own. */
-enum { VTE_SHAPE_OWN = -1, VTE_SHAPE_BLOCK, VTE_SHAPE_UNDERLINE, VTE_SHAPE_BEAM, VTE_SHAPE_HOLLOW_BLOCK, VTE_SHAPE_HIDDEN };
+enum {
+    VTE_SHAPE_OWN = -1, VTE_SHAPE_BLOCK, VTE_SHAPE_UNDERLINE, VTE_SHAPE_BEAM,
+    VTE_SHAPE_HOLLOW_BLOCK, VTE_SHAPE_HIDDEN
+};
 
 /* Character sets: what one is. Their indices are 0 to 3. */
 enum { VTE_CHARSET_ASCII, VTE_CHARSET_LINE_DRAWING };
@@ -59,9 +66,10 @@ enum { VTE_OTHER_KEYS_RESET, VTE_OTHER_KEYS_EXCEPT_WELL_DEFINED, VTE_OTHER_KEYS_
 
 /* Attributes. The last three have a colour. */
 enum {
-    VTE_RESET, VTE_BOLD, VTE_DIM, VTE_ITALIC, VTE_UNDERLINE, VTE_DOUBLE_UNDERLINE, VTE_UNDERCURL, VTE_DOTTED_UNDERLINE,
-    VTE_DASHED_UNDERLINE, VTE_BLINK_SLOW, VTE_BLINK_FAST, VTE_REVERSE, VTE_HIDDEN, VTE_STRIKE, VTE_CANCEL_BOLD,
-    VTE_CANCEL_BOLD_DIM, VTE_CANCEL_ITALIC, VTE_CANCEL_UNDERLINE, VTE_CANCEL_BLINK, VTE_CANCEL_REVERSE, VTE_CANCEL_HIDDEN,
+    VTE_RESET, VTE_BOLD, VTE_DIM, VTE_ITALIC, VTE_UNDERLINE, VTE_DOUBLE_UNDERLINE, VTE_UNDERCURL,
+    VTE_DOTTED_UNDERLINE, VTE_DASHED_UNDERLINE, VTE_BLINK_SLOW, VTE_BLINK_FAST, VTE_REVERSE,
+    VTE_HIDDEN, VTE_STRIKE, VTE_CANCEL_BOLD, VTE_CANCEL_BOLD_DIM, VTE_CANCEL_ITALIC,
+    VTE_CANCEL_UNDERLINE, VTE_CANCEL_BLINK, VTE_CANCEL_REVERSE, VTE_CANCEL_HIDDEN,
     VTE_CANCEL_STRIKE, VTE_FOREGROUND, VTE_BACKGROUND, VTE_UNDERLINE_COLOR
 };
 
@@ -69,7 +77,8 @@ enum {
 typedef struct {
     uint8_t kind; /* VTE_COLOR_.. */
     uint8_t red, green, blue;
-    uint32_t index; /* 0 to 15: the colours by name; 256: the foreground; 257: the background; or an index of the palette */
+    uint32_t index; /* 0 to 15: the colours by name; 256: the foreground; 257: the background; or an
+                       index of the palette */
 } vte_color;
 
 enum { VTE_COLOR_NONE, VTE_COLOR_NAMED, VTE_COLOR_RGB, VTE_COLOR_INDEXED };
@@ -121,9 +130,11 @@ typedef struct {
     void (*terminal_attribute)(void *user, uint8_t attribute, vte_color color);
     void (*set_color)(void *user, size_t index, vte_color color);
     void (*reset_color)(void *user, size_t index);
-    void (*dynamic_color_sequence)(void *user, const uint8_t *prefix, size_t prefix_length, size_t index, const uint8_t *terminator,
+    void (*dynamic_color_sequence)(void *user, const uint8_t *prefix, size_t prefix_length,
+                                   size_t index, const uint8_t *terminator,
                                    size_t terminator_length);
-    void (*set_hyperlink)(void *user, const uint8_t *id, size_t id_length, const uint8_t *uri, size_t uri_length);
+    void (*set_hyperlink)(void *user, const uint8_t *id, size_t id_length, const uint8_t *uri,
+                          size_t uri_length);
     void (*set_cursor_style)(void *user, int32_t shape, uint8_t blinking);
     void (*set_cursor_shape)(void *user, int32_t shape);
     void (*set_mouse_cursor_icon)(void *user, const uint8_t *keyword, size_t length);
@@ -148,7 +159,8 @@ typedef struct {
     void (*report_keyboard_mode)(void *user);
     void (*set_modify_other_keys)(void *user, uint8_t keys);
     void (*report_modify_other_keys)(void *user);
-    /* titles, clipboards and reports; a clipboard is a letter, its bytes are base64 as sent, and an intermediate is 0 if there is none */
+    /* titles, clipboards and reports; a clipboard is a letter, its bytes are base64 as sent, and an
+     * intermediate is 0 if there is none */
     void (*set_title)(void *user, const uint8_t *title, size_t length);
     void (*push_title)(void *user);
     void (*pop_title)(void *user);
@@ -166,19 +178,23 @@ typedef struct vte_processor vte_processor;
 typedef struct {
     size_t bytes_count; /* how many bytes are held */
     uint8_t is_pending; /* whether an update is pending .. */
-    uint64_t deadline;  /* .. and until when: nanoseconds of CLOCK_MONOTONIC. Call vte_processor_stop_sync then */
+    uint64_t deadline;  /* .. and until when: nanoseconds of CLOCK_MONOTONIC. Then call
+                           vte_processor_stop_sync */
 } vte_sync;
 
-/* Returns a new processor, or NULL if memory is refused. It copies the table, which has so many bytes: pass its size. Later versions may
- * have more calls, at the end, and a program that was compiled without them keeps working. */
+/* Returns a new processor, or NULL if memory is refused. It copies the table, which has so many
+ * bytes: pass its size. Later versions may have more calls, at the end, and a program that was
+ * compiled without them keeps working. */
 vte_processor *vte_processor_new(const vte_handler *calls, size_t size, void *user);
 
 /* Frees a processor. NULL is no processor. */
 int vte_processor_free(vte_processor *processor);
 
-/* Reads the next bytes of the stream, makes the calls that they add, and says how many were read: all with VTE_OK, none with VTE_BUSY.
- * After VTE_NO_MEMORY the rest can be passed again once there is memory. */
-int vte_processor_advance(vte_processor *processor, const uint8_t *bytes, size_t length, size_t *read);
+/* Reads the next bytes of the stream, makes the calls that they add, and says how many were read:
+ * all with VTE_OK, none with VTE_BUSY. After VTE_NO_MEMORY the rest can be passed again once there
+ * is memory. */
+int vte_processor_advance(vte_processor *processor, const uint8_t *bytes, size_t length,
+                          size_t *read);
 
 /* Ends an update whose end doesn't come: makes the calls of what is held. */
 int vte_processor_stop_sync(vte_processor *processor);

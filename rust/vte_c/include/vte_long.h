@@ -1,15 +1,17 @@
 /* vte_long.h: a parser that keeps operating system commands of any length.
  *
- * It reports the events of vte.h in the same records, with VTE_TRUNCATED only if a command has data after its 16th piece. It takes memory
- * from malloc: for the longest command that it was fed, and for its own data area, which has room for that command, 2 KiB, and five bytes
- * for each byte of the longest call. It is in the library that cargo builds.
+ * It reports the events of vte.h in the same records, with VTE_TRUNCATED only if a command has data
+ * after its 16th piece. It takes memory from malloc: for the longest command that it was fed, and
+ * for its own data area, which has room for that command, 2 KiB, and five bytes for each byte of
+ * the longest call. It is in the library that cargo builds.
  *
  *     vte_long_parser *parser = vte_long_parser_new();
  *     vte_event events[256];
  *     const uint8_t *data;
  *     vte_counts counts;
  *     while (length > 0) {
- *         size_t read = vte_long_feed(parser, bytes, length, VTE_KIND(VTE_OSC), 0, events, 256, &data, &counts);
+ *         size_t read = vte_long_feed(parser, bytes, length, VTE_KIND(VTE_OSC), 0, events, 256,
+ *                                     &data, &counts);
  *         if (read == VTE_REFUSED) break;
  *         for (size_t i = 0; i < counts.events; i++) {
  *             vte_items pieces = vte_items_of(&events[i], data);
@@ -42,13 +44,15 @@ vte_long_parser *vte_long_parser_new(void);
 /* Frees a parser, once, and not during a call. NULL is no parser. */
 void vte_long_parser_free(vte_long_parser *parser);
 
-/* Reads bytes as vte_feed does, but 64 KiB at most. Returns how many were read, VTE_NO_ROOM if there is room for fewer than
- * VTE_LEAST_EVENTS events, or VTE_REFUSED, also for a command of 4 GiB.
+/* Reads bytes as vte_feed does, but 64 KiB at most. Returns how many were read, VTE_NO_ROOM if
+ * there is room for fewer than VTE_LEAST_EVENTS events, or VTE_REFUSED, also for a command of 4
+ * GiB.
  *
- * Of the data area it says where it is: it is valid until the next call with the parser. If only VTE_OSC is wanted, what can't be a part of
- * one is skipped at the speed of memchr. */
-size_t vte_long_feed(vte_long_parser *parser, const uint8_t *bytes, size_t length, uint32_t kinds, uint32_t stops, vte_event *events,
-                     size_t event_room, const uint8_t **data, vte_counts *counts);
+ * Of the data area it says where it is: it is valid until the next call with the parser. If only
+ * VTE_OSC is wanted, what can't be a part of one is skipped at the speed of memchr. */
+size_t vte_long_feed(vte_long_parser *parser, const uint8_t *bytes, size_t length, uint32_t kinds,
+                     uint32_t stops, vte_event *events, size_t event_room, const uint8_t **data,
+                     vte_counts *counts);
 
 /* Returns whether a sequence or a character is unfinished. */
 uint8_t vte_long_is_open(const vte_long_parser *parser);

@@ -1,11 +1,11 @@
-//! Times the parser or processor of the crate `vte` 0.15.0, or of rust/vte (`--cfg runs`), alone, as
-//! crates/race does ours, for bench/: `peer KIND PIECE PASSES` reads a stream from standard input.
-//! Standard output gets the checksum, standard error the nanoseconds of the fastest pass. The kinds
-//! are `parser` and `processor`, with a performer or handler that folds all into a checksum,
-//! `screen` and `terminal`, with a screen as the parser's performer or the processor's handler, and
-//! `strip` and `filter`, which put text into memory. Over rust/vte the last four are there with
-//! `_runs` too, and get text in runs. With `--cfg strippers` there are also what else strips, and a
-//! copy. Status 2 for words that aren't understood.
+//! Times the parser or processor of the crate `vte` 0.15.0, or of rust/vte (`--cfg runs`), alone,
+//! as crates/race does ours, for bench/: `peer KIND PIECE PASSES` reads a stream from standard
+//! input. Standard output gets the checksum, standard error the nanoseconds of the fastest pass.
+//! The kinds are `parser` and `processor`, with a performer or handler that folds all into a
+//! checksum, `screen` and `terminal`, with a screen as the parser's performer or the processor's
+//! handler, and `strip` and `filter`, which put text into memory. Over rust/vte the last four are
+//! there with `_runs` too, and get text in runs. With `--cfg strippers` there are also what else
+//! strips, and a copy.
 
 mod text;
 
@@ -25,8 +25,6 @@ mod visitor;
 
 use std::hint::black_box;
 use std::io::Read;
-use std::num::NonZeroUsize;
-use std::process::exit;
 use std::time::{Duration, Instant};
 
 #[cfg(strippers)]
@@ -47,7 +45,10 @@ use until_cleared::UntilCleared;
 /// checksum of that, and what begins a pass. Its time is that of the fastest pass. `race_of`
 /// chooses one.
 macro_rules! races {
-    ($($(#[$runs:meta])? $kind:ident: $reader:expr, $receiver:expr, $advance:expr, $checksum:expr $(, $begin:expr)?;)*) => {
+    ($(
+        $(#[$runs:meta])?
+        $kind:ident: $reader:expr, $receiver:expr, $advance:expr, $checksum:expr $(, $begin:expr)?;
+    )*) => {
         $(
             $(#[$runs])?
             fn $kind(stream: &[u8], piece: usize, passes: usize) -> (Checksum, Duration) {
@@ -55,7 +56,9 @@ macro_rules! races {
                 let pass = |_| {
                     $($begin(&mut receiver);)?
                     let start = Instant::now();
-                    black_box(stream).chunks(piece).for_each(|bytes| $advance(&mut reader, &mut receiver, bytes));
+                    for bytes in black_box(stream).chunks(piece) {
+                        $advance(&mut reader, &mut receiver, bytes);
+                    }
                     start.elapsed()
                 };
                 let time = (0..passes).map(pass).min().unwrap_or_default();
@@ -66,7 +69,7 @@ macro_rules! races {
         fn race_of(kind: &str) -> fn(&[u8], usize, usize) -> (Checksum, Duration) {
             match kind {
                 $($(#[$runs])? stringify!($kind) => $kind,)*
-                _ => usage(&format!("no such race here: {kind}")),
+                _ => panic!("no such race here: {kind}"),
             }
         }
     };
@@ -74,55 +77,62 @@ macro_rules! races {
 
 races! {
     parser: Parser::<1024>::default(), Checksum::default(), Parser::advance, |checksum| checksum;
-    screen: Parser::<1024>::default(), Screen::new(), Parser::advance, |screen| shown(&screen);
+    screen: Parser::<1024>::default(), Screen::new(), Parser::advance, of_screen;
     strip: Parser::<1024>::default(), Text::default(), Parser::advance, Text::checksum, Text::clear;
-    processor: Processor::<UntilCleared>::new(), ByCall(CallChecksum::new()), Processor::advance, |calls: ByCall<CallChecksum>| calls.0.checksum;
-    terminal: Processor::<UntilCleared>::new(), ByCall(Screen::new()), Processor::advance, |calls: ByCall<Screen>| shown(&calls.0);
-    filter: Processor::<UntilCleared>::new(), ByCall(Text::default()), Processor::advance, |calls: ByCall<Text>| calls.0.checksum();
+    processor: Updating::new(), ByCall(CallChecksum::new()), Processor::advance, of_calls;
+    terminal: Updating::new(), ByCall(Screen::new()), Processor::advance, of_terminal;
+    filter: Updating::new(), ByCall(Text::default()), Processor::advance, of_text;
     #[cfg(runs)]
-    screen_runs: Parser::<1024>::default(), Screen::new(), Parser::advance_text, |screen| shown(&screen);
+    screen_runs: Parser::<1024>::default(), Screen::new(), Parser::advance_text, of_screen;
     #[cfg(runs)]
-    strip_runs: Parser::<1024>::default(), Text::default(), Parser::advance_text, Text::checksum, Text::clear;
+    strip_runs: Parser::<1024>::default(), Text::default(), Parser::advance_text,
+        Text::checksum, Text::clear;
     #[cfg(runs)]
-    terminal_runs: Processor::<UntilCleared>::new(), ByCall(Screen::new()), Processor::advance_text, |calls: ByCall<Screen>| shown(&calls.0);
+    terminal_runs: Updating::new(), ByCall(Screen::new()), Processor::advance_text, of_terminal;
     #[cfg(runs)]
-    filter_runs: Processor::<UntilCleared>::new(), ByCall(Text::default()), Processor::advance_text, |calls: ByCall<Text>| calls.0.checksum();
+    filter_runs: Updating::new(), ByCall(Text::default()), Processor::advance_text, of_text;
     #[cfg(strippers)]
-    copy: (), Text::default(), |_, text: &mut Text, bytes| text.put(bytes), Text::checksum, Text::clear;
-    #[cfg(strippers)]
-    console: (), Text::default(), |_, text: &mut Text, bytes| text.put(strip_ansi_codes(from_utf8(bytes).expect("UTF-8")).as_bytes()),
+    copy: (), Text::default(), |_, text: &mut Text, bytes| text.put(bytes),
         Text::checksum, Text::clear;
     #[cfg(strippers)]
-    strip_ansi_escapes: (), Text::default(), |_, text: &mut Text, bytes| text.put(&strip_ansi_escapes::strip(bytes)),
-        Text::checksum, Text::clear;
+    console: (), Text::default(), |_, text: &mut Text, bytes| {
+        let valid = from_utf8(bytes).expect("UTF-8");
+        text.put(strip_ansi_codes(valid).as_bytes())
+    }, Text::checksum, Text::clear;
+    #[cfg(strippers)]
+    strip_ansi_escapes: (), Text::default(), |_, text: &mut Text, bytes| {
+        text.put(&strip_ansi_escapes::strip(bytes))
+    }, Text::checksum, Text::clear;
 }
 
-/// Ends the program for words that aren't understood.
-fn usage(message: &str) -> ! {
-    eprintln!("peer: {message}");
-    exit(2)
+type Updating = Processor<UntilCleared>;
+
+fn of_screen(screen: Screen) -> Checksum {
+    shown(&screen)
 }
 
-/// A number from 1 on.
-fn positive(word: &str) -> usize {
-    word.parse().map_or_else(
-        |_| usage(&format!("a number from 1 on is wanted, not {word}")),
-        NonZeroUsize::get,
-    )
+fn of_calls(calls: ByCall<CallChecksum>) -> Checksum {
+    calls.0.checksum
+}
+
+fn of_terminal(calls: ByCall<Screen>) -> Checksum {
+    shown(&calls.0)
+}
+
+fn of_text(calls: ByCall<Text>) -> Checksum {
+    calls.0.checksum()
 }
 
 fn main() {
     let words: Vec<String> = std::env::args().skip(1).collect();
     let [kind, piece, passes] = &words[..] else {
-        usage("KIND, PIECE and PASSES are wanted")
+        panic!("KIND, PIECE and PASSES are wanted");
     };
-    let (race, piece, passes) = (race_of(kind), positive(piece), positive(passes));
+    let number = |word: &String| word.parse().expect("a number is wanted");
     let mut stream = Vec::new();
-    std::io::stdin()
-        .lock()
-        .read_to_end(&mut stream)
-        .expect("the read failed");
-    let (checksum, time) = race(&stream, piece, passes);
+    let read = std::io::stdin().lock().read_to_end(&mut stream);
+    read.expect("the read failed");
+    let (checksum, time) = race_of(kind)(&stream, number(piece), number(passes));
     println!("{checksum}");
     eprintln!("{}", time.as_nanos());
 }

@@ -1,4 +1,5 @@
-/* Writes each text that its standard input stores in a clipboard (OSC 52) to a file of its own, as base64: clipboards FOLDER */
+/* Writes each text that its standard input stores in a clipboard (OSC 52) to a file of its own, as
+ * base64: clipboards FOLDER */
 #include <stdio.h>
 #include <string.h>
 #include <unistd.h>
@@ -9,10 +10,14 @@ static int save(const vte_event *event, const uint8_t *data, const char *folder,
     vte_items pieces = vte_items_of(event, data);
     char path[4096];
     if (!vte_next_piece(&pieces) || pieces.length != 2 || memcmp(pieces.at, "52", 2) != 0) return 0;
-    if (!vte_next_piece(&pieces) || !vte_next_piece(&pieces) || (pieces.length == 1 && *pieces.at == '?')) return 0;
+    if (!vte_next_piece(&pieces) || !vte_next_piece(&pieces)
+        || (pieces.length == 1 && *pieces.at == '?'))
+        return 0;
     snprintf(path, sizeof path, "%s/%d", folder, number);
     FILE *file = fopen(path, "wb");
-    if (file == NULL || fwrite(pieces.at, 1, pieces.length, file) < pieces.length || fclose(file) != 0) return -1;
+    if (file == NULL || fwrite(pieces.at, 1, pieces.length, file) < pieces.length
+        || fclose(file) != 0)
+        return -1;
     return 1;
 }
 
@@ -27,7 +32,8 @@ int main(int argc, char **argv) {
     if (argc != 2 || parser == NULL) return 2;
     while ((length = read(0, bytes, sizeof bytes)) > 0)
         for (size_t at = 0; at < (size_t)length;) {
-            size_t count = vte_long_feed(parser, bytes + at, (size_t)length - at, VTE_KIND(VTE_OSC), 0, events, 64, &data, &counts);
+            size_t count = vte_long_feed(parser, bytes + at, (size_t)length - at, VTE_KIND(VTE_OSC),
+                                         0, events, 64, &data, &counts);
             if (count == VTE_REFUSED) return 1;
             at += count;
             for (size_t i = 0; i < counts.events; i++) {

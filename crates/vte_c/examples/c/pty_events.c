@@ -4,7 +4,8 @@
 #include <unistd.h>
 #include <vte.h>
 
-static const char *const names[] = {"text", "execute", "hook", "data", "unhook", "osc", "csi", "esc"};
+static const char *const names[] = {"text", "execute", "hook", "data",
+                                    "unhook", "osc", "csi", "esc"};
 
 int main(int argc, char **argv) {
     vte_parser parser = {{0}};
@@ -22,10 +23,12 @@ int main(int argc, char **argv) {
     while ((length = read(terminal, bytes, sizeof bytes)) > 0) {
         for (size_t at = 0; at < (size_t)length;) {
             const uint8_t *unread = bytes + at;
-            at += vte_feed(&parser, unread, (size_t)length - at, VTE_ALL_KINDS, 0, events, 256, data, sizeof data, &counts);
+            at += vte_feed(&parser, unread, (size_t)length - at, VTE_ALL_KINDS, 0, events, 256,
+                           data, sizeof data, &counts);
             for (size_t i = 0; i < counts.events; i++)
                 if (events[i].kind == VTE_TEXT)
-                    printf("text %.*s\n", (int)events[i].code, (const char *)vte_text_of(&events[i], unread, data));
+                    printf("text %.*s\n", (int)events[i].code,
+                           (const char *)vte_text_of(&events[i], unread, data));
                 else
                     printf("%s %02x\n", names[events[i].kind], (unsigned)events[i].code);
         }

@@ -6,7 +6,9 @@
 /* Operating system commands 0 and 2 set the title, which may contain `;`. */
 static void watch(const vte_event *event, const uint8_t *data) {
     vte_items pieces = vte_items_of(event, data);
-    if (!vte_next_piece(&pieces) || pieces.length != 1 || (pieces.at[0] != '0' && pieces.at[0] != '2')) return;
+    if (!vte_next_piece(&pieces) || pieces.length != 1
+        || (pieces.at[0] != '0' && pieces.at[0] != '2'))
+        return;
     fputs("title: ", stderr);
     for (int first = 1; vte_next_piece(&pieces); first = 0)
         fprintf(stderr, "%s%.*s", first ? "" : ";", (int)pieces.length, (const char *)pieces.at);
@@ -24,7 +26,8 @@ int main(void) {
         fwrite(bytes, 1, (size_t)length, stdout);
         fflush(stdout);
         for (size_t at = 0; at < (size_t)length;) {
-            at += vte_feed(&parser, bytes + at, (size_t)length - at, VTE_KIND(VTE_OSC), 0, events, 256, data, sizeof data, &counts);
+            at += vte_feed(&parser, bytes + at, (size_t)length - at, VTE_KIND(VTE_OSC), 0, events,
+                           256, data, sizeof data, &counts);
             for (size_t i = 0; i < counts.events; i++) watch(&events[i], data);
         }
     }

@@ -5,8 +5,12 @@
 
 struct Outline : vte::Handler {
     void input(std::string_view text) override { std::fwrite(text.data(), 1, text.size(), stdout); }
-    void go_to(int32_t line, size_t column) override { std::printf("[go to %d, %zu]", line, column); }
-    void set_title(std::string_view title) override { std::printf("[title %.*s]", int(title.size()), title.data()); }
+    void go_to(int32_t line, size_t column) override {
+        std::printf("[go to %d, %zu]", line, column);
+    }
+    void set_title(std::string_view title) override {
+        std::printf("[title %.*s]", int(title.size()), title.data());
+    }
     void terminal_attribute(uint8_t attribute, vte_color) override {
         if (attribute == VTE_BOLD) std::fputs("[bold]", stdout);
     }

@@ -17,18 +17,21 @@ public:
         vte_counts counts;
         for (size_t at = 0; at < length;) {
             const uint8_t *unread = bytes + at;
-            at += vte_feed(&parser, unread, length - at, VTE_ALL_KINDS, 0, events.data(), events.size(), data.data(), data.size(), &counts);
+            at += vte_feed(&parser, unread, length - at, VTE_ALL_KINDS, 0, events.data(),
+                           events.size(), data.data(), data.size(), &counts);
             for (size_t i = 0; i < counts.events; i++) {
                 const vte_event &event = events[i];
                 const uint8_t *text = vte_text_of(&event, unread, data.data());
-                tell(event, event.kind == VTE_TEXT ? std::string(text, text + event.code) : std::string());
+                size_t size = event.kind == VTE_TEXT ? event.code : 0;
+                tell(event, std::string(text, text + size));
             }
         }
     }
 };
 
 int main(int argc, char **argv) {
-    static const char *const names[] = {"text", "execute", "hook", "data", "unhook", "osc", "csi", "esc"};
+    static const char *const names[] = {"text", "execute", "hook", "data",
+                                        "unhook", "osc", "csi", "esc"};
     int terminal;
     if (argc < 2) return 2;
     if (forkpty(&terminal, nullptr, nullptr, nullptr) == 0) {
@@ -37,9 +40,12 @@ int main(int argc, char **argv) {
     }
     Parser parser;
     std::array<uint8_t, 4096> bytes;
-    for (ssize_t length; (length = read(terminal, bytes.data(), bytes.size())) > 0; std::fflush(stdout))
-        parser.feed(bytes.data(), static_cast<size_t>(length), [](const vte_event &event, const std::string &text) {
-            if (event.kind == VTE_TEXT) std::printf("text %s\n", text.c_str());
-            else std::printf("%s %02x\n", names[event.kind], unsigned(event.code));
-        });
+    const auto print = [](const vte_event &event, const std::string &text) {
+        if (event.kind == VTE_TEXT) std::printf("text %s\n", text.c_str());
+        else std::printf("%s %02x\n", names[event.kind], unsigned(event.code));
+    };
+    for (ssize_t length; (length = read(terminal, bytes.data(), bytes.size())) > 0;) {
+        parser.feed(bytes.data(), static_cast<size_t>(length), print);
+        std::fflush(stdout);
+    }
 }

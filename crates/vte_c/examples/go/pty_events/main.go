@@ -48,7 +48,8 @@ func main() {
 	// Linux answers EIO once the last program has closed the pty.
 	for length, err := terminal.Read(room); err == nil; length, err = terminal.Read(room) {
 		for bytes := room[:length]; len(bytes) > 0; {
-			read := C.vte_feed(&parser, (*C.uint8_t)(&bytes[0]), C.size_t(len(bytes)), C.VTE_ALL_KINDS, 0, &events[0], C.size_t(len(events)),
+			read := C.vte_feed(&parser, (*C.uint8_t)(&bytes[0]), C.size_t(len(bytes)),
+				C.VTE_ALL_KINDS, 0, &events[0], C.size_t(len(events)),
 				(*C.uint8_t)(&data[0]), C.size_t(len(data)), &counts)
 			for _, event := range events[:counts.events] {
 				if event.kind == C.VTE_TEXT {

@@ -1,4 +1,5 @@
-// Title_watcher passes its standard input on, and writes each title that the stream sets to standard error.
+// Title_watcher passes its standard input on, and writes each title that the stream sets to
+// standard error.
 package main
 
 // #include <stdlib.h>
@@ -12,7 +13,8 @@ import (
 	"unsafe"
 )
 
-// pieces returns the pieces of an operating system command. The data is in memory of C, because the items point into it.
+// pieces returns the pieces of an operating system command. The data is in memory of C, because the
+// items point into it.
 func pieces(event *C.vte_event, data *C.uint8_t) (all []string) {
 	items := C.vte_items_of(event, data)
 	for C.vte_next_piece(&items) != 0 {
@@ -30,8 +32,8 @@ func main() {
 		length, err := os.Stdin.Read(room)
 		os.Stdout.Write(room[:length])
 		for bytes := room[:length]; len(bytes) > 0; {
-			read := C.vte_feed(&parser, (*C.uint8_t)(&bytes[0]), C.size_t(len(bytes)), 1<<C.VTE_OSC, 0, &events[0], C.size_t(len(events)),
-				data, 8192, &counts)
+			read := C.vte_feed(&parser, (*C.uint8_t)(&bytes[0]), C.size_t(len(bytes)),
+				1<<C.VTE_OSC, 0, &events[0], C.size_t(len(events)), data, 8192, &counts)
 			for i := range events[:counts.events] {
 				// Operating system commands 0 and 2 set the title, which may contain `;`.
 				if events[i].kind == C.VTE_OSC {

@@ -267,7 +267,9 @@ VTE = Plan(
         # what a processor does per event, between those loops and the handler
         "vte/ansi/performer": {
             CLONE: ["pub(crate) struct ProcessorState"],
-            INLINE: ["fn print", "fn execute", "fn csi_dispatch", "fn terminated", "fn print_text"],
+            INLINE: ["fn print", "fn execute", "fn csi_dispatch", "fn terminated"],
+            # the parser often knows the only character
+            "#[inline(always)]": ["fn print_text"],
         },
         "vte/ansi/control_calls": {
             INLINE: ["pub(crate) fn perform_control", "fn perform_plain"],

@@ -440,7 +440,7 @@ impl<T: TakeCall + Drop> Handler for ByCall<T> {
 }
 
 impl<T: TakeText + Drop> HandlerText for ByCall<T> {
-    #[inline]
+    #[inline(always)]
     fn input_text(&mut self, text: &str) {
         self.0.take_text(text);
     }

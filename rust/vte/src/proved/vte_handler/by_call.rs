@@ -473,7 +473,7 @@ impl<T: TakeCall> Handler for ByCall<T> {
 }
 
 impl<T: TakeText> HandlerText for ByCall<T> {
-    #[inline]
+    #[inline(always)]
     fn input_text(&mut self, text: &str) {
         self.0.take_text(text);
     }

@@ -89,7 +89,7 @@ impl<'s, 'h, H: HandlerText, T: Timeout, J: TextBuffer> PerformText
         false
     }
 
-    #[inline]
+    #[inline(always)]
     fn print_text(&mut self, text: &str) {
         self.handler.input_text(text);
         self.state.preceding_char = text.chars().next_back().or(self.state.preceding_char);

@@ -31,10 +31,8 @@ class Comparison:
 def comparisons(row):
     """Each pair of sides that are compared in a row, by what it is called."""
     sides = row["nanoseconds"]
-    if row["race"] == "strip":
-        pairs = {f"over `{other}`": ("rust", other) for other in sides if other != "rust"}
-    else:
-        pairs = {name: pair for name, pair in BUILDS.items() if pair[0] in sides}
+    pairs = {"over `advance`": ("rust", "advance")} if row["race"] == "strip" else {
+        name: pair for name, pair in BUILDS.items() if pair[0] in sides}
     return {name: Comparison(row, *pair) for name, pair in pairs.items()}
 
 
@@ -58,7 +56,7 @@ def tables(rows):
         yield by_build(found, kinds)
         yield "\n".join(f"- Slower in {build}: {slower(rows, build)}." for build in BUILDS)
     if stripped:
-        yield by_stripper(stripped)
+        yield by_run(stripped)
 
 
 def by_stream(found, kinds):
@@ -87,11 +85,11 @@ def slower(rows, build):
     return ", ".join(told) or "nothing"
 
 
-def by_stripper(rows):
-    heads = max(map(comparisons, rows), key=len)
-    return table(["stream", "ns/byte", *heads], [
+def by_run(rows):
+    """Text in runs."""
+    return table(["stream", "ns/byte", "over `advance`"], [
         [f"`{row['stream']}`", f"{Comparison(row, 'rust').median:.2f}",
-         *(str(comparisons(row).get(head, "")) for head in heads)] for row in rows])
+         *map(str, comparisons(row).values())] for row in rows])
 
 
 def table(heads, rows):

@@ -82,10 +82,10 @@ def differences(folder):
 
 def items(folder, out, features):
     """The public items of a crate: their paths, and what they are."""
-    workshop = rust_builds.Workshop(out, "checked")
     words = ["cargo", "rustdoc", "--manifest-path", folder / "Cargo.toml", "--no-default-features",
              "--features", ",".join(features), "--", "--cap-lints", "allow"]
-    rust_builds.run(words, f"the documentation of {folder}", workshop.environment)
+    environment = rust_builds.environment(out, "checked")
+    rust_builds.run(words, f"the documentation of {folder}", environment)
     return items_of_pages(out / "target" / "doc" / "vte", folder / "src")
 
 

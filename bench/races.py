@@ -16,8 +16,8 @@ from generating import streams
 # these two in the best build (fat link-time optimization) and in cargo's default release profile.
 IN_RUST = {"rust": "fat", "rust_release": "release", "best": "fat", "release": "release"}
 OURS_IN_RUST = ("rust", "rust_release")
-# the kinds of tools/peer that put text into memory, in runs and character by character, both by ours
-# in the best build
+# the kinds of tools/peer that put text into memory: in runs, and character by character, both by
+# ours in the best build
 STRIPPERS = {"rust": "strip_runs", "advance": "strip"}
 # the minimum time of a side in a round
 SECONDS = 0.05
@@ -26,7 +26,7 @@ STREAMS = ["ascii", "prose", "cjk", "latin1", "ls_color", "coloured", "dense_cel
            "bad_ff", "bad_trunc4", "bad_alternate", "lead_esc", "osc_title", "osc_clipboard",
            "sixel", "updates"]
 # streams with something to show on a screen
-SCREEN_STREAMS = [*STREAMS, "emoji", "unicode", "cursor", "dense_rgb"]
+SCREEN_STREAMS = [*STREAMS, "emoji", "unicode", "cursor"]
 # streams to strip of sequences
 STRIPPED = ["ascii", "prose", "cjk", "cyrillic", "ls_color", "coloured", "random"]
 # the streams of each kind, by the bytes of a call
@@ -74,8 +74,10 @@ class Course:
 
     def build(self, kinds):
         """Builds every program that these kinds run, before one is measured."""
-        sides = IN_RUST if set(kinds) - {"strip"} else ["rust"]
-        _ = sides is IN_RUST and self.race
+        sides = ["rust"]
+        if set(kinds) - {"strip"}:
+            sides = IN_RUST
+            _ = self.race
         with ThreadPoolExecutor() as pool:
             list(pool.map(self.peers, sides))
 

@@ -157,7 +157,7 @@ def failures(text, run=True):
     ("`src/known.rt`, `./a/src/known`, `src/*.rt`, `out/gone.rt`", None),
     ("`a/target/gone`, `src/NAME.rt`, `/gone/file`", None),
     ("`src/gone.rt`", "no such file or folder: src/gone.rt"),
-    ("`one`, `one::two()`, `three!`, `memcpy`, `1b5d`", None),
+    ("`one`, `one::two()`, `three!`, `ansi2txt`, `1b5d`", None),
     ("`four`", "no source file contains four"),
     ("`one::four`", "no source file contains four of one::four"),
     ("`one.three`", "no source file contains all parts of one.three"),
@@ -416,27 +416,3 @@ def test_what_is_run_and_listed(folder, words, fails, ran, status, last):
     assert ("    lacking: it needs no-such-command" in lines) == is_asked
     assert ("    a thing: it was not tried" in lines) == ("second" in ran)
     assert not any((folder / "temporary").iterdir())
-
-
-# ---- install_packages
-
-# what dpkg-query and apt-get answer: packages that are installed, and whether apt-get installs
-PACKAGES = """#!/bin/sh
-case ${0##*/} in
-    dpkg-query) grep -qx "$4" installed && echo install ok installed || echo deinstall ok left ;;
-    apt-get) echo "$4 $7" >>asked; [ "$4 $7" != "install $FAILS" ] ;;
-esac
-"""
-
-
-@pytest.mark.parametrize("words, gate, status, asked", [
-    ("a b-dev", "1", 0, []), ("a b", "1", 0, ["update ", "install b"]),
-    ("a c b", "1", 1, ["update ", "install c"]), ("a b", "", 1, [])])
-def test_what_is_missing_is_installed(folder, words, gate, status, asked):
-    for name in "apt-get", "dpkg-query":
-        write(f"bin/{name}", PACKAGES, 0o755)
-    write("installed", "a\nb-dev\n")
-    noted = write("asked", "")
-    given = {**os.environ, "PATH": f"{folder}/bin:{os.environ['PATH']}", "GATE": gate, "FAILS": "c"}
-    done = subprocess.run([TOOLS / "install_packages", *words.split()], env=given)
-    assert (done.returncode, noted.read_text().splitlines()) == (status, asked)

@@ -1,11 +1,18 @@
-"""The figures of a benchmark: ratios, medians and quartiles."""
+"""The figures of a benchmark: ratios, and the tables of docs/PERFORMANCE.md in Markdown."""
 import statistics
+
+# our side and that of the crate, in the builds that are compared
+BUILDS = {"cargo's release profile": ("rust_release", "release"),
+          "cargo's best build": ("rust", "best"), "Rattle's build": ("ours", "best")}
+# the streams of the tables
+COMMON_STREAMS = ["ascii", "prose", "cjk", "emoji", "ls_color", "coloured", "dense_cells",
+                  "updates", "osc_title", "sixel", "random"]
 
 
 class Comparison:
     """Our time over the other's, or alone: the median of all ratios, and the quartiles."""
 
-    def __init__(self, row, other, ours="ours"):
+    def __init__(self, row, ours, other=None):
         of_ours = row["nanoseconds"][ours]
         of_others = row["nanoseconds"][other] if other else [[1]] * len(of_ours)
         # in each round that of each placement of our code over each of theirs
@@ -16,15 +23,75 @@ class Comparison:
         self.low, self.median, self.high = statistics.quantiles(found, n=4, method="inclusive")
 
     def __str__(self):
-        """The median and the quartiles, with a digit more below 0.01."""
-        digits = 2 if self.median >= 0.01 else 3
+        """The median and the quartiles, with more digits below 0.01."""
+        digits = 2 if self.median >= 0.01 else 4
         return f"{self.median:.{digits}f} ({self.low:.{digits}f}–{self.high:.{digits}f})"
 
 
-def pairs(row):
-    """The pairs of sides to compare: Rattle's build and ours in cargo's best build with the others,
-    and that in the release profile with the crate's."""
+def comparisons(row):
+    """Each pair of sides that are compared in a row, by what it is called."""
     sides = row["nanoseconds"]
-    others = [side for side in sides if side not in ("ours", "rust", "rust_release")]
-    found = [(one, other) for other in others for one in ("ours", "rust") if other != "release"]
-    return [pair for pair in [*found, ("rust_release", "release")] if sides.keys() >= set(pair)]
+    pairs = {"over `advance`": ("rust", "advance")} if row["race"] == "strip" else {
+        name: pair for name, pair in BUILDS.items() if pair[0] in sides}
+    return {name: Comparison(row, *pair) for name, pair in pairs.items()}
+
+
+def line(row):
+    """What is printed of a row once it is measured."""
+    found = {"ns/byte": Comparison(row, "rust"), **comparisons(row)}
+    return f"{shown(row)}: {', '.join(f'{name} {ratio}' for name, ratio in found.items())}"
+
+
+def shown(row):
+    return f"{row['race']} `{row['stream']}` in calls of {row['piece']:,} B"
+
+
+def tables(rows):
+    """The tables of the page, of what was measured."""
+    found = {(row["race"], row["stream"]): comparisons(row) for row in rows
+             if row["piece"] == 4096 and row["stream"] in COMMON_STREAMS}
+    stripped = [row for row in rows if row["race"] == "strip"]
+    if kinds := [*dict.fromkeys(row["race"] for row in rows if row["race"] != "strip")]:
+        yield by_stream(found, kinds)
+        yield by_build(found, kinds)
+        yield "\n".join(f"- Slower in {build}: {slower(rows, build)}." for build in BUILDS)
+    if stripped:
+        yield by_run(stripped)
+
+
+def by_stream(found, kinds):
+    """The ratios of each common stream in cargo's release profile."""
+    build = next(iter(BUILDS))
+    return table(["stream", *kinds], [
+        [f"`{name}`", *(str(found.get((kind, name), {}).get(build, "")) for kind in kinds)]
+        for name in COMMON_STREAMS])
+
+
+def by_build(found, kinds):
+    """The ranges of the medians of the common streams."""
+    rows = []
+    for kind in kinds:
+        of_streams = [found[kind, name] for name in COMMON_STREAMS if (kind, name) in found]
+        medians = [[ratios[build].median for ratios in of_streams] for build in BUILDS]
+        rows.append([f"`{kind}`", *(f"{min(some):.2f} to {max(some):.2f}" if some else ""
+                                    for some in medians)])
+    return table(["", *BUILDS], rows)
+
+
+def slower(rows, build):
+    """The rows in which we are slower in a build."""
+    found = [(row, comparisons(row).get(build)) for row in rows]
+    told = [f"{shown(row)} {ratio}" for row, ratio in found if ratio and ratio.median > 1]
+    return ", ".join(told) or "nothing"
+
+
+def by_run(rows):
+    """Text in runs."""
+    return table(["stream", "ns/byte", "over `advance`"], [
+        [f"`{row['stream']}`", f"{Comparison(row, 'rust').median:.2f}",
+         *map(str, comparisons(row).values())] for row in rows])
+
+
+def table(heads, rows):
+    lines = [f"| {' | '.join(row)} |" for row in [heads, *rows]]
+    return "\n".join([lines[0], f"|{'---|' * len(heads)}", *lines[1:]])

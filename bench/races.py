@@ -16,9 +16,9 @@ from generating import streams
 # these two in the best build (fat link-time optimization) and in cargo's default release profile.
 IN_RUST = {"rust": "fat", "rust_release": "release", "best": "fat", "release": "release"}
 OURS_IN_RUST = ("rust", "rust_release")
-# the kinds of tools/peer that put text into memory, or only copy it, all in cargo's best build
-STRIPPERS = {"rust": "strip_runs", "advance": "strip", "copy": "copy", "console": "console",
-             "strip-ansi-escapes": "strip_ansi_escapes"}
+# the kinds of tools/peer that put text into memory: in runs, and character by character, both by
+# ours in the best build
+STRIPPERS = {"rust": "strip_runs", "advance": "strip"}
 # the minimum time of a side in a round
 SECONDS = 0.05
 
@@ -26,21 +26,22 @@ STREAMS = ["ascii", "prose", "cjk", "latin1", "ls_color", "coloured", "dense_cel
            "bad_ff", "bad_trunc4", "bad_alternate", "lead_esc", "osc_title", "osc_clipboard",
            "sixel", "updates"]
 # streams with something to show on a screen
-SCREEN_STREAMS = [*STREAMS, "emoji", "unicode", "cursor", "dense_rgb"]
-# the streams of the races in memory, by the bytes of a call
-ALONE = {
+SCREEN_STREAMS = [*STREAMS, "emoji", "unicode", "cursor"]
+# streams to strip of sequences
+STRIPPED = ["ascii", "prose", "cjk", "cyrillic", "ls_color", "coloured", "random"]
+# the streams of each kind, by the bytes of a call
+RACES = {
     "parser": {4096: [*STREAMS, "emoji", "unicode", "esc_flood", "ignored", "sos_open"],
                65536: STREAMS, 1: ["ascii", "cjk", "dense_cells", "random"]},
     "screen": {4096: SCREEN_STREAMS},
     "processor": {4096: [*STREAMS, "osc_pieces", "cursor", "update_open"]},
-    "terminal": {4096: SCREEN_STREAMS}}
+    "terminal": {4096: SCREEN_STREAMS},
+    "strip": {4096: STRIPPED}}
 # streams of commands with more than the 1,024 bytes that Rattle's parser and processor keep
 BEYOND_THE_LIMIT = ["osc_clipboard"]
 # the bytes of a stream whose checksums are compared: the crate takes quadratic time for malformed
 # text in one call
 CHECKED = 50_000
-# streams to strip of sequences
-STRIPPED = ["ascii", "prose", "cjk", "cyrillic", "ls_color", "coloured", "random"]
 
 
 class Course:
@@ -63,26 +64,22 @@ class Course:
 
     def racers(self, kind):
         """The commands of each side: one for each placement of its code. Rattle's build has one."""
+        if kind == "strip":
+            return {side: [[program, name] for program in self.peers("rust")]
+                    for side, name in STRIPPERS.items()}
         programs = {"ours": [self.race] * self.placements,
                     **{side: self.peers(side) for side in IN_RUST}}
         return {side: [[program, kind] for program in of_side]
                 for side, of_side in programs.items()}
 
-    @functools.cached_property
-    def strippers(self):
-        """The commands of each of STRIPPERS."""
-        programs = rust_builds.strippers(self.folder / "strippers", self.placements)
-        return {side: [[program, kind] for program in programs]
-                for side, kind in STRIPPERS.items()}
-
     def build(self, kinds):
         """Builds every program that these kinds run, before one is measured."""
-        if "strip" in kinds:
-            _ = self.strippers
+        sides = ["rust"]
         if set(kinds) - {"strip"}:
+            sides = IN_RUST
             _ = self.race
-            with ThreadPoolExecutor() as pool:
-                list(pool.map(self.peers, IN_RUST))
+        with ThreadPoolExecutor() as pool:
+            list(pool.map(self.peers, sides))
 
     def stream(self, name, size):
         """A file with a prefix of a stream."""
@@ -133,46 +130,20 @@ def compare_checksums(name, sides, place):
         rust_builds.stop(f"the checksums of {name} differ: {told}")
 
 
-def row(race, stream, piece, size, times):
-    """A row of figures, in nanoseconds per byte: for each round a number per placement."""
-    figures = {side: [[round(its / size * 1e9, 4) for its in seconds] for seconds in of_side]
-               for side, of_side in times.items()}
-    return {"race": race, "stream": stream, "piece": piece, "nanoseconds": figures}
-
-
-def timed(commands, place, piece):
-    """What `in_rounds` runs for the commands of each side."""
-    return {side: [in_passes(words, place, piece) for words in of_side]
-            for side, of_side in commands.items()}
-
-
-def strip(course, given):
-    """What puts text into memory: ours in pieces, others at once, and `console` only for streams of
-    UTF-8, which it wants."""
-    for name in given.streams or STRIPPED:
-        # more than the second cache has room for; whole lines of a stream that isn't repeated, so
-        # that no character is cut
-        place = course.folder / f"{name}_lines"
-        lines = streams.generate(name, streams.PERIOD).rsplit(b"\n", 1)[0]
-        place.write_bytes(lines)
-        others = dict(course.strippers)
-        ours = {side: others.pop(side) for side in ("rust", "advance")}
-        if lines != lines.decode(errors="ignore").encode():
-            del others["console"]
-        compare_checksums(name, ours, place)
-        sides = {**timed(ours, place, 4096), **timed(others, place, len(lines))}
-        yield row("strip", name, 4096, len(lines), in_rounds(given.rounds, sides))
-
-
-def alone(race, course, given):
-    """Each side in memory, for the given streams and pieces."""
+def rows(race, course, given):
+    """Measures each side, for the given streams and pieces: the nanoseconds per byte, for each
+    round a number per placement."""
     racers = course.racers(race)
-    for name, piece in asked_for(given, ALONE[race]):
+    for name, piece in asked_for(given, RACES[race]):
         commands = {side: of_side for side, of_side in racers.items()
                     if side != "ours" or name not in BEYOND_THE_LIMIT}
         compare_checksums(name, commands, course.stream(name, CHECKED))
-        sides = timed(commands, course.stream(name, given.bytes), piece)
-        yield row(race, name, piece, given.bytes, in_rounds(given.rounds, sides))
+        place = course.stream(name, given.bytes)
+        times = in_rounds(given.rounds, {side: [in_passes(words, place, piece) for words in of_side]
+                                         for side, of_side in commands.items()})
+        found = {side: [[its / given.bytes * 1e9 for its in seconds] for seconds in of_side]
+                 for side, of_side in times.items()}
+        yield {"race": race, "stream": name, "piece": piece, "nanoseconds": found}
 
 
 def asked_for(given, default):
@@ -181,6 +152,3 @@ def asked_for(given, default):
         return [(name, piece) for piece, names in default.items() for name in names]
     names = given.streams or dict.fromkeys(name for names in default.values() for name in names)
     return [(name, piece) for name in names for piece in given.pieces or [4096]]
-
-
-RACES = {**{race: functools.partial(alone, race) for race in ALONE}, "strip": strip}

@@ -22,10 +22,18 @@ PROFILES = {
     "release": {"LTO": "false", "CODEGEN_UNITS": "16"},
     "checked": {"OPT_LEVEL": "1", "DEBUG_ASSERTIONS": "true"},
 }
+MANIFEST = """\
+[package]
+name = "peer"
+version = "0.0.0"
+edition = "2024"
+[workspace]
+[dependencies]
+arrayvec = "*"
+vte = { SOURCE, default-features = false, features = ["ansi", "std"] }
+"""
 # where the code of a placed program begins, and the bytes that its functions are aligned to
 CODE_START, ALIGNMENT = 0x200000, 16
-# what else strips a stream of sequences, and the check of UTF-8 that `console` gets
-STRIPPERS = ["console", "simdutf8", "strip-ansi-escapes"]
 CRATES = ["arrayvec", "bitflags", "cursor-icon", "log", "memchr", "serde", "serde-derive", "vte"]
 # what tools/peer shares with crates/: the files of each crate
 SHARED = {
@@ -41,79 +49,46 @@ def stop(message):
 
 
 @functools.cache
-def crates(*names):
-    """The environment in which cargo finds CRATES and these."""
+def crates():
+    """The environment in which cargo finds CRATES."""
     cache = Path(os.environ.get("XDG_CACHE_HOME") or Path.home() / ".cache") / "naqshuve"
-    packages = [f"librust-{name}-dev" for name in (*CRATES, *names)]
+    packages = [f"librust-{name}-dev" for name in CRATES]
     said = run([TOOLS / "next_release", cache, *packages], "crates of Debian's next release")
     home = re.search(r"CARGO_HOME=(\S+)", said.decode())
     return {"CARGO_HOME": home[1]} if home else {}
 
 
-class Workshop:
-    """A folder in which cargo builds programs, all in one profile."""
-
-    def __init__(self, out, profile="fat", others=()):
-        self.out = Path(out)
-        self.out.mkdir(parents=True, exist_ok=True)
-        self.built = self.out / "target" / "release"
-        self.environment = {**os.environ, **crates(*others),
-                            "CARGO_TARGET_DIR": str(self.out / "target")}
-        for name, value in PROFILES[profile].items():
-            self.environment[f"CARGO_PROFILE_RELEASE_{name}"] = value
-        self.dependencies = "".join(f'{name} = "*"\n' for name in ("arrayvec", *others))
-
-    def vte(self, features, folder=None):
-        """Lets programs depend on the crate `vte`, or on that of a folder."""
-        source = f'path = "{folder}"' if folder else 'version = "=0.15.0"'
-        self.dependencies += (f"vte = {{ {source}, default-features = false, "
-                              f"features = {list(features)} }}\n")
-
-    def program(self, name, source, flags=()):
-        """Builds a program of a source, without warnings, and returns its path."""
-        manifest = self.out / "Cargo.toml"
-        manifest.write_text('[package]\nname = "built"\nversion = "0.0.0"\nedition = "2024"\n'
-                            f'[[bin]]\nname = "{name}"\npath = "{Path(source).resolve()}"\n'
-                            f'[workspace]\n[dependencies]\n{self.dependencies}')
-        words = ["cargo", "rustc", "--release", "--manifest-path", manifest, "--"]
-        run([*words, "--cap-lints", "allow", *flags], f"{name} of {source}", self.environment)
-        return self.built / name
+def environment(folder, profile):
+    """The environment in which cargo builds into a folder."""
+    return {**os.environ, **crates(), "CARGO_TARGET_DIR": str(folder / "target"),
+            **{f"CARGO_PROFILE_RELEASE_{name}": value for name, value in PROFILES[profile].items()}}
 
 
-def placed_peers(is_ours, out, profile, count):
-    """Builds tools/peer over the crate, or over ours, into `out`, so many times."""
-    workshop = Workshop(out, profile)
-    workshop.vte(["ansi", "std"], OURS if is_ours else None)
+def placed_peers(is_ours, folder, profile, count):
+    """Builds tools/peer over the crate, or over ours, in a folder, without warnings: so many times,
+    each with its code at another place."""
+    folder = Path(folder)
+    copy_sources(folder / "src")
+    source = f'path = "{OURS}"' if is_ours else 'version = "=0.15.0"'
+    (folder / "Cargo.toml").write_text(MANIFEST.replace("SOURCE", source))
     # only ours has runs of text
-    return placed(workshop, count, ["--cfg", "runs"] if is_ours else [])
-
-
-def strippers(out, count):
-    """Builds the same program over rust/vte and STRIPPERS, so many times."""
-    workshop = Workshop(out, others=STRIPPERS)
-    workshop.vte(["ansi"], OURS)
-    return placed(workshop, count, ["--cfg", "runs", "--cfg", "strippers"])
-
-
-def placed(workshop, count, flags):
-    """Builds tools/peer, so many times, each with its code at another place."""
-    source = peer_sources(workshop.out / "peer_sources")
+    flags = ["--cap-lints", "allow", *["--cfg", "runs"] * is_ours]
     programs = []
     # four places take each function once to each part of a line of 64 bytes that it can begin at
     for place in range(count):
         start = f"link-arg=-Wl,-Ttext={CODE_START + ALIGNMENT * place:#x}"
-        program = workshop.program("peer", source, flags=[*flags, "-C", start])
-        programs.append(shutil.copy(program, workshop.out / f"peer_{place}"))
+        words = ["cargo", "rustc", "--release", "--manifest-path", folder / "Cargo.toml", "--"]
+        run([*words, *flags, "-C", start], "tools/peer", environment(folder, profile))
+        programs.append(shutil.copy(folder / "target/release/peer", folder / f"peer_{place}"))
     return programs
 
 
-def peer_sources(folder):
+def copy_sources(folder):
     """The sources of tools/peer, with what they share with crates/, erased."""
     shutil.copytree(TOOLS / "peer" / "src", folder, dirs_exist_ok=True)
     for crate, name in ((crate, name) for crate, names in SHARED.items() for name in names):
         text = (TOOLS.parent / "crates" / crate / "src" / f"{name}.rt").read_text()
         (folder / f"{name}.rs").write_text(erase(text, crate, f"{crate}/{name}", RACE)[0])
-    return folder / "main.rs"
 
 
 def run(words, what, environment=None, folder=None):

@@ -17,7 +17,6 @@ import re
 import subprocess
 import sys
 import tempfile
-from itertools import takewhile
 from pathlib import Path
 
 sys.dont_write_bytecode = True
@@ -33,11 +32,10 @@ AUTO = re.compile(r"!?(RefUnwindSafe|Send|Sync|Unpin|UnwindSafe)$")
 # of rustdoc's pages: a link to an item, its declaration, and its parts
 ITEM = re.compile(r'<li><a href="([^."][^"]+\.html)">([\w:]+)</a>')
 DECLARATION = re.compile(
-    r'<a class="src" href="[./]*src/vte/(?P<place>[^"]*?)\.html#(?P<line>\d+).*?'
+    r'<a class="src" href="[./]*src/vte/.*?'
     r'<pre class="rust item-decl"><code>(?P<code>.*?)</code></pre>', re.S)
 PART = re.compile(
-    r'<section id="(?P<id>[a-z]*)[^"]*" class="(?:impl|method|variant|associated\w*)">'
-    r'(?:<a class="src rightside" href="[./]*src/vte/(?P<place>[^"]*?)\.html#(?P<line>\d+))?.*?'
+    r'<section id="(?P<id>[a-z]*)[^"]*" class="(?:impl|method|variant|associated\w*)">.*?'
     r'class="code-header">(?P<code>.*?)</h\d>'
     r'|<span id="structfield\.[^"]*".*?<code>(?P<field>.*?)</code>', re.S)
 
@@ -82,14 +80,14 @@ def differences(folder):
 
 def items(folder, out, features):
     """The public items of a crate: their paths, and what they are."""
-    workshop = rust_builds.Workshop(out, "checked")
     words = ["cargo", "rustdoc", "--manifest-path", folder / "Cargo.toml", "--no-default-features",
              "--features", ",".join(features), "--", "--cap-lints", "allow"]
-    rust_builds.run(words, f"the documentation of {folder}", workshop.environment)
-    return items_of_pages(out / "target" / "doc" / "vte", folder / "src")
+    environment = rust_builds.environment(out, "checked")
+    rust_builds.run(words, f"the documentation of {folder}", environment)
+    return items_of_pages(out / "target" / "doc" / "vte")
 
 
-def items_of_pages(folder, sources):
+def items_of_pages(folder):
     """The public items on rustdoc's pages, and what they are."""
     found = {}
     for place, path in ITEM.findall((folder / "all.html").read_text()):
@@ -103,16 +101,16 @@ def items_of_pages(folder, sources):
         if not re.search(r"(constant|fn|type)\.\w+\.html$", place):
             # without what is in it
             text = re.match(r"(?:#\[.*?\] )*[^({;]*", text)[0].strip()
-        found[path] = must_use(sources, declared) + text
+        found[path] = text
         for part in PART.finditer(own):
-            found.update(item_of_part(path, name, part, must_use(sources, part)))
+            found.update(item_of_part(path, name, part))
         names = (trait_of(normal(part["code"], name)) for part in PART.finditer(auto))
         if traits := sorted(filter(AUTO.match, names)):
             found[f"{path}: auto traits"] = " ".join(traits)
     return found
 
 
-def item_of_part(path, name, part, front):
+def item_of_part(path, name, part):
     text = normal(part["code"] or part["field"], name)
     if part["id"] == "impl":
         # what `derive(PartialEq)` adds to itself isn't told, nor who implements a trait
@@ -120,7 +118,7 @@ def item_of_part(path, name, part, front):
             yield f"{path}: {trait_of(text)}", "impl"
         return
     called = re.match(r"(?:(?:pub|const|unsafe|async|fn|type) )*(\w+)", text)[1]
-    yield f"{path}::{called}", front + text + " without a body" * (part["id"] == "tymethod")
+    yield f"{path}::{called}", text + " without a body" * (part["id"] == "tymethod")
 
 
 def trait_of(text):
@@ -138,15 +136,6 @@ def normal(code, name):
     text = re.sub(rf"-> {name}\b(<[^<>]*>)?", "-> Self", text)
     front, bracket, arguments = text.partition("(")
     return front + bracket + re.sub(r"(^|, )_?\w*: ", r"\1", arguments)
-
-
-def must_use(sources, found):
-    """Whether an item has this attribute, which pages don't show: in the file that they name."""
-    if not found["line"]:
-        return ""
-    before = (sources / found["place"]).read_text().splitlines()[:int(found["line"]) - 1]
-    above = takewhile(re.compile(r"\s*(#\[|//)").match, reversed(before))
-    return "#[must_use] " * any("#[must_use" in line for line in above)
 
 
 def main():

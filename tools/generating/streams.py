@@ -122,15 +122,6 @@ STREAMS["dense_cells"] = ("each cell with two colours of 256, bold, italic and u
                           dense_cells, True)
 
 
-@stream("dense_rgb", "each cell with two colours of 24 bits, in both spellings, and half a block")
-def dense_rgb(chance):
-    forms = [b"\x1b[38:2::%d:%d:%d;48:2::%d:%d:%dm\xe2\x96\x84",
-             b"\x1b[38;2;%d;%d;%d;48;2;%d;%d;%dm\xe2\x96\x80"]
-    cells = [forms[column % 2] % tuple(chance.choices(range(256), k=6))
-             for column in range(COLUMNS)]
-    return b"".join(cells) + b"\x1b[0m\r\n"
-
-
 @stream("cursor", "motions and erasures of all kinds, as full-screen programs write")
 def cursor(chance):
     others = [b"\x1b7", b"\x1b8", b"\x1bM", b"\x1b(0", b"\x1b(B", b"\x0e", b"\x0f", b"\x08", b"\t",

@@ -1,4 +1,4 @@
-"""What a run found, for other programs: JSON, TAP and JUnit, with a test per rule."""
+"""What a run found, for other programs: JSON, and JUnit with a test per rule."""
 import json
 from xml.etree import ElementTree
 
@@ -45,17 +45,6 @@ def tests(result, again):
     yield "streams are judged", not result.streams, "none was" * (not result.streams)
 
 
-def as_tap(result, seed, again):
-    lines = ["TAP version 13", f"# seed {plain(seed)}, {result.streams} streams, "
-             f"{result.different} differ"]
-    for number, (name, is_new, told) in enumerate(tests(result, again), 1):
-        known = " # TODO known" if told and not is_new else ""
-        lines.append(f"{'not ok' if told else 'ok'} {number} - {name}{known}")
-        lines += [f"# {line}" for line in told.splitlines()]
-    ended = [f"# ended early: {result.ended_early}"] * bool(result.ended_early)
-    return "\n".join([*lines, *ended, f"1..{number}"])
-
-
 def as_junit(result, seed, again):
     suite = ElementTree.Element("testsuite", name=f"judge, seed {plain(seed)}")
     for name, is_new, told in tests(result, again):
@@ -72,4 +61,4 @@ def as_junit(result, seed, again):
     return f'<?xml version="1.0" encoding="UTF-8"?>\n{text}'
 
 
-FORMATS = {"json": as_json, "tap": as_tap, "junit": as_junit}
+FORMATS = {"json": as_json, "junit": as_junit}

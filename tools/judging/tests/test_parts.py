@@ -12,7 +12,7 @@ from judging.cases import Case
 from judging.classes import Difference
 from judging.judgement import Finding, Judgement
 from judging.rules import ALONE, CUT, RULES
-from support import TOOLS, miss, program_in, run
+from support import TOOLS, miss, program_in
 
 
 # streams, house rules, and the events under them
@@ -327,37 +327,24 @@ def formatted(kind, **given):
     return formats.FORMATS[kind](judgement, "# \x1b]]>&", lambda case: f"judge '{case}' # <&>")
 
 
-READER_OF_TAP = '''use TAP::Parser; my $p = TAP::Parser->new({tap => join("", <STDIN>)});
-while (my $r = $p->next) { print join("|", $r->type, $r->is_test ? ($r->is_ok,
-$r->has_todo, $r->description) : ()), "\\n" } print "errors ", scalar $p->parse_errors, " failed ",
-join(",", map { $_ } $p->failed), "\\n";'''
-
-
-@pytest.mark.parametrize("given, count", [({}, 1), ({"different": 4}, 2), ({"streams": 0}, 2)])
-def test_tap_is_read_by_perl(given, count):
-    if run("perl", "-MTAP::Parser", "-e", "1")[0]:
-        miss("there is no perl with TAP::Parser")
-    _, said = run("perl", "-e", READER_OF_TAP, input=formatted("tap", **given))
-    rows = said.splitlines()
-    assert sum(row.startswith("test") for row in rows) == len(formats.TESTS) + 2
-    assert "test|1|1|- text\n" in said
-    assert "unknown" not in {row.split("|")[0] for row in rows[:-1]}
-    assert re.fullmatch(rf"errors 0 failed \d+(,\d+){{{count - 1}}}", rows[-1])
-
-
-def test_junit_is_read_by_its_library():
+@pytest.mark.parametrize("given, others", [
+    ({}, []), ({"different": 4}, ["each difference has a class"]),
+    ({"streams": 0}, ["streams are judged"])])
+def test_junit_is_read_by_its_library(given, others):
     try:
         import junitparser
     except ImportError:
         miss("there is no python3-junitparser")
-    suite = junitparser.JUnitXml.fromstring(formatted("junit", ended_early="a < b").encode())
+    told = formatted("junit", ended_early="a < b", **given)
+    suite = junitparser.JUnitXml.fromstring(told.encode())
     results = {case.name: case.result for case in suite}
     assert len(results) == len(formats.TESTS) + 2
     failed, skipped = ([name for name, it in results.items() if it and isinstance(it[0], kind)]
                        for kind in (junitparser.Failure, junitparser.Skipped))
-    assert (failed, skipped) == (["colon"], ["text"])
+    assert (failed, skipped) == (["colon", *others], ["text"])
     assert "'<&#\">'" in results["colon"][0].text
-    assert (suite.tests, suite.failures, suite.skipped) == (len(results), 1, 1)
+    assert (suite.tests, suite.failures, suite.skipped) == (
+        len(results), 1 + len(others), 1)
 
 
 def test_json():

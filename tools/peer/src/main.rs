@@ -4,8 +4,7 @@
 //! The kinds are `parser` and `processor`, with a performer or handler that folds all into a
 //! checksum, `screen` and `terminal`, with a screen as the parser's performer or the processor's
 //! handler, and `strip` and `filter`, which put text into memory. Over rust/vte the last four are
-//! there with `_runs` too, and get text in runs. With `--cfg strippers` there are also what else
-//! strips, and a copy.
+//! there with `_runs` too, and get text in runs.
 
 mod text;
 
@@ -26,9 +25,6 @@ mod visitor;
 use std::hint::black_box;
 use std::io::Read;
 use std::time::{Duration, Instant};
-
-#[cfg(strippers)]
-use {console::strip_ansi_codes, simdutf8::basic::from_utf8};
 
 use vte::ansi::Processor;
 use vte::Parser;
@@ -91,18 +87,6 @@ races! {
     terminal_runs: Updating::new(), ByCall(Screen::new()), Processor::advance_text, of_terminal;
     #[cfg(runs)]
     filter_runs: Updating::new(), ByCall(Text::default()), Processor::advance_text, of_text;
-    #[cfg(strippers)]
-    copy: (), Text::default(), |_, text: &mut Text, bytes| text.put(bytes),
-        Text::checksum, Text::clear;
-    #[cfg(strippers)]
-    console: (), Text::default(), |_, text: &mut Text, bytes| {
-        let valid = from_utf8(bytes).expect("UTF-8");
-        text.put(strip_ansi_codes(valid).as_bytes())
-    }, Text::checksum, Text::clear;
-    #[cfg(strippers)]
-    strip_ansi_escapes: (), Text::default(), |_, text: &mut Text, bytes| {
-        text.put(&strip_ansi_escapes::strip(bytes))
-    }, Text::checksum, Text::clear;
 }
 
 type Updating = Processor<UntilCleared>;

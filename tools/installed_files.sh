@@ -20,6 +20,7 @@ installed_files=(
     "$LIBDIR/cmake/vte_c/vte_c-config-version.cmake"
     "${headers[@]/#/$PREFIX/include/}"
     "$PREFIX/share/man/man1/vtlog.1"
+    "$PREFIX/share/man/man3/vte.3"
     "$PREFIX/share/doc/libvte_c/LICENSE"
     "$PREFIX/share/doc/libvte_c/NOTICE"
 )

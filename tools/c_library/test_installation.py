@@ -15,8 +15,8 @@ HEADERS = "vte.h", "vte_long.h", "vte_handler.h", "vte.hpp"
 OF_LIBRARY = {
     *(f"include/{name}" for name in HEADERS), "lib/libvte_c.a", "lib/libvte_c.so",
     "lib/libvte_c.so.6", "lib/pkgconfig/libvte_c.pc", "lib/cmake/vte_c/vte_c-config.cmake",
-    "lib/cmake/vte_c/vte_c-config-version.cmake", "share/doc/libvte_c/LICENSE",
-    "share/doc/libvte_c/NOTICE"}
+    "lib/cmake/vte_c/vte_c-config-version.cmake", "share/man/man3/vte.3",
+    "share/doc/libvte_c/LICENSE", "share/doc/libvte_c/NOTICE"}
 OF_VTLOG = {"bin/vtlog", "share/man/man1/vtlog.1"}
 
 
@@ -163,6 +163,10 @@ def test_package(place):
     assert os.readlink(staged / machine / "libvte_c.so") == "libvte_c.so.6"
     described = (staged / machine / "pkgconfig/libvte_c.pc").read_text().splitlines()
     assert {"prefix=/usr", f"libdir=/{machine}", "build=given"} <= {*described}
+    if shutil.which("man"):
+        page = place.run("man", staged / "usr/share/man/man3/vte.3", MANWIDTH="160")
+        names = "vte_feed(vte_parser", "vte_long_feed", "vte_processor_new"
+        assert all(name in page for name in names)
     assert (staged / "usr/bin/vtlog").read_bytes() == Path("/bin/true").read_bytes()
     cmake(place, f"-DCMAKE_PREFIX_PATH={staged / 'usr'}",
           "-DCMAKE_LIBRARY_ARCHITECTURE=x86_64-linux-gnu", "-DVERSION=6")

@@ -12,7 +12,7 @@ from judging.cases import Case
 from judging.classes import Difference
 from judging.judgement import Finding, Judgement
 from judging.rules import ALONE, CUT, RULES
-from support import TOOLS, miss, program_in
+from support import TOOLS, miss, program_in, run
 
 
 # streams, house rules, and the events under them

@@ -28,8 +28,6 @@ EXIT = "(protocol: it ended without a line `end`)"
 NO_LINE_FEED = "(protocol: no line feed after `end`)"
 # the most bytes of an answer, and how many are kept of a longer one
 MOST_OUTPUT, KEPT_OUTPUT = 1 << 25, 1 << 14
-# the hangs after which the limit of time is a tenth, or a second
-MOST_HANGS = 3
 # a process that ends all groups of processes that it was told of, once the judge is gone
 GUARD = """
 import contextlib, os, signal, sys
@@ -91,7 +89,6 @@ class Program:
         self.batch = self.for_one_process = 200 if takes_pieces else 40
         # the time at which the run is over
         self.deadline = None
-        self.hangs = 0
         self.how = {"stdout": subprocess.PIPE, "stderr": errors, "start_new_session": True,
                     "env": {**os.environ, "JUDGE_HOUSE": ",".join(house)}}
         self.guard = subprocess.Popen([sys.executable, "-S", "-c", GUARD], stdin=subprocess.PIPE,
@@ -104,20 +101,20 @@ class Program:
         self.guard.stdin.close()
         self.guard.wait()
 
-    def answers(self, cases, whole=False):
+    def answers(self, cases):
         """The lines for each case, a list of pieces. New processes get them: one each, or all if
         they are framed."""
         if not self.takes_pieces:
-            return list(self.threads.map(lambda pieces: self.answer(pieces, whole), cases))
+            return list(self.threads.map(self.answer, cases))
         answers = []
         while len(answers) < len(cases):
             some = cases[len(answers):len(answers) + self.for_one_process]
-            answers += self.answers_of_process(some, whole)
+            answers += self.answers_of_process(some)
         return answers
 
-    def answer(self, pieces, whole):
+    def answer(self, pieces):
         """What a process prints until it ends."""
-        output, until, mark = bytearray(), self.time_limit(whole), ""
+        output, until, mark = bytearray(), time.monotonic() + self.timeout, ""
         with self.running(b"".join(pieces)) as process:
             try:
                 while self.read_some(process, output, until):
@@ -127,14 +124,15 @@ class Program:
                 mark = str(broken)
         return answer_of(output, mark)
 
-    def answers_of_process(self, cases, whole):
+    def answers_of_process(self, cases):
         """The answers up to the one at which a process ends or stops, if it does."""
         # it begins with the line feed before the next answer
         answers, output = [], bytearray(b"\n")
         with self.running(b"".join(map(framed, cases))) as process:
             try:
                 while len(answers) < len(cases):
-                    answers.append(self.next_answer(process, output, self.time_limit(whole)))
+                    until = time.monotonic() + self.timeout
+                    answers.append(self.next_answer(process, output, until))
             except Broken as broken:
                 mark = str(broken)
                 if mark == EXIT and output == b"\n" and answers:
@@ -193,13 +191,6 @@ class Program:
             self.guard.stdin.write(b"%s%d\n" % (sign, process.pid))
             self.guard.stdin.flush()
 
-    def time_limit(self, whole):
-        """When an answer must be there. After some hangs less time is given, unless the whole time
-        is asked for."""
-        is_short = not whole and self.hangs >= MOST_HANGS
-        seconds = min(self.timeout, max(1, self.timeout / 10)) if is_short else self.timeout
-        return time.monotonic() + seconds
-
     def read_some(self, process, output, until):
         """Reads what comes next. False is the end of the output."""
         pipe = process.stdout.fileno()
@@ -208,7 +199,6 @@ class Program:
             if self.deadline is not None and now >= self.deadline:
                 raise OutOfTime
             if now >= until:
-                self.hangs += 1
                 raise Broken(HANG)
             if used_memory(process) > self.memory << 20:
                 raise Broken(f"(memory: more than {self.memory} MiB)")
@@ -227,7 +217,6 @@ class Program:
         try:
             status = process.wait(max(0, until - time.monotonic()))
         except subprocess.TimeoutExpired:
-            self.hangs += 1
             raise Broken(HANG) from None
         if status:
             raise Broken(f"(crash: signal {-status})" if status < 0

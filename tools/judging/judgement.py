@@ -150,16 +150,16 @@ class Judge:
 
     # ---- both answers
 
-    def both_answers(self, streams, whole=False):
+    def both_answers(self, streams):
         if self.candidate.deadline is not None and time.monotonic() >= self.candidate.deadline:
             raise OutOfTime
         references = self.reference.answers([b"".join(pieces) for pieces in streams])
-        answers = self.candidate.answers(streams, whole)
+        answers = self.candidate.answers(streams)
         return [tuple(map(self.view.of, pair)) for pair in zip(references, answers)]
 
-    def difference(self, pieces, whole=False, before=()):
+    def difference(self, pieces, before=()):
         """The difference at a stream, which new processes get, or None."""
-        reference, answer = self.both_answers([*before, pieces], whole)[-1]
+        reference, answer = self.both_answers([*before, pieces])[-1]
         return None if reference == answer else Difference(pieces, reference, answer)
 
     def difference_without(self, rules, kind, pieces):
@@ -290,13 +290,12 @@ class Judge:
     def steady(self, case, difference, tries=1):
         """The difference that a stream has alone, each time in a new process, or None: what is told
         then is why."""
-        # a program that doesn't end takes the whole time again
+        # a program that doesn't end takes its time again
         for _ in range(min(tries, 2) if mark_of(difference.candidate) in LIMITS else tries):
-            again = self.difference(difference.pieces, whole=True)
+            again = self.difference(difference.pieces)
             if again and is_alike(again, difference):
                 continue
             if mark_of(difference.candidate) == "hang":  # it was only slow
-                self.candidate.hangs = 0
                 return again and self.steady(case, again, tries)
             return self.tell_unsteady(case, difference, again)
         return difference._replace(before=[])
@@ -319,8 +318,8 @@ class Judge:
 
         def wrong(streams):
             *before, pieces = streams
-            found = next(tries, 0) and before and self.difference(pieces, True, before)
-            if found and not self.difference(pieces, True):
+            found = next(tries, 0) and before and self.difference(pieces, before)
+            if found and not self.difference(pieces):
                 return found._replace(before=before)
             return None
 

@@ -22,12 +22,12 @@ class Defined:
 class Side:
     """A function of the pieces of a stream, and of the streams before it, as a program."""
 
-    takes_pieces, batch, at_once, deadline, hangs = True, 50, 1, None, 0
+    takes_pieces, batch, at_once, deadline = True, 50, 1, None
 
     def __init__(self, answer):
         self.answer = answer
 
-    def answers(self, streams, whole=False):
+    def answers(self, streams):
         return [self.answer(pieces, streams[:index]) for index, pieces in enumerate(streams)]
 
 
@@ -268,15 +268,11 @@ def test_two_answers_are_not_deterministic(answers):
     assert [*judge.result.findings] == ["not-deterministic"]
 
 
-def test_what_is_tried_again_has_the_whole_time(monkeypatch):
-    monkeypatch.setattr(Side, "answers", lambda self, streams, whole=False: [
-        definition.lines_of(b"".join(pieces)) if whole or b"\x0e" not in pieces[0]
-        else [candidate.HANG] for pieces in streams])
-    judge = judge_of(None)
-    judge.candidate.hangs = candidate.MOST_HANGS
-    result = judge.run(iter([cases.Case("", [b"\x0e"])] * 9))
+def test_a_hang_that_was_only_slow_is_none():
+    answers = iter([["print 0061"], [candidate.HANG]])
+    result = judge_of(lambda pieces, _: next(answers, ["execute 0e"])).run(
+        iter([cases.Case("", [b"\x0e"])] * 9))
     assert (result.streams, result.different, result.status()) == (9, 0, 0)
-    assert judge.candidate.hangs == 0, "it wasn't a hang"
 
 
 def test_left_out_and_known():

@@ -3,7 +3,6 @@ import json
 import mmap
 import os
 import re
-import time
 from types import SimpleNamespace
 
 import pytest
@@ -226,16 +225,6 @@ def whole(request):
     side = candidate.Program(command, False, *rest)
     yield side
     side.close()
-
-
-@pytest.mark.parametrize("whole", [(["cat"], 20)], indirect=True)
-def test_a_retry_has_the_whole_time(whole):
-    for timeout, hangs, is_whole, seconds in (
-            (20, 2, False, 20), (20, 3, False, 2), (20, 9, True, 20), (60, 9, False, 6),
-            (4, 9, False, 1), (0.5, 9, False, 0.5)):
-        whole.hangs, whole.timeout = hangs, timeout
-        left = whole.time_limit(is_whole) - time.monotonic()
-        assert left == pytest.approx(seconds, abs=0.3)
 
 
 @pytest.mark.parametrize("whole", [(["cat"], 20)], indirect=True)

@@ -52,37 +52,12 @@ class Tool:
 
 # ---- check_trust
 
-BOUND = "a bound that isn't allowed"
-
-
-@pytest.mark.parametrize("place, line, fault", [
-    ("crates/x/specs/A.antt", "axiom one : Nat", "an axiom"),
-    ("crates/x/specs/A.antt", "  pub axiom one : Nat", "an axiom"),
-    ("crates/x/proofs/A.antt", "use B allow-axioms", "an axiom"),
-    ("crates/x/proofs/A.antt", "one = ?", "a hole"),
-    ("crates/x/proofs/A.antt", "one = f ?two x", "a hole"),
-    ("crates/x/proofs/A.antt", "one' = \"?\" -- axiom ?", None),
-    ("crates/x/src/lib.rt", 'extern "C" {', "a C function"),
-    ("crates/x/src/lib.rt", "fn f<A: Abort>(a: A) {}", BOUND),
-    ("crates/x/src/lib.rt", "fn f(a: &impl Wait) {}", BOUND),
-    *(("crates/x/src/lib.rt", f"struct S<A: {bound}>(A);", BOUND)
-      for bound in ("Threads", "Net", "Processes")),
-    ("crates/x/src/tests.rt", "fn f<A: Abort>(a: A) {}", None),
-    ("crates/conformance/src/main.rt", "fn f<A: Abort>(a: A) {}", None),
-    ("crates/x/src/lib.rt", "#![deny(unsafe_code)] // unsafe", None),
-])
-def test_what_is_trusted(place, line, fault):
-    write(place, f"\n{line}\n")
-    found = [*Tool("check_trust").parts["faults"](place)]
-    assert found == [f"{place}:2: {fault}"] * bool(fault)
-
-
 @pytest.mark.parametrize("place, count, allowed", [
     ("crates/x/src/lib.rt", 1, 0), ("rust/vtlog/src/prelude.rs", 2, 0),
     ("crates/vte_core/src/utf8.rt", 2, 3), ("crates/vte_core/src/utf8.rt", 4, 3),
     ("rust/vte/src/proved/vte_core/utf8.rs", 2, 2), ("old/crates/vte_core/src/utf8.rt", 3, 0)])
 def test_unsafe_is_counted(place, count, allowed):
-    write(place, "unsafe { f() }\n" * count)
+    write(place, "unsafe { f() } // unsafe, as unsafe_code is\n" * count)
     told = [f"{place}: `unsafe` stands here {count} times, and {allowed} are allowed"]
     assert [*Tool("check_trust").parts["faults"](place)] == told * (count != allowed)
 
@@ -115,18 +90,13 @@ def test_code_is_known_by_its_ending_or_its_first_line(place, text, answer):
 def test_trust_in_all_files_and_handles(folder):
     subprocess.run(["git", "init", "-q"], check=True)
     write(".gitignore", "out/\n")
-    for place in "crates/x/specs/A.antt", "crates/x/out/A", "bench/b.rs", "c/d.rt", "e.md":
-        write(place, "unsafe axiom one\n")
-    for link, place in ("c/link", "d.rt"), ("folder", "c"), ("lost", "nowhere"):
-        (folder / link).symlink_to(place)
+    for place in "crates/x/specs/A.antt", "crates/x/out/A.rt", "bench/b.rs", "c/d.rt", "e.md":
+        write(place, "unsafe one\n")
     handles = write("HANDLES", "Handles allowed: none.\n")
     status, said = Tool("check_trust").run()
     lines = said.splitlines()
-    assert (status, lines[-1]) == (1, "3 files, 6 places that are refused")
-    assert (sorted(line.partition(":")[0] for line in lines[:-1]) ==
-            "bench/b.rs c/d.rt c/link crates/x/specs/A.antt folder lost".split())
-    for link in "c/link", "folder", "lost":
-        (folder / link).unlink()
+    assert (status, lines[-1]) == (1, "2 files, 2 places that are refused")
+    assert sorted(line.partition(":")[0] for line in lines[:-1]) == ["bench/b.rs", "c/d.rt"]
     write("c/d.rt", "")
     tool = Tool("check_trust", files=lambda: ["c/d.rt"])
     assert tool.run() == (0, "1 files, 0 places that are refused\n")

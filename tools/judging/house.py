@@ -49,8 +49,9 @@ def house_of(words):
 def value_of(name, value):
     choices = CHOICES[name]
     if isinstance(choices, int):
-        if value != "none" and not value.isdigit():
-            raise ValueError(f"{name} is a number or none, not {value!r}")
+        least = 1 if name in ("pieces", "numbers") else 0
+        if value != "none" and (not value.isdecimal() or int(value) < least):
+            raise ValueError(f"{name} is a number from {least} on or none, not {value!r}")
         return None if value == "none" else int(value)
     if value not in choices:
         raise ValueError(f"{name} is one of {', '.join(choices)}, not {value!r}")

@@ -289,7 +289,8 @@ def test_left_out_and_known():
     found = judged(dropped).findings["delete/missing"].streams
     assert found == sum(dropped(case.pieces, []) != definition.lines_of(b"".join(case.pieces))
                         for case in CASES)
-    for known, status in ("delete", 0), ("delete/missing", 0), ("delete/extra", 1), ("", 1):
+    for known, status in (("delete", 0), ("delete/missing", 0), ("delete/extra", 1), ("del", 1),
+                          ("", 1)):
         assert judged(dropped, known=[known]).status() == status, known
 
 

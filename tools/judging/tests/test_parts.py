@@ -42,6 +42,10 @@ HOUSES = [
      ["hook [0] - false 71", "put 61", "put 62", "unhook", "execute 18"]),
     (b"\x1b_a\x9cb", "ignored-9c=ends", ["print 0062"]),
     (b"\x1b]a\x1b\\\x1b\\", "terminator=silent", ["osc false 1 61", "esc - false 5c"]),
+    *((b"\x1b]a%c\x1b\\\x1b]b\x1b\\" % end, "terminator=silent",
+       ["osc false 1 61", f"execute {end:02x}", "esc - false 5c", "osc false 1 62"])
+      for end in (0x18, 0x1a)),
+    (b"\x1b]a\x07\x1b\\\x1b_\x1b\\", "terminator=silent", ["osc true 1 61", "esc - false 5c"]),
     (b"\x1b]a\x1bc\x1b]b\x1b\\", "escaped-commands=drop",
      ["esc - false 63", "osc false 1 62", "esc - false 5c"]),
     (b"\x1b]a\x18\x1b]b\x07", "cancelled-commands=drop", ["execute 18", "osc true 1 62"]),

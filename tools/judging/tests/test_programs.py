@@ -185,6 +185,7 @@ def test_known_differences_are_passed(judge_toy, tmp_path):
 @pytest.mark.parametrize("words, message", [
     ("", "COMMAND is missing"), ("no-such-program", "not a program"),
     ("--house bell=x cat", "bell is one of"), ("--house limit=x cat", "limit is a number"),
+    ("--house pieces=0 cat", "pieces is a number from 1"), ("--house numbers=0 cat", "numbers is"),
     ("--house x=1 cat", "unknown house"), ("--leave-out x cat", "unknown class"),
     ("--leave-out largest/numbers cat", "unknown class"), ("--untold x cat", "unknown word"),
     ("--streams x cat", "unknown kind"), ("--known /no/file cat", "No such file"),

@@ -471,6 +471,12 @@ RACE = Plan(
         **{f"crate::handler::{name}": f"vte::ansi::{name}" for name in ("Handler", "HandlerText")},
     }},
     rules={
+        # by rustc, a whole style would be read from memory again for each of many cells
+        "examples/cell": [
+            ("*self = Cell { character, style };",
+             "self.character = character;\nself.style.foreground = style.foreground;\n"
+             "self.style.background = style.background;\n"
+             "self.style.attributes = style.attributes;")],
         # places need no test
         "examples/screen": [
             ("for (place, byte) in bytes.iter().enumerate() { cells[place].show$x; }",

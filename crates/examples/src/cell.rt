@@ -11,14 +11,10 @@ pub struct Cell {
 }
 
 impl Cell {
-    /// Shows a character in a style, part by part: a whole style would be read from memory again
-    /// for each of many cells.
+    /// Shows a character in a style.
     #[inline]
     pub(crate) fn show(&mut self, character: char, style: Style) {
-        self.character = character;
-        self.style.foreground = style.foreground;
-        self.style.background = style.background;
-        self.style.attributes = style.attributes;
+        *self = Cell { character, style };
     }
 }
 

@@ -57,13 +57,6 @@ class Source:
             at = self.after(at)
         return texts
 
-    def next_sign(self, at, sign):
-        while not self.is_sign(at, sign):
-            if at >= len(self.tokens):
-                self.refuse(f"no {sign} follows", at)
-            at += 1
-        return at
-
     def match(self, at):
         """The bracket that belongs to the one at a place, or the place if there is none."""
         depth, step = 0, 1 if self.text(at) in OPENING else -1
@@ -163,8 +156,7 @@ class Source:
                                         for token in split(text)]
 
     def insert(self, at, text):
-        line = self.tokens[at].line
-        self.tokens[at:at] = [Token(token.kind, token.text, line) for token in split(text)]
+        self.replace(at, at - 1, text)
 
     def written(self):
         """The text of the file as it is now."""

@@ -18,7 +18,7 @@ from erasing.crate import Failure, erase, write_crate  # noqa: E402
 from erasing.patterns import rewrite  # noqa: E402
 from erasing.plan import Plan  # noqa: E402
 from erasing.source import Source  # noqa: E402
-from rattle_text.tokens import COMMENT, Refused, split  # noqa: E402
+from rattle_text.tokens import Refused, split  # noqa: E402
 
 
 def plan(**given):
@@ -33,6 +33,7 @@ ghost use A.{◌≡◌, ◌∷◌};
 // ensures { this comment stays }
 #[inline]
 #[tactic(auto, using(crate::x))]
+#[tactic(auto)]
 pub fn f<'a>(s: &'a str, c: char) -> bool
     ghost top: { ℕ }
     requires named { c ≢ "}" → "\\"{" ≡ s }
@@ -49,11 +50,12 @@ pub fn f<'a>(s: &'a str, c: char) -> bool
     1..2; 1.5e3; x.0.1; s == text && open.len() == raw.len() + bytes.len()
 }
 
-#[derive(Clone, Drop)]
+#[derive(Clone, Copy, Debug, Default, Drop, Eq, Hash, Ord, PartialEq, PartialOrd, Serialize,
+    Deserialize)]
 pub struct P<T: Drop> {
     pub a: T,
     /// goes too
-    ghost in_range: { a ≤ 100 },
+    pub(crate) ghost in_range: { a ≤ 100 },
 }
 
 #[derive(Drop)]
@@ -72,7 +74,12 @@ trait R<T: A + Drop, U: B> {
 }
 
 #[cfg(test)]
-mod tests;
+pub(crate) fn helper(r#in: [u8; 2]) { r#in; }
+#[cfg(test)]
+pub(crate) mod cases;
+#[cfg(test)]
+mod tests { fn g() { 1; } }
+const R: u8 = r#in;
 '''
 ERASED = '''//! Head.
 
@@ -87,7 +94,8 @@ pub fn f<'a>(s: &'a str, c: char) -> bool {
     1..2; 1.5e3; x.0.1; s == text && open.len() == raw.len() + bytes.len()
 }
 
-#[derive(Clone)]
+#[derive(Clone, Copy, Debug, Default, Eq, Hash, Ord, PartialEq, PartialOrd)]
+#[cfg_attr(feature = "serde", derive(Serialize, Deserialize))]
 pub struct P<T> {
     pub a: T,
 }
@@ -95,8 +103,11 @@ pub struct P<T> {
 struct Q;
 
 trait R<T: A, U: B> {
+
     fn drop_it(&self);
 }
+
+const R: u8 = r#in;
 '''
 
 
@@ -105,9 +116,9 @@ def erased(text, given):
 
 
 def words(text):
-    """The words and comments of a text: its layout is rustfmt's."""
-    tokens = [token for token in split(text) if not token.is_blank or token.kind == COMMENT]
-    return [token.text for token in tokens if token.text != ","]
+    """The words, comments and blank lines of a text: the rest of its layout is rustfmt's."""
+    texts = [token.text.strip(" ") for token in split(text)]
+    return [text for text in texts if text not in ("", "\n", ",")]
 
 
 # what is told of a file, its text, and what is left of it, as crates/ have no such case
@@ -131,6 +142,46 @@ TEXTS = [
      "TwoWords(u8),\n/// Said.\nThree,\n/// 4.\nFour { a: u8 } }"),
     ({}, "fn f(k: b::K) { b::g(b::h::<b::I>(), c::b::J) }",
      "fn f(k: crate::b::K) { crate::b::g(crate::b::h::<crate::b::I>(), c::b::J) }"),
+    (dict(dropped={"a/x": ("fn f",)}), "//! File.\n// A group.\n\n// goes\n#[inline]\n// goes\n"
+     "fn f() {}\n\nfn g() {}", "//! File.\n// A group.\n\nfn g() {}"),
+    # each up to its end, and not more
+    (dict(dropped={"a/x": ("const fn g", "static S", "struct U", "const C", "type X", "use c",
+                           "impl V")}),
+     "pub const fn g(a: [u8; 2]) { a; } pub static S: T = T { a: [0; 2] }; struct U([u8; 2]); "
+     "const C: u8 = { 1 }; type X = V<{ 1 }>; pub(crate) use c::{d, e}; "
+     "impl V<[u8; 2]> for U where U: W { const Y: u8 = 1; } fn last() {}", "fn last() {}"),
+    (dict(default_bodies={"H"}), "pub(crate) trait H { fn f(&self) -> bool; fn g(&self, k: u8); } "
+     "trait I { fn h(); } impl H for K { fn f(&self) -> bool { a; b } }",
+     "#[allow(unused_variables)] pub(crate) trait H { fn f(&self) -> bool { false } "
+     "fn g(&self, k: u8) {} } trait I { fn h(); } impl H for K { fn f(&self) -> bool { a; b } }"),
+    (dict(inlined={"a/x": "impl V"}), "fn f() {} impl V { pub(crate) fn f() {} fn g<T>() {} "
+     "#[inline(never)]\n/// H.\nfn h() {} } fn i() {}",
+     "fn f() {} impl V { #[inline] pub(crate) fn f() {} fn g<T>() {} "
+     "#[inline(never)]\n/// H.\nfn h() {} } fn i() {}"),
+    (dict(lines={"a/x": {"#[derive(Eq)]": ["pub struct S", "pub struct T"], "#[x]": ["fn f"]}}),
+     "/// S.\n#[derive(Clone)] #[repr(C)] pub struct S; pub struct T; fn f() {}",
+     "/// S.\n#[derive(Clone, Eq)] #[repr(C)] pub struct S; #[derive(Eq)] pub struct T; "
+     "#[x] fn f() {}"),
+    (dict(under={"a": {"m": {"K"}}, "a/x": {"n": {"L"}}}),
+     "pub use c::L; use c::{K, M}; fn f(k: K) { \"L\" } fn g() { L(K) } fn h() {}",
+     "#[cfg(n)] pub use c::L; #[cfg(m)] use c::K; use c::M; #[cfg(m)] fn f(k: K) { \"L\" } "
+     "#[cfg(m)] #[cfg(n)] fn g() { L(K) } fn h() {}"),
+    (dict(members={"a/x": {"struct S {": {"b": "B.", "c": "C."}}}),
+     "struct S { a: [b; 2], pub(crate) b: c::D<(b, c)>,\n/// Said.\n#[default] c: u8 } fn f() {}",
+     "struct S { a: [b; 2],\n/// B.\npub(crate) b: c::D<(b, c)>,\n/// Said.\n"
+     "#[default] c: u8 } fn f() {}"),
+    *((dict(examples={"a/x": lines}),
+       "//! ```\n//! f(alloc);\n//! ```\n\n/// F.\n///\n/// ```\n/// f();\n/// ```\n/// G.\n"
+       "fn f() {}", wanted) for lines, wanted in (
+        (("a;", "b;", "..", "c;"),
+         "//! ```\n//! # a;\n//! # b;\n//! f();\n//! # c;\n//! ```\n\n/// F.\n///\n"
+         "/// ```\n/// # a;\n/// # b;\n/// f();\n/// # c;\n/// ```\n/// G.\nfn f() {}"),
+        (None, "/// F.\n/// G.\nfn f() {}"))),
+    (dict(handler=("a/x", [("t: &str", "t: &str as String")])),
+     "/// H.\npub trait Handler { fn f(t: &str) {} }",
+     "handlers! {\n/// H.\npub trait Handler; fn f(t: &str as String) {} }"),
+    (dict(added={"a/x": "use d::D;"}), "//! A.\n\n// f\nfn f() {}\nfn g() {}",
+     "//! A.\n\nuse d::D;\n\n// f\nfn f() {}\nfn g() {}"),
     # bodies that stay as they are
     *(({}, text, text) for text in (
         "fn f() -> Option<u8> { let x = *g(); h()?; Some(x) }", "fn f() { !x >= 1 && x <= 5 }",
@@ -145,7 +196,7 @@ class Erasing(unittest.TestCase):
     def test_traps(self):
         text, tests = erase(TRAPS, "a", "a/x", plan())
         self.assertEqual(words(text), words(ERASED))
-        self.assertEqual(tests, {"a/x/tests"})
+        self.assertEqual(tests, {"a/x/cases", "a/x/tests"})
 
     def test_texts(self):
         for given, text, wanted in TEXTS:
@@ -175,6 +226,9 @@ class Erasing(unittest.TestCase):
             ("fn f() {}\n", 1, dict(rules={"a/x": [("g()", "")]})),
             ("const M: u8 = 1;\n", 1, dict(dropped={"a/x": ("const N",)})),
             ("mod z;\n", 1, dict(left_out={"a/x/y"})),
+            ("", 1, dict(dropped={"a/x": ("fn f",)})),
+            ("fn f() {}\nfn f() {}\n", 1, dict(lines={"a/x": {"#[x]": ["fn f"]}})),
+            ("\n/// ```\nfn f() {}\n", 2, dict(examples={"a/x": ("f();",)})),
         ]:
             with self.subTest(text=text), self.assertRaises(Refused) as caught:
                 erased(text, plan(**given))

@@ -32,8 +32,7 @@ class Source:
         return self.text(at) in words
 
     def refuse(self, message, at=0):
-        last = min(at, len(self.tokens) - 1)
-        raise Refused(message, self.tokens[last].line if self.tokens else 1)
+        raise Refused(message, self.tokens[at].line if self.tokens else 1)
 
     # Finding
 
@@ -93,9 +92,7 @@ class Source:
         return before if self.text(before) == "pub" else at
 
     def attribute_end(self, at):
-        """The `]` of the attribute at a place, or None."""
-        if not self.is_sign(at, "#"):
-            return None
+        """The `]` of the attribute at a place, or None if an item begins there."""
         bracket = self.after(at)
         if self.is_sign(bracket, "!"):
             bracket = self.after(bracket)

@@ -132,9 +132,13 @@ TEXTS = [
      "const A: u8 = 1; // one\nfn ff() {}"),
     (dict(homes={"a": {"q": "find g"}}), "use c::D; fn g() { find(x.find()) }",
      "use q::find; use c::D; fn g() { find(x.find()) }"),
+    (dict(homes={"a": {"q": "find Big g h"}}),
+     "pub use q::l; use q::k; fn f() { find::<u8>(k); Big; a.g(); g } fn h() { h() }",
+     "pub use q::l; use q::{Big, find, k}; "
+     "fn f() { find::<u8>(k); Big; a.g(); g } fn h() { h() }"),
     (dict(imports={"a": {"c::D": "e::D", "f::": ""}}),
      "use c::D; use c::{I as J, K}; use f::{G, H};", "use e::D; use c::{I as J, K};"),
-    (dict(dropped={"a/x": ("fn f",)}), "// goes\n#[inline] pub(crate) fn f() {}\nconst A: u8 = 1;",
+    (dict(dropped={"a/x": ("fn f",)}), "// goes\n#[inline]pub(crate) fn f() {}\nconst A: u8 = 1;",
      "const A: u8 = 1;"),
     (dict(members={"a/x": {"enum E {": {"*": "{words} {snake} {name}.", "Four": "4."}}}),
      "enum E { #[default] One, TwoWords(u8),\n/// Said.\nThree, Four { a: u8 } }",
@@ -227,6 +231,7 @@ class Erasing(unittest.TestCase):
             ("const M: u8 = 1;\n", 1, dict(dropped={"a/x": ("const N",)})),
             ("mod z;\n", 1, dict(left_out={"a/x/y"})),
             ("", 1, dict(dropped={"a/x": ("fn f",)})),
+            ("\nfn f()\n", 2, {}),
             ("fn f() {}\nfn f() {}\n", 1, dict(lines={"a/x": {"#[x]": ["fn f"]}})),
             ("\n/// ```\nfn f() {}\n", 2, dict(examples={"a/x": ("f();",)})),
         ]:

@@ -112,7 +112,7 @@ def set_conditions(source, conditions_of):
     """Items in which certain words stand are there under conditions. Imports have theirs."""
     for at, end in source.items():
         if not source.is_word(source.without_visibility(at), "use"):
-            words = {source.text(place) for place in range(at, end) if source.kind(place) == WORD}
+            words = {source.text(place) for place in range(at, end)}
             found = conditions_of(source.name, words)
             source.insert(at, "".join(f"#[cfg({condition})]\n" for condition in found))
 

@@ -106,8 +106,9 @@ DROPPED = dict(dropped={"a/x": ("fn f",)})
 # what is told of a file, and a text with marks, as crates/ have no such case
 TEXTS = [
     ({}, "use c::Kept; use c::Gone; fn f(k: u8) {} ‹#[cfg(test)] mod tests { fn g() { Gone } }›"),
+    ({}, "use ‹std›«core»::cmp::Ordering; use ‹std::alloc›«crate::prelude»::A;"),
     ({}, "‹use b::laws; pub use laws::Step; mod laws;› mod c;"),
-    ({}, "fn f() { match a { ‹1..0x10›«1..=0xf» => 2, A..B => 3 } }"),
+    ({}, "fn f() { match a { ‹1..0x10›«1..=0xf» => 2, ‹20..30›«20..=29» => 3, A..B => 4 } }"),
     (DROPPED, "const A: u8 = 1; // one\n‹fn f() {}› fn ff() {}"),
     (DROPPED, "‹// goes\n#[inline]pub(crate) fn f() {}\n›const A: u8 = 1;"),
     (DROPPED, "//! File.\n// A group.\n\n‹// goes\n#[inline]\n// goes\nfn f() {}\n\n›fn g() {}"),
@@ -117,11 +118,12 @@ TEXTS = [
      "‹pub const fn g(a: [u8; 2]) { a; } pub static S: T = T { a: [0; 2] }; struct U([u8; 2]); "
      "const C: u8 = { 1 }; type X = V<{ 1 }>; pub(crate) use c::{d, e}; "
      "impl V<[u8; 2]> for U where U: W { const Y: u8 = 1; }› fn last() {}"),
-    (dict(homes={"a": {"q": "find g"}}), "«use q::find;» use c::D; fn g() { find(x.find()) }"),
-    (dict(homes={"a": {"q": "find Big g h"}}), "pub use q::l; use q::‹k›«{Big, find, k}»; "
-     "fn f() { find::<u8>(k); Big; a.g(); g } fn h() { h() }"),
+    (dict(homes={"a": {"q": "find g"}}), "«use q::find;\n»// why\nuse c::D; fn g() { find(x) }"),
+    (dict(homes={"a": {"q": "find Big g h D"}}), "pub use q::l; use q::‹k›«{Big, find, k}»; "
+     "use c::D; fn f(d: D) { find::<u8>(k); Big; a.g(); g } fn h() { h() }"),
     (dict(imports={"a": {"c::D": "e::D", "f::": ""}}),
-     "use ‹c::D›«e::D»; use c::{I as J, K};‹ use f::{G, H};›"),
+     "use ‹c::D›«e::D»; use c::{I as J, K};\n‹// why\nuse f::{G, H};›"),
+    (DROPPED, "‹use c::d;› pub use c::d::E; ‹fn f() { d() }›"),
     (dict(members={"a/x": {"enum E {": {"*": "{words} {snake} {name}.", "Four": "4."}}}),
      "enum E {\n«/// One one One.\n»#[default] One,\n«/// Two words two_words TwoWords.\n»"
      "TwoWords(u8),\n/// Said.\nThree,\n«/// 4.\n»Four { a: u8 } }"),

@@ -293,21 +293,22 @@ def test_verdicts(crate, tmp_path_factory, said, status, line):
 # ---- erase
 
 def erase(*words):
-    plan = Plan(out="w", modules={"c": "crate::c"})
-    return Tool("erase", PLANS=(plan,), formatted=lambda files: files).run(*words)
+    plans = [Plan(out=out, modules={"c": "crate::c"}) for out in ("v", "w")]
+    return Tool("erase", PLANS=plans, formatted=lambda files: files).run(*words)
 
 
 def test_what_is_out_of_date_is_told_and_then_written(folder):
-    write("crates/c/src/lib.rt", "fn f() { laws::x(); }\n")
-    write("w/c/left", "")
+    write("crates/c/src/d/e.rt", "fn f() { laws::x(); }\n")
+    write("w/left/over", "")
+    write("w/mod.rs", "as it was")
     outdated = ("tools/erase: these files aren't up to date; run tools/erase:\n"
-                "  w/c/left\n  w/c/mod.rs\n  w/mod.rs")
+                "  v/c/d/e.rs\n  v/mod.rs\n  w/c/d/e.rs\n  w/left/over\n  w/mod.rs")
     assert erase("--check") == (outdated, "")
-    assert erase() == (None, "tools/erase: wrote 3 files\n")
+    assert erase() == (None, "tools/erase: wrote 5 files\n")
     assert erase("--check") == (None, "")
     assert erase() == (None, "tools/erase: wrote 0 files\n")
-    assert not (folder / "w/c/left").exists()
-    assert (folder / "w/c/mod.rs").read_text().splitlines()[1:] == ["fn f() { }"]
+    assert not (folder / "w/left/over").exists()
+    assert (folder / "w/c/d/e.rs").read_text().splitlines()[1:] == ["fn f() { }"]
 
 
 def test_each_folder_is_written():

@@ -36,7 +36,7 @@ def sort_attributes(source):
         if source.is_word(item, "mod"):
             tests.add(source.text(source.after(item)))
         source.cut(at, source.item_end(item))
-    for at in reversed(range(len(source.tokens))):
+    for at in source.places("#"):
         if (end := source.attribute_end(at)) is None:
             continue
         name, *rest = [source.text(place) for place in range(at, end) if source.kind(place) == WORD]
@@ -112,7 +112,7 @@ def set_conditions(source, conditions_of):
     """Items in which certain words stand are there under conditions. Imports have theirs."""
     for at, end in source.items():
         if not source.is_word(source.without_visibility(at), "use"):
-            words = {source.text(place) for place in range(at, end) if source.kind(place) == WORD}
+            words = {source.text(place) for place in range(at, end)}
             found = conditions_of(source.name, words)
             source.insert(at, "".join(f"#[cfg({condition})]\n" for condition in found))
 
@@ -120,27 +120,25 @@ def set_conditions(source, conditions_of):
 def document_members(source, docs):
     """Gives docs to members of these types that have none: by name, or for all others by `*`."""
     for front, texts in docs.items():
-        opened, depth = source.next_sign(source.place(front), "{"), 0
-        at = source.match(opened)
-        while at > opened:
-            depth += source.is_sign(at, "([{") - source.is_sign(at, ")]}")
+        at = source.item_end(source.place(front))
+        opened = source.match(at)
+        while (at := at - 1) > opened:
+            at = source.match(at)
             first = source.with_visibility(at)
             name, start = source.text(at), source.attached(first)
-            begins = source.text(source.before(first)) in ("{", ",", "]") and name != "pub"
-            if depth == -1 and source.kind(at) == WORD and begins \
-                    and source.kind(start) != COMMENT and (text := texts.get(name, texts.get("*"))):
+            begins = source.text(source.before(first)) in ("{", ",", "]")
+            if source.kind(at) == WORD and begins and source.kind(start) != COMMENT \
+                    and (text := texts.get(name, texts.get("*"))):
                 words = re.sub(r"(?<!^)(?=[A-Z])", " ", name).capitalize()
                 snake = words.lower().replace(" ", "_")
                 source.insert(start, f"/// {text.format(name=name, words=words, snake=snake)}\n")
                 at = start
-            at -= 1
 
 
 def complete_examples(source, lines):
     """Examples in docs become whole programs, by hidden lines: those up to ".." before it, the
     others after it. If the lines are None the examples go, with the empty line before them."""
-    fences = [at for at, token in enumerate(source.tokens) if token.kind == COMMENT
-              and token.text[3:].strip() == "```"]
+    fences = [at for at, token in enumerate(source.tokens) if token.text[3:].strip() == "```"]
     if len(fences) % 2 or fences and lines == ():
         source.refuse("an example that isn't closed, or has no lines in plan.py", fences[0])
     shown = lines.index("..") if lines and ".." in lines else len(lines or ())
@@ -161,7 +159,8 @@ def wrap_handler(source, copies):
     at = source.place("pub trait Handler {")
     docs = [it.text for it in source.tokens[source.attached(at):at] if it.kind == COMMENT]
     head = "\n".join(f"    {line}" for line in (*docs, "pub trait Handler;"))
-    source.replace(source.attached(at), source.next_sign(at, "{"), f"handlers! {{\n{head}")
+    opened = source.match(source.item_end(at))
+    source.replace(source.attached(at), opened, f"handlers! {{\n{head}")
     apply(source, copies)
 
 

@@ -12,13 +12,13 @@ from rattle_text.tokens import COMMENT, split
 
 @lru_cache(maxsize=None)
 def _parts(pattern):
-    """The parts of a pattern: texts, or pairs of a number of `$` and a name."""
+    """The parts of a pattern: pairs of a number of `$`, and a name or a text."""
     parts, count = [], 0
     for token in split(pattern):
         if token.text == "$":
             count += 1
         elif not token.is_blank:
-            parts.append((count, token.text) if count else token.text)
+            parts.append((count, token.text))
             count = 0
     return tuple(parts)
 
@@ -38,8 +38,7 @@ def find(source, at, pattern):
 
 def _fit(source, at, parts, places):
     end = source.before(at)
-    for index, part in enumerate(parts):
-        count, name = (0, part) if isinstance(part, str) else part
+    for index, (count, name) in enumerate(parts):
         if count == 0:
             if source.text(at) != name:
                 return None
@@ -58,14 +57,13 @@ def _fit_run(source, at, parts, places):
     # the comments before it are its own
     last = source.before(at)
     first = last + 1
-    while at < len(source.tokens):
+    while True:
         if found := _fit(source, at, rest, {**places, name: (first, last)}):
             return found
         end = _element_end(source, at)
         if end is None or count == 2 and source.is_sign(at, ";"):
             return None
         last, at = end, source.after(end)
-    return None
 
 
 def _element_end(source, at):
@@ -81,9 +79,8 @@ def rewrite(source, pattern, by, holds=lambda names: True):
 
     An empty text takes out the comments above, too.
     """
-    count, (first, *_) = 0, _parts(pattern)
-    places = [at for at, token in enumerate(source.tokens)
-              if not isinstance(first, str) or token.text == first]
+    count, ((is_name, first), *_) = 0, _parts(pattern)
+    places = [at for at, token in enumerate(source.tokens) if is_name or token.text == first]
     for at in places[::-1]:
         if (found := find(source, at, pattern)) and holds(found[1]):
             made = by(found[1]) if callable(by) else filled(by, found[1])

@@ -32,8 +32,7 @@ class Source:
         return self.text(at) in words
 
     def refuse(self, message, at=0):
-        last = min(at, len(self.tokens) - 1)
-        raise Refused(message, self.tokens[last].line if self.tokens else 1)
+        raise Refused(message, self.tokens[at].line if self.tokens else 1)
 
     # Finding
 
@@ -56,13 +55,6 @@ class Source:
             texts.append(self.text(at))
             at = self.after(at)
         return texts
-
-    def next_sign(self, at, sign):
-        while not self.is_sign(at, sign):
-            if at >= len(self.tokens):
-                self.refuse(f"no {sign} follows", at)
-            at += 1
-        return at
 
     def match(self, at):
         """The bracket that belongs to the one at a place, or the place if there is none."""
@@ -100,9 +92,7 @@ class Source:
         return before if self.text(before) == "pub" else at
 
     def attribute_end(self, at):
-        """The `]` of the attribute at a place, or None."""
-        if not self.is_sign(at, "#"):
-            return None
+        """The `]` of the attribute at a place, or None if an item begins there."""
         bracket = self.after(at)
         if self.is_sign(bracket, "!"):
             bracket = self.after(bracket)
@@ -163,8 +153,7 @@ class Source:
                                         for token in split(text)]
 
     def insert(self, at, text):
-        line = self.tokens[at].line
-        self.tokens[at:at] = [Token(token.kind, token.text, line) for token in split(text)]
+        self.replace(at, at - 1, text)
 
     def written(self):
         """The text of the file as it is now."""

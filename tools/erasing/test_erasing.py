@@ -1,6 +1,7 @@
 #!/usr/bin/env python3
 """Tests of tools/erase: python3 tools/erasing/test_erasing.py"""
 import os
+import re
 import subprocess
 import sys
 import tempfile
@@ -18,7 +19,7 @@ from erasing.crate import Failure, erase, write_crate  # noqa: E402
 from erasing.patterns import rewrite  # noqa: E402
 from erasing.plan import Plan  # noqa: E402
 from erasing.source import Source  # noqa: E402
-from rattle_text.tokens import COMMENT, Refused, split  # noqa: E402
+from rattle_text.tokens import Refused, split  # noqa: E402
 
 
 def plan(**given):
@@ -26,78 +27,69 @@ def plan(**given):
                 of_std={"alloc": "crate::prelude"}, **given)
 
 
+# what is in ‹ › goes, and what is in « » comes
 TRAPS = '''//! Head.
-#![tactic(auto)]
+‹#![tactic(auto)]
 ghost use A.{◌≡◌, ◌∷◌};
-
+›
 // ensures { this comment stays }
 #[inline]
-#[tactic(auto, using(crate::x))]
-pub fn f<'a>(s: &'a str, c: char) -> bool
+‹#[tactic(auto, using(crate::x))]
+#[tactic(auto)]
+›pub fn f<'a>(s: &'a str, c: char) -> bool‹
     ghost top: { ℕ }
     requires named { c ≢ "}" → "\\"{" ≡ s }
     // goes
     ensures* { { 1 } ≡ { 1 } -- and { here
-    }
+    }›
 {
     let open = ['{', '\\'', '"', '\\u{7b}', '\\x7b', b'{' as char, '}'];
     let text = "ghost use x; ensures { \\"} }";
     let raw = r#"requires { " } ghost"#;
     let bytes = b"\\x1b]{ ensures";
+    ‹// goes
     laws::nothing();
-    'outer: loop { break 'outer; }
+    ›'outer: loop { break 'outer; }
     1..2; 1.5e3; x.0.1; s == text && open.len() == raw.len() + bytes.len()
 }
 
-#[derive(Clone, Drop)]
-pub struct P<T: Drop> {
-    pub a: T,
+#[derive(Clone, Copy, Debug, Default, ‹Drop, ›Eq, Hash, Ord, PartialEq, PartialOrd‹, Serialize,
+    Deserialize›)]«
+#[cfg_attr(feature = "serde", derive(Serialize, Deserialize))]»
+pub struct P<T‹: Drop›> {
+    pub a: T,‹
     /// goes too
-    ghost in_range: { a ≤ 100 },
+    pub(crate) ghost in_range: { a ≤ 100 },›
 }
 
-#[derive(Drop)]
-struct Q;
+‹#[derive(Drop)]
+›struct Q;
 
-impl Model for Q {
+‹impl Model for Q {
     ghost Value = { ℕ };
 }
 
-trait R<T: A + Drop, U: B> {
+›trait R<T: A‹ + Drop›, U: B> {‹
     // goes with it
-    ghost x: { Self → ℕ } = { λ _. 0 };
+    ghost x: { Self → ℕ } = { λ _. 0 };›
 
-    fn drop_it(&self)
-        ensures { ⊤ };
+    fn drop_it(&self)‹
+        ensures { ⊤ }›;
 }
 
+‹#[cfg(test)]
+pub(crate) fn helper(r#in: [u8; 2]) { r#in; }
 #[cfg(test)]
-mod tests;
+pub(crate) mod cases;
+#[cfg(test)]
+mod tests { fn g() { 1; } }
+›const R: u8 = r#in;
 '''
-ERASED = '''//! Head.
 
-// ensures { this comment stays }
-#[inline]
-pub fn f<'a>(s: &'a str, c: char) -> bool {
-    let open = ['{', '\\'', '"', '\\u{7b}', '\\x7b', b'{' as char, '}'];
-    let text = "ghost use x; ensures { \\"} }";
-    let raw = r#"requires { " } ghost"#;
-    let bytes = b"\\x1b]{ ensures";
-    'outer: loop { break 'outer; }
-    1..2; 1.5e3; x.0.1; s == text && open.len() == raw.len() + bytes.len()
-}
 
-#[derive(Clone)]
-pub struct P<T> {
-    pub a: T,
-}
-
-struct Q;
-
-trait R<T: A, U: B> {
-    fn drop_it(&self);
-}
-'''
+def told(marked):
+    """A text with marks, as it is before and after."""
+    return re.sub("[‹›]|«[^»]*»", "", marked), re.sub("[«»]|‹[^›]*›", "", marked)
 
 
 def erased(text, given):
@@ -105,34 +97,65 @@ def erased(text, given):
 
 
 def words(text):
-    """The words and comments of a text: its layout is rustfmt's."""
-    tokens = [token for token in split(text) if not token.is_blank or token.kind == COMMENT]
-    return [token.text for token in tokens if token.text != ","]
+    """The words, comments and blank lines of a text: the rest of its layout is rustfmt's."""
+    texts = [token.text.strip(" ") for token in split(text)]
+    return [text for text in texts if text not in ("", "\n", ",")]
 
 
-# what is told of a file, its text, and what is left of it, as crates/ have no such case
+DROPPED = dict(dropped={"a/x": ("fn f",)})
+# what is told of a file, and a text with marks, as crates/ have no such case
 TEXTS = [
-    ({}, "use c::Kept; use c::Gone; fn f(k: u8) {} #[cfg(test)] mod tests { fn g() { Gone } }",
-     "use c::Kept; use c::Gone; fn f(k: u8) {}"),
-    ({}, "use b::laws; pub use laws::Step; mod laws; mod c;", "mod c;"),
-    ({}, "fn f() { match a { 1..0x10 => 2, _ => 3 } }",
-     "fn f() { match a { 1..=0xf => 2, _ => 3 } }"),
-    (dict(dropped={"a/x": ("fn f",)}), "const A: u8 = 1; // one\nfn f() {} fn ff() {}",
-     "const A: u8 = 1; // one\nfn ff() {}"),
-    (dict(homes={"a": {"q": "find g"}}), "use c::D; fn g() { find(x.find()) }",
-     "use q::find; use c::D; fn g() { find(x.find()) }"),
+    ({}, "use c::Kept; use c::Gone; fn f(k: u8) {} ‹#[cfg(test)] mod tests { fn g() { Gone } }›"),
+    ({}, "use ‹std›«core»::cmp::Ordering; use ‹std::alloc›«crate::prelude»::A;"),
+    ({}, "‹use b::laws; pub use laws::Step; mod laws;› mod c;"),
+    ({}, "fn f() { match a { ‹1..0x10›«1..=0xf» => 2, ‹20..30›«20..=29» => 3, A..B => 4 } }"),
+    (DROPPED, "const A: u8 = 1; // one\n‹fn f() {}› fn ff() {}"),
+    (DROPPED, "‹// goes\n#[inline]pub(crate) fn f() {}\n›const A: u8 = 1;"),
+    (DROPPED, "//! File.\n// A group.\n\n‹// goes\n#[inline]\n// goes\nfn f() {}\n\n›fn g() {}"),
+    # each up to its end, and not more
+    (dict(dropped={"a/x": ("const fn g", "static S", "struct U", "const C", "type X", "use c",
+                           "impl V")}),
+     "‹pub const fn g(a: [u8; 2]) { a; } pub static S: T = T { a: [0; 2] }; struct U([u8; 2]); "
+     "const C: u8 = { 1 }; type X = V<{ 1 }>; pub(crate) use c::{d, e}; "
+     "impl V<[u8; 2]> for U where U: W { const Y: u8 = 1; }› fn last() {}"),
+    (dict(homes={"a": {"q": "find g"}}), "«use q::find;\n»// why\nuse c::D; fn g() { find(x) }"),
+    (dict(homes={"a": {"q": "find Big g h D"}}), "pub use q::l; use q::‹k›«{Big, find, k}»; "
+     "use c::D; fn f(d: D) { find::<u8>(k); Big; a.g(); g } fn h() { h() }"),
     (dict(imports={"a": {"c::D": "e::D", "f::": ""}}),
-     "use c::D; use c::{I as J, K}; use f::{G, H};", "use e::D; use c::{I as J, K};"),
-    (dict(dropped={"a/x": ("fn f",)}), "// goes\n#[inline] pub(crate) fn f() {}\nconst A: u8 = 1;",
-     "const A: u8 = 1;"),
+     "use ‹c::D›«e::D»; use c::{I as J, K};\n‹// why\nuse f::{G, H};›"),
+    (DROPPED, "‹use c::d;› pub use c::d::E; ‹fn f() { d() }›"),
     (dict(members={"a/x": {"enum E {": {"*": "{words} {snake} {name}.", "Four": "4."}}}),
-     "enum E { #[default] One, TwoWords(u8),\n/// Said.\nThree, Four { a: u8 } }",
-     "enum E {\n/// One one One.\n#[default] One,\n/// Two words two_words TwoWords.\n"
-     "TwoWords(u8),\n/// Said.\nThree,\n/// 4.\nFour { a: u8 } }"),
-    ({}, "fn f(k: b::K) { b::g(b::h::<b::I>(), c::b::J) }",
-     "fn f(k: crate::b::K) { crate::b::g(crate::b::h::<crate::b::I>(), c::b::J) }"),
+     "enum E {\n«/// One one One.\n»#[default] One,\n«/// Two words two_words TwoWords.\n»"
+     "TwoWords(u8),\n/// Said.\nThree,\n«/// 4.\n»Four { a: u8 } }"),
+    (dict(members={"a/x": {"struct S {": {"b": "B.", "c": "C."}}}), "struct S { a: [b; 2],\n"
+     "«/// B.\n»pub(crate) b: c::D<(b, c)>,\n/// Said.\n#[default] c: u8 } fn f(b: c) {}"),
+    ({}, "fn f(k: «crate::»b::K) { «crate::»b::g(«crate::»b::h::<«crate::»b::I>(), c::b::J) }"),
+    (dict(default_bodies={"H"}), "«#[allow(unused_variables)]» pub(crate) trait H { "
+     "fn f(&self) -> bool‹;›« { false }» fn g(&self, k: u8)‹;›« {}» } trait I { fn h(); } "
+     "impl H for K { fn f(&self) -> bool { a; b } }"),
+    (dict(inlined={"a/x": "impl V"}), "fn f() {} impl V { «#[inline]» pub(crate) fn f() {} "
+     "fn g<T>() {} #[inline(never)]\n/// H.\nfn h() {} } fn i() {}"),
+    (dict(lines={"a/x": {"#[derive(Eq)]": ["pub struct S", "pub struct T"],
+                         "#[x]": ["pub struct S"]}}),
+     "/// S.\n#[derive(Clone«, Eq»)] #[repr(C)] «#[x]» pub struct S; «#[derive(Eq)]» "
+     "pub struct T; fn f() {}"),
+    (dict(under={"a": {"m": {"K"}}, "a/x": {"n": {"L"}}}),
+     "«#[cfg(n)]» pub use c::L; «#[cfg(m)] use c::K;» use c::‹{K, M}›«M»; "
+     "«#[cfg(m)]» fn f(k: K) { \"L\" } «#[cfg(m)] #[cfg(n)]» fn g() { L(K) } fn h() {}"),
+    (dict(examples={"a/x": ("a;", "b;", "..", "c;")}),
+     "//! ```\n«//! # a;\n//! # b;\n»//! f(‹alloc›);\n«//! # c;\n»//! ```\n\n"
+     "/// ```\n«/// # a;\n/// # b;\n»/// f();\n«/// # c;\n»/// ```\n/// F.\nfn f() {}"),
+    (dict(examples={"a/x": None}), "‹//! ```\n//! f();\n//! ```\n\n›"
+     "/// F.\n‹///\n/// ```\n/// f();\n/// ```\n›/// G.\nfn f() {}"),
+    (dict(handler=("a/x", [("t: &str", "t: &str as String")])), "//! A.\n\n"
+     "«handlers! {\n»/// H.\npub trait Handler‹ {›«;»\n/// F.\nfn f(t: &str« as String») {} }"),
+    (dict(added={"a/x": "use d::D;"}), "//! A.\n\n«use d::D;\n\n»// f\nfn f() {}\nfn g() {}"),
+    *((dict(added={"a/x": "use d::D;"}), f"«use d::D;\n»pub {word} e;") for word in ("mod", "use")),
+    (dict(rules={"a/x": [("$x.b", "k($x)")]}), "fn f() { ‹g\n.b›«k(g)»; }"),
+    ({}, "fn f() { ‹let A(x) = g(1) else {\n// why\nreturn };›"
+     "«let x = match g(1) { A(x) => x, _ => {\n// why\nreturn } };» }"),
     # bodies that stay as they are
-    *(({}, text, text) for text in (
+    *(({}, text) for text in (
         "fn f() -> Option<u8> { let x = *g(); h()?; Some(x) }", "fn f() { !x >= 1 && x <= 5 }",
         "fn f() { (a % 32) as u32 + match g(b) { Ok(c) => c, Err(_) => return 1, } }")),
 ]
@@ -143,14 +166,16 @@ class Erasing(unittest.TestCase):
         self.assertEqual("".join(token.text for token in split(TRAPS)), TRAPS)
 
     def test_traps(self):
-        text, tests = erase(TRAPS, "a", "a/x", plan())
-        self.assertEqual(words(text), words(ERASED))
-        self.assertEqual(tests, {"a/x/tests"})
+        before, after = told(TRAPS)
+        text, tests = erase(before, "a", "a/x", plan())
+        self.assertEqual(words(text), words(after))
+        self.assertEqual(tests, {"a/x/cases", "a/x/tests"})
 
     def test_texts(self):
-        for given, text, wanted in TEXTS:
-            with self.subTest(text=text):
-                self.assertEqual(words(erased(text, plan(**given))), words(wanted))
+        for given, marked in TEXTS:
+            before, after = told(marked)
+            with self.subTest(text=before):
+                self.assertEqual(words(erased(before, plan(**given))), words(after))
 
     def test_comments_are_reworded(self):
         self.assertEqual(wording.reword("    // One. Two\n    // goes. Three.\n    f();\n", {
@@ -175,6 +200,10 @@ class Erasing(unittest.TestCase):
             ("fn f() {}\n", 1, dict(rules={"a/x": [("g()", "")]})),
             ("const M: u8 = 1;\n", 1, dict(dropped={"a/x": ("const N",)})),
             ("mod z;\n", 1, dict(left_out={"a/x/y"})),
+            ("", 1, dict(dropped={"a/x": ("fn f",)})),
+            ("\nfn f()\n", 2, {}),
+            ("fn f() {}\nfn f() {}\n", 1, dict(lines={"a/x": {"#[x]": ["fn f"]}})),
+            ("\n/// ```\nfn f() {}\n", 2, dict(examples={"a/x": ("f();",)})),
         ]:
             with self.subTest(text=text), self.assertRaises(Refused) as caught:
                 erased(text, plan(**given))

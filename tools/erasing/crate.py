@@ -104,7 +104,7 @@ def _leave_out(source, name, plan):
     modules = [module for module in ("laws",) if source.places("mod laws")]
     for left_out in plan.left_out:
         inside, _, module = left_out.rpartition("/")
-        if inside in (name, name.removesuffix("/lib")):
+        if inside == name.removesuffix("/lib"):
             modules.append(module)
     for module in modules:
         exports = [f"use {module}"] * bool(source.places(f"use {module}"))

@@ -97,7 +97,7 @@ OLDER = [
 
 
 def _match(v, p, e, body):
-    is_short = re.fullmatch(r"(return|break)\b[^;{}]*;?", body)
+    is_short = re.match(r"(return|break)\b", body)
     arm = f"{body.rstrip(' ;')}," if is_short else f"{{ {body} }}"
     return f"let {p} = match {e} {{\n{v}({p}) => {p},\n_ => {arm}\n}};"
 

@@ -106,11 +106,9 @@ DROPPED = dict(dropped={"a/x": ("fn f",)})
 # what is told of a file, and a text with marks, as crates/ have no such case
 TEXTS = [
     ({}, "use c::Kept; use c::Gone; fn f(k: u8) {} ‹#[cfg(test)] mod tests { fn g() { Gone } }›"),
-    ({}, "use ‹std›«core»::cmp::Ordering; use ‹std::alloc›«crate::prelude»::A;"),
-    ({}, "‹use b::laws; pub use laws::Step; mod laws;› mod c;"),
+    ({}, "‹use b::laws; pub use laws::Step; mod laws;› use ‹std›«core»::cmp::Ordering; mod c;"),
     ({}, "fn f() { match a { ‹1..0x10›«1..=0xf» => 2, ‹20..30›«20..=29» => 3, A..B => 4 } }"),
-    (DROPPED, "const A: u8 = 1; // one\n‹fn f() {}› fn ff() {}"),
-    (DROPPED, "‹// goes\n#[inline]pub(crate) fn f() {}\n›const A: u8 = 1;"),
+    (DROPPED, "‹// goes\n#[inline]pub fn f() {}\n›const A: u8 = 1; // one\n‹fn f() {}› fn ff() {}"),
     (DROPPED, "//! File.\n// A group.\n\n‹// goes\n#[inline]\n// goes\nfn f() {}\n\n›fn g() {}"),
     # each up to its end, and not more
     (dict(dropped={"a/x": ("const fn g", "static S", "struct U", "const C", "type X", "use c",
@@ -119,11 +117,11 @@ TEXTS = [
      "const C: u8 = { 1 }; type X = V<{ 1 }>; pub(crate) use c::{d, e}; "
      "impl V<[u8; 2]> for U where U: W { const Y: u8 = 1; }› fn last() {}"),
     (dict(homes={"a": {"q": "find g"}}), "«use q::find;\n»// why\nuse c::D; fn g() { find(x) }"),
-    (dict(homes={"a": {"q": "find Big g h D"}}), "pub use q::l; use q::‹k›«{Big, find, k}»; "
+    (dict(homes={"a": {"q": "find Big g h D"}}), "use q::‹k›«{Big, find, k}»; pub use q::l; "
      "use c::D; fn f(d: D) { find::<u8>(k); Big; a.g(); g } fn h() { h() }"),
     (dict(imports={"a": {"c::D": "e::D", "f::": ""}}),
      "use ‹c::D›«e::D»; use c::{I as J, K};\n‹// why\nuse f::{G, H};›"),
-    (DROPPED, "‹use c::d;› pub use c::d::E; ‹fn f() { d() }›"),
+    (DROPPED, "‹use c::d;› pub use c::d::E; ‹fn f() { d(E) }›"),
     (dict(members={"a/x": {"enum E {": {"*": "{words} {snake} {name}.", "Four": "4."}}}),
      "enum E {\n«/// One one One.\n»#[default] One,\n«/// Two words two_words TwoWords.\n»"
      "TwoWords(u8),\n/// Said.\nThree,\n«/// 4.\n»Four { a: u8 } }"),
@@ -153,7 +151,8 @@ TEXTS = [
     *((dict(added={"a/x": "use d::D;"}), f"«use d::D;\n»pub {word} e;") for word in ("mod", "use")),
     (dict(rules={"a/x": [("$x.b", "k($x)")]}), "fn f() { ‹g\n.b›«k(g)»; }"),
     ({}, "fn f() { ‹let A(x) = g(1) else {\n// why\nreturn };›"
-     "«let x = match g(1) { A(x) => x, _ => {\n// why\nreturn } };» }"),
+     "«let x = match g(1) { A(x) => x, _ => {\n// why\nreturn } };»"
+     "‹let B(y) = h else { break; };›«let y = match h { B(y) => y, _ => break, };» }"),
     # bodies that stay as they are
     *(({}, text) for text in (
         "fn f() -> Option<u8> { let x = *g(); h()?; Some(x) }", "fn f() { !x >= 1 && x <= 5 }",
@@ -178,8 +177,10 @@ class Erasing(unittest.TestCase):
                 self.assertEqual(words(erased(before, plan(**given))), words(after))
 
     def test_comments_are_reworded(self):
+        long = "long-" * 30
         self.assertEqual(wording.reword("    // One. Two\n    // goes. Three.\n    f();\n", {
-            "Two goes.": "Too."}), "    // One. Too. Three.\n    f();\n")
+            "Two goes.": f"Too.\n\n{long}"}),
+            f"    // One. Too.\n    //\n    // {long}\n    // Three.\n    f();\n")
         for text in "/// One.\nfn f() {}\n", "/// Two.\nfn f() {}\n/// Two.\nfn g() {}\n":
             with self.assertRaisesRegex(Refused, "Two"):
                 wording.reword(text, {"Two": "Three"})

@@ -25,7 +25,7 @@ def reword(text, changes):
             raise Refused(f"wording.json expects one comment with these words, found {len(found)}: "
                           f"{old}")
         (start, end), (before, after) = found[0].span(), _joined(found[0]).split(old, 1)
-        made = f"{before}{new}{after * (old == words)}".strip()
+        made = f"{before}{new}{after * (old == words)}"
         front = "".join(found[0].groups()[:2])
         if not made:
             # with the empty line of a comment before it

@@ -34,7 +34,7 @@ RACES = {
     "parser": {4096: [*STREAMS, "emoji", "unicode", "esc_flood", "ignored", "sos_open"],
                65536: STREAMS, 1: ["ascii", "cjk", "dense_cells", "random"]},
     "screen": {4096: SCREEN_STREAMS},
-    "processor": {4096: [*STREAMS, "osc_pieces", "cursor", "update_open"]},
+    "processor": {4096: [*STREAMS, "cursor", "update_open"]},
     "terminal": {4096: SCREEN_STREAMS},
     "strip": {4096: STRIPPED}}
 # streams of commands with more than the 1,024 bytes that Rattle's parser and processor keep
@@ -131,7 +131,7 @@ def compare_checksums(name, sides, place):
 
 
 def rows(race, course, given):
-    """Measures each side, for the given streams and pieces: the nanoseconds per byte, for each
+    """Measures each side, for the given streams: the nanoseconds per byte, for each
     round a number per placement."""
     racers = course.racers(race)
     for name, piece in asked_for(given, RACES[race]):
@@ -148,7 +148,6 @@ def rows(race, course, given):
 
 def asked_for(given, default):
     """The names of streams, each with the bytes of a call."""
-    if not given.streams and not given.pieces:
-        return [(name, piece) for piece, names in default.items() for name in names]
-    names = given.streams or dict.fromkeys(name for names in default.values() for name in names)
-    return [(name, piece) for name in names for piece in given.pieces or [4096]]
+    if given.streams:
+        return [(name, 4096) for name in given.streams]
+    return [(name, piece) for piece, names in default.items() for name in names]

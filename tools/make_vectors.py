@@ -16,13 +16,11 @@ import sys
 from collections import Counter
 from pathlib import Path
 
-sys.dont_write_bytecode = True
-
-from generating.rows import all_rows, bytes_of, lines_of, write_or_check  # noqa: E402
-from judging import definition  # noqa: E402
-from judging.cases import pieces_of  # noqa: E402
-from judging.house import CHOICES, House  # noqa: E402
-from judging.rules import LEVELS, MUST, RULES  # noqa: E402
+from generating.rows import all_rows, bytes_of, lines_of, write_or_check
+from judging import definition
+from judging.cases import pieces_of
+from judging.house import CHOICES, House
+from judging.rules import LEVELS, MUST, RULES
 
 TOOLS = Path(__file__).resolve().parent
 # increases with each incompatible change of the form

@@ -9,7 +9,6 @@ import unittest
 from dataclasses import fields, replace
 from pathlib import Path
 
-sys.dont_write_bytecode = True
 TOOLS = Path(__file__).resolve().parent.parent
 sys.path.insert(0, str(TOOLS))
 

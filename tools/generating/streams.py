@@ -173,10 +173,6 @@ PARTS = {
                     coloured(chance) for _ in range(ROWS))),
     "osc_clipboard": ("64 kB for the clipboard each, past the store",
                       lambda chance: b"\x1b]52;c;%b\x07text\r\n" % base64(chance, 65536)),
-    "osc_pieces": ("colours of the palette, 2 to 40 semicolons each",
-                   lambda chance: b"\x1b]4%b\x07" % b"".join(
-                       b";%d;#%06x" % (chance.randrange(256), chance.randrange(1 << 24))
-                       for _ in range(chance.randint(1, 20)))),
     "ignored": ("strings of 4 kB that mean nothing, as Kitty's images",
                 lambda chance: b"\x1b_Gm=1;%b\x1b\\" % base64(chance, 4096)),
     "random": ("random bytes", lambda chance: chance.randbytes(4096)),

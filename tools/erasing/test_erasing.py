@@ -116,6 +116,7 @@ TEXTS = [
      "const C: u8 = { 1 }; type X = V<{ 1 }>; pub(crate) use c::{d, e}; "
      "impl V<[u8; 2]> for U where U: W { const Y: u8 = 1; }› fn last() {}"),
     (dict(homes={"a": {"q": "find g"}}), "«use q::find;\n»// why\nuse c::D; fn g() { find(x) }"),
+    (dict(homes={"a": {"q": "find"}}), "«use q::find;\n»pub use q::l; fn f() { find() }"),
     (dict(homes={"a": {"q": "find Big g h D"}}), "use q::‹k›«{Big, find, k}»; pub use q::l; "
      "use c::D; fn f(d: D) { find::<u8>(k); Big; a.g(); g } fn h() { h() }"),
     (dict(imports={"a": {"c::D": "e::D", "f::": ""}}),

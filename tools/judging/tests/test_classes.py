@@ -89,6 +89,9 @@ def test_a_breach_of_a_house_rule_has_its_rule(breach, rules):
     # another event where two differences meet is no class
     ({"execute 0[ef]\n": "", "(?=execute 1[01])": "unhook\n"}, [b"\x0e", b"\x10", b"\x0f\x11"],
      {"control/missing": 2, "control/extra": 1}),
+    # a failure is a class of its own, also where the case of another of its rule stands within
+    ({"execute 0e\nexecute 10\n": "(crash: status 1)", "execute 0e\n": ""},
+     [b"\x0e", b"\x0e\x10"], {"control/missing": 1, "control/crash": 1}),
     # what is found again and again is counted, but soon not shrunk any more
     ({r"\Z": "unhook\n"}, [b"a"] * 100, {"text/extra": 100}),
     ({"execute 0e": "(protocol: x)"}, [b"\x0e"] * 25, {"protocol": 25})])

@@ -179,7 +179,8 @@ def test_known_differences_are_passed(judge_toy, tmp_path):
     judge_toy(0, "--known", known, fault="largest=9999")
     judge_toy(1, "--write-known", known, fault="largest=9999")
     assert known.read_text() == "largest/numbers\n"
-    judge_toy(0, "--known", known, fault="largest=9999")
+    judge_toy(0, "--known", known, "--write-known", known, fault="largest=9999")
+    assert known.read_text() == "largest/numbers\n"
 
 
 @pytest.mark.parametrize("words, message", [

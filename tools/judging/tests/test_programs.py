@@ -136,17 +136,19 @@ def test_the_children_of_a_program_are_ended(judge_toy, pieces):
 
 
 @pytest.mark.parametrize("fault", ["hang", "unsteady", "divided", "slow reference"])
-def test_the_time_is_kept(judge, tmp_path, fault):
+def test_the_time_is_kept(vtlog, tmp_path, fault):
     def seconds(*given):
         begun = time.monotonic()
-        judge(*given)
+        status, said = run_python(TOOLS / "judge", "--vtlog", vtlog, *given)
+        # on a busy machine there may be no time for a stream that differs
+        assert status in (0, 1), said
         return time.monotonic() - begun
 
     # on a busy machine a program takes long to begin
-    usual = seconds(0, "--case", "61", *toy())
+    usual = seconds("--case", "61", *toy())
     slow = ["--vtlog", program_in(tmp_path, "exec sleep 60")] * (fault == "slow reference")
     words = ["--seconds", 4, "--timeout", 60, *slow, *toy(f"{fault},largest=9999")]
-    assert seconds(1, *words) < 4 + 10 + 2 * usual
+    assert seconds(*words) < 4 + 10 + 2 * usual
 
 
 def test_closed_standard_output(vtlog):

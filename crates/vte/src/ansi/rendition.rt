@@ -11,6 +11,7 @@ use vte_handler::Handler;
 use vte_types::{Attr, Color, NamedColor};
 
 /// Calls the handler for each attribute of the groups.
+#[inline(always)]
 #[tactic(auto, using(crate::proofs::Calling::attributes_after))]
 pub(crate) fn perform_attributes<H: Handler>(handler: &mut H, params: &Params)
     ensures { H.value_of handler.new

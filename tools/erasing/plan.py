@@ -314,19 +314,13 @@ VTE = Plan(
         # what a processor does per event, between those loops and the handler
         "vte/ansi/performer": {
             INLINE: ["fn print", "fn execute", "fn csi_dispatch", "fn terminated"],
-            # the parser often knows the only character
-            "#[inline(always)]": ["fn print_text"],
         },
         "vte/ansi/control_calls": {
             INLINE: ["pub(crate) fn perform_control", "fn perform_plain"],
             # a guard would read the numbers
             "#[allow(clippy::collapsible_match)]": ["pub(crate) fn perform_control"],
         },
-        # called from two loops if a program takes text by characters and in runs
-        "vte/ansi/rendition": {
-            "#[inline(always)]": ["pub(crate) fn perform_attributes"],
-            INLINE: ["fn attribute"],
-        },
+        "vte/ansi/rendition": {INLINE: ["fn attribute"]},
         "vte/ansi/numbers": {INLINE: ["fn next_or", "pub(crate) fn first_number"]},
         # what a processor does per call, which matters if a call has few bytes
         "vte/ansi/turns": {

@@ -33,7 +33,8 @@ pub use Rattle.vte_core.specs.declared.parser.refused.Refused.{Refused}
 pub use Rattle.vte_handler.specs.Call.{Call, Input, ResetColor}
 pub use Rattle.vte_handler.specs.Handler.{after}
 pub use Rattle.vte_handler.specs.Timeout.{AllowsAlone, IsKept, TimeoutMeaning}
-pub use Rattle.vte.specs.Processor.{EndsInBegin, Halts, HoldsWellAt, IsInsideUpdate, IsOutsideUpdate, Meaning, TakesSteps, Stage, TakesAllTurns, TakesSome, TakesTurns, TurnHalts, all_bytes, begin_front, between, given_bytes, calls_added, calls_with_stops, cut_at, done, extend, hold_turn, is_held, is_stopped, keep, meaning, most_held, open_turn, opened, parse, place_of_stop, set_times, stop, stops_in_hold, stops_of, stops_of_advance, stops_of_turn, timeout_meaning, turn, turns, update_nanos, within}
+pub use Rattle.vte.specs.Processor.{EndsInBegin, HoldsWellAt, IsInsideUpdate, IsOutsideUpdate, Meaning, TakesSteps, Stage, TakesAllTurns, TakesTurns, all_bytes, begin_front, given_bytes, calls_added, calls_with_stops, cut_at, done, extend, hold_turn, is_held, is_stopped, keep, meaning, most_held, open_turn, opened, parse, place_of_stop, set_times, stop, stops_in_hold, stops_of, stops_of_advance, stops_of_turn, timeout_meaning, turn, turns, update_nanos}
+pub use Rattle.vte.specs.Refusal.{Halts, HasTaken, TakesSome, TurnHalts, between, within}
 pub use Rattle.vte.specs.BeginUpdate.{begin_count, begins_of, is_update_group, update_groups}
 pub use Rattle.vte.specs.Calls.{added_calls, calls, calls_from, calls_of, last_from, last_printed, last_printed_from}
 pub use Rattle.vte.specs.Change.{change_call, changes}
@@ -41,7 +42,7 @@ pub use Rattle.vte.specs.ColorReading.{kind_reading, part_of}
 pub use Rattle.vte.specs.CommandCalls.{dynamic_calls, id_of, link_to, pair_calls, pairs_calls}
 unfoldable pub use Rattle.vte.specs.CommandCalls.{all_reset}
 pub use Rattle.vte.specs.machine.Hold.{Adds, IsAdded, IsEnd, released_of}
-pub use Rattle.vte.specs.ProcessorCalls.{Advanced, HasParsedAll, HasParsedAndHolds, HasTaken, IsAt, IsTold, ReadsInTurns, Replayed, Replays, Standing, StopsSync, held_of}
+pub use Rattle.vte.specs.ProcessorCalls.{Advanced, HasParsedAll, HasParsedAndHolds, IsAt, IsTold, ReadsInTurns, Replayed, Replays, Standing, StopsSync, held_of}
 pub use Rattle.vte.specs.machine.Lent.{ParsesLent, StopsLent, lent_of, with_private_mode, with_private_modes}
 pub use Rattle.vte.specs.LongProcessor.{AdvancesLong, HasParsedAndHoldsLong, Reserves, StopsSyncLong}
 pub use Rattle.vte.specs.Memory.{HasRoom, LacksMemoryOnTheWay}

@@ -1,4 +1,5 @@
--- Which events begin a synchronized update, and how often.
+-- Which events begin a synchronized update, and how often, where bytes are parsed. In a hold, which
+-- isn't parsed yet, `Synchronized` finds its begin by the bytes alone.
 use Rattle.std.specs.Prelude.{ℕ, ◌+◌, Bool, false, ◌&&◌, ◌==◌, List, [], ◌∷◌, if◌then◌else◌}
 use Rattle.vte.specs.Numbers.{first_number}
 use Rattle.vte_core.specs.Event.{Event, CsiDispatch}

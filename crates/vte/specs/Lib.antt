@@ -15,7 +15,7 @@ pub mod Numbers
 pub mod Parts
 pub mod Processor
 pub mod ProcessorCalls
-pub mod RefusedStep
+pub mod Refusal
 pub mod Rendition
 pub mod StdSyncHandler
 pub mod Synchronized
@@ -25,6 +25,9 @@ pub mod UpdateExamples
 pub mod Values
 -- Crates that depend on `vte` find here the definitions that its contracts use from the crates
 -- below.
+pub use Rattle.vte_core.specs.Advance
+pub use Rattle.vte_core.specs.AdvanceToRun
+pub use Rattle.vte_core.specs.AdvanceUntilTerminated
 pub use Rattle.vte_core.specs.Body
 pub use Rattle.vte_core.specs.Brief
 pub use Rattle.vte_core.specs.Class
@@ -40,13 +43,16 @@ pub use Rattle.vte_core.specs.IgnoredString
 pub use Rattle.vte_core.specs.Intermediates
 pub use Rattle.vte_core.specs.Key
 pub use Rattle.vte_core.specs.Laws
+pub use Rattle.vte_core.specs.LongAdvance
 pub use Rattle.vte_core.specs.LongParser
 pub use Rattle.vte_core.specs.Looks
+pub use Rattle.vte_core.specs.Others
 pub use Rattle.vte_core.specs.Outcome
 pub use Rattle.vte_core.specs.Parameters
 pub use Rattle.vte_core.specs.Parser
 pub use Rattle.vte_core.specs.Perform
 pub use Rattle.vte_core.specs.Pieces
+pub use Rattle.vte_core.specs.Saved
 pub use Rattle.vte_core.specs.Stops
 pub use Rattle.vte_core.specs.Stream
 pub use Rattle.vte_core.specs.SystemCommand

@@ -7,7 +7,8 @@ use Rattle.vte_core.specs.declared.parser.refused.Refused.{Refused}
 use Rattle.vte.specs.Calls.{last_printed}
 use Rattle.vte.specs.Memory.{HasMemory, KeepsMemory, LacksMemoryFor, LacksMemoryOnTheWay}
 use Rattle.vte.specs.Processor.{Meaning, Stage}
-use Rattle.vte.specs.ProcessorCalls.{HasTaken, IsAt, ReadsInTurns, StopsSync, held_of}
+use Rattle.vte.specs.ProcessorCalls.{IsAt, ReadsInTurns, StopsSync, held_of}
+use Rattle.vte.specs.Refusal.{HasTaken}
 use Rattle.vte.specs.declared.ansi.long_processor.LongProcessor.{LongProcessor}
 
 abbrev pub held_long : {T A : Type 0} → LongProcessor T A → List ℕ

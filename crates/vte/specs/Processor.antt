@@ -155,30 +155,6 @@ pub data TakesTurns {H W : Type 0} (m : Meaning H W) : Stage H W → List ℕ �
 abbrev pub TakesAllTurns : {H W : Type 0} → Meaning H W → Stage H W → List ℕ → Stage H W → Type 0
 TakesAllTurns m s bytes t = TakesTurns m s bytes t []
 
--- An open turn that was refused memory: it has parsed a front of its bytes, in which no update
--- begins, and left some.
-pub record Halts {H W : Type 0} (m : Meaning H W) (s : Stage H W) (bytes : List ℕ) (t : Stage H W)
-    (left : List ℕ) : Type 0 where
-  pub front : List ℕ
-  pub bytes_are : front ++ left ≡ bytes
-  pub some_left : 0 < length left
-  pub none_begin : begin_count (added m.limit s.parsed front) ≡ 0
-  pub state_is : t ≡ parse m s front
-
--- The same of a turn, by the timeout's answer. A turn that holds bytes takes its memory before.
-abbrev pub TurnHalts : {H W : Type 0} → Meaning H W → Bool → Stage H W → List ℕ → Stage H W
-    → List ℕ → Type 0
-TurnHalts m answer s bytes t left =
-    (is_held answer s bytes ≡ false) × Halts m (opened m answer s) bytes t left
-
--- Turns of a call, after which a further one may have been refused memory on the way.
-pub data TakesSome {H W : Type 0} (m : Meaning H W) (s : Stage H W) (bytes : List ℕ) (t : Stage H W)
-    (left : List ℕ) : Type 0 where
-  between : TakesTurns m s bytes t left → TakesSome m s bytes t left
-  within : {u : Stage H W} {rest : List ℕ} → TakesTurns m s bytes u rest → (answer : Bool)
-      → m.timeout.allows u.timeout answer
-      → TurnHalts m answer u rest t left → TakesSome m s bytes t left
-
 -- The last parsed byte began an update.
 pub record EndsInBegin (limit : Option ℕ) (parsed : List ℕ) : Type 0 where
   pub before : List ℕ

@@ -6,7 +6,7 @@ use Rattle.vte_core.specs.Stream.{events}
 use Rattle.vte_handler.specs.Handler.{after}
 use Rattle.vte_handler.specs.Timeout.{IsKept}
 use Rattle.vte.specs.Calls.{last_printed, calls}
-use Rattle.vte.specs.Processor.{HoldsWellAt, Meaning, TakesSteps, Stage, TakesAllTurns, TakesSome, all_bytes, given_bytes, calls_with_stops, most_held, stop, stops_of}
+use Rattle.vte.specs.Processor.{HoldsWellAt, Meaning, TakesSteps, Stage, TakesAllTurns, all_bytes, given_bytes, calls_with_stops, most_held, stop, stops_of}
 use Rattle.vte.specs.Synchronized.{after_last_end}
 use Rattle.vte.specs.declared.ansi.hold.SyncState.{SyncState}
 use Rattle.vte.specs.declared.ansi.laws.runs.Step.{Step}
@@ -48,17 +48,6 @@ pub record Advanced {V W : Type 0} (m : Meaning V W) (s : Stage V W) (bytes : Li
   pub next : Stage V W
   pub advances : TakesAllTurns m s bytes next
   pub each_once : all_bytes next ≡ all_bytes s ++ bytes
-  pub holds_well : HoldsWellAt m s → HoldsWellAt m next
-  pub is_at : there next
-
--- A call has read so many of its bytes, by turns, of which the last may have been refused memory on
--- the way, and is at the state to which they led. Each byte that was read is parsed or held, once
--- and in order. The facts about the hold stay true.
-pub record HasTaken {V W : Type 0} (m : Meaning V W) (s : Stage V W) (bytes : List ℕ) (read : ℕ)
-    (there : Stage V W → Type 0) : Type 0 where
-  pub next : Stage V W
-  pub takes : TakesSome m s bytes next (drop read bytes)
-  pub each_once : all_bytes next ≡ all_bytes s ++ take read bytes
   pub holds_well : HoldsWellAt m s → HoldsWellAt m next
   pub is_at : there next
 

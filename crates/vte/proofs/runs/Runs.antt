@@ -2,7 +2,7 @@
 -- so a run is then a function of the calls.
 use Rattle.vte.proofs.Common.{ℕ, ◌+◌, ◌<◌, List, [], ◌∷◌, ◌++◌, length, take, drop, get_or, refl, Bor, drop_more, take_more, Step, Advance, StopSync, Meaning, Advanced}
 use Rattle.vte.proofs.Common.{HoldsWellAt, TakesSteps, Replayed, Stage, stop, ◌≡◌, ◌-◌, HasTaken, inl, inr, Bool, sym, ◌∙◌, IsKept, TakesAllTurns, done, turns}
-use Rattle.vte.specs.RefusedStep.{IsFirstRefused, left_of_first}
+use Rattle.vte.specs.Refusal.{IsFirstRefused, left_of_first}
 use Rattle.vte.proofs.runs.EachOnce.{run_bytes}
 use Rattle.vte.proofs.turns.HoldFacts.{stop_well, taken_well, turn_well}
 

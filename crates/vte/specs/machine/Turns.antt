@@ -3,7 +3,8 @@ use Rattle.std.specs.Prelude.{◌≡◌, ℕ, ◌<◌, Bool, List, length, nat_l
 use Rattle.vte_core.specs.declared.parser.refused.Refused.{Refused}
 use Rattle.vte_core.specs.Stream.{added}
 use Rattle.vte.specs.BeginUpdate.{begin_count}
-use Rattle.vte.specs.Processor.{Meaning, Stage, TakesSome, begin_front, open_turn, parse, turn}
+use Rattle.vte.specs.Processor.{Meaning, Stage, begin_front, open_turn, parse, turn}
+use Rattle.vte.specs.Refusal.{TakesSome}
 use Rattle.vte.specs.machine.TurnsMeaning.{AreAt, HasParsed, KeepsRoom, KeepsTurnRoom, TurnsMeaning}
 use Rattle.vte.specs.declared.ansi.performer.ProcessorState.{ProcessorState}
 use Rattle.vte.specs.declared.ansi.turns.Turns.{Turns}

@@ -10,7 +10,8 @@ use Rattle.vte.specs.Calls.{last_printed}
 use Rattle.vte.specs.LongProcessor.{read_of}
 use Rattle.vte.specs.Memory.{HasRoom, LacksPart, LacksRoom}
 use Rattle.vte.specs.Processor.{Meaning, Stage}
-use Rattle.vte.specs.ProcessorCalls.{HasTaken, IsAt, StopsSync, held_of}
+use Rattle.vte.specs.ProcessorCalls.{IsAt, StopsSync, held_of}
+use Rattle.vte.specs.Refusal.{HasTaken}
 use Rattle.vte.specs.declared.ansi.performer.ProcessorState.{ProcessorState}
 use Rattle.vte.specs.declared.ansi.titles.TheConstants.{TEXT_ROOM}
 use Rattle.vte.specs.declared.ansi.turns.Turns.{Turns}

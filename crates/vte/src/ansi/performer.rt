@@ -103,7 +103,6 @@ impl<'s, 'h, H: HandlerText, T: Timeout + Drop, J: TextBuffer + Drop> PerformTex
     }
 
     #[inline(always)]
-    #[inline(always)]
     #[tactic(auto, using(crate::proofs::performing::TextRuns::performed_run))]
     fn print_text(&mut self, text: &str) {
         self.handler.input_text(text);

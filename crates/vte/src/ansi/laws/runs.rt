@@ -4,7 +4,7 @@ ghost use Rattle.vte.specs.LongProcessor.{HasParsedAndHoldsLong};
 ghost use Rattle.vte.specs.Memory.{LacksMemoryOnTheWay};
 ghost use Rattle.vte.specs.Processor.{Stage, meaning};
 ghost use Rattle.vte.specs.ProcessorCalls.{HasParsedAndHolds, IsAt, Replays};
-ghost use Rattle.vte.specs.RefusedStep.{ReplayedUntil, left_by};
+ghost use Rattle.vte.specs.Refusal.{ReplayedUntil, left_by};
 
 use crate::ansi::long_processor::LongProcessor;
 use crate::ansi::processor::Processor;

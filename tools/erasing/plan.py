@@ -132,7 +132,7 @@ VTE = Plan(
             "crate::proved::vte_core::perform": "Perform",
             "crate::proved::vte_core::automaton": "skip_run_blocks",
             "crate::proved::vte_core::run":
-                "begins_ascii find_ascii_run_end find_longer_run_end find_rest_end",
+                "begins_ascii find_ascii_run_end find_longer_run_end find_rest_end find_run_end",
             "crate::proved::vte_core::scan":
                 "Grain InRuns Run RunKind RunPlace Singly data get get_block take_run "
                 "tell_character tell_single text up_to",

@@ -4,6 +4,7 @@ pub mod States
 pub mod Runs
 pub mod Arms
 pub mod Characters
+pub mod LeadBytes
 pub mod TextRuns
 pub mod Sequences
 pub mod Telling

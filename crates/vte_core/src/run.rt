@@ -97,7 +97,7 @@ impl<B> Looks<B> {
 
     /// Finds where the run ends that has come to a place, for a performer.
     #[inline(never)]
-    fn find_run_end<P: CountedPerform<B, G>, G: Grain>(
+    pub(crate) fn find_run_end<P: CountedPerform<B, G>, G: Grain>(
         &mut self,
         performer: &P,
         input: Input<'_, B>,

@@ -1,6 +1,6 @@
 //! The bytes of a character after the first.
-ghost use Rattle.std.specs.Prelude.{◌≡◌, ◌≢◌, ◌<◌, ◌≤◌, false, [], length};
-ghost use Rattle.vte_core.specs.machine.Words.{Advances, BeginsFour, BeginsThree, Completes, EndsRun, MayReadByte, Moves, Nothing, One, Spends, Text, bytes_of};
+ghost use Rattle.std.specs.Prelude.{◌≡◌, ◌≢◌, ◌+◌, ◌*◌, ◌<◌, ◌≤◌, false, true, [], length, slice_index};
+ghost use Rattle.vte_core.specs.machine.Words.{Advances, BeginsFour, BeginsThree, Completes, EndsRun, MayReadByte, Moves, NoCharacterStops, Nothing, One, Spends, Text, bytes_of, looked};
 
 use crate::buffer::Buffer;
 use crate::parser::{Machine, State};
@@ -26,13 +26,18 @@ impl<B: Buffer> Machine<B> {
             (Text Nothing) self.old input.bytes.now from first }
         requires lead { 0xc2 ≤ first }
         requires fits { first < 0xf5 }
+        requires no_stop { G.IN_RUNS ≡ true → ASKS ≡ true
+            → NoCharacterStops P.keeps P.step P.is_terminated }
         ensures advances { Advances
-            (EndsRun false input.entry.bytes.now from) ASKS P.step P.is_terminated
-            (P.value_of performer.old)
+            ((G.IN_RUNS ≡ false) × EndsRun false input.entry.bytes.now from) ASKS P.step
+            P.is_terminated (P.value_of performer.old)
             (P.value_of performer.new) B.limit input.entry.bytes.now from result self.old self.new }
         ensures text { result < length input.entry.bytes.now → self.new.state ≡ Text Nothing }
-        ensures moves { Moves 3 1 input.entry.bytes.now from result self.old self.new
+        ensures moves { Moves 5 1 input.entry.bytes.now from result self.old self.new
             looks.old looks.new }
+        ensures saves { looked looks.new + 5 * from + 3 ≤ looked looks.old + 5 * result }
+        ensures few { G.IN_RUNS ≡ false
+            → looked looks.new + 3 * from + 1 ≤ looked looks.old + 3 * result }
     {
         let next = from + 1;
         if next >= input.len() {
@@ -51,7 +56,7 @@ impl<B: Buffer> Machine<B> {
         if first < 0xf0 {
             self.complete_three::<P, G, ASKS>(looks, performer, first, second, input, next)
         } else {
-            self.complete_four::<P, G, ASKS>(looks, performer, first, second, input, next)
+            self.complete_four::<P, G, ASKS>(looks, performer, first, second, input, from)
         }
     }
 
@@ -92,7 +97,8 @@ impl<B: Buffer> Machine<B> {
         from + 2
     }
 
-    /// Reads the last three bytes of a character of four. The second was looked at.
+    /// Reads the character of four bytes that begins at a place, whose first two were looked at. If
+    /// text is taken in runs, it begins one.
     #[inline(always)]
     pub(crate) fn complete_four<P: CountedPerform<B, G>, G: Grain, const ASKS: bool>(
         &mut self,
@@ -104,39 +110,54 @@ impl<B: Buffer> Machine<B> {
         from: usize,
     ) -> usize
         requires may_read { MayReadByte ASKS P.is_terminated (P.value_of performer.old)
-            (Text Nothing) self.old input.bytes.now from second }
+            (Text Nothing) self.old input.bytes.now from first }
         requires lead { BeginsFour first }
-        ensures completes { Completes ASKS P.step P.is_terminated (P.value_of performer.old)
-            (P.value_of performer.new) B.limit input.entry.bytes.now from result
-            (One first) self.new }
-        ensures spends { Spends 2 1 2 input.entry.bytes.now from result self.old self.new
+        requires within { from + 1 < length input.bytes.now }
+        requires is { second ≡ slice_index input.bytes.now (from + 1) }
+        requires no_stop { G.IN_RUNS ≡ true → ASKS ≡ true
+            → NoCharacterStops P.keeps P.step P.is_terminated }
+        ensures advances { Advances
+            ((G.IN_RUNS ≡ false) × EndsRun false input.entry.bytes.now from) ASKS P.step
+            P.is_terminated (P.value_of performer.old)
+            (P.value_of performer.new) B.limit input.entry.bytes.now from result self.old self.new }
+        ensures text { result < length input.entry.bytes.now → self.new.state ≡ Text Nothing }
+        ensures moves { Moves 5 2 input.entry.bytes.now from result self.old self.new
             looks.old looks.new }
+        ensures saves { looked looks.new + 5 * from + 4 ≤ looked looks.old + 5 * result }
+        ensures few { G.IN_RUNS ≡ false
+            → looked looks.new + 3 * from + 2 ≤ looked looks.old + 3 * result }
     {
+        let next = from + 1;
         if !may_begin_four(first, second) {
             performer.print_char(looks, char::REPLACEMENT_CHARACTER);
-            return from;
+            return next;
         }
-        if from + 2 >= input.len() {
+        if next + 2 >= input.len() {
             return self.continue_character::<P, G, ASKS>(
                 looks,
                 performer,
                 Unfinished::Two(first, second),
                 input,
-                from + 1,
+                next + 1,
             );
         }
-        let third = looks.at(input, from + 1);
+        let third = looks.at(input, next + 1);
         if !is_continuation(third) {
             performer.print_char(looks, char::REPLACEMENT_CHARACTER);
-            return from + 1;
+            return next + 1;
         }
-        let fourth = looks.at(input, from + 2);
+        let fourth = looks.at(input, next + 2);
         if !is_continuation(fourth) {
             performer.print_char(looks, char::REPLACEMENT_CHARACTER);
-            return from + 2;
+            return next + 2;
+        }
+        if G::IN_RUNS {
+            let end = looks.find_run_end(performer, input, next + 3);
+            looks.tell_text(performer, input, from, end);
+            return end;
         }
         looks.tell_character(performer, character_of_four(first, second, third, fourth));
-        from + 3
+        next + 3
     }
 
     /// Reads the bytes that an unfinished character continues with. A byte that breaks it is left

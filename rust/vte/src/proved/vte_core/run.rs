@@ -69,7 +69,11 @@ pub(crate) fn find_longer_run_end<P: PerformAs<G>, G: Grain>(
 
 /// Finds where the run ends that has come to a place, for a performer.
 #[inline(never)]
-fn find_run_end<P: PerformAs<G>, G: Grain>(performer: &P, input: &[u8], from: usize) -> usize {
+pub(crate) fn find_run_end<P: PerformAs<G>, G: Grain>(
+    performer: &P,
+    input: &[u8],
+    from: usize,
+) -> usize {
     find_rest_end(input, from, performer.keeps_layout())
 }
 

@@ -3,8 +3,9 @@
 
 use crate::proved::vte_core::buffer::Buffer;
 use crate::proved::vte_core::parser::{Machine, State};
+use crate::proved::vte_core::run::find_run_end;
 use crate::proved::vte_core::scan::grain::PerformAs;
-use crate::proved::vte_core::scan::{tell_character, Grain};
+use crate::proved::vte_core::scan::{tell_character, text, Grain};
 use crate::proved::vte_core::utf8::{
     character_of_four, character_of_three, character_of_two, is_continuation, may_begin_four,
     may_begin_three, Carried, Unfinished,
@@ -38,7 +39,7 @@ impl<B: Buffer> Machine<B> {
         if first < 0xf0 {
             self.complete_three(performer, first, second, input, next)
         } else {
-            self.complete_four(performer, first, second, input, next)
+            self.complete_four(performer, first, second, input, from)
         }
     }
 
@@ -69,7 +70,8 @@ impl<B: Buffer> Machine<B> {
         from + 2
     }
 
-    /// Reads the last three bytes of a character of four. The second was looked at.
+    /// Reads the character of four bytes that begins at a place, whose first two were looked at. If
+    /// text is taken in runs, it begins one.
     #[inline(always)]
     pub(crate) fn complete_four<P: PerformAs<G>, G: Grain>(
         &mut self,
@@ -79,30 +81,36 @@ impl<B: Buffer> Machine<B> {
         input: &[u8],
         from: usize,
     ) -> usize {
+        let next = from + 1;
         if !may_begin_four(first, second) {
             performer.print_char(char::REPLACEMENT_CHARACTER);
-            return from;
+            return next;
         }
-        if from + 2 >= input.len() {
+        if next + 2 >= input.len() {
             return self.continue_character(
                 performer,
                 Unfinished::Two(first, second),
                 input,
-                from + 1,
+                next + 1,
             );
         }
-        let third = input[from + 1];
+        let third = input[next + 1];
         if !is_continuation(third) {
             performer.print_char(char::REPLACEMENT_CHARACTER);
-            return from + 1;
+            return next + 1;
         }
-        let fourth = input[from + 2];
+        let fourth = input[next + 2];
         if !is_continuation(fourth) {
             performer.print_char(char::REPLACEMENT_CHARACTER);
-            return from + 2;
+            return next + 2;
+        }
+        if G::IN_RUNS {
+            let end = find_run_end(performer, input, next + 3);
+            performer.print_text(text(input, from, end));
+            return end;
         }
         tell_character(performer, character_of_four(first, second, third, fourth));
-        from + 3
+        next + 3
     }
 
     /// Reads the bytes that an unfinished character continues with. A byte that breaks it is left

@@ -1,61 +1,105 @@
-use Rattle.vte_core.proofs.Common.{◌≡◌, ℕ, ◌+◌, ◌<◌, ◌≤◌, length, sym, ◌∙◌, arith}
+use Rattle.vte_core.proofs.Common.{◌≡◌, ℕ, ◌+◌, ◌<◌, ◌≤◌, length, ap, subst, sym, ◌∙◌, arith, false≢true, slice_index, IsRun}
 use Rattle.vte_core.proofs.bytes.CarriedLemmas.{second_broken, third_broken, fourth_broken, spells_four}
+use Rattle.vte_core.proofs.bytes.Printable.{run-append}
 use Rattle.vte_core.proofs.calls.Characters.{completes-broken, completes-then, completes-whole, goes-nowhere, goes-second, goes-third, some}
+use Rattle.vte_core.proofs.calls.LeadBytes.{advances-first}
+use Rattle.vte_core.proofs.calls.Runs.{advances-if}
+use Rattle.vte_core.proofs.calls.TextRuns.{advances-text}
+use Rattle.vte_core.proofs.dividing.PrintableCharacters.{run-four}
 use Rattle.vte_core.proofs.parser.machine.Machine.complete_four.Goals as goal
 
 -- Over plain numbers, where `omega` has little to read.
 leads : (first : ℕ) → 0xf0 ≤ first → 0xe0 ≤ first
 leads first low = omega arith
 
-counted : (from : ℕ) → from + 3 ≡ from + 2 + 1
-counted from = omega arith
+leads-all : (first : ℕ) → 0xf0 ≤ first → 0xc2 ≤ first
+leads-all first low = omega arith
 
-pub returns-then-not-may_begin_four-clause-completes : goal.returns-then-not-may_begin_four-clause-completes
-returns-then-not-may_begin_four-clause-completes g c =
-    let r = c.requires.may_read in
+counted : (next : ℕ) → next + 3 ≡ next + 2 + 1
+counted next = omega arith
+
+-- Each arm but that of a run, as `Completes` from the second byte on.
+pub returns-then-not-may_begin_four-clause-advances : goal.returns-then-not-may_begin_four-clause-advances
+returns-then-not-may_begin_four-clause-advances g c =
+    let r = c.requires in
     let misfits = sym c.may_begin_four.ensures ∙ c.if-not-may_begin_four.true in
-    completes-broken (goes-nowhere c.args.self.now (some _ _))
-    (λ more. second_broken c.args.first c.args.second more misfits) r.begun c.print_char.ensures.value r.within r.is
+    advances-first r.may_read (leads-all _ r.lead.low) r.lead.high
+    (completes-broken (goes-nowhere c.args.self.now (some _ _))
+    (λ more. second_broken c.args.first c.args.second more misfits) r.may_read.begun c.print_char.ensures.value
+    r.within r.is)
 
-pub returns-then-from-len-clause-completes : goal.returns-then-from-len-clause-completes
-returns-then-from-len-clause-completes g c =
-    let r = c.requires.may_read in
+pub returns-then-next-len-clause-advances : goal.returns-then-next-len-clause-advances
+returns-then-next-len-clause-advances g c =
+    let r = c.requires in
     let second = sym c.may_begin_four.ensures ∙ c.if-not-may_begin_four.false in
-    completes-then
-    (goes-second c.args.self.now (leads _ c.requires.lead.low) second r.within r.is)
-    c.continue_character.ensures.completes
+    advances-first r.may_read (leads-all _ r.lead.low) r.lead.high
+    (completes-then (goes-second c.args.self.now (leads _ r.lead.low) second r.within r.is)
+    c.continue_character.ensures.completes)
 
-pub returns-then-not-is_continuation-clause-completes : goal.returns-then-not-is_continuation-clause-completes
-returns-then-not-is_continuation-clause-completes g c =
-    let r = c.requires.may_read in
+pub returns-then-not-is_continuation-clause-advances : goal.returns-then-not-is_continuation-clause-advances
+returns-then-not-is_continuation-clause-advances g c =
+    let r = c.requires in
     let second = sym c.may_begin_four.ensures ∙ c.if-not-may_begin_four.false in
     let misfits = sym c.is_continuation.ensures ∙ c.if-not-is_continuation.true in
-    completes-broken (goes-second c.args.self.now (leads _ c.requires.lead.low) second r.within r.is)
+    advances-first r.may_read (leads-all _ r.lead.low) r.lead.high
+    (completes-broken (goes-second c.args.self.now (leads _ r.lead.low) second r.within r.is)
     (λ more. third_broken c.args.first c.args.second c.at-third.result more misfits)
-    r.begun c.print_char-then-not-is_continuation.ensures.value
-    (omega (arith, r.within, c.if-from-len.false)) c.at-third.ensures.value
+    r.may_read.begun c.print_char-then-not-is_continuation.ensures.value
+    (omega (arith, r.within, c.if-next-len.false)) c.at-third.ensures.value)
 
-pub returns-then-not-is_continuation-2-clause-completes : goal.returns-then-not-is_continuation-2-clause-completes
-returns-then-not-is_continuation-2-clause-completes g c =
-    let r = c.requires.may_read in
+pub returns-then-not-is_continuation-2-clause-advances : goal.returns-then-not-is_continuation-2-clause-advances
+returns-then-not-is_continuation-2-clause-advances g c =
+    let r = c.requires in
     let second = sym c.may_begin_four.ensures ∙ c.if-not-may_begin_four.false in
     let third = sym c.is_continuation.ensures ∙ c.if-not-is_continuation.false in
     let misfits = sym c.is_continuation-2.ensures ∙ c.if-not-is_continuation-2.true in
-    let within : c.args.from + 2 < length c.args.input.bytes.now = omega (arith, r.within, c.if-from-len.false) in
-    completes-broken (goes-third c.args.self.now c.requires.lead.low second third within r.is c.at-third.ensures.value)
-    (λ more. fourth_broken c.args.first c.args.second c.at-third.result c.at-fourth.result more misfits) r.begun
-    c.print_char-then-not-is_continuation-2.ensures.value within c.at-fourth.ensures.value
+    let within : c.args.from + 1 + 2 < length c.args.input.bytes.now = omega (arith, r.within, c.if-next-len.false) in
+    advances-first r.may_read (leads-all _ r.lead.low) r.lead.high
+    (completes-broken (goes-third c.args.self.now r.lead.low second third within r.is c.at-third.ensures.value)
+    (λ more. fourth_broken c.args.first c.args.second c.at-third.result c.at-fourth.result more misfits)
+    r.may_read.begun c.print_char-then-not-is_continuation-2.ensures.value within c.at-fourth.ensures.value)
 
-pub returns-clause-completes : goal.returns-clause-completes
-returns-clause-completes g c =
-    let r = c.requires.may_read in
+-- The run that the character begins.
+pub tell_text-requires-clause-run : goal.tell_text-requires-clause-run
+tell_text-requires-clause-run g c =
+    let r = c.requires in
+    let bytes = c.args.input.bytes.now in
+    let from = c.args.from in
+    let rest = c.find_run_end-end.ensures in
+    let past : from + 1 + 3 ≡ from + 4 = omega arith in
+    let to_third : from + 1 + 1 ≡ from + 2 = omega arith in
+    let to_fourth : from + 1 + 2 ≡ from + 3 = omega arith in
+    run-append g.P.CountedPerform.keeps bytes from (from + 4) c.find_run_end-end.result (omega arith)
+    (omega (arith, rest.scans.low))
+    (run-four bytes from c.args.first c.args.second c.at-third.result c.at-fourth.result
+    (omega (arith, r.within, c.if-next-len.false)) r.may_read.is r.is
+    (c.at-third.ensures.value ∙ ap (slice_index bytes) to_third)
+    (c.at-fourth.ensures.value ∙ ap (slice_index bytes) to_fourth) r.lead.low r.lead.high
+    (sym c.may_begin_four.ensures ∙ c.if-not-may_begin_four.false)
+    (sym c.is_continuation.ensures ∙ c.if-not-is_continuation.false)
+    (sym c.is_continuation-2.ensures ∙ c.if-not-is_continuation-2.false))
+    (subst (λ place. IsRun g.P.CountedPerform.keeps bytes place c.find_run_end-end.result) past rest.scans.are)
+
+pub returns-then-IN_RUNS-clause-advances : goal.returns-then-IN_RUNS-clause-advances
+returns-then-IN_RUNS-clause-advances g c =
+    let r = c.requires in
+    let in_runs = sym c.IN_RUNS.ensures ∙ c.if-IN_RUNS.true in
+    advances-if (λ given. absurd (false≢true (sym given.0 ∙ in_runs)))
+    (advances-text (r.no_stop in_runs) r.may_read.may_go_on r.may_read.within r.may_read.begun
+    (omega (arith, c.find_run_end-end.ensures.scans.low)) c.find_run_end-end.ensures.scans.high
+    c.tell_text.ensures.printed)
+
+pub returns-clause-advances : goal.returns-clause-advances
+returns-clause-advances g c =
+    let r = c.requires in
     let second = sym c.may_begin_four.ensures ∙ c.if-not-may_begin_four.false in
     let third = sym c.is_continuation.ensures ∙ c.if-not-is_continuation.false in
     let fourth = sym c.is_continuation-2.ensures ∙ c.if-not-is_continuation-2.false in
     let spells =
-    spells_four c.args.first c.args.second c.at-third.result c.at-fourth.result c.requires.lead.low c.requires.lead.high
+    spells_four c.args.first c.args.second c.at-third.result c.at-fourth.result r.lead.low r.lead.high
     second third fourth in
-    let within : c.args.from + 2 < length c.args.input.bytes.now = omega (arith, r.within, c.if-from-len.false) in
-    completes-whole (goes-third c.args.self.now c.requires.lead.low second third within r.is c.at-third.ensures.value)
-    (λ more. (spells.is_whole, c.character_of_four.ensures)) r.begun
-    c.tell_character.ensures.value within c.at-fourth.ensures.value (counted _)
+    let within : c.args.from + 1 + 2 < length c.args.input.bytes.now = omega (arith, r.within, c.if-next-len.false) in
+    advances-first r.may_read (leads-all _ r.lead.low) r.lead.high
+    (completes-whole (goes-third c.args.self.now r.lead.low second third within r.is c.at-third.ensures.value)
+    (λ more. (spells.is_whole, c.character_of_four.ensures)) r.may_read.begun
+    c.tell_character.ensures.value within c.at-fourth.ensures.value (counted _))

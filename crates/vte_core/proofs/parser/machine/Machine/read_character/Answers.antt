@@ -1,45 +1,8 @@
-use Rattle.vte_core.proofs.Common.{◌+◌, ◌<◌, ◌≤◌, ℕ, Bool, List, Option, refl, ap, sym, ◌∙◌, arith, inl, inr, false, suc, ◌∷◌, ◌≡◌, drop, drop_more, take, EndsRun, Machine, Text, Nothing, One, Event, Advances}
-use Rattle.vte_core.specs.machine.Words.{Completes, MayReadByte}
-use Rattle.vte_core.proofs.bytes.CarriedLemmas.{first_truncated, second_broken, second_lone, spells_two}
-use Rattle.vte_core.proofs.calls.Runs.{reads-byte_at, settled-by}
-use Rattle.vte_core.proofs.streams.Others.{other_control}
-use Rattle.vte_core.proofs.calls.Telling.{added-inside, adds-character, keep, keeps-at, never}
-use Rattle.vte_core.proofs.Common.{All, IsOther, false≢true, subst}
-use Rattle.vte_core.proofs.calls.Characters.{completes-all, completes-broken, completes-whole, goes-nowhere, in_text, performs-opened, some}
+use Rattle.vte_core.proofs.Common.{◌+◌, ◌<◌, ◌≤◌, refl, sym, ◌∙◌, arith}
+use Rattle.vte_core.proofs.bytes.CarriedLemmas.{second_broken, second_lone, spells_two}
+use Rattle.vte_core.proofs.calls.Characters.{completes-all, completes-broken, completes-whole, goes-nowhere, some}
+use Rattle.vte_core.proofs.calls.LeadBytes.{advances-first}
 use Rattle.vte_core.proofs.parser.machine.Machine.read_character.Goals as goal
-
--- by what completes the character that the first byte begins
-advances-first : {V B : Type 0} {asks : Bool} {step : V → Event → V} {is_terminated : V → Bool} {old new : V}
-    {limit : Option ℕ} {bytes : List ℕ}
-    {i j first : ℕ} {parser next : Machine B} → MayReadByte asks is_terminated old (Text Nothing) parser bytes i first
-    → 0xc2 ≤ first → first < 0xf5
-    → Completes asks step is_terminated old new limit bytes (i + 1) j (One first) next
-    → Advances (EndsRun false bytes i) asks step is_terminated old new limit bytes i j parser next
-advances-first {bytes = bytes} {i = i} {first = first} {parser = parser} r lead fits completes = record {
-  goes_on = λ value stream s.
-      completes.stands_at value stream (in_text parser (One first)) refl
-      (reads-byte_at r.within r.is r.may_go_on
-      (performs-opened r.begun (λ e. omega (arith, e, lead)) (refl, first_truncated first lead fits) refl) s);
-  settled = λ within. settled-by _ _ (completes.text within) tt;
-  others = λ ended value stream s.
-      let inside =
-      reads-byte_at r.within r.is r.may_go_on
-      (performs-opened r.begun (λ e. omega (arith, e, lead)) (refl, first_truncated first lead fits) refl) s in
-      let kept = reads-byte_at {is_terminated = never} r.within r.is (λ does. absurd (false≢true does))
-      (performs-opened {step = keep} r.begun (λ e. omega (arith, e, lead)) (refl, first_truncated first lead fits) refl)
-      (keeps-at s) in
-      let told = completes.others value stream (in_text parser (One first)) refl inside in
-      adds-character told (added-inside {parser = in_text parser (One first)} kept) (elim told.are [
-        | inl others ↦ others
-        | inr whole ↦
-            let cut : take (whole.n + 1) (drop i bytes) ≡ first ∷ take whole.n (drop (i + 1) bytes) =
-            ap (λ n. take n (drop i bytes)) (let e : whole.n + 1 ≡ suc whole.n = omega arith in e)
-            ∙ ap (take (suc whole.n)) (drop_more bytes i 0 r.within)
-            ∙ ap (λ x. x ∷ take whole.n (drop (i + 1) bytes)) (sym r.is) in
-            let control = rw cut at (ended (whole.n + 1) (omega (arith, whole.far)) (rw cut whole.well)) in
-            subst (All IsOther) (sym whole.same) (other_control _ control)
-      ]);
-}
 
 pub returns-then-next-len-clause-advances : goal.returns-then-next-len-clause-advances
 returns-then-next-len-clause-advances g c =
@@ -69,7 +32,3 @@ returns-then-first-lt224-clause-advances g c =
 pub returns-then-first-lt240-clause-advances : goal.returns-then-first-lt240-clause-advances
 returns-then-first-lt240-clause-advances g c =
     advances-first c.requires.may_read c.requires.lead c.requires.fits c.complete_three.ensures.completes
-
-pub returns-else-first-lt240-clause-advances : goal.returns-else-first-lt240-clause-advances
-returns-else-first-lt240-clause-advances g c =
-    advances-first c.requires.may_read c.requires.lead c.requires.fits c.complete_four.ensures.completes

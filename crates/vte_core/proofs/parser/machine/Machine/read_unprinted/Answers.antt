@@ -1,11 +1,11 @@
-use Rattle.vte_core.proofs.Common.{sym, ◌∙◌, arith, rules}
+use Rattle.vte_core.proofs.Common.{refl, sym, ◌∙◌, arith, rules}
 use Rattle.vte_core.proofs.calls.Runs.{advances-byte, advances-nothing, advances-telling, advances-then, advances-when, settled-by}
 use Rattle.vte_core.proofs.calls.Characters.{adds-single, performs-single}
 use Rattle.vte_core.proofs.bytes.Ends.{ends-unprinted}
 use Rattle.vte_core.proofs.parser.machine.Machine.read_unprinted.Goals as goal
 
 pub returns-then-is_lead-clause-advances : goal.returns-then-is_lead-clause-advances
-returns-then-is_lead-clause-advances g c = advances-when c.requires.other c.read_character.ensures.advances
+returns-then-is_lead-clause-advances g c = advances-when (refl, c.requires.other) c.read_character.ensures.advances
 
 pub loop-byte-init : goal.loop-byte-init
 loop-byte-init g c =

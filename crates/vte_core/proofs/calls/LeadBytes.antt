@@ -1,0 +1,43 @@
+-- What a character tells that a lead byte begins: a call that completes it from the second byte on (`Completes`) does
+-- from the first what any call does (`Advances`). What it tells is no printed character where no run could begin.
+use Rattle.vte_core.proofs.Common.{◌+◌, ◌<◌, ◌≤◌, ◌≡◌, ◌∷◌, ℕ, suc, Bool, List, Option, refl, ap, sym, ◌∙◌, arith, inl, inr, false, drop, drop_more, take, EndsRun, Machine, Text, Nothing, One, Event, Advances}
+use Rattle.vte_core.proofs.Common.{All, IsOther, false≢true, subst}
+use Rattle.vte_core.specs.machine.Words.{Completes, MayReadByte}
+use Rattle.vte_core.proofs.bytes.CarriedLemmas.{first_truncated}
+use Rattle.vte_core.proofs.calls.Runs.{reads-byte_at, settled-by}
+use Rattle.vte_core.proofs.streams.Others.{other_control}
+use Rattle.vte_core.proofs.calls.Telling.{added-inside, adds-character, keep, keeps-at, never}
+use Rattle.vte_core.proofs.calls.Characters.{in_text, performs-opened}
+
+-- by what completes the character that the first byte begins
+pub advances-first : {V B : Type 0} {given : Type 0} {asks : Bool} {step : V → Event → V} {is_terminated : V → Bool} {old new : V}
+    {limit : Option ℕ} {bytes : List ℕ}
+    {i j first : ℕ} {parser next : Machine B} → MayReadByte asks is_terminated old (Text Nothing) parser bytes i first
+    → 0xc2 ≤ first → first < 0xf5
+    → Completes asks step is_terminated old new limit bytes (i + 1) j (One first) next
+    → Advances (given × EndsRun false bytes i) asks step is_terminated old new limit bytes i j parser next
+advances-first {bytes = bytes} {i = i} {first = first} {parser = parser} r lead fits completes = record {
+  goes_on = λ value stream s.
+      completes.stands_at value stream (in_text parser (One first)) refl
+      (reads-byte_at r.within r.is r.may_go_on
+      (performs-opened r.begun (λ e. omega (arith, e, lead)) (refl, first_truncated first lead fits) refl) s);
+  settled = λ within. settled-by _ _ (completes.text within) tt;
+  others = λ given value stream s.
+      let inside =
+      reads-byte_at r.within r.is r.may_go_on
+      (performs-opened r.begun (λ e. omega (arith, e, lead)) (refl, first_truncated first lead fits) refl) s in
+      let kept = reads-byte_at {is_terminated = never} r.within r.is (λ does. absurd (false≢true does))
+      (performs-opened {step = keep} r.begun (λ e. omega (arith, e, lead)) (refl, first_truncated first lead fits) refl)
+      (keeps-at s) in
+      let told = completes.others value stream (in_text parser (One first)) refl inside in
+      adds-character told (added-inside {parser = in_text parser (One first)} kept) (elim told.are [
+        | inl others ↦ others
+        | inr whole ↦
+            let cut : take (whole.n + 1) (drop i bytes) ≡ first ∷ take whole.n (drop (i + 1) bytes) =
+            ap (λ n. take n (drop i bytes)) (let e : whole.n + 1 ≡ suc whole.n = omega arith in e)
+            ∙ ap (take (suc whole.n)) (drop_more bytes i 0 r.within)
+            ∙ ap (λ x. x ∷ take whole.n (drop (i + 1) bytes)) (sym r.is) in
+            let control = rw cut at (given.1 (whole.n + 1) (omega (arith, whole.far)) (rw cut whole.well)) in
+            subst (All IsOther) (sym whole.same) (other_control _ control)
+      ]);
+}

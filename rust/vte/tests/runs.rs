@@ -161,6 +161,7 @@ fn line_ends_are_in_the_runs_of_those_who_keep_them() {
         "an item\tand another\r\n",
         "\u{434}\u{430}\r\n\t",
         "\u{4f60}\u{597d}\n",
+        "\u{1f600} a face\n",
     ] {
         let (mut lines, text) = (Lines::default(), line.repeat(100));
         Parser::new().advance_text(&mut lines, text.as_bytes());

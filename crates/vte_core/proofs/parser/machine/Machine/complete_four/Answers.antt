@@ -1,6 +1,9 @@
+-- The second, third and fourth byte of a character of four: each fits or breaks it, or the bytes of the call end. The
+-- lemmas `goes-*` say how far it has gone, `completes-*` how it ends there.
 use Rattle.vte_core.proofs.Common.{◌≡◌, ℕ, ◌+◌, ◌<◌, ◌≤◌, length, sym, ◌∙◌, arith}
 use Rattle.vte_core.proofs.bytes.CarriedLemmas.{second_broken, third_broken, fourth_broken, spells_four}
-use Rattle.vte_core.proofs.calls.Characters.{completes-broken, completes-then, completes-whole, goes-nowhere, goes-second, goes-third, some}
+use Rattle.vte_core.proofs.calls.Characters.{completes-broken, completes-then, completes-whole, goes-nowhere, goes-second, goes-third}
+use Rattle.vte_core.proofs.calls.InsideCharacters.{some}
 use Rattle.vte_core.proofs.parser.machine.Machine.complete_four.Goals as goal
 
 -- Over plain numbers, where `omega` has little to read.
@@ -10,6 +13,7 @@ leads first low = omega arith
 counted : (from : ℕ) → from + 3 ≡ from + 2 + 1
 counted from = omega arith
 
+-- The second byte does not fit the first one: broken.
 pub returns-then-not-may_begin_four-clause-completes : goal.returns-then-not-may_begin_four-clause-completes
 returns-then-not-may_begin_four-clause-completes g c =
     let r = c.requires.may_read in
@@ -17,6 +21,7 @@ returns-then-not-may_begin_four-clause-completes g c =
     completes-broken (goes-nowhere c.args.self.now (some _ _))
     (λ more. second_broken c.args.first c.args.second more misfits) r.begun c.print_char.ensures.value r.within r.is
 
+-- The call has two bytes or three: another function reads the last ones, one at a time.
 pub returns-then-from-len-clause-completes : goal.returns-then-from-len-clause-completes
 returns-then-from-len-clause-completes g c =
     let r = c.requires.may_read in
@@ -25,6 +30,7 @@ returns-then-from-len-clause-completes g c =
     (goes-second c.args.self.now (leads _ c.requires.lead.low) second r.within r.is)
     c.continue_character.ensures.completes
 
+-- The third byte does not continue: broken after two.
 pub returns-then-not-is_continuation-clause-completes : goal.returns-then-not-is_continuation-clause-completes
 returns-then-not-is_continuation-clause-completes g c =
     let r = c.requires.may_read in
@@ -35,6 +41,7 @@ returns-then-not-is_continuation-clause-completes g c =
     r.begun c.print_char-then-not-is_continuation.ensures.value
     (omega (arith, r.within, c.if-from-len.false)) c.at-third.ensures.value
 
+-- The fourth byte does not continue: broken after three.
 pub returns-then-not-is_continuation-2-clause-completes : goal.returns-then-not-is_continuation-2-clause-completes
 returns-then-not-is_continuation-2-clause-completes g c =
     let r = c.requires.may_read in
@@ -46,6 +53,7 @@ returns-then-not-is_continuation-2-clause-completes g c =
     (λ more. fourth_broken c.args.first c.args.second c.at-third.result c.at-fourth.result more misfits) r.begun
     c.print_char-then-not-is_continuation-2.ensures.value within c.at-fourth.ensures.value
 
+-- Four bytes spell a character.
 pub returns-clause-completes : goal.returns-clause-completes
 returns-clause-completes g c =
     let r = c.requires.may_read in

@@ -1,3 +1,5 @@
+-- What the first byte begins is open, so the call goes on by what completes it (`advances-first`): the second byte
+-- here, or three and four bytes in functions of their own.
 use Rattle.vte_core.proofs.Common.{◌+◌, ◌<◌, ◌≤◌, ℕ, Bool, List, Option, refl, ap, sym, ◌∙◌, arith, inl, inr, false, suc, ◌∷◌, ◌≡◌, drop, drop_more, take, EndsRun, Machine, Text, Nothing, One, Event, Advances}
 use Rattle.vte_core.specs.machine.Words.{Completes, MayReadByte}
 use Rattle.vte_core.proofs.bytes.CarriedLemmas.{first_truncated, second_broken, second_lone, spells_two}
@@ -5,7 +7,9 @@ use Rattle.vte_core.proofs.calls.Runs.{reads-byte_at, settled-by}
 use Rattle.vte_core.proofs.streams.Others.{other_control}
 use Rattle.vte_core.proofs.calls.Telling.{added-inside, adds-character, keep, keeps-at, never}
 use Rattle.vte_core.proofs.Common.{All, IsOther, false≢true, subst}
-use Rattle.vte_core.proofs.calls.Characters.{completes-all, completes-broken, completes-whole, goes-nowhere, in_text, performs-opened, some}
+use Rattle.vte_core.proofs.calls.BetweenCharacters.{performs-opened}
+use Rattle.vte_core.proofs.calls.Characters.{completes-all, completes-broken, completes-whole, goes-nowhere}
+use Rattle.vte_core.proofs.calls.InsideCharacters.{in_text, some}
 use Rattle.vte_core.proofs.parser.machine.Machine.read_character.Goals as goal
 
 -- by what completes the character that the first byte begins
@@ -41,11 +45,13 @@ advances-first {bytes = bytes} {i = i} {first = first} {parser = parser} r lead 
       ]);
 }
 
+-- The call ends after the first byte: the character stays open.
 pub returns-then-next-len-clause-advances : goal.returns-then-next-len-clause-advances
 returns-then-next-len-clause-advances g c =
     advances-first c.requires.may_read c.requires.lead c.requires.fits
     (completes-all (goes-nowhere c.args.self.now (some _ _)) refl (omega arith))
 
+-- The second byte does not continue it, whatever the first one is: it is broken before that byte.
 pub returns-then-not-is_continuation-clause-advances : goal.returns-then-not-is_continuation-clause-advances
 returns-then-not-is_continuation-clause-advances g c =
     let r = c.requires in
@@ -56,6 +62,7 @@ returns-then-not-is_continuation-clause-advances g c =
     (λ more. second_broken c.args.first c.at-second.result more misfits)
     r.may_read.begun c.print_char.ensures.value (omega arith) c.at-second.ensures.value)
 
+-- Two bytes spell a character.
 pub returns-then-first-lt224-clause-advances : goal.returns-then-first-lt224-clause-advances
 returns-then-first-lt224-clause-advances g c =
     let r = c.requires in
@@ -66,6 +73,7 @@ returns-then-first-lt224-clause-advances g c =
     (completes-whole (goes-nowhere c.args.self.now (some _ _)) (λ more. (spells.is_whole, c.character_of_two.ensures))
     r.may_read.begun c.tell_character.ensures.value (omega arith) c.at-second.ensures.value refl)
 
+-- Three and four bytes.
 pub returns-then-first-lt240-clause-advances : goal.returns-then-first-lt240-clause-advances
 returns-then-first-lt240-clause-advances g c =
     advances-first c.requires.may_read c.requires.lead c.requires.fits c.complete_three.ensures.completes

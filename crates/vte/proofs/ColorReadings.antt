@@ -1,4 +1,4 @@
--- Colours of which a part is missing or is none.
+-- A colour of which a part is missing or is none is no colour: by the number of parts that are left.
 use Rattle.vte.proofs.Common.{◌≡◌, ℕ, List, [], ◌∷◌, map, drop, None, Some, arith, nat_tests, kind_reading, map-id, part_of}
 
 module _ {A : Type 0} (number : A → ℕ) where

@@ -1,4 +1,4 @@
--- Colours that are written as texts.
+-- Colours written as texts: four parts and more are none, and three hex digits give a small number.
 use Rattle.vte.proofs.Common.{◌≡◌, ◌≤◌, ◌<◌, ◌+◌, ◌^◌, ◌==◌, ℕ, List, [], ◌∷◌, length, None, refl, arith, length-slice_split, parts_of}
 use Rattle.std.proofs.Math.Nat.{pow-le-pow_right}
 use Rattle.vte.specs.ColorText.{color_of_parts}

@@ -1,5 +1,6 @@
--- The words of std and of specs/ that most proofs use.
-pub use Rattle.std.proofs.Common.{All, Bool, Bor, Err, IsOk, List, MatchResult, None, Ok, Option, Result, Some, [], add-zero, ap, append_assoc, arith, codes, drop, eqb, false, get_or, inl, inr}
+-- Words from std, specs/ and the crates below for the files of proofs, so that a file imports one list from here
+-- instead of one line for each module.
+pub use Rattle.std.proofs.Common.{All, Bool, Bor, Err, List, MatchResult, None, Ok, Option, Result, Some, [], add-zero, ap, append_assoc, arith, codes, drop, eqb, false, get_or, inl, inr}
 pub use Rattle.std.proofs.Common.{length, length-append, length-drop, length-take, map, nat_le, nat_lt, refl, rules, subst, suc, suc-add, sym, take, true, zero, zero-add, ℕ, ◌%◌, ◌++◌}
 pub use Rattle.std.proofs.Common.{◌+◌, ◌-◌, ◌/◌, ◌<◌, ◌==◌, ◌^◌, ◌||◌, ◌∙◌, ◌∷◌, ◌≡◌, ◌≤◌, ◌⊎◌}
 pub use Rattle.std.proofs.Math.Bool.{and-false, or-false}
@@ -11,15 +12,14 @@ pub use Rattle.std.proofs.lemmas.List.{take-append-drop, take_all, take_at, take
 pub use Rattle.std.proofs.lemmas.List.Elements.{All-cons, All-drop, All-head, All-nil, All-tail, All-take}
 pub use Rattle.std.proofs.lemmas.List.Splits.{length-slice_split, slice_split_first, slice_split_none}
 pub use Rattle.std.proofs.lemmas.List.Sums.{fails_before_first, position_or_len_is}
-pub use Rattle.std.proofs.lemmas.Str.{IsUtf8-drop, IsUtf8-from_is_utf8, IsUtf8-take, chars-append, chars-nil, chars_past_char, is_utf8-from_IsUtf8}
 pub use Rattle.std.specs.Fmt.{decimal}
 unfoldable pub use Rattle.std.specs.Fmt.{digits}
-pub use Rattle.std.specs.List.{concat, filter_map, join_with_byte, position_or_len, range_with_len, slice_split}
+pub use Rattle.std.specs.List.{concat, filter_map, join_with_byte, range_with_len}
 pub use Rattle.std.specs.Option.{ok_or, option_or}
 pub use Rattle.std.specs.Prelude.{replicate, slice_index_or}
 pub use Rattle.std.specs.Str.{IsCharBoundary, IsUtf8}
 unfoldable pub use Rattle.std.specs.Str.{chars, is_utf8, trim_end, trim_start}
-pub use Rattle.vte_core.proofs.stops.Told.{breaks_at-all, breaks_at-between, starts-between, stream_at-between, told-between, told-broken}
+pub use Rattle.vte_core.proofs.stops.Told.{starts-between, stream_at-between, told-between}
 pub use Rattle.vte_core.proofs.stops.Units.{added_both}
 pub use Rattle.vte_core.proofs.streams.After.{added-nothing}
 pub use Rattle.vte_core.proofs.streams.CommandSizes.{counts_data}
@@ -37,7 +37,7 @@ pub use Rattle.vte.specs.Processor.{EndsInBegin, HoldsWellAt, IsInsideUpdate, Is
 pub use Rattle.vte.specs.Refusal.{Halts, HasTaken, TakesSome, TurnHalts, between, within}
 pub use Rattle.vte.specs.BeginUpdate.{begin_count, begins_of, is_update_group, update_groups}
 pub use Rattle.vte.specs.Calls.{added_calls, calls, calls_from, calls_of, last_from, last_printed, last_printed_from}
-pub use Rattle.vte.specs.Change.{change_call, changes}
+pub use Rattle.vte.specs.Change.{changes}
 pub use Rattle.vte.specs.ColorReading.{kind_reading, part_of}
 pub use Rattle.vte.specs.CommandCalls.{dynamic_calls, id_of, link_to, pair_calls, pairs_calls}
 unfoldable pub use Rattle.vte.specs.CommandCalls.{all_reset}
@@ -58,5 +58,4 @@ pub use Rattle.vte.specs.Titles.{with_separator, decimal_number, joined_texts, n
 pub use Rattle.vte.specs.declared.ansi.laws.runs.Step.{Step}
 pub use Rattle.vte.specs.declared.ansi.laws.runs.Step.TheVariants.{Advance, StopSync}
 pub use Rattle.vte.specs.declared.ansi.performer.ProcessorState.{ProcessorState}
-pub use Rattle.vte.specs.declared.ansi.release.Added.{Added}
 pub use Rattle.vte.specs.declared.ansi.turns.Turns.{Turns}

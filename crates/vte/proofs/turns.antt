@@ -1,4 +1,4 @@
--- The turns of a call.
+-- The turns of a call: from slices and holds to a turn, and from turns to what a processor ensures.
 pub mod Fronts
 pub mod Grown
 pub mod HoldFacts

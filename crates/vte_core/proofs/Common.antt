@@ -1,7 +1,8 @@
--- The words of std and of specs/ that most proofs use.
-pub use Rattle.std.proofs.Common.{Bool, Bor, Err, IfErr, IfOk, IsOk, List, None, Ok, Option, Result, Some, [], add-one, ap, append_assoc, arith, cond, drop, drop_at, eqb, false, get_or}
-pub use Rattle.std.proofs.Common.{if◌then◌else◌, inl, inr, length, length-append, length-drop, length-set, length-take, length-take-le, lit<, map, min, nat_le, not, refl, rules, set}
-pub use Rattle.std.proofs.Common.{slice_index_or, subst, suc, sum, sym, take, take_at, true, zero, ℕ, ◌%◌, ◌&&◌, ◌*◌, ◌++◌, ◌+◌, ◌-◌, ◌/◌, ◌<◌, ◌==◌, ◌||◌}
+-- Words from std and specs/ for the files of proofs, so that a file imports one list from here instead of one line for
+-- each module. Words that only proofs use stand at the end.
+pub use Rattle.std.proofs.Common.{Bool, Bor, Err, IfErr, IfOk, IsOk, List, None, Ok, Option, Result, Some, [], add-one, ap, append_assoc, arith, cond, drop, eqb, false, get_or}
+pub use Rattle.std.proofs.Common.{if◌then◌else◌, inl, inr, length, length-append, length-drop, length-take, length-take-le, lit<, map, min, nat_le, not, refl, rules, set}
+pub use Rattle.std.proofs.Common.{subst, suc, sum, sym, take, take_at, true, zero, ℕ, ◌%◌, ◌&&◌, ◌*◌, ◌++◌, ◌+◌, ◌-◌, ◌/◌, ◌<◌, ◌==◌, ◌||◌}
 pub use Rattle.std.proofs.Common.{◌∙◌, ◌∷◌, ◌≡◌, ◌≢◌, ◌≤◌, ◌⊎◌}
 pub use Rattle.std.proofs.Math.Seq.{drop-append_seam, take-add, take-append_seam, take-nil}
 pub use Rattle.std.proofs.Math.Utf8.{encodes, low_scalar, scalar, scalar_cases, scalars}
@@ -9,9 +10,9 @@ unfoldable pub use Rattle.std.proofs.Math.Utf8.{encode}
 pub use Rattle.std.proofs.lemmas.Bool.{and_from, and_left, and_parts, and_right, cases_Bool, cases_eq, cases_lt, eqb-false, eqb-true, false≢true, le-leb, leb-true, lt-leb, ltb-false, ltb-true}
 pub use Rattle.std.proofs.lemmas.Bool.{ne_eqb, not-true}
 pub use Rattle.std.proofs.lemmas.Bool.Decides.{nat_tests}
-pub use Rattle.std.proofs.lemmas.Grind.{common_steps, elements, flat_map-append}
-pub use Rattle.std.proofs.lemmas.List.{append-nil, drop-append-le, drop-drop, drop_all, drop_more, get_or-drop, get_or_default, length-map, map_push, same_from_push, take-append-drop, take-append-le}
-pub use Rattle.std.proofs.lemmas.List.{take_all, take_more, take_more_set, take_rest}
+pub use Rattle.std.proofs.lemmas.Grind.{common_steps, flat_map-append}
+pub use Rattle.std.proofs.lemmas.List.{append-nil, drop-append-le, drop-drop, drop_all, drop_more, get_or-drop, take-append-drop, take-append-le}
+pub use Rattle.std.proofs.lemmas.List.{take_all, take_more, take_rest}
 pub use Rattle.std.proofs.lemmas.List.Elements.{All-append, All-cons, All-drop, All-head, All-map, All-nil, All-pop, All-push, All-tail, All-take, All-weaker}
 pub use Rattle.std.proofs.lemmas.List.Sums.{fold-append, fold_push, sum_by-cons, sum_by-take-le, sum_by_push}
 pub use Rattle.std.proofs.lemmas.Result.{IfErr-weaker, IfOk-weaker, err_from_is_err_and}
@@ -23,35 +24,33 @@ pub use Rattle.std.specs.Str.{IsAscii, IsUtf8, chars}
 pub use Rattle.vte_core.specs.Body.{body_rest, shape_outcome}
 unfoldable pub use Rattle.vte_core.specs.Body.{body_outcome}
 pub use Rattle.vte_core.specs.Brief.{FitsStore, IsBounded, IsBrief, IsExecuted, IsPrintable, IsShort}
-pub use Rattle.vte_core.specs.Class.{AreOf, Cancel, Class, Colon, Control, Delete, Digit, Final, High, Intermediate, Marker, Semicolon, dispatches_escape, ends_all, ends_escape, ends_head, is_cancel}
+pub use Rattle.vte_core.specs.Class.{AreOf, Cancel, Class, Colon, Control, Delete, Digit, Final, High, Intermediate, Marker, Semicolon, dispatches_escape, ends_all, ends_head, is_cancel}
 pub use Rattle.vte_core.specs.Class.{IsPut, is_control, is_data, is_final, is_head, is_intermediate, is_key, is_marker, is_parameter_text}
 unfoldable pub use Rattle.vte_core.specs.Class.{class_of}
-pub use Rattle.vte_core.specs.ControlSequence.{control_sequence_rest}
 unfoldable pub use Rattle.vte_core.specs.ControlSequence.{control_sequence_end, control_sequence_outcome}
-pub use Rattle.vte_core.specs.DeviceControl.{device_control_rest, ends_data}
+pub use Rattle.vte_core.specs.DeviceControl.{ends_data}
 unfoldable pub use Rattle.vte_core.specs.DeviceControl.{data_outcome, device_control_end, device_control_outcome}
 pub use Rattle.vte_core.specs.EarlyStop.{ComesTo, IsStart, NoCharacterStops, StopsExactly, breaks}
 unfoldable pub use Rattle.vte_core.specs.EarlyStop.{breaks_at, stream_at, told}
-pub use Rattle.vte_core.specs.Escape.{escape_rest}
 unfoldable pub use Rattle.vte_core.specs.Escape.{escape_outcome}
 pub use Rattle.vte_core.specs.Event.{CsiDispatch, EscDispatch, Event, Execute, Hook, OscDispatch, Print, Put, Unhook, replacement}
-pub use Rattle.vte_core.specs.Head.{Head, head_after, collected, head_bytes}
+pub use Rattle.vte_core.specs.Head.{Head, head_after, collected}
 unfoldable pub use Rattle.vte_core.specs.Head.{dispatched, head_of, is_well_shaped}
 pub use Rattle.vte_core.specs.Intermediates.{are_too_many, first_two}
-pub use Rattle.vte_core.specs.Key.{Dispatch, Key, begins_ignored_string}
+pub use Rattle.vte_core.specs.Key.{Dispatch, Key}
 unfoldable pub use Rattle.vte_core.specs.Key.{key_of}
-pub use Rattle.vte_core.specs.Laws.{AreParameters, Resyncs, ResyncsAfter, CountsData, DispatchesShown, Grows, OpensSilently}
+pub use Rattle.vte_core.specs.Laws.{AreParameters, CountsData, DispatchesShown}
 pub use Rattle.vte_core.specs.LongParser.{MeetsData, data_left, open_size, read_count}
 pub use Rattle.vte_core.specs.Looks.{looked}
 pub use Rattle.vte_core.specs.Others.{AddsOthers, IsOther, IsWide, TellsOthers}
-pub use Rattle.vte_core.specs.Outcome.{IsLoss, NothingOpen, Open, OpenCharacter, OpenCommand, OpenData, Outcome, closed, closing, leaves, tell, unfinished}
+pub use Rattle.vte_core.specs.Outcome.{IsLoss, NothingOpen, Open, OpenCharacter, OpenCommand, Outcome, closed, closing, leaves, tell, unfinished}
 pub use Rattle.vte_core.specs.Parameters.{AreGroups, Number, colon, count_of, greatest_number, grouped, is_colon, is_separator, most_numbers, number_of, numbers_of, semicolon, with_number}
 unfoldable pub use Rattle.vte_core.specs.Parameters.{groups_of, has_too_many_numbers, numbers, shown}
 pub use Rattle.vte_core.specs.Perform.{after}
-pub use Rattle.vte_core.specs.Pieces.{before, from_first}
+pub use Rattle.vte_core.specs.Pieces.{from_first}
 pub use Rattle.vte_core.specs.Stream.{added, cut_at_escape, escape, with_bodies}
 unfoldable pub use Rattle.vte_core.specs.Stream.{events, open_end, outcome}
-pub use Rattle.vte_core.specs.SystemCommand.{IsCommandData, bell, ends_command, has_room, is_data_byte, items_of, kept_after, most_pieces, system_command_rest}
+pub use Rattle.vte_core.specs.SystemCommand.{IsCommandData, bell, ends_command, has_room, is_data_byte, kept_after, most_pieces, system_command_rest}
 unfoldable pub use Rattle.vte_core.specs.SystemCommand.{drops_data, kept_items, pieces_of, system_command_outcome}
 pub use Rattle.vte_core.specs.Text.{is_control_character, is_layout, is_left_out, pieces_outcome, run_event}
 unfoldable pub use Rattle.vte_core.specs.Text.{character_event, executed, malformed_event, segment_event, text_outcome}

@@ -3,6 +3,8 @@ pub mod Places
 pub mod States
 pub mod Runs
 pub mod Arms
+pub mod BetweenCharacters
+pub mod InsideCharacters
 pub mod Characters
 pub mod LeadBytes
 pub mod TextRuns

@@ -1,4 +1,4 @@
--- The automaton that reads printed text.
+-- The automaton that reads printed text: what each of its states says of the bytes so far.
 pub mod Begins
 pub mod Readings
 pub mod Standing

@@ -2,7 +2,7 @@
 -- parts joined. By induction over the events, with the last printed character carried along.
 use Rattle.vte.proofs.Common.{◌≡◌, ℕ, None, List, [], ◌∷◌, ◌++◌, Option, refl, ap, ◌∙◌, append_assoc, drop-append_seam, Event, added, events, added_both, added-nothing}
 use Rattle.vte.proofs.Common.{events_grow, Call, after, calls_added, added_calls, calls, calls_from, last_from, last_printed, last_printed_from, zero, suc, ◌+◌, zero-add, suc-add, Bool, ◌||◌}
-use Rattle.vte.proofs.Common.{nat_lt, arith, nat_tests, TimeoutMeaning, set_times, update_nanos, Meaning, Lent, first_number, is_update_group, update_groups, with_private_mode, with_private_modes}
+use Rattle.vte.proofs.Common.{nat_lt, arith, nat_tests, TimeoutMeaning, set_times, update_nanos, Lent, first_number, is_update_group, update_groups, with_private_mode, with_private_modes}
 use Rattle.std.specs.Bool.{if◌then◌else◌}
 
 pub after-append : {V : Type 0} (step : V → Call → V) (value : V) (xs ys : List Call)

@@ -2,10 +2,9 @@
 -- characters; the last one is found from the end, because no character begins with a byte that continues one.
 use Rattle.vte.proofs.Common.{◌≡◌, ℕ, ◌≤◌, Option, Some, None, List, [], ◌∷◌, ◌++◌, length, get_or, map, refl, ap, sym, ◌∙◌, add-zero, arith, or-false}
 use Rattle.vte.proofs.Common.{drop-append_seam, take-append_seam, nat_tests, append-nil, get_or-append-add, length-append, IsCharBoundary, IsUtf8, chars, Print, Input, after, last_printed_from}
-use Rattle.vte.proofs.Common.{Call, TimeoutMeaning, Lent, with_event, IsUtf8-drop, IsUtf8-take, chars-append, chars-nil, chars_past_char, option_or}
+use Rattle.vte.proofs.Common.{Call, TimeoutMeaning, Lent, with_event, option_or}
 use Rattle.std.proofs.Math.Utf8.{encode}
-use Rattle.std.proofs.lemmas.Str.{IsUtf8-encode}
-use Rattle.std.specs.Char.{IsScalar}
+use Rattle.std.proofs.lemmas.Str.{IsUtf8-drop, IsUtf8-take, chars-append, chars-nil, chars_past_char}
 use Rattle.std.specs.Str.Iter.{chars_rest, chars_steps_back}
 use Rattle.vte_core.specs.Perform.{after as performed}
 
@@ -45,10 +44,6 @@ chars_before_last front c is =
     rw drop-append_seam at (IsUtf8-drop (front ++ encode c) (length front) is (seam front c)) in
     chars-append front (encode c) before
     ∙ rw (chars_past_char (encode c) [] c last (sym (append-nil (encode c))), chars-nil)
-
-pub chars_encode : (c : ℕ) → IsScalar c → chars (encode c) ≡ c ∷ []
-chars_encode c is =
-    chars_past_char (encode c) [] c (IsUtf8-encode c is) (sym (append-nil (encode c))) ∙ ap (λ cs. c ∷ cs) chars-nil
 
 no_characters : (text : List ℕ) → length text ≡ 0 → chars text ≡ []
 no_characters [] none = chars-nil

@@ -1,8 +1,9 @@
 -- An early stop reads exactly the front up to the byte that begins an update. Such a byte ends a control sequence, so
 -- no character is open or broken there, and the front is the shortest that adds a begin.
+use Rattle.vte_core.proofs.stops.Told.{breaks_at-all, breaks_at-between, told-broken}
 use Rattle.vte.proofs.Common.{◌≡◌, ℕ, zero, suc, ◌+◌, ◌<◌, ◌≤◌, inl, inr, false, nat_lt, Option, List, [], ◌∷◌, ◌++◌, length, take, refl, ap, subst, ◌∙◌}
-use Rattle.vte.proofs.Common.{append_assoc, arith, cases_Bool, cases_lt, nat_tests, append-nil, take_all, breaks_at, told, Event, Print, replacement, added, open_end, breaks_at-all, breaks_at-between}
-use Rattle.vte.proofs.Common.{told-between, told-broken, added_both, added-nothing, opens_silently, begin_count, EndsInBegin, begin_front}
+use Rattle.vte.proofs.Common.{append_assoc, arith, cases_Bool, cases_lt, nat_tests, append-nil, take_all, breaks_at, told, Event, Print, replacement, added, open_end}
+use Rattle.vte.proofs.Common.{told-between, added_both, added-nothing, opens_silently, begin_count, EndsInBegin, begin_front}
 
 -- ---- how often bytes begin an update
 

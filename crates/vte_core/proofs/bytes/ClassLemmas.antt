@@ -1,4 +1,4 @@
--- Which bytes a class has: bounds of each, by the tests of `class_of`.
+-- Which bytes a class has: bounds of each, by the tests of `class_of`, which ask in ascending order.
 use Rattle.vte_core.proofs.Common.{◌≡◌, ℕ, ◌<◌, ◌≤◌, true, arith, nat_tests, Class, Control, Cancel, Intermediate, Digit, Colon, Semicolon, Marker, Final, Delete, High, class_of, is_head}
 use Rattle.vte_core.specs.Class.{Escape}
 

@@ -129,12 +129,13 @@ module _ (keeps : Bool) (bytes : List ℕ) (from a : ℕ) (within : from < lengt
       absurd (none (rw e at those.2.0) those.1 (rw e at those.2.1))
 
   -- .. and none of four
-  pub ends-four : 0xf0 ≤ a → a < 0xf5
+  pub ends-four : 0xf0 ≤ a → is_in (to 0xc2 0xf4) a ≡ true
       → (from + 3 < length bytes → is_in (second_range a) (slice_index bytes (from + 1)) ≡ true
       → is_in continuation (slice_index bytes (from + 2)) ≡ true
       → is_in continuation (slice_index bytes (from + 3)) ≡ true → ⊥) → EndsRun keeps bytes from
-  ends-four low high none n far whole =
+  ends-four low lead none n far whole =
       let p = begins n whole in
+      let high : a < 0xf5 = omega (arith, (in_range-bounds (to 0xc2 0xf4) a lead).1) in
       let those =
       fits-in (second_range a ∷ continuation ∷ continuation ∷ []) bytes (from + 1) p.m
       (sym (tests_four a low high (later p.m)).is_whole ∙ p.well) in
@@ -151,8 +152,7 @@ module _ (keeps : Bool) (bytes : List ℕ) (from a : ℕ) (within : from < lengt
         | inr rest ↦ elim (cases_lt a 0xf0) [
           | inl three ↦ ends-three (omega (arith, rest)) three (λ more second third. none (omega (arith, more)))
           | inr four ↦
-              ends-four (omega (arith, four)) (omega (arith, bounds.1))
-              (λ more second third fourth. none (omega (arith, more)))
+              ends-four (omega (arith, four)) lead (λ more second third fourth. none (omega (arith, more)))
         ]
       ]
 

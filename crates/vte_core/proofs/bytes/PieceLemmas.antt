@@ -1,4 +1,5 @@
--- Bytes of the same classes, and what these classes are not.
+-- Texts of bytes of the same classes join, and bytes of a head or of parameters end nothing and are no controls: by
+-- cases of the class.
 use Rattle.vte_core.proofs.Common.{◌≡◌, ℕ, Bool, true, false, List, [], ◌∷◌, ◌++◌, refl, Class, Control, Cancel, Digit, Colon, Semicolon, Final, is_control, is_head, is_parameter_text, ends_head, AreOf}
 
 pub AreOf-append : (has : Class → Bool) (front rest : List ℕ) → AreOf has front → AreOf has rest

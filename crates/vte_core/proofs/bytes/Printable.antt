@@ -94,7 +94,7 @@ printable-append keeps xs ys a b = record {
 
 -- ---- one character
 
-chars_encode : (c : ℕ) → IsScalar c → chars (encode c) ≡ c ∷ []
+pub chars_encode : (c : ℕ) → IsScalar c → chars (encode c) ≡ c ∷ []
 chars_encode c is =
     chars_past_char (encode c) [] c (IsUtf8-encode c is) (sym (append-nil (encode c))) ∙ ap (λ cs. c ∷ cs) chars-nil
 

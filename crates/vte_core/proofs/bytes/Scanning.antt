@@ -1,4 +1,4 @@
--- A search goes on where another ended.
+-- A search goes on where another ended: runs join (`run-append`), and a block adds its first bytes.
 use Rattle.vte_core.proofs.Common.{◌≡◌, ℕ, ◌+◌, ◌≤◌, Bool, List, length, take, drop, arith, looked, IsRun, Scans}
 use Rattle.vte_core.specs.declared.scan.Looks.{Looks}
 use Rattle.vte_core.specs.machine.Between.{Each}

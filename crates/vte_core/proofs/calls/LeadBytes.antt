@@ -7,7 +7,8 @@ use Rattle.vte_core.proofs.bytes.CarriedLemmas.{first_truncated}
 use Rattle.vte_core.proofs.calls.Runs.{reads-byte_at, settled-by}
 use Rattle.vte_core.proofs.streams.Others.{other_control}
 use Rattle.vte_core.proofs.calls.Telling.{added-inside, adds-character, keep, keeps-at, never}
-use Rattle.vte_core.proofs.calls.Characters.{in_text, performs-opened}
+use Rattle.vte_core.proofs.calls.BetweenCharacters.{performs-opened}
+use Rattle.vte_core.proofs.calls.InsideCharacters.{in_text}
 
 -- by what completes the character that the first byte begins
 pub advances-first : {V B : Type 0} {given : Type 0} {asks : Bool} {step : V → Event → V} {is_terminated : V → Bool} {old new : V}

@@ -50,88 +50,82 @@ passes parser result refuses = record {
   not_stopped = IfErr-weaker result _ _ (λ refused r. r.may_go_on refl) refuses;
 }
 
--- `advance`, if memory is refused ..
-pub reads_refused : {A V : Type 0} {step : V → Event → V} {is_terminated : V → Bool} {old new : V} {bytes : List ℕ}
-    {parser next : LongParser A} (refused : Refused) {drove : Result ℕ Refused}
-    → RefusesAt false step is_terminated old new None bytes refused.read parser.machine next.machine
-    → Costs 5 bytes drove refused.read parser.machine next.machine parser.looks next.looks
-    → ReadsBytesLong step old new bytes (Err refused) parser next
-reads_refused {step = step} {is_terminated = is_terminated} {old = old} {new = new} refused refuses costs = record {
-  performs = λ stream h. (refuses-inside refuses stream h).has_come.performed;
-  goes_on =
-      goes-on false step is_terminated old new (Err refused)
-      (λ stream h. inside-reads (refuses-inside refuses stream h)) refuses costs.memory costs.count tt (search rules);
-}
+module _ {A V : Type 0} {step : V → Event → V} {is_terminated : V → Bool} {old new : V} {bytes : List ℕ}
+    {parser next : LongParser A} where
+  -- `advance`, if memory is refused ..
+  pub reads_refused : (refused : Refused) {drove : Result ℕ Refused}
+      → RefusesAt false step is_terminated old new None bytes refused.read parser.machine next.machine
+      → Costs 5 bytes drove refused.read parser.machine next.machine parser.looks next.looks
+      → ReadsBytesLong step old new bytes (Err refused) parser next
+  reads_refused refused refuses costs = record {
+    performs = λ stream h. (refuses-inside refuses stream h).has_come.performed;
+    goes_on =
+        goes-on false step is_terminated old new (Err refused)
+        (λ stream h. inside-reads (refuses-inside refuses stream h)) refuses costs.memory costs.count tt (search rules);
+  }
 
--- .. and if not
-pub reads_bytes : {A V : Type 0} {step : V → Event → V} {is_terminated : V → Bool} {old new : V} {bytes : List ℕ}
-    {parser next : LongParser A} {read : ℕ}
-    → ReadsUpTo false step is_terminated old new None bytes read parser.machine next.machine
-    → Costs 5 bytes (Ok read) read parser.machine next.machine parser.looks next.looks
-    → ReadsBytesLong step old new bytes (Ok tt) parser next
-reads_bytes {step = step} {is_terminated = is_terminated} {old = old} {new = new} reads costs =
-    let all = reads-all _ _ reads.within reads.asked in
-    record {
-      performs = λ stream h. ends-performs all (reads.stands_at stream h);
-      goes_on =
-          goes-on false step is_terminated old new (Ok tt)
-          (λ stream h. ends-reads_all all (reads.stands_at stream h)) tt costs.memory costs.count costs.count
-          (search rules);
-    }
+  -- .. and if not
+  pub reads_bytes : {read : ℕ} → ReadsUpTo false step is_terminated old new None bytes read parser.machine next.machine
+      → Costs 5 bytes (Ok read) read parser.machine next.machine parser.looks next.looks
+      → ReadsBytesLong step old new bytes (Ok tt) parser next
+  reads_bytes reads costs =
+      let all = reads-all _ _ reads.within reads.asked in
+      record {
+        performs = λ stream h. ends-performs all (reads.stands_at stream h);
+        goes_on =
+            goes-on false step is_terminated old new (Ok tt)
+            (λ stream h. ends-reads_all all (reads.stands_at stream h)) tt costs.memory costs.count costs.count
+            (search rules);
+      }
 
--- `advance_until_terminated`
-pub reads_until : {A V : Type 0} {step : V → Event → V} {is_terminated : V → Bool} {old new : V} {bytes : List ℕ}
-    {parser next : LongParser A} (result : Result ℕ Refused)
-    → IfOk result (λ read. ReadsUpTo true step is_terminated old new None bytes read parser.machine next.machine)
-    → IfErr result
-    (λ refused. RefusesAt true step is_terminated old new None bytes refused.read parser.machine next.machine)
-    → Costs 5 bytes result (read_count result) parser.machine next.machine parser.looks next.looks
-    → ReadsUntilTerminatedLong step is_terminated old new bytes result parser next
-reads_until {step = step} {is_terminated = is_terminated} {old = old} {new = new} result reads refuses costs = record {
-  within = by_count result reads refuses (λ read r. r.within) (λ refused r. omega (arith, r.within));
-  stops = IfOk-weaker result _ _ (λ read r stream h. ends-stops refl r.within r.stops (r.stands_at stream h)) reads;
-  refuses = passes _ result refuses;
-  goes_on =
-      goes-on true step is_terminated old new result
-      (λ stream h. by_count result reads refuses (λ read r. ends-reads (r.stands_at stream h))
-      (λ refused r. ends-reads (r.stands_at stream h)))
-      refuses costs.memory costs.count costs.paid costs.least;
-}
+  -- `advance_until_terminated`
+  pub reads_until : (result : Result ℕ Refused)
+      → IfOk result (λ read. ReadsUpTo true step is_terminated old new None bytes read parser.machine next.machine)
+      → IfErr result
+      (λ refused. RefusesAt true step is_terminated old new None bytes refused.read parser.machine next.machine)
+      → Costs 5 bytes result (read_count result) parser.machine next.machine parser.looks next.looks
+      → ReadsUntilTerminatedLong step is_terminated old new bytes result parser next
+  reads_until result reads refuses costs = record {
+    within = by_count result reads refuses (λ read r. r.within) (λ refused r. omega (arith, r.within));
+    stops = IfOk-weaker result _ _ (λ read r stream h. ends-stops refl r.within r.stops (r.stands_at stream h)) reads;
+    refuses = passes _ result refuses;
+    goes_on =
+        goes-on true step is_terminated old new result
+        (λ stream h. by_count result reads refuses (λ read r. ends-reads (r.stands_at stream h))
+        (λ refused r. ends-reads (r.stands_at stream h)))
+        refuses costs.memory costs.count costs.paid costs.least;
+  }
 
--- `advance_to_run`, if memory is refused ..
-pub to_run-refused : {A V : Type 0} {step : V → Event → V} {is_terminated : V → Bool} {old new : V} {bytes : List ℕ}
-    {parser next : LongParser A} (refused : Refused)
-    {drove : Result RunPlace Refused}
-    → RefusesAt true step is_terminated old new None bytes refused.read parser.machine next.machine
-    → Costs 7 bytes drove refused.read parser.machine next.machine parser.looks next.looks
-    → ((stream : List ℕ) → HasReadLong parser stream → TellsOthers None stream bytes refused.read)
-    → ReadsToRunLong step is_terminated old new bytes (Err refused) parser next
-to_run-refused {step = step} {is_terminated = is_terminated} {old = old} {new = new}
-    {next = next} refused refuses costs others = record {
-      returns = tt;
-      refuses = passes next.machine (Err refused) refuses;
-      others = others;
-      goes_on =
-          goes-on true step is_terminated old new (Err refused)
-          (λ stream h. ends-reads (refuses.stands_at stream h)) refuses costs.memory costs.count tt costs.least;
-    }
+  -- `advance_to_run`, if memory is refused ..
+  pub to_run-refused : (refused : Refused)
+      {drove : Result RunPlace Refused}
+      → RefusesAt true step is_terminated old new None bytes refused.read parser.machine next.machine
+      → Costs 7 bytes drove refused.read parser.machine next.machine parser.looks next.looks
+      → ((stream : List ℕ) → HasReadLong parser stream → TellsOthers None stream bytes refused.read)
+      → ReadsToRunLong step is_terminated old new bytes (Err refused) parser next
+  to_run-refused refused refuses costs others = record {
+    returns = tt;
+    refuses = passes next.machine (Err refused) refuses;
+    others = others;
+    goes_on =
+        goes-on true step is_terminated old new (Err refused)
+        (λ stream h. ends-reads (refuses.stands_at stream h)) refuses costs.memory costs.count tt costs.least;
+  }
 
--- .. and if not
-pub to_run-read : {A V : Type 0} {step : V → Event → V} {is_terminated : V → Bool} {old new : V} {bytes : List ℕ}
-    {parser next : LongParser A} (run : Run) {place : RunPlace}
-    → ComesToRun step is_terminated old new None bytes place parser.machine next.machine → run.start ≡ place.start
-    → run.end ≡ place.end
-    → IsTaken place.kind (bytes_at bytes place) run.taken
-    → Costs 7 bytes (Ok place) place.end parser.machine next.machine parser.looks next.looks
-    → ((stream : List ℕ) → HasReadLong parser stream → TellsOthers None stream bytes place.start)
-    → ReadsToRunLong step is_terminated old new bytes (Ok run) parser next
-to_run-read {step = step} {is_terminated = is_terminated} {old = old} {new = new}
-    {next = next} run comes starts ends taken costs others = record {
-      returns = returns-run run comes starts ends taken;
-      refuses = passes next.machine (Ok run) tt;
-      others = λ stream h. rw starts (others stream h);
-      goes_on =
-          goes-on true step is_terminated old new (Ok run) (reads-run run comes starts ends taken) tt
-          costs.memory costs.count
-          (rw ends costs.paid) (rw ends costs.least);
-    }
+  -- .. and if not
+  pub to_run-read : (run : Run) {place : RunPlace}
+      → ComesToRun step is_terminated old new None bytes place parser.machine next.machine → run.start ≡ place.start
+      → run.end ≡ place.end
+      → IsTaken place.kind (bytes_at bytes place) run.taken
+      → Costs 7 bytes (Ok place) place.end parser.machine next.machine parser.looks next.looks
+      → ((stream : List ℕ) → HasReadLong parser stream → TellsOthers None stream bytes place.start)
+      → ReadsToRunLong step is_terminated old new bytes (Ok run) parser next
+  to_run-read run comes starts ends taken costs others = record {
+    returns = returns-run run comes starts ends taken;
+    refuses = passes next.machine (Ok run) tt;
+    others = λ stream h. rw starts (others stream h);
+    goes_on =
+        goes-on true step is_terminated old new (Ok run) (reads-run run comes starts ends taken) tt
+        costs.memory costs.count
+        (rw ends costs.paid) (rw ends costs.least);
+  }

@@ -61,50 +61,6 @@ pub added-inside : {B : Type 0} {value : List Event} {limit : Option ℕ} {strea
     → value ≡ added limit stream (take i bytes)
 added-inside s = kept-is s.has_come
 
--- ---- what is told between two places
-
-pub adds-same : {limit : Option ℕ} {stream bytes : List ℕ} {i j : ℕ}
-    → told limit stream bytes i ≡ told limit stream bytes j → AddsOthers limit stream bytes i j
-adds-same {limit = limit} {stream = stream} {bytes = bytes} {i = i} e =
-    record { events = []; are = All-nil IsOther; parts = sym e ∙ sym (append-nil (told limit stream bytes i)) }
-
-pub adds-then : {limit : Option ℕ} {stream bytes : List ℕ} {i j k : ℕ} → AddsOthers limit stream bytes i j
-    → AddsOthers limit stream bytes j k → AddsOthers limit stream bytes i k
-adds-then {limit = limit} {stream = stream} {bytes = bytes} {i = i} a b = record {
-  events = a.events ++ b.events;
-  are = All-append IsOther a.events b.events a.are b.are;
-  parts =
-      b.parts ∙ ap (λ (es : List Event). es ++ b.events) a.parts
-      ∙ append_assoc (told limit stream bytes i) a.events b.events;
-}
-
-pub adds-reads : {limit : Option ℕ} {stream bytes : List ℕ} {i b : ℕ} {place next : Place} {these : List Event}
-    → i < length bytes → b ≡ slice_index bytes i
-    → IsAfter limit (stream_at stream bytes i) place → Reads limit place (b ∷ []) these next → IsPlace next
-    → All IsOther these → AddsOthers limit stream bytes i (i + 1)
-adds-reads {limit = limit} {stream = stream} {bytes = bytes} {i = i} {b = b} {place = place} {next = next}
-    {these = these} within is a r is_place are =
-    let one : take (i + 1 - i) (drop i bytes) ≡ b ∷ [] =
-    let e : i + 1 - i ≡ 1 = omega arith in rw (e, drop_more bytes i 0 within, is) refl in
-    let before : List Event = told limit stream bytes i in
-    let all : added limit stream (take (i + 1) bytes) ≡ before ++ these =
-    run-added limit stream bytes i (i + 1) (omega arith)
-    ∙ ap (λ (es : List Event). before ++ es)
-    (ap (added limit (stream_at stream bytes i)) one
-    ∙ added-reads limit (stream_at stream bytes i) (b ∷ []) place next these a r is_place) in
-    elim (cases_Bool (breaks_at stream bytes (i + 1))) [
-      | inl broken ↦ record {
-        events = these ++ Print replacement ∷ [];
-        are =
-            All-append IsOther these (Print replacement ∷ []) are
-            (All-cons IsOther (Print replacement) [] refl (All-nil IsOther));
-        parts =
-            told-broken limit stream bytes (i + 1) broken ∙ ap (λ (es : List Event). es ++ Print replacement ∷ []) all
-            ∙ append_assoc before these (Print replacement ∷ []);
-      }
-      | inr whole ↦ record { events = these; are = are; parts = told-between limit stream bytes (i + 1) whole ∙ all }
-    ]
-
 -- ---- a byte outside of text and data
 
 all_others : (events : List Event) → AreOthers events → All IsOther events
@@ -120,17 +76,59 @@ quiet-place limit _ parser (InText u) b quiet s = absurd s
 quiet-place limit _ parser InData b quiet s = absurd s
 quiet-place limit _ parser _ b quiet s = tt
 
-pub adds-quiet : {limit : Option ℕ} {stream bytes : List ℕ} {i b : ℕ} {place : Place} → i < length bytes
-    → b ≡ slice_index bytes i → IsAfter limit (stream_at stream bytes i) place
-    → IsPlace place → IsQuiet place b → AddsOthers limit stream bytes i (i + 1)
-adds-quiet {limit = limit} {b = b} {place = place} within is a is_place quiet =
-    let s = steps limit place b is_place in
-    adds-reads within is a s.reads s.is_place (all_others s.told (s.others quiet))
+-- ---- what is told between two places
 
--- what is told of a character whose first byte told nothing
-pub adds-character : {limit : Option ℕ} {stream begun bytes : List ℕ} {i j : ℕ}
-    (a : AddsCharacter limit stream begun bytes (i + 1) j)
-    → told limit stream bytes i ≡ added limit stream (take (i + 1) bytes) → All IsOther a.events
-    → AddsOthers limit stream bytes i j
-adds-character a silent are =
-    record { events = a.events; are = are; parts = a.parts ∙ ap (λ (es : List Event). es ++ a.events) (sym silent) }
+module _ {limit : Option ℕ} {stream bytes : List ℕ} {i : ℕ} where
+  pub adds-same : {j : ℕ} → told limit stream bytes i ≡ told limit stream bytes j → AddsOthers limit stream bytes i j
+  adds-same e =
+      record { events = []; are = All-nil IsOther; parts = sym e ∙ sym (append-nil (told limit stream bytes i)) }
+
+  pub adds-then : {j k : ℕ} → AddsOthers limit stream bytes i j
+      → AddsOthers limit stream bytes j k → AddsOthers limit stream bytes i k
+  adds-then a b = record {
+    events = a.events ++ b.events;
+    are = All-append IsOther a.events b.events a.are b.are;
+    parts =
+        b.parts ∙ ap (λ (es : List Event). es ++ b.events) a.parts
+        ∙ append_assoc (told limit stream bytes i) a.events b.events;
+  }
+
+  pub adds-reads : {b : ℕ} {place next : Place} {these : List Event}
+      → i < length bytes → b ≡ slice_index bytes i
+      → IsAfter limit (stream_at stream bytes i) place → Reads limit place (b ∷ []) these next → IsPlace next
+      → All IsOther these → AddsOthers limit stream bytes i (i + 1)
+  adds-reads {b = b} {place = place} {next = next} {these = these} within is a r is_place are =
+      let one : take (i + 1 - i) (drop i bytes) ≡ b ∷ [] =
+      let e : i + 1 - i ≡ 1 = omega arith in rw (e, drop_more bytes i 0 within, is) refl in
+      let before : List Event = told limit stream bytes i in
+      let all : added limit stream (take (i + 1) bytes) ≡ before ++ these =
+      run-added limit stream bytes i (i + 1) (omega arith)
+      ∙ ap (λ (es : List Event). before ++ es)
+      (ap (added limit (stream_at stream bytes i)) one
+      ∙ added-reads limit (stream_at stream bytes i) (b ∷ []) place next these a r is_place) in
+      elim (cases_Bool (breaks_at stream bytes (i + 1))) [
+        | inl broken ↦ record {
+          events = these ++ Print replacement ∷ [];
+          are =
+              All-append IsOther these (Print replacement ∷ []) are
+              (All-cons IsOther (Print replacement) [] refl (All-nil IsOther));
+          parts =
+              told-broken limit stream bytes (i + 1) broken ∙ ap (λ (es : List Event). es ++ Print replacement ∷ []) all
+              ∙ append_assoc before these (Print replacement ∷ []);
+        }
+        | inr whole ↦ record { events = these; are = are; parts = told-between limit stream bytes (i + 1) whole ∙ all }
+      ]
+
+  pub adds-quiet : {b : ℕ} {place : Place} → i < length bytes
+      → b ≡ slice_index bytes i → IsAfter limit (stream_at stream bytes i) place
+      → IsPlace place → IsQuiet place b → AddsOthers limit stream bytes i (i + 1)
+  adds-quiet {b = b} {place = place} within is a is_place quiet =
+      let s = steps limit place b is_place in
+      adds-reads within is a s.reads s.is_place (all_others s.told (s.others quiet))
+
+  -- what is told of a character whose first byte told nothing
+  pub adds-character : {begun : List ℕ} {j : ℕ} (a : AddsCharacter limit stream begun bytes (i + 1) j)
+      → told limit stream bytes i ≡ added limit stream (take (i + 1) bytes) → All IsOther a.events
+      → AddsOthers limit stream bytes i j
+  adds-character a silent are =
+      record { events = a.events; are = are; parts = a.parts ∙ ap (λ (es : List Event). es ++ a.events) (sym silent) }

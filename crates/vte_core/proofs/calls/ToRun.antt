@@ -138,33 +138,34 @@ anew {limit = limit} parser begun h = record {
 
 -- ---- where a call comes
 
--- the call comes to a run
-pub comes-to_run : {V B : Type 0} {step : V → Event → V} {is_terminated : V → Bool} {old new : V} {limit : Option ℕ}
-    {bytes : List ℕ} {place : RunPlace}
-    {before parser : Machine B} → HasRun limit bytes place parser → place.start < place.end → is_terminated new ≡ false
-    → ((stream : List ℕ) → HasReadUnder limit before stream
-    → StandsAt true step is_terminated old new limit stream bytes place.start parser)
-    → ComesToRun step is_terminated old new limit bytes place before parser
-comes-to_run has some goes stands =
-    record { has = has; stands_at = stands; may_go_on = λ _. goes; stops = λ none. absurd (omega (arith, none, some)) }
+module _ {V B : Type 0} {step : V → Event → V} {is_terminated : V → Bool} {old new : V} {limit : Option ℕ}
+    {bytes : List ℕ} {place : RunPlace} {before parser : Machine B} where
+  -- the call comes to a run
+  pub comes-to_run : HasRun limit bytes place parser → place.start < place.end → is_terminated new ≡ false
+      → ((stream : List ℕ) → HasReadUnder limit before stream
+      → StandsAt true step is_terminated old new limit stream bytes place.start parser)
+      → ComesToRun step is_terminated old new limit bytes place before parser
+  comes-to_run has some goes stands = record {
+    has = has;
+    stands_at = stands;
+    may_go_on = λ _. goes;
+    stops = λ none. absurd (omega (arith, none, some));
+  }
 
--- .. or ends without one
-pub comes-nowhere : {V B : Type 0} {step : V → Event → V} {is_terminated : V → Bool} {old new : V} {limit : Option ℕ}
-    {bytes : List ℕ} {from : ℕ} {place : RunPlace}
-    {before parser : Machine B} → from ≤ length bytes → place.start ≡ from → place.end ≡ from → place.kind ≡ Empty
-    → ((stream : List ℕ) → HasReadUnder limit before stream
-    → StandsAt true step is_terminated old new limit stream bytes from parser)
-    → (from < length bytes → is_terminated new ≡ true)
-    → ComesToRun step is_terminated old new limit bytes place before parser
-comes-nowhere {step = step} {is_terminated = is_terminated} {old = old} {new = new} {limit = limit} {bytes = bytes}
-    {parser = parser} within starts ends kind stands stops = record {
-      has = has-nowhere within starts ends kind;
-      stands_at =
-          λ stream h. subst (λ n. StandsAt true step is_terminated old new limit stream bytes n parser) (sym starts)
-          (stands stream h);
-      may_go_on = λ some. absurd (omega (arith, some, starts, ends));
-      stops = λ _ left. stops (omega (arith, starts, left));
-    }
+  -- .. or ends without one
+  pub comes-nowhere : {from : ℕ} → from ≤ length bytes → place.start ≡ from → place.end ≡ from → place.kind ≡ Empty
+      → ((stream : List ℕ) → HasReadUnder limit before stream
+      → StandsAt true step is_terminated old new limit stream bytes from parser)
+      → (from < length bytes → is_terminated new ≡ true)
+      → ComesToRun step is_terminated old new limit bytes place before parser
+  comes-nowhere within starts ends kind stands stops = record {
+    has = has-nowhere within starts ends kind;
+    stands_at =
+        λ stream h. subst (λ n. StandsAt true step is_terminated old new limit stream bytes n parser) (sym starts)
+        (stands stream h);
+    may_go_on = λ some. absurd (omega (arith, some, starts, ends));
+    stops = λ _ left. stops (omega (arith, starts, left));
+  }
 
 -- ---- the run that is taken there
 
@@ -192,12 +193,7 @@ takes bytes place Empty TakenNothing same are size whole =
     let none : bytes_at bytes place ≡ [] =
     ap (λ n. take n (drop place.start bytes)) (let e : place.end - place.start ≡ 0 = omega (arith, whole) in e) in
     record { are = sym none; events = refl; whole = tt }
-takes bytes place OfText (Data those) same are size whole = absurd same
-takes bytes place OfText TakenNothing same are size whole = absurd same
-takes bytes place OfData (TakenText text) same are size whole = absurd same
-takes bytes place OfData TakenNothing same are size whole = absurd same
-takes bytes place Empty (TakenText text) same are size whole = absurd same
-takes bytes place Empty (Data those) same are size whole = absurd same
+takes bytes place _ _ same are size whole = absurd same
 
 size_at : (bytes : List ℕ) (place : RunPlace) → IsRange bytes place.start place.end
     → length (bytes_at bytes place) ≡ place.end - place.start

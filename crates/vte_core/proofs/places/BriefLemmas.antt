@@ -1,4 +1,5 @@
--- The events of one byte are small.
+-- The events of one byte are small: a character, a control, or a dispatch whose intermediates and final byte have
+-- bounds. By the kind of event.
 use Rattle.vte_core.proofs.Common.{IsOther}
 use Rattle.vte_core.proofs.Common.{◌≡◌, ℕ, ◌<◌, ◌≤◌, Bool, true, false, cond, Option, List, [], ◌∷◌, ◌++◌, length, refl, arith, nat_tests, IsBounded, IsBrief, IsExecuted}
 use Rattle.vte_core.proofs.Common.{IsPrintable, IsShort, IsTiny, first_two, Event, Print, Execute, Hook, CsiDispatch, replacement, Head, dispatched, collected, character_event, malformed_event}

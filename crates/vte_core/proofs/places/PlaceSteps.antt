@@ -34,18 +34,21 @@ sequenced other closed none = leads_on (λ text. absurd (other text)) (inl close
 pub plain : (b : ℕ) (k : Class) → class_of b ≡ k → ends_all k ≡ false → eqb b escape ≡ false
 plain b k e o = no_escape b (rw e o)
 
+-- .. that tells nothing
+silent : {limit : Option ℕ} {place next : Place} {b : ℕ} {k : Class} → class_of b ≡ k → ends_all k ≡ false
+    → (IsText place → ⊥) → open_at next ≡ [] → data_left (left_at limit next) ≡ 0 → Leads limit place b [] next
+    → IsPlace next → Steps limit place b
+silent e o other closed none leads is =
+    sequenced other closed none (plain _ _ e o) leads is (λ _ _. tt) (λ _. tt)
+
 -- ---- after ESC
 
 step-final : (limit : Option ℕ) (b : ℕ) (k : Key) → class_of b ≡ Final → key_of b ≡ k → Steps limit AtEscape b
 unfolding pieces_of kept_items
-step-final limit b ControlSequence e k =
-    sequenced absurd refl refl (plain b Final e refl) (escape-control_sequence limit b e k) tt (λ _ _. tt) (λ _. tt)
-step-final limit b DeviceControl e k =
-    sequenced absurd refl refl (plain b Final e refl) (escape-device_control limit b e k) tt (λ _ _. tt) (λ _. tt)
-step-final limit b SystemCommand e k =
-    sequenced absurd refl refl (plain b Final e refl) (escape-system_command limit b e k) tt (λ _ _. tt) (λ _. tt)
-step-final limit b IgnoredString e k =
-    sequenced absurd refl refl (plain b Final e refl) (escape-ignored_string limit b e k) tt (λ _ _. tt) (λ _. tt)
+step-final limit b ControlSequence e k = silent e refl absurd refl refl (escape-control_sequence limit b e k) tt
+step-final limit b DeviceControl e k = silent e refl absurd refl refl (escape-device_control limit b e k) tt
+step-final limit b SystemCommand e k = silent e refl absurd refl refl (escape-system_command limit b e k) tt
+step-final limit b IgnoredString e k = silent e refl absurd refl refl (escape-ignored_string limit b e k) tt
 step-final limit b Dispatch e k =
     let s : Spans Final b =
     spans b Final e in
@@ -56,15 +59,10 @@ step-escape : (limit : Option ℕ) (b : ℕ) (k : Class) → class_of b ≡ k �
 step-escape limit b Control e o =
     sequenced absurd refl refl (plain b Control e o) (escape-control limit b e) tt
     (λ _ _. executed_low b (spans b Control e)) (λ _. tt)
-step-escape limit b Intermediate e o =
-    sequenced absurd refl refl (plain b Intermediate e o) (escape-intermediate limit b e) tt (λ _ _. tt) (λ _. tt)
+step-escape limit b Intermediate e o = silent e o absurd refl refl (escape-intermediate limit b e) tt
 step-escape limit b Final e o = step-final limit b (key_of b) e refl
-step-escape limit b Delete e o =
-    sequenced absurd refl refl (plain b Delete e o) (byte-dropped limit AtEscape b Delete refl e refl) tt
-    (λ _ _. tt) (λ _. tt)
-step-escape limit b High e o =
-    sequenced absurd refl refl (plain b High e o) (byte-dropped limit AtEscape b High refl e refl) tt
-    (λ _ _. tt) (λ _. tt)
+step-escape limit b Delete e o = silent e o absurd refl refl (byte-dropped limit AtEscape b Delete refl e refl) tt
+step-escape limit b High e o = silent e o absurd refl refl (byte-dropped limit AtEscape b High refl e refl) tt
 step-escape limit b Cancel e o = cc
 step-escape limit b Escape e o = cc
 step-escape limit b k e o =
@@ -79,14 +77,11 @@ step-intermediate : (limit : Option ℕ) (ints : List ℕ) (b : ℕ) (k : Class)
 step-intermediate limit ints b Control e o =
     sequenced absurd refl refl (plain b Control e o) (intermediate-control limit ints b e) tt
     (λ _ _. executed_low b (spans b Control e)) (λ _. tt)
-step-intermediate limit ints b Intermediate e o =
-    sequenced absurd refl refl (plain b Intermediate e o) (intermediate-more limit ints b e) tt (λ _ _. tt) (λ _. tt)
+step-intermediate limit ints b Intermediate e o = silent e o absurd refl refl (intermediate-more limit ints b e) tt
 step-intermediate limit ints b Delete e o =
-    sequenced absurd refl refl (plain b Delete e o) (byte-dropped limit (InEscape ints) b Delete refl e refl) tt
-    (λ _ _. tt) (λ _. tt)
+    silent e o absurd refl refl (byte-dropped limit (InEscape ints) b Delete refl e refl) tt
 step-intermediate limit ints b High e o =
-    sequenced absurd refl refl (plain b High e o) (byte-dropped limit (InEscape ints) b High refl e refl) tt
-    (λ _ _. tt) (λ _. tt)
+    silent e o absurd refl refl (byte-dropped limit (InEscape ints) b High refl e refl) tt
 step-intermediate limit ints b Cancel e o = cc
 step-intermediate limit ints b Escape e o = cc
 step-intermediate limit ints b k e o =
@@ -106,41 +101,33 @@ step-control limit head b Final e o = elim (cases_Bool (is_well_shaped (head_of 
       sequenced absurd refl refl (plain b Final e o) (control-dispatched limit head b e well) refl
       (λ size _. bounded-csi size (head_of head) b (spans b Final e)) (λ _. other-csi (head_of head) b)
   | inr ill ↦
-      sequenced absurd refl refl (plain b Final e o) (control-silent limit head b e ill) refl (λ _ _. tt) (λ _. tt)
+      silent e o absurd refl refl (control-silent limit head b e ill) refl
 ]
 step-control limit head b Delete e o =
-    sequenced absurd refl refl (plain b Delete e o)
-    (byte-dropped limit (InControlSequence head) b Delete refl e refl) tt (λ _ _. tt) (λ _. tt)
+    silent e o absurd refl refl (byte-dropped limit (InControlSequence head) b Delete refl e refl) tt
 step-control limit head b High e o =
-    sequenced absurd refl refl (plain b High e o) (byte-dropped limit (InControlSequence head) b High refl e refl) tt
-    (λ _ _. tt) (λ _. tt)
+    silent e o absurd refl refl (byte-dropped limit (InControlSequence head) b High refl e refl) tt
 step-control limit head b Cancel e o = cc
 step-control limit head b Escape e o = cc
-step-control limit head b k e o =
-    sequenced absurd refl refl (plain b k e o) (control-head limit head b (rw e refl)) tt (λ _ _. tt) (λ _. tt)
+step-control limit head b k e o = silent e o absurd refl refl (control-head limit head b (rw e refl)) tt
 
 -- ---- in a device control string
 
 step-device : (limit : Option ℕ) (head : List ℕ) (b : ℕ) (k : Class) → class_of b ≡ k → ends_all k ≡ false
     → Steps limit (InDeviceControl head) b
-step-device limit head b Control e o =
-    sequenced absurd refl refl (plain b Control e o) (device-dropped limit head b Control e refl) tt
-    (λ _ _. tt) (λ _. tt)
+step-device limit head b Control e o = silent e o absurd refl refl (device-dropped limit head b Control e refl) tt
 step-device limit head b Final e o = elim (cases_Bool (is_well_shaped (head_of head))) [
   | inl well ↦
       sequenced absurd refl refl (plain b Final e o) (device-well_shaped limit head b e well) tt
       (λ size _. bounded-hook size (head_of head) b (spans b Final e)) (λ _. other-hook (head_of head) b)
   | inr ill ↦
-      sequenced absurd refl refl (plain b Final e o) (device-malformed limit head b e ill) tt (λ _ _. tt) (λ _. tt)
+      silent e o absurd refl refl (device-malformed limit head b e ill) tt
 ]
-step-device limit head b Delete e o =
-    sequenced absurd refl refl (plain b Delete e o) (device-dropped limit head b Delete e refl) tt (λ _ _. tt) (λ _. tt)
-step-device limit head b High e o =
-    sequenced absurd refl refl (plain b High e o) (device-dropped limit head b High e refl) tt (λ _ _. tt) (λ _. tt)
+step-device limit head b Delete e o = silent e o absurd refl refl (device-dropped limit head b Delete e refl) tt
+step-device limit head b High e o = silent e o absurd refl refl (device-dropped limit head b High e refl) tt
 step-device limit head b Cancel e o = cc
 step-device limit head b Escape e o = cc
-step-device limit head b k e o =
-    sequenced absurd refl refl (plain b k e o) (device-head limit head b (rw e refl)) tt (λ _ _. tt) (λ _. tt)
+step-device limit head b k e o = silent e o absurd refl refl (device-head limit head b (rw e refl)) tt
 
 -- ---- in its data
 
@@ -157,8 +144,7 @@ step-data limit b Delete e o =
 step-data limit b High e o = elim (cases_Bool (eqb b 0x9c)) [
   | inl is ↦ sequenced absurd refl refl (plain b High e o) (data-terminator limit b e is) refl (λ _ _. tt) (λ _. tt)
   | inr other ↦
-      sequenced absurd refl refl (plain b High e o) (data-dropped limit b (rw e other) (rw e refl)) tt
-      (λ _ _. tt) (λ _. tt)
+      silent e o absurd refl refl (data-dropped limit b (rw e other) (rw e refl)) tt
 ]
 step-data limit b Cancel e o = cc
 step-data limit b Escape e o = cc
@@ -198,8 +184,7 @@ step-ordinary limit (InDeviceControl head) b k is e o = step-device limit head b
 step-ordinary limit InData b k is e o = step-data limit b k e o
 step-ordinary limit (InSystemCommand items) b k is e o = step-command limit items b k e o
 step-ordinary limit InIgnoredString b k is e o =
-    sequenced absurd refl refl (plain b k e o) (ignored-more limit b (rw e (ends_not_cancel k o))) tt
-    (λ _ _. tt) (λ _. tt)
+    silent e o absurd refl refl (ignored-more limit b (rw e (ends_not_cancel k o))) tt
 
 -- ESC breaks a character
 escape_little : (limit : Option ℕ) (place : Place) → IsPlace place → IsText place

@@ -1,4 +1,5 @@
--- The automaton over bytes one after another, and what it still wants at a state.
+-- The automaton over bytes one after another: a state is the list of ranges that the open character still wants
+-- (`still`), and a byte in the first of them takes it off.
 use Rattle.vte_core.proofs.Common.{List, [], ap, arith, get_or, length, refl, suc, ℕ, ◌++◌, ◌<◌, ◌∙◌, ◌∷◌, ◌≡◌, ◌≢◌, ◌≤◌, Range, to}
 use Rattle.vte_core.specs.machine.Automaton.{AutomatonState, Between, One, Two, Three, AfterE0, AfterED, AfterF0, AfterF4, AfterC2, Failed, over, begun, next, state_after}
 

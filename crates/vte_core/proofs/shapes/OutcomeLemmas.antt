@@ -1,4 +1,4 @@
--- Events that come first.
+-- Events told before an outcome stay before it: they pass through what follows unchanged.
 use Rattle.vte_core.proofs.Common.{◌≡◌, ℕ, Option, List, [], ◌∷◌, ◌++◌, refl, ap, ◌∙◌, append_assoc, body_outcome, Event, Outcome, closing, tell, closed, with_bodies}
 
 pub tell-append : (es fs : List Event) (outcome : Outcome) → tell (es ++ fs) outcome ≡ tell es (tell fs outcome)

@@ -1,6 +1,7 @@
--- Bytes after ESC that begin no other shape than an escape sequence, and those that mean nothing.
-use Rattle.vte_core.proofs.Common.{◌≡◌, ℕ, ◌<◌, Bool, true, false, ne_eqb, arith, refl, ◌∙◌, nat_tests, Class, Control, Delete, High, Dispatch, begins_ignored_string, key_of, if◌then◌else◌}
-use Rattle.vte_core.specs.Key.{IgnoredString}
+-- Which keys after ESC begin no other shape than an escape sequence, and which bytes mean nothing there or in a head:
+-- by the key and by the class.
+use Rattle.vte_core.proofs.Common.{◌≡◌, ℕ, ◌<◌, Bool, true, false, ne_eqb, arith, refl, ◌∙◌, nat_tests, Class, Control, Delete, High, Dispatch, key_of, if◌then◌else◌}
+use Rattle.vte_core.specs.Key.{IgnoredString, begins_ignored_string}
 
 -- a class of bytes that are dropped after ESC
 abbrev pub is_dropped : Class → Bool

@@ -1,4 +1,5 @@
--- The text of groups, written from its front.
+-- The text of groups has separators between the parts; a loop writes one before each part but the first. Both are the
+-- same text.
 use Rattle.vte_core.proofs.Common.{◌≡◌, ℕ, ◌-◌, ◌≤◌, List, [], ◌∷◌, ◌++◌, length, take, drop, get_or, map, refl, sym, ap, ◌∙◌, arith, decimal, flat_map}
 use Rattle.vte_core.proofs.Common.{join_with_byte, append-nil, take_all, colon, semicolon, shown}
 use Rattle.std.proofs.lemmas.List.Folds.{flat_map-map}

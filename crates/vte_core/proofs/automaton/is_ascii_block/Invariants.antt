@@ -1,3 +1,4 @@
+-- Each byte before this one stands between characters, unless one was found that does not.
 use Rattle.std.proofs.Common.{◌≡◌, IsTrue}
 use Rattle.vte_core.specs.machine.Automaton.{Between, begun}
 use Rattle.vte_core.specs.machine.Between.{Each}

@@ -1,3 +1,4 @@
+-- A block of ASCII leads from between characters back there; over any other the automaton takes a byte at a time.
 use Rattle.vte_core.proofs.Common.{[], ap, arith, get_or, sym, take, ◌∙◌, ◌∷◌, take_more}
 use Rattle.vte_core.specs.machine.Automaton.{code, state_after}
 use Rattle.vte_core.proofs.runs.Readings.{is_between}

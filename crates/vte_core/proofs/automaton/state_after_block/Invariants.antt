@@ -1,3 +1,4 @@
+-- The code in the low bits is that of the state after the bytes read so far.
 use Rattle.std.proofs.Common.{◌≡◌, ◌%◌, take}
 use Rattle.vte_core.specs.machine.Automaton.{AutomatonState, code, state_after}
 use Rattle.vte_core.proofs.automaton.state_after_block.Given as goal

@@ -1,3 +1,4 @@
+-- The table is right: computed for each of the states and of the 256 bytes.
 use Rattle.vte_core.proofs.Common.{◌≡◌, ℕ, ◌/◌, ◌%◌, Bool, true, refl, ap, ◌∙◌, arith, eqb-true, slice_index}
 use Rattle.std.proofs.Common.{◌^◌, nat_eq}
 use Rattle.std.proofs.lemmas.Bool.{agree_below, agree_below_at}

@@ -1,3 +1,4 @@
+-- After some of the pieces the performer has the events of these, and the parser has read them.
 use Rattle.vte_core.proofs.Common.{◌≡◌, Some, take, flat_map, after, events}
 use Rattle.vte_core.specs.Parser.{HasRead}
 use Rattle.vte_core.proofs.laws.replay.Given as goal

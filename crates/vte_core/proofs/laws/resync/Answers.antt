@@ -1,3 +1,4 @@
+-- A lemma of streams: `resynchronises`.
 use Rattle.vte_core.proofs.streams.StreamSteps.{resynchronises}
 use Rattle.vte_core.proofs.laws.resync.Goals as goal
 

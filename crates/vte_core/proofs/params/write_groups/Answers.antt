@@ -1,3 +1,4 @@
+-- What is written after the last group, or if there is none, is the text of the groups.
 use Rattle.vte_core.proofs.Common.{sym, ap, ◌∙◌, refl, arith, common_steps, shown}
 use Rattle.std.proofs.Output.{has_written_of_eq, has_written_append, writes_in_calls_nil}
 use Rattle.vte_core.proofs.showing.Shown.{groups_written, shown-nil}

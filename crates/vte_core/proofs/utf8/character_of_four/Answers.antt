@@ -1,3 +1,4 @@
+-- The number that four bytes spell is a character's.
 use Rattle.vte_core.proofs.Common.{◌∙◌}
 use Rattle.vte_core.proofs.bytes.CarriedLemmas.{spells_four, spells-same, spells-scalar}
 use Rattle.vte_core.proofs.utf8.character_of_four.Goals as goal

@@ -1,3 +1,4 @@
+-- The number that three bytes spell is a character's.
 use Rattle.vte_core.proofs.Common.{◌∙◌}
 use Rattle.vte_core.proofs.bytes.CarriedLemmas.{spells_three, spells-same, spells-scalar}
 use Rattle.vte_core.proofs.utf8.character_of_three.Goals as goal

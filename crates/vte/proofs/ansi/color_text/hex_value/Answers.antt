@@ -1,3 +1,4 @@
+-- Three digits at most give a small number, so nothing overflows.
 use Rattle.vte.proofs.Common.{arith, rules}
 use Rattle.vte.proofs.ColorTexts.{few_digits}
 use Rattle.vte.proofs.ansi.color_text.hex_value.Goals as goal

@@ -1,3 +1,4 @@
+-- The text that is looked up is the name itself.
 use Rattle.vte.proofs.Common.{◌≡◌, ◌∙◌, ap, rules}
 use Rattle.std.specs.Result.{result_ok}
 use Rattle.vte.proofs.Calling.{found_ok}

@@ -1,7 +1,7 @@
+-- The numbers that are left give what all give.
 use Rattle.vte.proofs.Common.{◌≡◌, drop, map, filter_map, decimal_number, ResetColor, after}
 use Rattle.vte.proofs.ansi.command_calls.reset_colors.Given as goal
 
--- the numbers that are left give what all give
 abbrev pub invariant-loop-text : goal.invariant-loop-text
 invariant-loop-text g l =
     after g.H.Handler.step (g.H.Handler.value_of l.handler)

@@ -1,7 +1,7 @@
+-- The pairs that are left give what all give.
 use Rattle.vte.proofs.Common.{◌≡◌, length, map, pairs_calls, after}
 use Rattle.vte.proofs.ansi.command_calls.set_colors.Given as goal
 
--- the pairs that are left give what all give
 abbrev pub invariant-loop-left : goal.invariant-loop-left
 invariant-loop-left g l =
     after g.H.Handler.step (g.H.Handler.value_of l.handler) (pairs_calls l.terminator (map (λ piece. piece.now) l.left))

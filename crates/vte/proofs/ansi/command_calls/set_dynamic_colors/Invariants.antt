@@ -1,7 +1,7 @@
+-- The texts that are left give what all give.
 use Rattle.vte.proofs.Common.{◌≡◌, ◌+◌, drop, map, dynamic_calls, after}
 use Rattle.vte.proofs.ansi.command_calls.set_dynamic_colors.Given as goal
 
--- the texts that are left give what all give
 abbrev pub invariant-loop-text : goal.invariant-loop-text
 invariant-loop-text g l =
     (l.code ≡ l.first + l.text-index)

@@ -1,7 +1,7 @@
+-- What is left to change gives what all gives.
 use Rattle.vte.proofs.Common.{◌≡◌, after, changes, first_numbers}
 use Rattle.vte.proofs.ansi.control_calls.change_modes.Given as goal
 
--- what is left to change gives what all gives
 abbrev pub invariant-loop-group : goal.invariant-loop-group
 invariant-loop-group g l =
     (goal.iterator-loop-group g).can_next l.group-iterator × (goal.iterator-loop-group g).is_finite l.group-iterator

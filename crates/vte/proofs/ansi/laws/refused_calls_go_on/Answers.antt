@@ -1,3 +1,4 @@
+-- A lemma of turns: `goes_on`.
 use Rattle.vte.proofs.turns.Slices.{goes_on}
 use Rattle.vte.proofs.ansi.laws.refused_calls_go_on.Goals as goal
 

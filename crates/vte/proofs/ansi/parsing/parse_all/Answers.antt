@@ -1,3 +1,4 @@
+-- What was lent to the performer comes back with the calls of the parsed bytes.
 use Rattle.vte.proofs.Common.{refl, meaning}
 use Rattle.vte.proofs.performing.Parsed.{given_back, room_back}
 use Rattle.vte.proofs.ansi.parsing.parse_all.Goals as goal

@@ -1,3 +1,5 @@
+-- An early stop reads the front up to the begin of an update (`turns/Fronts`), and what was lent comes back with its
+-- calls.
 use Rattle.vte.proofs.Common.{drop, length, refl, meaning, begin_front}
 use Rattle.vte.proofs.performing.Parsed.{given_back, stops_at_front, stop_performs, stop_stream, stop_terminated}
 use Rattle.vte.proofs.performing.Rooms.{front_fits}

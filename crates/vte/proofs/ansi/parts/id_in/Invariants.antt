@@ -1,8 +1,8 @@
+-- The parts that are left have the first that all have.
 use Rattle.vte.proofs.Common.{◌≡◌, codes, first_after, parts_of, parts_left}
 use Rattle.vte.proofs.Parts.{left_size}
 use Rattle.vte.proofs.ansi.parts.id_in.Given as goal
 
--- the parts that are left have the first that all have
 abbrev pub invariant-loop-left : goal.invariant-loop-left
 invariant-loop-left l =
     first_after (codes "id=") (parts_left 0x3a l.left) ≡ first_after (codes "id=") (parts_of 0x3a l.parameters)

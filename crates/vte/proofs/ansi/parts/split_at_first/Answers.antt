@@ -1,3 +1,4 @@
+-- The first separator parts the text; without one the text is a part of its own.
 use Rattle.vte.proofs.Common.{ℕ, ◌==◌, ◌+◌, length, arith, rules, position_or_len_is, take_rest}
 use Rattle.vte.proofs.Parts.{first_part, whole_part}
 use Rattle.vte.proofs.ansi.parts.split_at_first.Goals as goal

@@ -1,3 +1,4 @@
+-- The word is stripped if the text begins with it.
 use Rattle.vte.proofs.Common.{arith, Decides-eqb}
 use Rattle.std.proofs.lemmas.Slice.Eq.{strip_prefix_is}
 use Rattle.vte.proofs.ansi.parts.strip_word.Goals as goal

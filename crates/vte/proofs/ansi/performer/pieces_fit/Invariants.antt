@@ -1,7 +1,7 @@
+-- The pieces that are left fit what room is left exactly where all fit.
 use Rattle.vte.proofs.Common.{◌≡◌, ◌+◌, drop, map, length, concat, nat_le, fits_room}
 use Rattle.vte.proofs.ansi.performer.pieces_fit.Given as goal
 
--- the pieces that are left fit what room is left exactly where all fit
 abbrev pub invariant-loop-piece : goal.invariant-loop-piece
 invariant-loop-piece l =
     nat_le

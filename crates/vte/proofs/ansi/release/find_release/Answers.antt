@@ -1,7 +1,10 @@
+-- From the end back, from ESC to ESC: a begin counts, an end is the last one and ends the search, and any other
+-- sequence changes nothing (`updates/Seen`).
 use Rattle.vte.proofs.Common.{◌<◌, ◌≤◌, length, sym, ◌∙◌, arith, length-append, length-take-le}
 use Rattle.vte.proofs.updates.Seen.{last_escape, seen_all, seen_begin_before, seen_end, seen_nothing, seen_other_before, sequence_at}
 use Rattle.vte.proofs.ansi.release.find_release.Goals as goal
 
+-- Nothing is seen yet.
 pub loop-place-init : goal.loop-place-init
 loop-place-init c =
     record {
@@ -9,6 +12,7 @@ loop-place-init c =
       seen = λ held more e. seen_nothing e _ c.saturating_sub-unread.ensures;
     }
 
+-- A begin of an update: one more is counted.
 pub loop-place-preserved-then-begins_update : goal.loop-place-preserved-then-begins_update
 loop-place-preserved-then-begins_update c =
     let before = c.loop-place.invariant in
@@ -27,6 +31,7 @@ loop-place-preserved-then-begins_update c =
           (rw (sequence_at e) at (sym c.begins_update.ensures.value ∙ c.if-begins_update.true));
     }
 
+-- Any other sequence.
 pub loop-place-preserved : goal.loop-place-preserved
 loop-place-preserved c =
     let before = c.loop-place.invariant in
@@ -45,6 +50,7 @@ loop-place-preserved c =
           (rw (sequence_at e) at (sym c.ends_update.ensures.value ∙ c.if-ends_update.false));
     }
 
+-- The last end of an update.
 pub returns-then-ends_update : goal.returns-then-ends_update
 returns-then-ends_update c = λ held more e none.
     let before = c.loop-place.invariant in
@@ -54,6 +60,7 @@ returns-then-ends_update c = λ held more e none.
     seen_end _ _ _ _ _ at.inside at.seen
     (rw (sequence_at e) at (sym c.ends_update.ensures.value ∙ c.if-ends_update.true))
 
+-- No ESC is left, so no end either.
 pub returns : goal.returns
 returns c = λ held more e none.
     let before = c.loop-place.invariant in

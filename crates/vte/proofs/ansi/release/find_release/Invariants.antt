@@ -1,3 +1,4 @@
+-- The search has come back to this place, and what it has seen decides what the whole text does (`HasSeen`).
 use Rattle.vte.proofs.Common.{ℕ, ◌+◌, ◌≤◌, List, ◌++◌, length, IsEnd}
 use Rattle.vte.proofs.updates.Seen.{HasSeen}
 use Rattle.vte.proofs.ansi.release.find_release.Given as goal

@@ -1,7 +1,7 @@
+-- What is left to call gives what all calls give.
 use Rattle.vte.proofs.Common.{◌≡◌, length, after, attribute_calls}
 use Rattle.vte.proofs.ansi.rendition.perform_attributes.Given as goal
 
--- what is left to call gives what all calls give
 abbrev pub invariant-loop-group : goal.invariant-loop-group
 invariant-loop-group g l =
     after g.H.Handler.step (g.H.Handler.value_of l.handler) (attribute_calls l.groups)

@@ -1,3 +1,4 @@
+-- The recursion ends, for a tenth of a number is smaller.
 use Rattle.vte.proofs.ansi.titles.+push_number.Given as goal
 
 abbrev pub decreases-push_number : goal.decreases-push_number

@@ -1,3 +1,4 @@
+-- A text more is joined, for which there is room (`Joining`), or one that is left out changes nothing.
 use Rattle.vte.proofs.Common.{◌∙◌, ap, arith}
 use Rattle.vte.proofs.Joining.{joins-begin, joins-more, joins-room, joins-same}
 use Rattle.vte.proofs.ansi.titles.join_texts.Goals as goal

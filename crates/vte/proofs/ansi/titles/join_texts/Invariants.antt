@@ -1,3 +1,4 @@
+-- The texts so far are joined, and the room is the same.
 use Rattle.vte.proofs.Common.{◌≡◌, drop, map}
 use Rattle.vte.proofs.Joining.{Joins}
 use Rattle.vte.proofs.ansi.titles.join_texts.Given as goal

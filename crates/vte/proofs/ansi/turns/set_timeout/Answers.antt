@@ -1,3 +1,4 @@
+-- Once more is one more.
 use Rattle.vte.proofs.Common.{◌∙◌}
 use Rattle.vte.proofs.performing.CallLists.{set_times-add}
 use Rattle.vte.proofs.ansi.turns.set_timeout.Goals as goal

@@ -1,3 +1,4 @@
+-- The timeout was set this many times.
 use Rattle.vte.proofs.Common.{◌≡◌, set_times, timeout_meaning}
 use Rattle.vte.proofs.ansi.turns.set_timeout.Given as goal
 

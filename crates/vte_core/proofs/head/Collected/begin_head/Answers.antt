@@ -1,3 +1,4 @@
+-- A head begins with no intermediates and no numbers.
 use Rattle.vte_core.proofs.Common.{refl}
 use Rattle.vte_core.proofs.fields.HeadSteps.{holds-nothing}
 use Rattle.vte_core.proofs.fields.NumberSteps.{counts-nothing}

@@ -1,3 +1,5 @@
+-- An intermediate is collected, a marker only at the entry, and any other byte comes too late: by the class of the byte
+-- and the part of the head that was reached.
 use Rattle.vte_core.proofs.Common.{◌≡◌, inl, sym, ◌∙◌, Marker, class_of}
 use Rattle.vte_core.proofs.bytes.ClassCases.{intermediate}
 use Rattle.vte_core.proofs.fields.HeadSteps.{head-holds, holds-intermediate, holds-marker, malformed-late, left_is_marker}

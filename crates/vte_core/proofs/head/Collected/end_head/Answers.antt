@@ -1,3 +1,4 @@
+-- The last number is settled, so what is held is the whole head: whether too many numbers were given or not.
 use Rattle.vte_core.proofs.Common.{refl}
 use Rattle.vte_core.proofs.fields.HeadSteps.{ready}
 use Rattle.vte_core.proofs.head.Collected.end_head.Goals as goal

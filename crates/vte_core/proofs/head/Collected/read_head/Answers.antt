@@ -1,3 +1,4 @@
+-- Each round reads one byte of the head, or all the numbers that stand there, and what was read adds up (`reads-then`).
 use Rattle.vte_core.proofs.Common.{refl, sym, ◌∙◌, arith}
 use Rattle.vte_core.proofs.calls.Heads.{reads-head_byte, reads-nothing, reads-then}
 use Rattle.vte_core.proofs.head.Collected.read_head.Goals as goal
@@ -6,6 +7,7 @@ pub loop-position-init : goal.loop-position-init
 loop-position-init g c =
     record { reads = reads-nothing c.requires; count = omega arith; least = omega arith; none = refl }
 
+-- Parameters, of which at least the first byte is read.
 pub loop-position-preserved-then-may_have_parameters : goal.loop-position-preserved-then-may_have_parameters
 loop-position-preserved-then-may_have_parameters g c =
     let v = c.loop-position.invariant in
@@ -21,6 +23,7 @@ loop-position-preserved-then-may_have_parameters g c =
       none = v.none;
     }
 
+-- A marker, an intermediate, or a byte that makes the head malformed.
 pub loop-position-preserved : goal.loop-position-preserved
 loop-position-preserved g c =
     let v = c.loop-position.invariant in

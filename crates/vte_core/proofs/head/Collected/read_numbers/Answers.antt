@@ -1,3 +1,5 @@
+-- A digit makes the open number longer, a separator settles it and opens another: so the head is read byte by byte. At
+-- the end either no byte was read, and the part of the head is the old one, or it is that of parameters.
 use Rattle.vte_core.proofs.Common.{refl, sym, ◌∙◌, arith, rules}
 use Rattle.vte_core.specs.machine.Reading.{with_open_number}
 use Rattle.vte_core.proofs.calls.Heads.{part_after-more, part_after-none, reads-nothing, reads-parameter}
@@ -6,6 +8,7 @@ use Rattle.vte_core.proofs.head.Collected.read_numbers.Goals.{else-loop-position
 use Rattle.vte_core.proofs.head.Collected.read_numbers.Goals.{in-Some, in_default+then-several+then-is_separator}
 use Rattle.vte_core.proofs.head.Collected.read_numbers.Goals as goal
 
+-- No byte is read.
 pub loop-position-init : goal.loop-position-init
 loop-position-init g c = record {
   reads =
@@ -16,12 +19,14 @@ loop-position-init g c = record {
   small = omega arith;
 }
 
+-- A digit, or a separator that is no first byte.
 pub loop-position-preserved : goal.loop-position-preserved
 loop-position-preserved g c =
     let v = c.loop-position.invariant in
     let held = c.loop-position.self in
     record {
       reads = elim c.match-digit_of.branch [
+        -- A digit.
         | in-Some w ↦
             let is = rw w.in-Some.is at c.digit_of.ensures in
             rw (w.self-is, w.number-is)
@@ -31,6 +36,7 @@ loop-position-preserved g c =
             counts-digit (with_open_number held c.loop-position.number)
             (with_open_number held w.min-number.result) text c.at-byte.result k is.0 is.1 refl refl
             (omega (arith, w.min-number.ensures, is.2))) v.reads)
+        -- A separator.
         | in_default+then-several+then-is_separator w ↦
             let settled = w.settle_number-self.ensures in
             let separator = w.is_separator.ensures in
@@ -46,6 +52,7 @@ loop-position-preserved g c =
       small = search rules;
     }
 
+-- No byte was read: the part of the head stays.
 pub returns-then-from-position-clause-reads : goal.returns-then-from-position-clause-reads
 returns-then-from-position-clause-reads g c =
     let v = c.loop-position.invariant in
@@ -59,6 +66,7 @@ returns-then-from-position-clause-reads g c =
       ];
     }
 
+-- Some were: it is that of parameters.
 pub returns-else-from-position-clause-reads : goal.returns-else-from-position-clause-reads
 returns-else-from-position-clause-reads g c =
     let v = c.loop-position.invariant in

@@ -1,3 +1,4 @@
+-- What is written after the last number is the text of the group.
 use Rattle.std.proofs.Output.{has_written_of_eq}
 use Rattle.vte_core.proofs.showing.Shown.{group_written}
 use Rattle.vte_core.proofs.params.GroupDisplay.fmt.Goals as goal

@@ -1,11 +1,15 @@
+-- A number more joins the last group or begins one (`pushed` of `fields/Groups`): there is room, the last length stays
+-- small, and the lengths still fit.
 use Rattle.vte_core.proofs.Common.{◌<◌, ◌≤◌, ◌+◌, All-push, arith, ap, greatest_number, lit<, count_of}
 use Rattle.vte_core.proofs.fields.Groups.{count_of-cut_by_lengths, pushed}
 use Rattle.vte_core.proofs.params.Params.push.Goals as goal
 
+-- There is room for the number.
 pub push-requires : goal.push-requires
 push-requires c =
     (lit< tt, omega (arith, count_of-cut_by_lengths _ _ c.self.invariant.lengths_fit, ap count_of c.self.view_is))
 
+-- The last length is below the most numbers, so it fits a byte.
 pub overflow_add-unwrap_or : goal.overflow_add-unwrap_or
 overflow_add-unwrap_or c =
     let all = pushed _ _ _ _ _ c.args.value c.self.invariant.lengths_fit c.take_joined-length.ensures in
@@ -14,6 +18,7 @@ overflow_add-unwrap_or c =
     (omega (arith, all.room, count_of-cut_by_lengths _ _ c.self.invariant.lengths_fit, ap count_of c.self.view_is)) in
     record { fits = small }
 
+-- There is room for the length.
 pub push-requires-2 : goal.push-requires-2
 push-requires-2 c =
     let all = pushed _ _ _ _ _ c.args.value c.self.invariant.lengths_fit c.take_joined-length.ensures in (
@@ -22,6 +27,7 @@ push-requires-2 c =
           (arith, all.room, count_of-cut_by_lengths _ _ c.self.invariant.lengths_fit, ap count_of c.self.view_is),
     )
 
+-- The lengths are still those of the numbers.
 pub invariant_of-self : goal.invariant_of-self
 invariant_of-self c =
     let all = pushed _ _ _ _ _ c.args.value c.self.invariant.lengths_fit c.take_joined-length.ensures in
@@ -32,6 +38,7 @@ invariant_of-self c =
           (omega (arith, c.ranges.value.fits));
     })
 
+-- The groups are the old ones with the number.
 pub returns : goal.returns
 returns c =
     let all = pushed _ _ _ _ _ c.args.value c.self.invariant.lengths_fit c.take_joined-length.ensures in

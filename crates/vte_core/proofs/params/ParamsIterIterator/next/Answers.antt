@@ -1,3 +1,4 @@
+-- The first length is cut off with its numbers, and the other lengths fit the rest.
 use Rattle.vte_core.proofs.Common.{ℕ, List, subst}
 use Rattle.vte_core.specs.machine.Groups.{AreLengths}
 use Rattle.vte_core.proofs.fields.Groups.{AreLengths-rest}

@@ -1,3 +1,4 @@
+-- As many groups are left as lengths.
 use Rattle.vte_core.proofs.Common.{ℕ, length, sym, ◌∙◌, arith, ap, Some}
 use Rattle.vte_core.proofs.fields.Groups.{length-cut_by_lengths}
 use Rattle.vte_core.proofs.params.ParamsIterIterator.size_hint.Goals as goal

@@ -1,3 +1,4 @@
+-- With a limit nothing is refused, so the contract is what `drive_to_run` ensures, of the run that was taken.
 use Rattle.vte_core.proofs.Common.{rules}
 use Rattle.vte_core.proofs.calls.ToRun.{reads-run, returns-run}
 use Rattle.vte_core.proofs.parser.Parser.advance_to_run.Goals as goal

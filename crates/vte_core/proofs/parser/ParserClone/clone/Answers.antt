@@ -1,3 +1,4 @@
+-- A copy has the state, what is collected and the items, so it has read the same (`reads_cloned`).
 use Rattle.std.proofs.lemmas.List.Elements.{same_from_all_zip}
 use Rattle.vte_core.proofs.Common.{◌≡◌, refl, rules, SameItems}
 use Rattle.vte_core.proofs.fields.Cloned.{reads_cloned}

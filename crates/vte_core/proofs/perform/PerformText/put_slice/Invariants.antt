@@ -1,3 +1,4 @@
+-- What is left to put gives what all gives.
 use Rattle.vte_core.proofs.Common.{◌≡◌, drop, map, Put, after}
 use Rattle.vte_core.proofs.perform.PerformText.put_slice.Given as goal
 

@@ -1,3 +1,4 @@
+-- The first byte, the ASCII after it and what follows are one run (`run-append`).
 use Rattle.vte_core.proofs.Common.{arith, IsPrinted}
 use Rattle.vte_core.proofs.bytes.Between.{each-both}
 use Rattle.vte_core.proofs.bytes.Printable.{run-ascii, run-append}

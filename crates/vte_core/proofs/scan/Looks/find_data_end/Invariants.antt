@@ -1,3 +1,4 @@
+-- All bytes so far are data of a command.
 use Rattle.vte_core.proofs.Common.{◌-◌, ◌≤◌, length}
 use Rattle.vte_core.specs.SystemCommand.{IsCommandData}
 use Rattle.vte_core.specs.machine.Between.{Each}

@@ -1,3 +1,4 @@
+-- Each round adds ASCII, or one character that is longer or a kept control, to the run (`scans-run`).
 use Rattle.vte_core.proofs.Common.{arith, subst, sym, ◌∙◌, slice_index, IsPrinted}
 use Rattle.vte_core.proofs.bytes.Between.{each-one, each-both}
 use Rattle.vte_core.proofs.bytes.Printable.{printed-is, run-none, run-ascii}
@@ -16,6 +17,7 @@ loop-end-init g c = record {
   count = omega arith;
 }
 
+-- ASCII that is printed, as far as it goes.
 pub loop-end-preserved-then-is_printed_ascii : goal.loop-end-preserved-then-is_printed_ascii
 loop-end-preserved-then-is_printed_ascii g c =
     let v = c.loop-end.invariant in
@@ -35,6 +37,7 @@ loop-end-preserved-then-is_printed_ascii g c =
       count = omega (arith, v.count, ascii.count, c.at-byte.ensures.count);
     }
 
+-- What else a run goes on by.
 pub loop-end-preserved : goal.loop-end-preserved
 loop-end-preserved g c =
     let v = c.loop-end.invariant in

@@ -1,3 +1,4 @@
+-- All bytes so far are a run, with 11 looks for three bytes at most.
 use Rattle.vte_core.proofs.Common.{length, ◌*◌, ◌+◌, ◌-◌, ◌≤◌, looked, IsRun, Scans}
 use Rattle.vte_core.proofs.scan.Looks.find_end_before.Given as goal
 

@@ -1,3 +1,4 @@
+-- All bytes so far are printed ASCII, with one look for each.
 use Rattle.vte_core.proofs.Common.{length, ◌+◌, ◌-◌, ◌≡◌, looked, ArePrinted, Scans}
 use Rattle.vte_core.proofs.scan.Looks.find_end_by_words.Given as goal
 

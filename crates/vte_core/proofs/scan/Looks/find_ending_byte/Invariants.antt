@@ -1,3 +1,4 @@
+-- All bytes so far are ignored.
 use Rattle.vte_core.proofs.Common.{◌≡◌, ◌+◌, looked, AreIgnored}
 use Rattle.vte_core.proofs.scan.Looks.find_ending_byte.Given as goal
 

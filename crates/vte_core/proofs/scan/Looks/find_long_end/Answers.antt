@@ -1,3 +1,4 @@
+-- Whole blocks first, then the bytes after them: together they are one run.
 use Rattle.vte_core.proofs.Common.{arith, inl, inr, cases_lt, length}
 use Rattle.vte_core.proofs.bytes.Ends.{ends-all}
 use Rattle.vte_core.proofs.bytes.Scanning.{scans-run}

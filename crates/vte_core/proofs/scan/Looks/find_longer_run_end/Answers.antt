@@ -1,8 +1,10 @@
+-- A character of two or three bytes and the run after it are one run (`run-append`).
 use Rattle.std.proofs.Common.{◌+◌, refl, sym, ◌∙◌, arith}
 use Rattle.vte_core.proofs.bytes.Printable.{run-append}
 use Rattle.vte_core.proofs.dividing.PrintableCharacters.{run-two, run-three}
 use Rattle.vte_core.proofs.scan.Looks.find_longer_run_end.Goals as goal
 
+-- A character of two bytes.
 pub returns-then-is_printed_pair-clause-run : goal.returns-then-is_printed_pair-clause-run
 returns-then-is_printed_pair-clause-run g c = λ _.
     let bytes = c.args.input.bytes.now in
@@ -15,6 +17,7 @@ returns-then-is_printed_pair-clause-run g c = λ _.
     (omega (arith, second.0)) c.requires.is second.1 c.requires.lead c.if-first-lt224.true
     (pair.0 refl).0 (pair.0 refl).1) rest.scans.are
 
+-- A character of three.
 pub returns-in-Some-2-clause-run : goal.returns-in-Some-2-clause-run
 returns-in-Some-2-clause-run g c = λ _.
     let bytes = c.args.input.bytes.now in

@@ -1,3 +1,6 @@
+-- At a byte that is not printed ASCII, a run goes on by a kept control or by one character, of two, three or four bytes
+-- (`run-*`), or it ends. It ends (`ends-*`) if the byte is single, the bytes end too soon, or a byte does not fit: each
+-- test that fails excludes the character that would stand there.
 use Rattle.vte_core.proofs.Common.{◌≡◌, true, refl, sym, ap, ◌∙◌, arith, false≢true, slice_index, is_in, is_layout, second_range, to}
 use Rattle.vte_core.proofs.bytes.Ends.{ends-single, ends-long, ends-two, ends-three, ends-four}
 use Rattle.vte_core.proofs.bytes.Printable.{run-layout}
@@ -8,12 +11,14 @@ use Rattle.vte_core.proofs.scan.Looks.find_other_end.Goals.{else-may_begin_four-
 use Rattle.vte_core.proofs.scan.Looks.find_other_end.Goals.{else-may_begin_four-via-then-may_begin_four+in_ok-get-2+else-is_continuation-2, else-may_begin_four-via-else-may_begin_four}
 use Rattle.vte_core.proofs.scan.Looks.find_other_end.Goals as goal
 
+-- HT, LF or CR, if the performer keeps them: a run of one byte.
 pub returns-then-is_layout-clause-run : goal.returns-then-is_layout-clause-run
 returns-then-is_layout-clause-run g c =
     let layout : is_layout (slice_index c.args.input.bytes.now c.args.from) ≡ true =
     ap is_layout (sym c.requires.is) ∙ sym c.is_layout.ensures ∙ c.if-is_layout.true in
     rw c.if-keeps.true (run-layout c.args.input.bytes.now c.args.from _ c.requires.within refl layout)
 
+-- A character of two bytes, whose second one continues it; after C2 it is no control.
 pub returns-then-is_printed_pair-clause-run : goal.returns-then-is_printed_pair-clause-run
 returns-then-is_printed_pair-clause-run g c =
     let second = c.in_ok-second.ensures in
@@ -23,6 +28,7 @@ returns-then-is_printed_pair-clause-run g c =
     (omega (arith, second.0)) c.requires.is second.1 lead.0 c.if-first-lt224.true
     (pair.0 refl).0 (pair.0 refl).1
 
+-- A character of three bytes, all in their ranges.
 pub returns-then-is_continuation-clause-run : goal.returns-then-is_continuation-clause-run
 returns-then-is_continuation-clause-run g c =
     let third = c.in_ok-get.ensures in
@@ -31,6 +37,7 @@ returns-then-is_continuation-clause-run g c =
     third.1 c.if-first-lt224.false c.if-first-lt240.true
     (sym c.may_begin_three.ensures ∙ c.if-may_begin_three.true) (sym c.if-is_continuation.ensures)
 
+-- A character of four bytes, all in their ranges.
 pub returns-then-is_continuation-3-clause-run : goal.returns-then-is_continuation-3-clause-run
 returns-then-is_continuation-3-clause-run g c =
     let third = c.in_ok-get-2.ensures in
@@ -42,6 +49,7 @@ returns-then-is_continuation-3-clause-run g c =
     (sym c.may_begin_four.ensures ∙ c.if-may_begin_four.true) (sym c.if-is_continuation-2.ensures)
     (sym c.if-is_continuation-3.ensures)
 
+-- A byte that begins no longer character and is not kept: it is no run.
 pub returns-then-not-is_lead-clause-ended : goal.returns-then-not-is_lead-clause-ended
 returns-then-not-is_lead-clause-ended g c none =
     ends-single c.args.keeps _ c.args.from c.args.first c.requires.within c.requires.is c.requires.other
@@ -50,6 +58,7 @@ returns-then-not-is_lead-clause-ended g c none =
       | else-keeps-via-else-keeps w ↦ absurd (false≢true (sym w.if-keeps.false ∙ keeps))
     ])
 
+-- The bytes end after the first one, the second or the third: too few for the character.
 pub returns-in_err-second-clause-ended : goal.returns-in_err-second-clause-ended
 returns-in_err-second-clause-ended g c none =
     ends-long c.args.keeps _ c.args.from c.args.first c.requires.within c.requires.is
@@ -62,18 +71,17 @@ returns-in_err-get-clause-ended g c none =
 
 pub returns-in_err-get-2-clause-ended : goal.returns-in_err-get-2-clause-ended
 returns-in_err-get-2-clause-ended g c none =
-    let lead = in_range-bounds (to 0xc2 0xf4) c.args.first (sym c.is_lead.ensures ∙ c.if-not-is_lead.false) in
     ends-four c.args.keeps _ c.args.from c.args.first c.requires.within c.requires.is c.if-first-lt240.false
-    (omega (arith, lead.1)) (λ more second third fourth.
+    (sym c.is_lead.ensures ∙ c.if-not-is_lead.false) (λ more second third fourth.
     absurd (omega (arith, more, c.in_err-get-2.ensures.0)))
 
 pub returns-in_err-get-3-clause-ended : goal.returns-in_err-get-3-clause-ended
 returns-in_err-get-3-clause-ended g c none =
-    let lead = in_range-bounds (to 0xc2 0xf4) c.args.first (sym c.is_lead.ensures ∙ c.if-not-is_lead.false) in
     ends-four c.args.keeps _ c.args.from c.args.first c.requires.within c.requires.is c.if-first-lt240.false
-    (omega (arith, lead.1)) (λ more second third fourth.
+    (sym c.is_lead.ensures ∙ c.if-not-is_lead.false) (λ more second third fourth.
     absurd (omega (arith, more, c.in_err-get-3.ensures.0)))
 
+-- A second byte that does not continue the first one, or gives a control of C1.
 pub returns-else-is_printed_pair-clause-ended : goal.returns-else-is_printed_pair-clause-ended
 returns-else-is_printed_pair-clause-ended g c none =
     let lead = in_range-bounds (to 0xc2 0xf4) c.args.first (sym c.is_lead.ensures ∙ c.if-not-is_lead.false) in
@@ -85,33 +93,39 @@ returns-else-is_printed_pair-clause-ended g c none =
     ∙ c.is_printed_pair.ensures.1
     (ap (is_in (to 0x80 0xbf)) second ∙ continues, λ first. omega (arith, second, plain first))))
 
+-- Of three bytes, the third does not continue or the second does not fit the first.
 pub returns-else-may_begin_three-clause-ended : goal.returns-else-may_begin_three-clause-ended
 returns-else-may_begin_three-clause-ended g c none =
     ends-three c.args.keeps _ c.args.from c.args.first c.requires.within c.requires.is c.if-first-lt224.false
     c.if-first-lt240.true (λ more second third. elim c.else-may_begin_three.branch [
+      -- The third.
       | else-may_begin_three-via-then-may_begin_three+in_ok-get+else-is_continuation w ↦
           false≢true
           (sym (sym w.is_continuation.ensures ∙ w.if-is_continuation.false)
           ∙ ap (is_in (to 0x80 0xbf)) w.in_ok-get.ensures.1 ∙ third)
+      -- The second.
       | else-may_begin_three-via-else-may_begin_three w ↦
           false≢true
           (sym (sym c.may_begin_three.ensures ∙ w.if-may_begin_three.false)
           ∙ ap (is_in (second_range c.args.first)) c.in_ok-second.ensures.1 ∙ second)
     ])
 
+-- Of four bytes, the fourth or third does not continue or the second does not fit the first.
 pub returns-else-may_begin_four-clause-ended : goal.returns-else-may_begin_four-clause-ended
 returns-else-may_begin_four-clause-ended g c none =
-    let lead = in_range-bounds (to 0xc2 0xf4) c.args.first (sym c.is_lead.ensures ∙ c.if-not-is_lead.false) in
     ends-four c.args.keeps _ c.args.from c.args.first c.requires.within c.requires.is c.if-first-lt240.false
-    (omega (arith, lead.1)) (λ more second third fourth. elim c.else-may_begin_four.branch [
+    (sym c.is_lead.ensures ∙ c.if-not-is_lead.false) (λ more second third fourth. elim c.else-may_begin_four.branch [
+      -- The fourth.
       | else-may_begin_four-via-then-may_begin_four+in_ok-get-2+then-is_continuation-2+in_ok-get-3+else-is_continuation-3 w ↦
           false≢true
           (sym (sym w.is_continuation-then-is_continuation-2.ensures ∙ w.if-is_continuation-3.false)
           ∙ ap (is_in (to 0x80 0xbf)) w.in_ok-get-3.ensures.1 ∙ fourth)
+      -- The third.
       | else-may_begin_four-via-then-may_begin_four+in_ok-get-2+else-is_continuation-2 w ↦
           false≢true
           (sym (sym w.is_continuation-then-may_begin_four.ensures ∙ w.if-is_continuation-2.false)
           ∙ ap (is_in (to 0x80 0xbf)) w.in_ok-get-2.ensures.1 ∙ third)
+      -- The second.
       | else-may_begin_four-via-else-may_begin_four w ↦
           false≢true
           (sym (sym c.may_begin_four.ensures ∙ w.if-may_begin_four.false)

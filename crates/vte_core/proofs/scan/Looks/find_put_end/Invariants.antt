@@ -1,3 +1,4 @@
+-- All bytes so far are put.
 use Rattle.vte_core.proofs.Common.{◌-◌, ◌≤◌, length, ArePut}
 use Rattle.vte_core.proofs.scan.Looks.find_put_end.Given as goal
 

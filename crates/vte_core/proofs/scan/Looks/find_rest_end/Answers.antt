@@ -1,3 +1,4 @@
+-- A short search first. If the run goes on where that ends, the long one continues it.
 use Rattle.vte_core.proofs.Common.{◌≡◌, sym, ◌∙◌, arith, eqb-true}
 use Rattle.vte_core.proofs.bytes.Ends.{ends-all}
 use Rattle.vte_core.proofs.bytes.Scanning.{scans-run}

@@ -1,3 +1,4 @@
+-- The search of the rest, with the performer's choice of controls.
 use Rattle.vte_core.proofs.scan.Looks.find_run_end.Goals as goal
 
 pub returns-clause-scans : goal.returns-clause-scans

@@ -1,3 +1,4 @@
+-- All bytes so far are ignored, with one look for each.
 use Rattle.vte_core.proofs.Common.{◌≡◌, ◌+◌, ◌-◌, ◌≤◌, length, looked, AreIgnored, Scans}
 use Rattle.vte_core.proofs.scan.Looks.find_string_end.Given as goal
 

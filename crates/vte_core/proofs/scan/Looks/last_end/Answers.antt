@@ -1,9 +1,12 @@
+-- If the automaton stands between characters, the text ends there. Otherwise the search goes back over bytes that
+-- continue a character, to the byte that began the last one: the text ends before it.
 use Rattle.vte_core.proofs.Common.{◌≡◌, ◌≢◌, ℕ, ◌+◌, ◌≤◌, ◌<◌, List, take, drop, ap, sym, inl, inr, ◌∙◌, arith, cases_lt, slice_index}
 use Rattle.vte_core.specs.machine.Automaton.{Between, HasScanned, state_after}
 use Rattle.vte_core.proofs.runs.Standing.{Standing, standing}
 use Rattle.vte_core.proofs.runs.Readings.{is_between, byte_from, last_end-here, unended, last_end-first}
 use Rattle.vte_core.proofs.scan.Looks.last_end.Goals as goal
 
+-- Between characters: the text ends here.
 pub returns-then-state-eq-BETWEEN : goal.returns-then-state-eq-BETWEEN
 returns-then-state-eq-BETWEEN g c = record {
   last =
@@ -30,6 +33,7 @@ not_yet bytes from at state end b read inside s low is short = elim (cases_lt s.
       ))
 ]
 
+-- A byte that continues a character is not the first of the bytes, so one stands before it.
 pub overflow_sub-end-in-loop-end : goal.overflow_sub-end-in-loop-end
 overflow_sub-end-in-loop-end g c =
     let bytes = c.args.input.bytes.now in
@@ -58,6 +62,7 @@ loop-end-preserved g c =
 pub loop-end-smaller : goal.loop-end-smaller
 loop-end-smaller g c = omega (arith, overflow_sub-end-in-loop-end g c)
 
+-- The byte that began the last character, or none is left.
 pub returns : goal.returns
 returns g c =
     let bytes = c.args.input.bytes.now in

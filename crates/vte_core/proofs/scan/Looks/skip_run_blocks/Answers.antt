@@ -1,3 +1,4 @@
+-- A block after which the automaton has not failed is read; the run ends with the last whole character (`last_end`).
 use Rattle.vte_core.proofs.Common.{drop-drop, false≢true, ◌≡◌, ◌≤◌, ◌+◌, ◌-◌, false, take, drop, ap, sym, subst, ◌∙◌, arith, inl, inr, cases_lt, length-drop, looked, rules, AreRun}
 use Rattle.vte_core.specs.machine.Between.{Each}
 use Rattle.vte_core.proofs.bytes.Between.{each-both, each-block}

@@ -1,3 +1,4 @@
+-- The automaton has read the blocks so far, and they have no control that is left out.
 use Rattle.vte_core.proofs.Common.{drop, false, length, ◌+◌, ◌-◌, ◌<◌, ◌≡◌, ◌≤◌, looked}
 use Rattle.vte_core.specs.machine.Automaton.{HasScanned}
 use Rattle.vte_core.specs.machine.Between.{Each}

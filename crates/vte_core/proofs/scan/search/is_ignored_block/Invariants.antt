@@ -1,3 +1,4 @@
+-- All bytes before this one are ignored, unless one was found that is not.
 use Rattle.std.proofs.Common.{IsTrue}
 use Rattle.vte_core.specs.machine.Data.{AreIgnored}
 use Rattle.vte_core.proofs.scan.search.is_ignored_block.Given as goal

@@ -1,3 +1,4 @@
+-- An end is kept if there is room for it; otherwise the item changes nothing that is kept.
 use Rattle.std.proofs.lemmas.Bool.{not-false}
 use Rattle.vte_core.proofs.Common.{◌∷◌, [], ◌++◌, refl, sym, subst, ◌∙◌, arith, eqb-true, eqb-false, not-true, Keeps}
 use Rattle.vte_core.proofs.fields.StoreLemmas.{after_full, done-complete, keeps-done, keeps-end}

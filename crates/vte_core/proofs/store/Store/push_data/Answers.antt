@@ -1,3 +1,4 @@
+-- Data are kept as far as there is room. Once there are 16 ends they only count as dropped.
 use Rattle.vte_core.proofs.Common.{◌≡◌, ℕ, ◌-◌, length, take, drop, length-take, length-drop, refl, sym, subst, ◌∙◌, arith, eqb-true, eqb-false, Keeps}
 use Rattle.vte_core.proofs.fields.StoreLemmas.{keeps-later, keeps-run}
 use Rattle.vte_core.proofs.store.Store.push_data.Goals as goal
@@ -11,12 +12,14 @@ returns-clause-keeps g c = λ items keeps.
     let size : length run ≡ a.to - a.from =
     omega (arith, length-take {A = ℕ}, length-drop {A = ℕ}, c.requires.range.within, c.requires.range.in_order) in
     elim c.if-not-is_full.branch [
+      -- There are fewer than 16 ends.
       | then-not-is_full w ↦
           let some = eqb-false _ _ (sym c.is_full.ensures.value ∙ w.if-not-is_full.true) in
           rw w.self-inside-is
           (keeps-run _ _ _ items run
           (omega (arith, c.is_full.ensures.fits, some)) c.requires.data w.append.ensures.appended refl
           (rw (c.bytes.ensures, c.bytes-before.ensures, w.self-inside-is, size) refl) before)
+      -- There are 16.
       | else-not-is_full w ↦
           let all = eqb-true _ _ (sym c.is_full.ensures.value ∙ w.if-not-is_full.false) in
           rw w.self-inside-is (keeps-later _ _ _ items run (omega (arith, all)) c.requires.data refl refl

@@ -1,3 +1,4 @@
+-- One byte more after one, two or three: it ends the character, leaves it open or breaks it (`bytes/CarriedLemmas`).
 use Rattle.vte_core.proofs.bytes.CarriedLemmas.{fourth_broken, fourth_whole, second_broken, second_open, second_whole, third_broken, third_open, third_whole}
 use Rattle.vte_core.proofs.utf8.Unfinished.carried_on.Goals as goal
 

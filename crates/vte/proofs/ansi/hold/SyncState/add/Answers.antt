@@ -1,3 +1,5 @@
+-- The older bytes have no end of an update, so the search over the last seven of them and the new ones finds what the
+-- whole hold has (`find_release`).
 use Rattle.vte.proofs.Common.{ℕ, List, refl, rules, ◌≡◌, ◌++◌, ◌-◌, ◌∙◌, ap, length, length-append, length-drop, drop, take, take_all, arith, Adds, IsEnd, held_of}
 use Rattle.vte.proofs.updates.Sequences.{stays_held, stays-is}
 use Rattle.vte.proofs.ansi.hold.SyncState.add.Goals as goal

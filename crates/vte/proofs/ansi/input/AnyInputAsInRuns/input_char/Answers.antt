@@ -1,7 +1,8 @@
+-- A character is a text of one, of which it is the only input.
 use Rattle.vte.proofs.Common.{◌≡◌, false, [], ◌∷◌, map, ap, sym, subst, ◌∙◌, arith, nat_tests, All, chars, Input, after}
 use Rattle.std.proofs.lemmas.List.Elements.{All-cons, All-nil}
 use Rattle.vte_core.specs.Text.{is_control_character}
-use Rattle.vte.proofs.performing.TextRuns.{chars_encode}
+use Rattle.vte_core.proofs.bytes.Printable.{chars_encode}
 use Rattle.vte.proofs.ansi.input.AnyInputAsInRuns.input_char.Goals as goal
 
 pub input_text-requires-clause-plain : goal.input_text-requires-clause-plain

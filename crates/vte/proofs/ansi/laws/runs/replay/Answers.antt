@@ -1,3 +1,4 @@
+-- A call is one more step of the run, by what it ensures; and so is a stop.
 use Rattle.vte.proofs.Common.{[], refl, take_all}
 use Rattle.vte.proofs.runs.PlainRuns.{replays_all}
 use Rattle.vte.proofs.runs.Runs.{advance_taken, replayed, stop_taken}

@@ -1,3 +1,4 @@
+-- After some of the steps there is a run of these, and the processor stands at its end.
 use Rattle.vte.proofs.Common.{Some, take, meaning, HasParsedAndHolds, IsAt, Replayed, Stage}
 use Rattle.vte.proofs.ansi.laws.runs.replay.Given as goal
 

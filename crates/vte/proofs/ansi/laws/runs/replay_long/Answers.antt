@@ -1,3 +1,4 @@
+-- As for `replay`; a call that is refused memory ends the run where it is, and says what it lacks.
 use Rattle.vte.proofs.Common.{[], refl, take_all, LacksMemoryOnTheWay}
 use Rattle.vte.proofs.runs.PlainRuns.{replays_all}
 use Rattle.vte.proofs.runs.Runs.{advance_refused, advance_taken, first_lacks, replayed, stop_taken}

@@ -1,3 +1,4 @@
+-- As for `replay`, without a limit.
 use Rattle.vte.proofs.Common.{None, take, HasParsedAndHoldsLong, IsAt, meaning, Replayed, Stage}
 use Rattle.vte.proofs.ansi.laws.runs.replay_long.Given as goal
 

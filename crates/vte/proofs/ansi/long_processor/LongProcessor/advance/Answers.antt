@@ -1,3 +1,4 @@
+-- What the turns ensure, said of the processor (`turns/Standings`).
 use Rattle.vte.proofs.turns.Grown.{advances_long}
 use Rattle.vte.proofs.ansi.long_processor.LongProcessor.advance.Goals as goal
 

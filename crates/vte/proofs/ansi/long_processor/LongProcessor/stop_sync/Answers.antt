@@ -1,3 +1,4 @@
+-- What the stop ensures, said of the processor (`turns/Standings`).
 use Rattle.vte.proofs.turns.Standings.{stops_sync_long}
 use Rattle.vte.proofs.ansi.long_processor.LongProcessor.stop_sync.Goals as goal
 

@@ -1,3 +1,4 @@
+-- The parser's contract is the one of turns (`performing/Rooms`).
 use Rattle.vte.proofs.performing.Rooms.{short_stops}
 use Rattle.vte.proofs.ansi.parsing.InRunsParseAsProcessorParser.advance_until_begin.Goals as goal
 

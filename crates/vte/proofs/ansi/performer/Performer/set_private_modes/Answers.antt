@@ -1,3 +1,4 @@
+-- One mode more is set, and the modes that are left give what all give.
 use Rattle.vte.proofs.Common.{ap, sym, ◌∙◌, lent_of, timeout_meaning, with_private_mode, with_private_modes}
 use Rattle.vte.proofs.performing.CallLists.{modes_more}
 use Rattle.vte.proofs.ansi.performer.Performer.set_private_modes.Goals as goal

@@ -1,7 +1,7 @@
+-- The groups that are left give what all give.
 use Rattle.vte.proofs.Common.{◌≡◌, lent_of, timeout_meaning, with_private_modes}
 use Rattle.vte.proofs.ansi.performer.Performer.set_private_modes.Given as goal
 
--- the groups that are left give what all give
 abbrev pub invariant-loop-group : goal.invariant-loop-group
 invariant-loop-group g l =
     let timeout = timeout_meaning g.T.Timeout.set g.T.Timeout.clear g.T.Timeout.allows in

@@ -1,3 +1,4 @@
+-- What the hold releases is parsed: all of it with a stop if nothing stays held, otherwise a front of it.
 use Rattle.vte.proofs.Common.{meaning, sym, ◌∙◌, arith}
 use Rattle.vte.proofs.turns.HoldTurns.{turned_cut, turned_stop}
 use Rattle.vte.proofs.ansi.turns.Turns.hold_bytes.Goals as goal

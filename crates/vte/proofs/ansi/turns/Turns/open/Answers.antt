@@ -1,9 +1,12 @@
+-- Slices in which no update begins add up to a longer front (`open-more`). The turn ends with the slice in which one
+-- begins, with the last byte, or where memory is refused.
 use Rattle.vte.proofs.Common.{refl, sym, arith, ◌∙◌}
 use Rattle.vte.proofs.turns.Slices.{begin-whole, open-all, open-ends, open-more, open-nothing, slice_size}
 use Rattle.vte.proofs.turns.Turns.{kept-next, next-at, slice_parsed}
 use Rattle.vte.proofs.ansi.turns.Turns.open.Goals as goal
 use Rattle.vte.proofs.ansi.turns.Turns.open.Goals.{then-begins-via-then-begins, then-begins-via-else-begins+then-read-bytes}
 
+-- Before the first slice nothing is read.
 pub loop-slice-init : goal.loop-slice-init
 loop-slice-init g c =
     record {
@@ -12,6 +15,7 @@ loop-slice-init g c =
       reaches = λ s at. (omega arith, open-nothing _ s c.args.bytes.now (next-at at));
     }
 
+-- Memory was refused for a slice: the processor stands before it.
 pub returns-then-not-reserve-clause-opened : goal.returns-then-not-reserve-clause-opened
 returns-then-not-reserve-clause-opened g c = λ s at.
     let o = (c.loop-slice.invariant.reaches s at).1 in
@@ -20,6 +24,7 @@ returns-then-not-reserve-clause-opened g c = λ s at.
       halted = record { none_begin = o.none_begin; is_at = kept-next c.reserve.ensures.reserved o.is_at };
     }
 
+-- A slice in which an update begins ends the turn there; one that has the last byte, and begins none, ends it too.
 pub returns-then-begins-clause-opened : goal.returns-then-begins-clause-opened
 returns-then-begins-clause-opened g c = λ s at.
     let o = (c.loop-slice.invariant.reaches s at).1 in
@@ -29,12 +34,14 @@ returns-then-begins-clause-opened g c = λ s at.
     let e = slice_parsed o c.if-not-reserve.ensures.reserved slice (sym at.stands.holds ∙ c.requires.none)
     c.parse_until_begin-parsed.ensures.stops in
     elim c.then-begins.branch [
+      -- An update begins.
       | then-begins-via-then-begins w ↦
           record {
             opened = open-ends _ s c.args.bytes.now _ o c.loop-slice.invariant.within refl e
                 w.if-begins.true;
             halted = tt;
           }
+      -- None does, and all bytes are read.
       | then-begins-via-else-begins+then-read-bytes w ↦
           record {
             opened = open-all _ s c.args.bytes.now (open-more _ s c.args.bytes.now _ o refl e w.if-begins.false)
@@ -43,6 +50,7 @@ returns-then-begins-clause-opened g c = λ s at.
           }
     ]
 
+-- A slice in which none begins is read whole, and more is left.
 pub loop-slice-preserved : goal.loop-slice-preserved
 loop-slice-preserved g c =
     let before = c.loop-slice.invariant in
@@ -78,6 +86,7 @@ loop-slice-preserved g c =
           );
     }
 
+-- The loop ends with all bytes read.
 pub returns-clause-opened : goal.returns-clause-opened
 returns-clause-opened g c = λ s at.
     let o = c.loop-slice.invariant.reaches s at in

@@ -1,3 +1,4 @@
+-- The slices so far begin no update, and are parsed. Each has at least one byte, so the loop reads all.
 use Rattle.vte.proofs.Common.{◌<◌, ◌≤◌, length, meaning, AreAt, of_turns, AreNextAt, IsOpenAt, Stage}
 use Rattle.vte.proofs.ansi.turns.Turns.open.Given as goal
 

@@ -1,7 +1,9 @@
+-- A turn more leads on (`reaches-more`), until all bytes are read or a turn is refused memory.
 use Rattle.vte.proofs.Common.{◌≡◌, ◌+◌, ◌-◌, length, take, drop, arith}
 use Rattle.vte.proofs.turns.Turns.{all_read, has_halted, next-at, reaches-more, reaches-nothing, read_until, rest_size}
 use Rattle.vte.proofs.ansi.turns.Turns.read.Goals as goal
 
+-- Before the first turn nothing is read.
 pub loop-turn-init : goal.loop-turn-init
 loop-turn-init g c =
     record {
@@ -10,6 +12,7 @@ loop-turn-init g c =
       reaches = λ s at. reaches-nothing _ s c.args.bytes.now (next-at at);
     }
 
+-- One more turn, after which bytes are left.
 pub loop-turn-preserved : goal.loop-turn-preserved
 loop-turn-preserved g c =
     let before = c.loop-turn.invariant in
@@ -23,6 +26,7 @@ loop-turn-preserved g c =
           (c.in-Ok.ensures.turned r.here r.is_at.are_at).turned;
     }
 
+-- A turn has bytes to read.
 pub turn-requires : goal.turn-requires
 turn-requires g c =
     record {
@@ -30,6 +34,7 @@ turn-requires g c =
           (omega (arith, c.loop-turn.invariant.some c.loop-turn-test.true));
     }
 
+-- The turn has read the last byte.
 pub returns-then-read-bytes : goal.returns-then-read-bytes
 returns-then-read-bytes g c =
     let before = c.loop-turn.invariant in
@@ -40,6 +45,7 @@ returns-then-read-bytes g c =
     (c.in-Ok.ensures.turned r.here r.is_at.are_at).turned))
     (λ s at. c.if-read-bytes.true)
 
+-- The turn was refused memory.
 pub returns-in-Err : goal.returns-in-Err
 returns-in-Err g c =
     let b = c.args.bytes.now in
@@ -54,6 +60,7 @@ returns-in-Err g c =
     (omega (arith, c.loop-turn.invariant.within, c.in-Err.ensures.within, size))
     (λ stream reads. rw left at (c.in-Err.ensures.lacks stream reads))
 
+-- As many turns as bytes have read all of them.
 pub returns : goal.returns
 returns g c =
     all_read c.args.bytes.now c.loop-turn.invariant.reaches (λ s at. let r = c.loop-turn.invariant.reaches s at in

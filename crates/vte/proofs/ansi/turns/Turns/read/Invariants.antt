@@ -1,3 +1,4 @@
+-- The turns so far have led to a state in which the processor stands. Each reads a byte or more.
 use Rattle.vte.proofs.Common.{◌<◌, ◌≤◌, length, meaning, AreAt, of_turns, AreNextAt, Stage}
 use Rattle.vte.proofs.turns.Turns.{HasReached}
 use Rattle.vte.proofs.ansi.turns.Turns.read.Given as goal

@@ -1,3 +1,4 @@
+-- What the parser reserves: the parsed and held bytes stay as they were, and there is room for as many more.
 use Rattle.vte.proofs.Common.{length}
 use Rattle.vte.proofs.ansi.turns.Turns.reserve.Goals as goal
 

@@ -1,3 +1,4 @@
+-- All held bytes are released and parsed, and then the update ends.
 use Rattle.vte.proofs.Common.{add-zero, ◌∙◌}
 use Rattle.vte.proofs.turns.Turns.{parts-at, stops_update}
 use Rattle.vte.proofs.ansi.turns.Turns.stop.Goals as goal

@@ -1,3 +1,5 @@
+-- By the timeout's answer: the bytes are held while an update is pending and there is room. Otherwise it is stopped if
+-- it is pending or bytes are held, and the turn is an open one.
 use Rattle.vte.proofs.Common.{◌≡◌, ◌<◌, ◌++◌, length, length-append, refl, sym, ◌∙◌, arith, nat_tests, nat_le, most_held, true, false, and-false, is_held}
 use Rattle.vte.proofs.Common.{is_stopped, meaning, of_turns, AreNextAt, opened}
 use Rattle.vte.proofs.turns.Slices.{halted_nothing}
@@ -6,20 +8,24 @@ use Rattle.vte.proofs.ansi.turns.Turns.turn.Goals as goal
 use Rattle.vte.proofs.ansi.turns.Turns.turn.Goals.{else-pending-via-else-pending, else-pending-via-then-pending+else-has_room, else-pending-2+else-len-gt0, then-pending-2}
 use Rattle.vte.proofs.ansi.turns.Turns.turn.Goals.{then-pending-2-via-else-pending-2+then-len-gt0, then-pending-2-via-then-pending-2}
 
+-- An open turn: the bytes are not to be held, and what was pending or held is stopped first, as `opened` says.
 pub returns-clause-turned : goal.returns-clause-turned
 returns-clause-turned g c = λ s at.
     let pending = c.pending_timeout-pending.result in
     let parses : is_held pending s c.args.bytes.now ≡ false = elim c.else-pending.branch [
+      -- No room.
       | else-pending-via-then-pending+else-has_room w ↦
           let full : nat_le (length (s.held ++ c.args.bytes.now)) most_held ≡ false =
           rw (length-append, ← at.stands.holds) (sym w.has_room.ensures ∙ w.if-has_room.false) in
           rw (full, and-false) refl
+      -- No update is pending.
       | else-pending-via-else-pending w ↦ rw w.if-pending.false refl
     ] in
     let m = meaning g.P.EventParser.limit g.H.Handler.step g.T.Timeout.set g.T.Timeout.clear g.T.Timeout.allows in
     let w = of_turns g.P.EventParser.limit g.P.EventParser.reading g.J.TextBuffer.room g.T.Timeout.value_of in
     let here : AreNextAt w c.args.self.now c.if-pending-2.self (g.H.Handler.value_of c.if-pending-2.handler)
     (opened m pending s) = elim c.if-pending-2.branch [
+      -- Stopped first.
       | then-pending-2 w ↦
           let stopped : is_stopped pending s ≡ true = elim w.then-pending-2.branch [
             | then-pending-2-via-then-pending-2 v ↦ rw v.if-pending-2.true refl
@@ -29,6 +35,7 @@ returns-clause-turned g c = λ s at.
                 grind (arith, nat_tests)
           ] in
           rw (w.self-is, w.handler-is, stopped) (stops-next w.stop.ensures.stopped at)
+      -- Nothing is held.
       | else-pending-2+else-len-gt0 w ↦
           let none : length s.held ≡ 0 =
           rw (← at.stands.holds) (omega (arith, w.len.ensures.count, w.if-len-gt0.false)) in
@@ -39,6 +46,7 @@ returns-clause-turned g c = λ s at.
     (rw at.stands.has_parsed.timeout_is at c.pending_timeout-pending.ensures) parses here.memory _ c.open.ensures.within
     (c.open.ensures.opened _ here.are_at)
 
+-- A hold turn: an update is pending, and there is room for all bytes and memory for them.
 pub returns-then-has_room-clause-turned : goal.returns-then-has_room-clause-turned
 returns-then-has_room-clause-turned g c = λ s at.
     let here = kept-next c.reserve.ensures.reserved (next-at at) in
@@ -52,6 +60,7 @@ returns-then-has_room-clause-turned g c = λ s at.
       halted = tt;
     }
 
+-- Memory was refused before anything was read.
 pub returns-then-not-reserve-clause-turned : goal.returns-then-not-reserve-clause-turned
 returns-then-not-reserve-clause-turned g c =
     λ s at. record { turned = tt; halted = halted_nothing _ (kept-next c.reserve.ensures.reserved (next-at at)) }

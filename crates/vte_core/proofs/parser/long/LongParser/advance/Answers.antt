@@ -1,3 +1,4 @@
+-- What `drive` ensures, with and without memory, put into the contract by the lemmas of `calls/Long`.
 use Rattle.vte_core.proofs.Common.{Err, ap, ◌∙◌, err_from_is_err_and}
 use Rattle.vte_core.proofs.calls.Long.{reads_bytes, reads_refused}
 use Rattle.vte_core.proofs.parser.long.LongParser.advance.Goals as goal

@@ -1,3 +1,4 @@
+-- As for `advance`.
 use Rattle.vte_core.proofs.Common.{Err, ap, ◌∙◌, err_from_is_err_and}
 use Rattle.vte_core.proofs.calls.Long.{reads_bytes, reads_refused}
 use Rattle.vte_core.proofs.parser.long.LongParser.advance_text.Goals as goal

@@ -1,3 +1,4 @@
+-- As for `advance_text_until_terminated`.
 use Rattle.vte_core.proofs.calls.Long.{reads_until}
 use Rattle.vte_core.proofs.parser.long.LongParser.advance_until_terminated.Goals as goal
 

@@ -1,3 +1,5 @@
+-- What is stored is the open command (`open_is_stored`), so room for what is stored is room for it. Without an open
+-- command the store was cleared first.
 use Rattle.vte_core.proofs.Common.{◌≤◌, length, ap, sym, ◌∙◌, arith, false≢true, open_size}
 use Rattle.vte_core.proofs.calls.Refusals.{nothing_stored, open_is_stored, stored_is_open}
 use Rattle.vte_core.proofs.parser.long.LongParser.reserve.Goals.{then-not-matches, else-not-matches, in-SystemCommand, in_default}

@@ -1,3 +1,4 @@
+-- Without an open command nothing is stored: in a command by its size, in another state because the store is cleared.
 use Rattle.vte_core.proofs.Common.{length, ap, sym, ◌∙◌, arith, false≢true}
 use Rattle.vte_core.proofs.calls.Refusals.{nothing_stored, stored_is_open}
 use Rattle.vte_core.proofs.parser.long.LongParser.shrink.Goals.{then-not-matches, else-not-matches, in-SystemCommand, in_default}

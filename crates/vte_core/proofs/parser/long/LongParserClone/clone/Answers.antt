@@ -1,3 +1,4 @@
+-- As for `Parser`: a copy has read the same. It takes no more memory than it needs.
 use Rattle.std.proofs.lemmas.List.Elements.{same_from_all_zip}
 use Rattle.vte_core.proofs.Common.{◌≡◌, refl, rules}
 use Rattle.vte_core.proofs.fields.Cloned.{reads_cloned}

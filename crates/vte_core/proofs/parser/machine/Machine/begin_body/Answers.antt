@@ -1,3 +1,5 @@
+-- By the key after ESC: `P`, `]`, that of an ignored string, or any other, which dispatches. The place after it is that
+-- shape with nothing read.
 use Rattle.vte_core.proofs.Common.{false, [], ◌∷◌, refl, ◌∙◌, arith, key_of, EscDispatch, InText, InDeviceControl, InSystemCommand, InIgnoredString}
 use Rattle.vte_core.proofs.bytes.ClassCases.{final}
 use Rattle.vte_core.proofs.calls.Arms.{taken}
@@ -7,18 +9,21 @@ use Rattle.vte_core.proofs.places.PlaceLeads.{escape-device_control, escape-syst
 use Rattle.vte_core.proofs.shapes.PlainKeys.{other_key}
 use Rattle.vte_core.proofs.parser.machine.Machine.begin_body.Goals as goal
 
+-- `P`: a device control string.
 pub returns-then-byte-eq80-clause-takes : goal.returns-then-byte-eq80-clause-takes
 unfolding key_of
 returns-then-byte-eq80-clause-takes g c = λ s.
     taken [] (InDeviceControl []) refl (record { by = c.begin_head.ensures (stands-escape _ s) })
     (escape-device_control _ c.args.byte (final _ c.requires.ends) (rw c.if-byte-eq80.true refl))
 
+-- `]`: a command.
 pub returns-then-byte-eq93-clause-takes : goal.returns-then-byte-eq93-clause-takes
 unfolding key_of
 returns-then-byte-eq93-clause-takes g c = λ s.
     taken [] (InSystemCommand []) refl (record { by = c.clear.ensures.keeps })
     (escape-system_command _ c.args.byte (final _ c.requires.ends) (rw c.if-byte-eq93.true refl))
 
+-- `X`, `^` and `_`: an ignored string.
 pub returns-then-begins_ignored_string-clause-takes : goal.returns-then-begins_ignored_string-clause-takes
 returns-then-begins_ignored_string-clause-takes g c = λ s.
     let key =
@@ -27,6 +32,7 @@ returns-then-begins_ignored_string-clause-takes g c = λ s.
     taken [] InIgnoredString refl (record { by = tt })
     (escape-ignored_string _ c.args.byte (final _ c.requires.ends) key)
 
+-- Any other key is the final byte of an escape sequence.
 pub returns-else-begins_ignored_string-clause-takes : goal.returns-else-begins_ignored_string-clause-takes
 returns-else-begins_ignored_string-clause-takes g c = λ s.
     let key =

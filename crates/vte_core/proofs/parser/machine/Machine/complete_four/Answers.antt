@@ -1,7 +1,11 @@
+-- The second, third and fourth byte of a character of four: each fits or breaks it, or the bytes of the call end. The
+-- lemmas `goes-*` say how far it has gone, `completes-*` how it ends there, from the second byte on; `advances-first`
+-- leads from the first. A run that it begins is told as a text.
 use Rattle.vte_core.proofs.Common.{◌≡◌, ℕ, ◌+◌, ◌<◌, ◌≤◌, length, ap, subst, sym, ◌∙◌, arith, false≢true, slice_index, IsRun}
 use Rattle.vte_core.proofs.bytes.CarriedLemmas.{second_broken, third_broken, fourth_broken, spells_four}
 use Rattle.vte_core.proofs.bytes.Printable.{run-append}
-use Rattle.vte_core.proofs.calls.Characters.{completes-broken, completes-then, completes-whole, goes-nowhere, goes-second, goes-third, some}
+use Rattle.vte_core.proofs.calls.Characters.{completes-broken, completes-then, completes-whole, goes-nowhere, goes-second, goes-third}
+use Rattle.vte_core.proofs.calls.InsideCharacters.{some}
 use Rattle.vte_core.proofs.calls.LeadBytes.{advances-first}
 use Rattle.vte_core.proofs.calls.Runs.{advances-if}
 use Rattle.vte_core.proofs.calls.TextRuns.{advances-text}
@@ -18,7 +22,7 @@ leads-all first low = omega arith
 counted : (next : ℕ) → next + 3 ≡ next + 2 + 1
 counted next = omega arith
 
--- Each arm but that of a run, as `Completes` from the second byte on.
+-- The second byte does not fit the first one: broken.
 pub returns-then-not-may_begin_four-clause-advances : goal.returns-then-not-may_begin_four-clause-advances
 returns-then-not-may_begin_four-clause-advances g c =
     let r = c.requires in
@@ -28,6 +32,7 @@ returns-then-not-may_begin_four-clause-advances g c =
     (λ more. second_broken c.args.first c.args.second more misfits) r.may_read.begun c.print_char.ensures.value
     r.within r.is)
 
+-- The call has two bytes or three: another function reads the last ones, one at a time.
 pub returns-then-next-len-clause-advances : goal.returns-then-next-len-clause-advances
 returns-then-next-len-clause-advances g c =
     let r = c.requires in
@@ -36,6 +41,7 @@ returns-then-next-len-clause-advances g c =
     (completes-then (goes-second c.args.self.now (leads _ r.lead.low) second r.within r.is)
     c.continue_character.ensures.completes)
 
+-- The third byte does not continue: broken after two.
 pub returns-then-not-is_continuation-clause-advances : goal.returns-then-not-is_continuation-clause-advances
 returns-then-not-is_continuation-clause-advances g c =
     let r = c.requires in
@@ -47,6 +53,7 @@ returns-then-not-is_continuation-clause-advances g c =
     r.may_read.begun c.print_char-then-not-is_continuation.ensures.value
     (omega (arith, r.within, c.if-next-len.false)) c.at-third.ensures.value)
 
+-- The fourth byte does not continue: broken after three.
 pub returns-then-not-is_continuation-2-clause-advances : goal.returns-then-not-is_continuation-2-clause-advances
 returns-then-not-is_continuation-2-clause-advances g c =
     let r = c.requires in
@@ -59,7 +66,7 @@ returns-then-not-is_continuation-2-clause-advances g c =
     (λ more. fourth_broken c.args.first c.args.second c.at-third.result c.at-fourth.result more misfits)
     r.may_read.begun c.print_char-then-not-is_continuation-2.ensures.value within c.at-fourth.ensures.value)
 
--- The run that the character begins.
+-- The run that the character begins: the four bytes, and what follows them.
 pub tell_text-requires-clause-run : goal.tell_text-requires-clause-run
 tell_text-requires-clause-run g c =
     let r = c.requires in
@@ -80,6 +87,7 @@ tell_text-requires-clause-run g c =
     (sym c.is_continuation-2.ensures ∙ c.if-not-is_continuation-2.false))
     (subst (λ place. IsRun g.P.CountedPerform.keeps bytes place c.find_run_end-end.result) past rest.scans.are)
 
+-- In runs, it is told with the run that it begins.
 pub returns-then-IN_RUNS-clause-advances : goal.returns-then-IN_RUNS-clause-advances
 returns-then-IN_RUNS-clause-advances g c =
     let r = c.requires in
@@ -89,6 +97,7 @@ returns-then-IN_RUNS-clause-advances g c =
     (omega (arith, c.find_run_end-end.ensures.scans.low)) c.find_run_end-end.ensures.scans.high
     c.tell_text.ensures.printed)
 
+-- Four bytes spell a character.
 pub returns-clause-advances : goal.returns-clause-advances
 returns-clause-advances g c =
     let r = c.requires in

@@ -1,12 +1,15 @@
+-- The second and third byte of a character of three: each fits or breaks it, or the bytes of the call end.
 use Rattle.vte_core.proofs.Common.{◌≡◌, ℕ, ◌+◌, refl, sym, ◌∙◌, arith}
 use Rattle.vte_core.proofs.bytes.CarriedLemmas.{second_broken, third_broken, spells_three}
-use Rattle.vte_core.proofs.calls.Characters.{completes-all, completes-broken, completes-whole, goes-nowhere, goes-second, some}
+use Rattle.vte_core.proofs.calls.Characters.{completes-all, completes-broken, completes-whole, goes-nowhere, goes-second}
+use Rattle.vte_core.proofs.calls.InsideCharacters.{some}
 use Rattle.vte_core.proofs.parser.machine.Machine.complete_three.Goals as goal
 
 -- Over plain numbers, where `omega` has little to read.
 counted : (from : ℕ) → from + 2 ≡ from + 1 + 1
 counted from = omega arith
 
+-- The second byte does not fit the first one: broken.
 pub returns-then-not-may_begin_three-clause-completes : goal.returns-then-not-may_begin_three-clause-completes
 returns-then-not-may_begin_three-clause-completes g c =
     let r = c.requires.may_read in
@@ -14,12 +17,14 @@ returns-then-not-may_begin_three-clause-completes g c =
     completes-broken (goes-nowhere c.args.self.now (some _ _))
     (λ more. second_broken c.args.first c.args.second more misfits) r.begun c.print_char.ensures.value r.within r.is
 
+-- The call ends after two bytes: still open.
 pub returns-then-from-len-clause-completes : goal.returns-then-from-len-clause-completes
 returns-then-from-len-clause-completes g c =
     let r = c.requires.may_read in
     let second = sym c.may_begin_three.ensures ∙ c.if-not-may_begin_three.false in
     completes-all (goes-second c.args.self.now c.requires.lead.low second r.within r.is) refl (omega arith)
 
+-- The third byte does not continue: broken after two.
 pub returns-then-not-is_continuation-clause-completes : goal.returns-then-not-is_continuation-clause-completes
 returns-then-not-is_continuation-clause-completes g c =
     let r = c.requires.may_read in
@@ -30,6 +35,7 @@ returns-then-not-is_continuation-clause-completes g c =
     c.print_char-then-not-is_continuation.ensures.value
     (omega (arith, r.within, c.if-from-len.false)) c.at-third.ensures.value
 
+-- Three bytes spell a character.
 pub returns-clause-completes : goal.returns-clause-completes
 returns-clause-completes g c =
     let r = c.requires.may_read in

@@ -1,3 +1,4 @@
+-- Each byte goes on with the character (`goes-more`), until one completes or breaks it, or no byte is left.
 use Rattle.vte_core.proofs.Common.{refl, arith, rules}
 use Rattle.vte_core.proofs.calls.Characters.{completes-all, completes-broken, completes-whole, goes-more, goes-nowhere}
 use Rattle.vte_core.proofs.parser.machine.Machine.continue_character.Goals as goal
@@ -6,6 +7,7 @@ pub loop-position-init : goal.loop-position-init
 loop-position-init g c =
     record { goes = goes-nowhere c.args.self.now c.requires.inside; same = refl; spends = search rules }
 
+-- A byte more.
 pub loop-position-preserved : goal.loop-position-preserved
 loop-position-preserved g c =
     let v = c.loop-position.invariant in
@@ -17,18 +19,21 @@ loop-position-preserved g c =
       spends = search rules;
     }
 
+-- It ends the character.
 pub returns-in-Whole-clause-completes : goal.returns-in-Whole-clause-completes
 returns-in-Whole-clause-completes g c =
     let v = c.loop-position.invariant in
     completes-whole v.goes c.in-Whole.ensures refl (rw v.same at c.tell_character.ensures.value)
     (omega (arith, c.loop-position-test.true, c.len-position-end.ensures)) c.at.ensures.value refl
 
+-- It breaks the character.
 pub returns-in-Broken-clause-completes : goal.returns-in-Broken-clause-completes
 returns-in-Broken-clause-completes g c =
     let v = c.loop-position.invariant in
     completes-broken v.goes c.in-Broken.ensures refl (rw v.same at c.print_char.ensures.value)
     (omega (arith, c.loop-position-test.true, c.len-position-end.ensures)) c.at.ensures.value
 
+-- No byte is left.
 pub returns-clause-completes : goal.returns-clause-completes
 returns-clause-completes g c =
     let v = c.loop-position.invariant in rw v.same (completes-all v.goes (omega arith) (omega arith))

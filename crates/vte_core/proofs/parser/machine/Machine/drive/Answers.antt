@@ -1,22 +1,28 @@
+-- Stretches add up: what leads from a place to the next leads from the start. The call ends at a stop, with all bytes,
+-- or where memory is refused.
 use Rattle.vte_core.proofs.Common.{Err, ap, sym, ◌∙◌, arith, rules, err_from_is_err_and}
 use Rattle.vte_core.proofs.calls.States.{asks-some}
 use Rattle.vte_core.proofs.calls.Runs.{ends-at_stop, ends-with_all}
 use Rattle.vte_core.proofs.parser.machine.Machine.drive.Goals as goal
 
+-- The loop begins where the open character was completed.
 pub loop-position-init : goal.loop-position-init
 loop-position-init g c =
     let f = c.finish_character-position.ensures in
     record { stands_at = f.stands_at; settled = f.settled; spends = search rules }
 
+-- A stop before a byte.
 pub returns-then-terminated-clause-reads : goal.returns-then-terminated-clause-reads
 returns-then-terminated-clause-reads g c =
     let v = c.loop-position.invariant in
     ends-at_stop (asks-some g.row.ASKS c.if-this-ne0.true)
     (sym c.terminated.ensures ∙ c.if-terminated.true) v.spends.high v.stands_at
 
+-- All bytes are read.
 pub returns-clause-reads : goal.returns-clause-reads
 returns-clause-reads g c = ends-with_all (omega arith) c.loop-position.invariant.stands_at
 
+-- Memory was refused: what was read before adds up, and the refused byte is at that place.
 pub returns-in_err-position-clause-refuses : goal.returns-in_err-position-clause-refuses
 returns-in_err-position-clause-refuses g c =
     let e = err_from_is_err_and c.from_residual.result c.from_residual.ensures.1 in

@@ -1,3 +1,4 @@
+-- The call stands at this place, and no character is open there.
 use Rattle.vte_core.proofs.Common.{ℕ, ◌-◌, ◌<◌, not, eqb, List, length, Spends, HasReadUnder, IsSettled, StandsAt}
 use Rattle.vte_core.proofs.parser.machine.Machine.drive.Given as goal
 

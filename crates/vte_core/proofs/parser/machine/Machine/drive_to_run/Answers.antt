@@ -1,14 +1,18 @@
+-- As for `drive`, a stretch at a time. A run is found in a text or in data, and is returned unread: the bytes before it
+-- have told nothing of a run (`tells-more`).
 use Rattle.vte_core.proofs.Common.{Err, ap, sym, ◌∙◌, arith, rules, err_from_is_err_and}
 use Rattle.vte_core.proofs.calls.ToRun.{comes-nowhere, comes-to_run, has-data, has-text, outside, settled-text}
 use Rattle.vte_core.proofs.calls.Tellings.{tells-more}
 use Rattle.vte_core.proofs.parser.machine.Machine.drive_to_run.Goals.{then-loop-position-test+else-not-terminated, else-loop-position-test}
 use Rattle.vte_core.proofs.parser.machine.Machine.drive_to_run.Goals as goal
 
+-- The loop begins where the open character was completed.
 pub loop-position-init : goal.loop-position-init
 loop-position-init g c =
     let f = c.finish_character-position.ensures in
     record { stands_at = f.stands_at; settled = f.settled; others = f.others; spends = search rules }
 
+-- In a text: what the search has found is a run of text, and the machine is between characters.
 pub returns-then-end-position-clause-comes : goal.returns-then-end-position-clause-comes
 returns-then-end-position-clause-comes g c =
     let v = c.loop-position.invariant in
@@ -17,6 +21,7 @@ returns-then-end-position-clause-comes g c =
     comes-to_run (has-text between (omega arith) found.scans.high found.scans.are found.ended) (omega arith)
     (sym c.terminated.ensures ∙ c.if-not-terminated.true) v.stands_at
 
+-- In data: what it has found is put.
 pub returns-then-end-position-2-clause-comes : goal.returns-then-end-position-2-clause-comes
 returns-then-end-position-2-clause-comes g c =
     let v = c.loop-position.invariant in
@@ -24,6 +29,7 @@ returns-then-end-position-2-clause-comes g c =
     comes-to_run (has-data c.in-DeviceData.is (omega arith) found.high found.are found.ended) (omega arith)
     (sym c.terminated.ensures ∙ c.if-not-terminated.true) v.stands_at
 
+-- In a text that begins with no run: what is read there is told by none.
 pub loop-position-preserved-else-end-position : goal.loop-position-preserved-else-end-position
 loop-position-preserved-else-end-position g c =
     let v = c.loop-position.invariant in
@@ -35,6 +41,7 @@ loop-position-preserved-else-end-position g c =
       spends = search rules;
     }
 
+-- In data, before a byte that is not put: the same.
 pub loop-position-preserved-else-end-position-2 : goal.loop-position-preserved-else-end-position-2
 loop-position-preserved-else-end-position-2 g c =
     let v = c.loop-position.invariant in
@@ -46,6 +53,7 @@ loop-position-preserved-else-end-position-2 g c =
       spends = search rules;
     }
 
+-- In any other state no run can stand.
 pub loop-position-preserved : goal.loop-position-preserved
 loop-position-preserved g c =
     let v = c.loop-position.invariant in
@@ -60,6 +68,7 @@ loop-position-preserved g c =
       spends = search rules;
     }
 
+-- Memory was refused: the call stands where the refused byte is.
 pub returns-in_err-position-in_default : goal.returns-in_err-position-in_default
 returns-in_err-position-in_default g c =
     let v = c.loop-position.invariant in
@@ -82,6 +91,7 @@ returns-in_err-position-in_default g c =
           (v.stands_at stream h)));
     }
 
+-- No run: the performer was terminated, or all bytes are read.
 pub returns-clause-comes : goal.returns-clause-comes
 returns-clause-comes g c =
     let v = c.loop-position.invariant in

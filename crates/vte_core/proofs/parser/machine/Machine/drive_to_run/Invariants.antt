@@ -1,3 +1,4 @@
+-- As for `drive`; and what is told so far is told by no run.
 use Rattle.vte_core.proofs.Common.{ℕ, ◌-◌, ◌<◌, true, List, length, Spends, HasReadUnder, IsSettled, StandsAt, TellsOthers}
 use Rattle.vte_core.proofs.parser.machine.Machine.drive_to_run.Given as goal
 

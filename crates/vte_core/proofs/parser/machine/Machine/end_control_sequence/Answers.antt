@@ -1,3 +1,4 @@
+-- A malformed head tells nothing. Any other is whole once the last number is settled, and is dispatched.
 use Rattle.vte_core.proofs.Common.{[], ◌∷◌, refl, ap, ◌∙◌, arith, CsiDispatch, head_of, dispatched, InText}
 use Rattle.vte_core.proofs.bytes.ClassCases.{final}
 use Rattle.vte_core.proofs.calls.Runs.{settled-by}
@@ -6,6 +7,7 @@ use Rattle.vte_core.proofs.places.PlaceLeads.{control-dispatched, control-silent
 use Rattle.vte_core.proofs.fields.Standing.{stands-text_begun}
 use Rattle.vte_core.proofs.parser.machine.Machine.end_control_sequence.Goals as goal
 
+-- A malformed head.
 pub returns-in-Malformed-clause-takes : goal.returns-in-Malformed-clause-takes
 returns-in-Malformed-clause-takes g c = λ head s.
     let ill = malformed-now head (rw c.in-Malformed.is at s) in
@@ -17,6 +19,7 @@ returns-in-Malformed-clause-takes g c = λ head s.
       leads = control-silent _ head _ (final _ c.requires.is) ill;
     }
 
+-- A whole one.
 pub returns-clause-takes : goal.returns-clause-takes
 returns-clause-takes g c = λ head s.
     let ready = c.end_head-ignore.ensures c.args.part head (head-holds _ _ head c.in_default.not-Malformed s) in

@@ -1,3 +1,4 @@
+-- ST unhooks and leads to a text; any other byte that is no data and ends nothing is dropped.
 use Rattle.vte_core.proofs.Common.{[], ◌∷◌, refl, sym, ◌∙◌, Unhook, InText, InData}
 use Rattle.vte_core.proofs.bytes.ClassCases.{ends_no_data, terminator_is_high}
 use Rattle.vte_core.proofs.calls.Arms.{advances-in, in_data, taken}
@@ -13,6 +14,7 @@ returns-clause-advances g c =
     let parser = c.args.self.now in
     let r = c.requires.may_read in
     elim c.if-byte-eq-STRING_TERMINATOR.branch [
+      -- ST.
       | then-byte-eq-STRING_TERMINATOR w ↦
           let is = w.if-byte-eq-STRING_TERMINATOR.true in
           rw (w.self-is, w.performer-is)
@@ -20,6 +22,7 @@ returns-clause-advances g c =
           (in_data parser
           (taken (Unhook ∷ []) (InText []) w.unhook.ensures.value (record { by = (refl, refl) })
           (data-terminator _ c.args.byte (terminator_is_high is) (rw is refl)))) tt))
+      -- A byte that is dropped.
       | else-byte-eq-STRING_TERMINATOR w ↦
           let dropped =
           data-dropped _ c.args.byte

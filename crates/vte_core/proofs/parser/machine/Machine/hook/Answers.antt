@@ -1,9 +1,11 @@
+-- A malformed head leads to an ignored string. Any other is whole once the last number is settled, and hooks.
 use Rattle.vte_core.proofs.Common.{[], ◌∷◌, refl, ap, ◌∙◌, rules, Hook, head_of, dispatched, InData, InIgnoredString}
 use Rattle.vte_core.proofs.bytes.ClassCases.{final}
 use Rattle.vte_core.proofs.fields.HeadSteps.{dispatched-ready, head-holds, malformed-now}
 use Rattle.vte_core.proofs.places.PlaceLeads.{device-well_shaped, device-malformed}
 use Rattle.vte_core.proofs.parser.machine.Machine.hook.Goals as goal
 
+-- A malformed head.
 pub returns-in-Malformed-clause-takes : goal.returns-in-Malformed-clause-takes
 returns-in-Malformed-clause-takes g c = λ head s.
     let ill = malformed-now head (rw c.in-Malformed.is at s) in
@@ -15,6 +17,7 @@ returns-in-Malformed-clause-takes g c = λ head s.
       leads = device-malformed _ head _ (final _ c.requires) ill;
     }
 
+-- A whole one.
 pub returns-clause-takes : goal.returns-clause-takes
 returns-clause-takes g c = λ head s.
     let f = c.end_head-ignore.ensures c.args.part head (head-holds _ _ head c.in_default.not-Malformed s) in

@@ -1,3 +1,5 @@
+-- Closed is only a text without an open character: there a parser goes on as a new one (`anew`). Elsewhere something is
+-- unfinished (`unfinished`).
 use Rattle.vte_core.proofs.Common.{◌≡◌, [], cases_Bool, inl, inr, false≢true, not, ap, subst, sym, ◌∙◌, IsAfter, Text, bytes_of}
 use Rattle.vte_core.proofs.calls.Runs.{settled-by, settled-nothing}
 use Rattle.vte_core.proofs.calls.Open.{finished, same-begun, unfinished}
@@ -5,6 +7,7 @@ use Rattle.vte_core.proofs.calls.States.{between_characters}
 use Rattle.vte_core.proofs.calls.ToRun.{anew, settled-text}
 use Rattle.vte_core.proofs.parser.machine.Machine.is_open.Goals as goal
 
+-- A text without an open character.
 pub returns-in-Text-clause-closed : goal.returns-in-Text-clause-closed
 returns-in-Text-clause-closed g c = λ closed stream h. elim (cases_Bool c.is_nothing.result) [
   | inl nothing ↦
@@ -17,12 +20,14 @@ returns-in-Text-clause-closed g c = λ closed stream h. elim (cases_Bool c.is_no
   | inr some ↦ absurd (false≢true (sym closed ∙ ap not some))
 ]
 
+-- A text with one.
 pub returns-in-Text-clause-opens : goal.returns-in-Text-clause-opens
 returns-in-Text-clause-opens g c = λ opens stream h. unfinished c.args.self.now h (λ here.
     let same : Text c.in-Text.begun ≡ Text here.unfinished = sym c.in-Text.is ∙ here.begun in
     let nothing : bytes_of c.in-Text.begun ≡ [] = rw (same-begun same) here.nothing in
     false≢true (sym (ap not (c.is_nothing.ensures.1 nothing)) ∙ opens))
 
+-- Any other state.
 pub returns-in_default-clause-opens : goal.returns-in_default-clause-opens
 returns-in_default-clause-opens g c = λ opens stream h.
     unfinished c.args.self.now h (λ here. c.in_default.not-Text here.unfinished here.begun)

@@ -1,3 +1,4 @@
+-- A new machine is at the place where a stream begins.
 use Rattle.vte_core.proofs.Common.{refl}
 use Rattle.vte_core.proofs.streams.After.{begins}
 use Rattle.vte_core.proofs.parser.machine.Machine.new.Goals as goal

@@ -1,3 +1,5 @@
+-- The byte after ESC by its class: a key, an intermediate, another byte that dispatches, a control, or one that is
+-- dropped. In each case the state is that of the place to which the byte leads.
 use Rattle.vte_core.proofs.Common.{false, [], ◌∷◌, refl, sym, ◌∙◌, arith, rules, class_of, EscDispatch, Execute, InText, AtEscape, InEscape}
 use Rattle.vte_core.proofs.bytes.ClassCases.{control, final_ends_nothing, intermediate, left_dispatches, head_ends_nothing}
 use Rattle.vte_core.proofs.bytes.ClassLemmas.{below_final}
@@ -9,12 +11,14 @@ use Rattle.vte_core.proofs.places.PlaceLeads.{escape-control, escape-intermediat
 use Rattle.vte_core.proofs.shapes.PlainKeys.{below_finals}
 use Rattle.vte_core.proofs.parser.machine.Machine.read_after_escape.Goals as goal
 
+-- A final byte is a key: what it begins is `begin_body`'s.
 pub returns-then-is_final-clause-performs : goal.returns-then-is_final-clause-performs
 returns-then-is_final-clause-performs g c =
     let is = sym c.is_final.ensures ∙ c.if-is_final.true in
     performs-in c.requires.begun (final_ends_nothing (class_of c.args.byte) is)
     (at_escape c.args.self.now (λ holds. c.begin_body.ensures.takes (stands-by c.requires.begun holds)))
 
+-- An intermediate is the first of the sequence.
 pub returns-then-is_intermediate-clause-performs : goal.returns-then-is_intermediate-clause-performs
 returns-then-is_intermediate-clause-performs g c =
     let is = intermediate _ (sym c.is_intermediate.ensures ∙ c.if-is_intermediate.true) in
@@ -22,6 +26,7 @@ returns-then-is_intermediate-clause-performs g c =
     (at_escape c.args.self.now (λ holds. taken [] (InEscape (c.args.byte ∷ [])) refl
     (record { by = c.collect.ensures.holds [] holds }) (escape-intermediate _ c.args.byte is)))
 
+-- Digits, `:`, `;` and markers dispatch: keys begin at `@`, which is later.
 pub returns-then-is_head-clause-performs : goal.returns-then-is_head-clause-performs
 returns-then-is_head-clause-performs g c =
     let b = c.args.byte in
@@ -34,6 +39,7 @@ returns-then-is_head-clause-performs g c =
     (stands-text_begun _ d.text)
     (escape-end _ b _ refl ends (below_finals b (below_final b head)))))
 
+-- A control is executed; the place stays after ESC.
 pub returns-then-is_control-clause-performs : goal.returns-then-is_control-clause-performs
 returns-then-is_control-clause-performs g c =
     let b = c.args.byte in
@@ -43,6 +49,7 @@ returns-then-is_control-clause-performs g c =
     (λ holds. taken (Execute b ∷ []) AtEscape c.execute_control.ensures.value (stands-by c.requires.begun holds)
     (escape-control _ b is)))
 
+-- What is left is DEL and 80 to FF, which is dropped.
 pub returns-else-is_control-clause-performs : goal.returns-else-is_control-clause-performs
 returns-else-is_control-clause-performs g c =
     performs-dropped c.requires.begun (sym c.is_head.ensures ∙ c.if-is_head.false)

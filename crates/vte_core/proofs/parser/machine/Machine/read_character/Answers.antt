@@ -1,14 +1,19 @@
+-- What the first byte begins is open, so the call goes on by what completes it (`advances-first`): the second byte
+-- here, or three bytes in a function of their own; that for four says the same as this one.
 use Rattle.vte_core.proofs.Common.{◌+◌, ◌<◌, ◌≤◌, refl, sym, ◌∙◌, arith}
 use Rattle.vte_core.proofs.bytes.CarriedLemmas.{second_broken, second_lone, spells_two}
-use Rattle.vte_core.proofs.calls.Characters.{completes-all, completes-broken, completes-whole, goes-nowhere, some}
+use Rattle.vte_core.proofs.calls.Characters.{completes-all, completes-broken, completes-whole, goes-nowhere}
+use Rattle.vte_core.proofs.calls.InsideCharacters.{some}
 use Rattle.vte_core.proofs.calls.LeadBytes.{advances-first}
 use Rattle.vte_core.proofs.parser.machine.Machine.read_character.Goals as goal
 
+-- The call ends after the first byte: the character stays open.
 pub returns-then-next-len-clause-advances : goal.returns-then-next-len-clause-advances
 returns-then-next-len-clause-advances g c =
     advances-first c.requires.may_read c.requires.lead c.requires.fits
     (completes-all (goes-nowhere c.args.self.now (some _ _)) refl (omega arith))
 
+-- The second byte does not continue it, whatever the first one is: it is broken before that byte.
 pub returns-then-not-is_continuation-clause-advances : goal.returns-then-not-is_continuation-clause-advances
 returns-then-not-is_continuation-clause-advances g c =
     let r = c.requires in
@@ -19,6 +24,7 @@ returns-then-not-is_continuation-clause-advances g c =
     (λ more. second_broken c.args.first c.at-second.result more misfits)
     r.may_read.begun c.print_char.ensures.value (omega arith) c.at-second.ensures.value)
 
+-- Two bytes spell a character.
 pub returns-then-first-lt224-clause-advances : goal.returns-then-first-lt224-clause-advances
 returns-then-first-lt224-clause-advances g c =
     let r = c.requires in
@@ -29,6 +35,7 @@ returns-then-first-lt224-clause-advances g c =
     (completes-whole (goes-nowhere c.args.self.now (some _ _)) (λ more. (spells.is_whole, c.character_of_two.ensures))
     r.may_read.begun c.tell_character.ensures.value (omega arith) c.at-second.ensures.value refl)
 
+-- Three and four bytes.
 pub returns-then-first-lt240-clause-advances : goal.returns-then-first-lt240-clause-advances
 returns-then-first-lt240-clause-advances g c =
     advances-first c.requires.may_read c.requires.lead c.requires.fits c.complete_three.ensures.completes

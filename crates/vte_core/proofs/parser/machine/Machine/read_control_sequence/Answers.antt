@@ -1,3 +1,5 @@
+-- The head first. Then nothing is left, or the next byte ends it: final, CAN, SUB or ESC, a control, or one that is
+-- dropped, by its class.
 use Rattle.vte_core.proofs.Common.{[], ◌∷◌, refl, sym, ◌∙◌, rules, class_of, Execute, InControlSequence}
 use Rattle.vte_core.proofs.bytes.ClassCases.{control, final_ends_nothing, left_is_dropped}
 use Rattle.vte_core.proofs.calls.Arms.{taken}
@@ -8,6 +10,7 @@ use Rattle.vte_core.proofs.places.PlaceLeads.{byte-dropped, control-control}
 use Rattle.vte_core.proofs.parser.machine.Machine.read_control_sequence.Goals.{then-ends_all, else-ends_all+then-is_control, else-ends_all+else-is_control}
 use Rattle.vte_core.proofs.parser.machine.Machine.read_control_sequence.Goals as goal
 
+-- A final byte ends the sequence.
 pub returns-then-is_final : goal.returns-then-is_final
 returns-then-is_final g c =
     let read = c.read_head-head.ensures in
@@ -26,6 +29,7 @@ pub end_control_sequence-requires-clause-room : goal.end_control_sequence-requir
 end_control_sequence-requires-clause-room g c =
     let next = rw c.in-Some.is at c.read_head-head.ensures.reads.next in search rules
 
+-- CAN, SUB and ESC leave it, a control is executed inside it, and DEL or a byte from 80 is dropped.
 pub returns-in-Some-clause-advances : goal.returns-in-Some-clause-advances
 returns-in-Some-clause-advances g c =
     let read = c.read_head-head.ensures in
@@ -33,10 +37,12 @@ returns-in-Some-clause-advances g c =
     let part = c.read_head-head.result.part in
     let b = c.in-Some.byte in
     elim c.if-ends_all.branch [
+      -- CAN, SUB or ESC.
       | then-ends_all w ↦
           rw (w.self-is, w.performer-is)
           (advances-past ControlHead c.requires.begun read.reads.head next c.requires.may_go_on
           w.end_body.ensures.performs w.end_body.ensures.handles.settled)
+      -- A control.
       | else-ends_all+then-is_control w ↦
           let is = control _ (sym w.is_control.ensures ∙ w.if-is_control.true) in
           rw (w.self-is, w.performer-is)
@@ -44,6 +50,7 @@ returns-in-Some-clause-advances g c =
           (performs-head ControlHead part refl (rw is refl) (λ bytes stands.
           taken (Execute b ∷ []) (InControlSequence bytes) w.execute_control.ensures.value (stands-by refl stands)
           (control-control _ bytes b is))) tt)
+      -- A byte that is dropped.
       | else-ends_all+else-is_control w ↦
           let ordinary = sym c.ends_all.ensures ∙ w.if-ends_all.false in
           let dropped =
@@ -57,6 +64,7 @@ returns-in-Some-clause-advances g c =
           (byte-dropped _ (InControlSequence bytes) b _ refl refl dropped))) tt)
     ]
 
+-- All bytes are of the head.
 pub returns-clause-advances : goal.returns-clause-advances
 returns-clause-advances g c =
     advances-head ControlHead c.requires.begun c.read_head-head.ensures.reads.head c.requires.may_go_on refl

@@ -1,3 +1,4 @@
+-- The head first. Then nothing is left, or the next byte hooks, ends the string, or is dropped, by its class.
 use Rattle.vte_core.proofs.Common.{[], refl, sym, ◌∙◌, rules, class_of, InDeviceControl}
 use Rattle.vte_core.proofs.bytes.ClassCases.{final_ends_nothing, left_in_head}
 use Rattle.vte_core.proofs.calls.Arms.{taken}
@@ -7,6 +8,7 @@ use Rattle.vte_core.proofs.places.PlaceLeads.{device-dropped}
 use Rattle.vte_core.proofs.parser.machine.Machine.read_device_control.Goals.{then-is_final, else-is_final+then-ends_all, else-is_final+else-ends_all}
 use Rattle.vte_core.proofs.parser.machine.Machine.read_device_control.Goals as goal
 
+-- A byte after the head: final, CAN, SUB or ESC, or any other.
 pub returns-in-Some : goal.returns-in-Some
 returns-in-Some g c =
     let read = c.read_head-head.ensures in
@@ -15,16 +17,19 @@ returns-in-Some g c =
     let b = c.in-Some.byte in
     record {
       advances = elim c.if-is_final.branch [
+        -- A final byte hooks.
         | then-is_final w ↦
             rw (w.self-is, w.performer-is)
             (advances-past DeviceHead c.requires.begun read.reads.head next c.requires.may_go_on
             (performs-head DeviceHead part refl
             (final_ends_nothing (class_of b) (sym c.is_final.ensures ∙ w.if-is_final.true)) w.hook.ensures.takes)
             w.hook.ensures.handles.settled)
+        -- CAN, SUB or ESC.
         | else-is_final+then-ends_all w ↦
             rw (w.self-is, w.performer-is)
             (advances-past DeviceHead c.requires.begun read.reads.head next c.requires.may_go_on
             w.end_body.ensures.performs w.end_body.ensures.handles.settled)
+        -- A byte that is dropped.
         | else-is_final+else-ends_all w ↦
             let ordinary = sym w.ends_all.ensures ∙ w.if-ends_all.false in
             let dropped =
@@ -39,6 +44,7 @@ returns-in-Some g c =
       moves = search rules;
     }
 
+-- All bytes are of the head.
 pub returns : goal.returns
 returns g c =
     let read = c.read_head-head.ensures in

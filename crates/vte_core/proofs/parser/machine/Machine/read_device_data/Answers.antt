@@ -1,3 +1,4 @@
+-- A call that asks goes on by one data byte; one that does not takes all up to the next byte that is not put.
 use Rattle.vte_core.proofs.Common.{[], ◌∷◌, refl, sym, ◌∙◌, arith, rules, Put, InData}
 use Rattle.vte_core.proofs.bytes.ClassCases.{data_ends_nothing}
 use Rattle.vte_core.proofs.calls.Arms.{advances-in, in_data, taken}
@@ -18,6 +19,7 @@ loop-position-init g c =
       spends = search rules;
     }
 
+-- One data byte, after which a call that asks was not stopped.
 pub loop-position-preserved : goal.loop-position-preserved
 loop-position-preserved g c =
     let v = c.loop-position.invariant in
@@ -36,6 +38,7 @@ loop-position-preserved g c =
       spends = search rules;
     }
 
+-- One data byte, after which the call stops.
 pub returns-then-terminated-clause-advances : goal.returns-then-terminated-clause-advances
 returns-then-terminated-clause-advances g c =
     let v = c.loop-position.invariant in
@@ -46,6 +49,7 @@ returns-then-terminated-clause-advances g c =
     (taken (Put c.at-byte.result ∷ []) InData c.put_byte.ensures.value (stands-by v.begun tt)
     (data-put _ c.at-byte.result is))) (settled-by _ _ v.begun tt)))
 
+-- A call that does not ask: all data up to the byte that is not put.
 pub returns-then-not-this-clause-advances : goal.returns-then-not-this-clause-advances
 returns-then-not-this-clause-advances g c =
     let v = c.loop-position.invariant in
@@ -57,6 +61,7 @@ returns-then-not-this-clause-advances g c =
     (advances-data v.begun (omega (arith, found.low)) found.high are
     (rw c.if-not-this.true refl) c.tell_data.ensures.put)
 
+-- A byte that is no data ends them or is dropped.
 pub returns-then-not-is_data-clause-advances : goal.returns-then-not-is_data-clause-advances
 returns-then-not-is_data-clause-advances g c =
     advances-then c.loop-position.invariant.advances (advances-part c.end_data.ensures.advances)

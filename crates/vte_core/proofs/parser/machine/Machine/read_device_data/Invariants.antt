@@ -1,3 +1,4 @@
+-- The call stands at this place, in the data.
 use Rattle.vte_core.proofs.Common.{◌≡◌, not, eqb, DeviceData, Spends, Advances, MayGoOn}
 use Rattle.vte_core.proofs.parser.machine.Machine.read_device_data.Given as goal
 

@@ -1,3 +1,4 @@
+-- ESC once more changes nothing. `[` leads to a head, which is read on; any other byte is one step.
 use Rattle.vte_core.proofs.Common.{refl, arith, rules}
 use Rattle.vte_core.proofs.calls.Runs.{advances-byte, advances-moved, advances-nothing, advances-when, advances-then, settled-by}
 use Rattle.vte_core.proofs.calls.Sequences.{advances-again, advances-bracket}
@@ -12,6 +13,7 @@ loop-position-init g c =
       spends = search rules;
     }
 
+-- ESC once more.
 pub loop-position-preserved : goal.loop-position-preserved
 loop-position-preserved g c =
     let v = c.loop-position.invariant in
@@ -24,6 +26,7 @@ loop-position-preserved g c =
       spends = search rules;
     }
 
+-- `[` and what follows.
 pub returns-then-byte-eq91-clause-advances : goal.returns-then-byte-eq91-clause-advances
 returns-then-byte-eq91-clause-advances g c =
     let v = c.loop-position.invariant in
@@ -33,6 +36,7 @@ returns-then-byte-eq91-clause-advances g c =
     (omega arith) c.at-byte.ensures.value v.may_go_on c.if-byte-eq91.true refl c.begin_head.ensures)
     c.read_control_sequence.ensures.advances)
 
+-- Any other byte.
 pub returns-then-byte-ne-ESCAPE-clause-advances : goal.returns-then-byte-ne-ESCAPE-clause-advances
 returns-then-byte-ne-ESCAPE-clause-advances g c =
     let v = c.loop-position.invariant in

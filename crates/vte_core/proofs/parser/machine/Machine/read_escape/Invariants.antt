@@ -1,3 +1,4 @@
+-- The call stands at this place, after ESC.
 use Rattle.vte_core.proofs.Common.{◌≡◌, not, eqb, Escape, Spends, Advances, MayGoOn}
 use Rattle.vte_core.proofs.parser.machine.Machine.read_escape.Given as goal
 

@@ -1,3 +1,5 @@
+-- The byte after intermediates by its class: another intermediate, a byte that dispatches, one that ends the sequence,
+-- a control, or one that is dropped. In each case the machine is at the place to which the byte leads.
 use Rattle.vte_core.proofs.Common.{[], ◌∷◌, ◌++◌, refl, sym, ◌∙◌, arith, rules, class_of, EscDispatch, Execute, first_two, are_too_many, InText, InEscape}
 use Rattle.vte_core.proofs.bytes.ClassCases.{control, dispatch_ends_nothing, intermediate, left_of_intermediates}
 use Rattle.vte_core.proofs.calls.Arms.{advances-in, in_escape, taken}
@@ -7,6 +9,7 @@ use Rattle.vte_core.proofs.places.PlaceLeads.{byte-dropped, intermediate-control
 use Rattle.vte_core.proofs.parser.machine.Machine.read_intermediates.Goals.{then-is_intermediate, else-is_intermediate+else-dispatches_escape+else-ends_all+else-is_control}
 use Rattle.vte_core.proofs.parser.machine.Machine.read_intermediates.Goals as goal
 
+-- Nothing is read yet.
 pub loop-position-init : goal.loop-position-init
 loop-position-init g c =
     record {
@@ -16,6 +19,7 @@ loop-position-init g c =
       spends = search rules;
     }
 
+-- Another intermediate is collected, and DEL or a byte from 80 is dropped: the place stays after intermediates.
 pub loop-position-preserved : goal.loop-position-preserved
 loop-position-preserved g c =
     let v = c.loop-position.invariant in
@@ -23,6 +27,7 @@ loop-position-preserved g c =
     let parser = c.loop-position.self in
     record {
       advances = advances-then v.advances (elim c.if-is_intermediate.branch [
+        -- An intermediate.
         | then-is_intermediate w ↦
             let is = intermediate _ (sym c.is_intermediate.ensures ∙ w.if-is_intermediate.true) in
             rw w.self-is
@@ -30,6 +35,7 @@ loop-position-preserved g c =
             (in_escape parser (λ ints holds. taken [] (InEscape (ints ++ b ∷ [])) refl
             (stands-by v.begun (w.collect.ensures.holds ints holds)) (intermediate-more _ ints b is)))
             (settled-by _ _ v.begun tt)))
+        -- A byte that is dropped.
         | else-is_intermediate+else-dispatches_escape+else-ends_all+else-is_control w ↦
             let ordinary = sym w.ends_all.ensures ∙ w.if-ends_all.false in
             let dropped =
@@ -51,6 +57,7 @@ loop-position-preserved g c =
       spends = search rules;
     }
 
+-- A byte that dispatches: the sequence is told, with the first two intermediates, and a text goes on.
 pub returns-then-dispatches_escape-clause-advances : goal.returns-then-dispatches_escape-clause-advances
 returns-then-dispatches_escape-clause-advances g c =
     let v = c.loop-position.invariant in
@@ -65,6 +72,7 @@ returns-then-dispatches_escape-clause-advances g c =
     (rw (holds.kept, holds.too_many) at d.tells.value) (stands-text_begun _ d.text)
     (intermediate-end _ ints b _ refl ends))) (settled-by _ _ d.text tt)))
 
+-- CAN, SUB or ESC: the sequence is left without being told.
 pub returns-then-ends_all-clause-advances : goal.returns-then-ends_all-clause-advances
 returns-then-ends_all-clause-advances g c =
     let v = c.loop-position.invariant in
@@ -73,6 +81,7 @@ returns-then-ends_all-clause-advances g c =
     (advances-when (rw v.begun tt)
     (advances-byte (omega arith) c.at-byte.ensures.value v.may_go_on d.performs d.handles.settled))
 
+-- A control is executed inside the sequence.
 pub returns-then-is_control-clause-advances : goal.returns-then-is_control-clause-advances
 returns-then-is_control-clause-advances g c =
     let v = c.loop-position.invariant in

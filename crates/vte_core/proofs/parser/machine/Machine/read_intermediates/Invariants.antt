@@ -1,3 +1,4 @@
+-- The call stands at this place, after intermediates.
 use Rattle.vte_core.proofs.Common.{◌≡◌, not, eqb, EscapeIntermediate, Spends, Advances, MayGoOn}
 use Rattle.vte_core.proofs.parser.machine.Machine.read_intermediates.Given as goal
 

@@ -1,3 +1,4 @@
+-- A run of text that begins here is told at once, and is as its characters one by one (`advances-text`).
 use Rattle.vte_core.proofs.Common.{◌<◌, arith, sym, ◌∙◌}
 use Rattle.vte_core.proofs.calls.TextRuns.{advances-text}
 use Rattle.vte_core.proofs.parser.machine.Machine.read_longer.Goals as goal

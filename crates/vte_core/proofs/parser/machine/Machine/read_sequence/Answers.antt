@@ -1,3 +1,4 @@
+-- ESC in a text, and `[` after it, are two steps of one byte; then the call goes on with the head, or after ESC.
 use Rattle.vte_core.proofs.Common.{refl, arith, Collected, Escape, Machine}
 use Rattle.vte_core.proofs.calls.States.{between_characters}
 use Rattle.vte_core.proofs.calls.Runs.{advances-byte, advances-escape, advances-then}

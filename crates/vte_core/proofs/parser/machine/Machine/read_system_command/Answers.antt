@@ -1,3 +1,5 @@
+-- Data join the open piece. The byte after them ends the command, or is `;`, BEL or a control: by its class, since data
+-- would have been read.
 use Rattle.vte_core.proofs.Common.{◌≡◌, ◌<◌, length, true, [], ◌∷◌, ◌++◌, refl, sym, subst, ◌∙◌, arith, ne_eqb, Machine, OscDispatch, InText, InSystemCommand, Keeps, IsCommandData}
 use Rattle.vte_core.proofs.Common.{pieces_of}
 use Rattle.vte_core.proofs.bytes.ClassCases.{left_is_control}
@@ -9,6 +11,7 @@ use Rattle.vte_core.proofs.places.PlaceLeads.{command-item, command-control, com
 use Rattle.vte_core.proofs.parser.machine.Machine.read_system_command.Goals.{then-byte-eq59, else-byte-eq59+then-byte-eq-BELL, else-byte-eq59+else-byte-eq-BELL}
 use Rattle.vte_core.proofs.parser.machine.Machine.read_system_command.Goals as goal
 
+-- Only data is left.
 pub returns-in-None-clause-advances : goal.returns-in-None-clause-advances
 returns-in-None-clause-advances g c =
     let r = c.requires in
@@ -17,6 +20,7 @@ returns-in-None-clause-advances g c =
     (λ k low high. (found.are k low high).0) r.may_go_on r.begun
     (λ items k. c.push_data.ensures.keeps items (keeps-same _ _ _ items c.make_room.ensures.same k))
 
+-- CAN, SUB or ESC after the data ends the command.
 pub returns-then-ends_all-clause-advances : goal.returns-then-ends_all-clause-advances
 returns-then-ends_all-clause-advances g c =
     let r = c.requires in
@@ -27,6 +31,7 @@ returns-then-ends_all-clause-advances g c =
     (λ items k. c.push_data.ensures.keeps items (keeps-same _ _ _ items c.make_room.ensures.same k)))
     c.read_end.ensures.advances
 
+-- Another byte after the data: `;` ends the piece, BEL the command, and a control is dropped.
 pub returns-clause-advances : goal.returns-clause-advances
 returns-clause-advances g c =
     let r = c.requires in
@@ -45,6 +50,7 @@ returns-clause-advances g c =
     (λ k low high. (found.are k low high).0) r.may_go_on begun
     (λ items k. c.push_data.ensures.keeps items (keeps-same _ _ _ items c.make_room.ensures.same k)))
     (elim c.if-byte-eq59.branch [
+      -- `;`: the next piece begins.
       | then-byte-eq59 w ↦
           let is : byte ≡ 0x3b = w.if-byte-eq59.true in
           rw (w.self-is, w.performer-is)
@@ -54,6 +60,7 @@ returns-clause-advances g c =
           (subst (λ b. Keeps limit w.end_piece.new.self (items ++ b ∷ [])) (sym is)
           (w.end_piece.ensures.keeps items keeps)))
           (command-item limit items byte (omega (arith, is))))) (settled-by _ _ begun tt)))
+      -- BEL: the command is told.
       | else-byte-eq59+then-byte-eq-BELL w ↦
           rw (w.self-is, w.performer-is)
           (advances-when tt (advances-in begun within here.1 r.may_go_on ordinary
@@ -62,6 +69,7 @@ returns-clause-advances g c =
           (rw (pieces_held _ _ items keeps) w.dispatch.ensures.value) (record { by = (refl, refl) })
           (command-bell limit items byte (left_is_control byte ordinary no_data w.if-byte-eq59.false)
           (rw w.if-byte-eq-BELL.true refl)))) tt))
+      -- Another control is dropped.
       | else-byte-eq59+else-byte-eq-BELL w ↦
           rw (w.self-is, w.performer-is)
           (advances-when tt (advances-in begun within here.1 r.may_go_on ordinary

@@ -1,8 +1,10 @@
+-- In a round the call may first print a run of ASCII (`reached`), and then stands before a byte (`at`), which it reads
+-- by one of five branches (`read`). Goals after such joins take these three; the others are one branch alone.
 use Rattle.vte_core.proofs.Common.{◌≡◌, ◌+◌, ◌<◌, not, eqb, true, length, sym, ◌∙◌, arith, rules, false≢true, Advances, Text, Nothing}
 use Rattle.vte_core.specs.machine.Words.{MayReadByte}
 use Rattle.vte_core.proofs.calls.Runs.{advances-byte, advances-moved, advances-part, advances-then, settled-by}
 use Rattle.vte_core.proofs.calls.TextRuns.{advances-text, may_go_on-text}
-use Rattle.vte_core.proofs.calls.Characters.{performs-printed, performs-single}
+use Rattle.vte_core.proofs.calls.BetweenCharacters.{performs-printed, performs-single}
 use Rattle.vte_core.proofs.parser.machine.Machine.read_text.Given.{Over}
 use Rattle.vte_core.proofs.parser.machine.Machine.read_text.Goals.{Joined-IN_RUNS-2, then-IN_RUNS-2+then-is_printed_ascii+in-Some, else-IN_RUNS-2}
 use Rattle.vte_core.proofs.parser.machine.Machine.read_text.Goals.{Joined-is_printed_ascii-2, then-is_printed_ascii-2}
@@ -21,12 +23,14 @@ reached g c =
     let within : c.loop-position-2.position < length c.args.input.bytes.now =
     omega (arith, c.loop-position.invariant.front, c.loop-position-2-test.true) in
     elim c.if-IN_RUNS-2.branch [
+      -- A run of ASCII came first.
       | then-IN_RUNS-2+then-is_printed_ascii+in-Some w ↦
           let run = w.print_ascii-run.ensures in
           rw (w.performer-is, w.position-is) (advances-then v.advances
           (advances-text
           (c.requires.no_stop (sym c.IN_RUNS-in-loop-position-2.ensures ∙ w.if-IN_RUNS-2.true)) v.may_go_on within
           (v.between within) run.further run.high run.prints))
+      -- None did.
       | else-IN_RUNS-2 w ↦ rw (w.performer-is, w.position-is) v.advances
     ]
 
@@ -59,6 +63,7 @@ at g c =
       })
     ]
 
+-- A run of ASCII up to the end of what was looked at: its characters, and nothing more in this round.
 pub loop-position-2-preserved-in-None : goal.loop-position-2-preserved-in-None
 loop-position-2-preserved-in-None g c =
     let v = c.loop-position-2.invariant in
@@ -84,6 +89,7 @@ loop-position-2-preserved-in-None g c =
       memory = search rules;
     }
 
+-- The three functions that read on begin where the call stands.
 pub read_longer-next-requires-clause-may_read : goal.read_longer-next-requires-clause-may_read
 read_longer-next-requires-clause-may_read g c = at g
     (goal.at.read_longer-next-requires-clause-may_read g c).Joined-IN_RUNS-2
@@ -109,10 +115,12 @@ read : (g : Over) (c : Joined-is_printed_ascii-2 g)
     c.if-IN_RUNS-2.position
     (c.if-is_printed_ascii-2.position + 1) c.loop-position-2.self c.if-is_printed_ascii-2.self
 read g c here = elim c.if-is_printed_ascii-2.branch [
+  -- Printed ASCII.
   | then-is_printed_ascii-2 w ↦
       let printed = sym c.is_printed_ascii-in-loop-position-2.ensures ∙ w.if-is_printed_ascii-2.true in
       rw (w.self-is, w.performer-is, w.position-is) (advances-part (advances-byte here.within here.is here.may_go_on
       (performs-printed here.begun printed w.from.ensures w.print_char.ensures.value) (settled-by _ _ here.begun tt)))
+  -- In runs, from A0: a byte that begins a longer character, or a single one.
   | else-is_printed_ascii-2+then-IN_RUNS-3+then-byte-ge160+then-is_lead w ↦
       let read = w.read_longer-next.ensures in
       rw (w.self-is, w.performer-is, w.position-is)
@@ -122,6 +130,7 @@ read g c here = elim c.if-is_printed_ascii-2.branch [
       rw (w.self-is, w.performer-is, w.position-is) (advances-part (advances-byte here.within here.is here.may_go_on
       (performs-single here.begun (grind (arith, w.if-byte-ge160.true))
       (sym w.is_lead.ensures ∙ w.if-is_lead.false) told.control told.malformed) (settled-by _ _ here.begun tt)))
+  -- Any other byte, but ESC: the same two.
   | else-is_printed_ascii-2+else-IN_RUNS-3+then-is_lead-2+else-this-ne0 w ↦
       let read = w.read_longer-next-then-is_lead-2.ensures in
       rw (w.self-is, w.performer-is, w.position-is)
@@ -134,22 +143,26 @@ read g c here = elim c.if-is_printed_ascii-2.branch [
       (settled-by _ _ here.begun tt)))
 ]
 
+-- ESC: the run, if any, and the escape sequence.
 pub returns-then-byte-eq-ESCAPE-clause-advances : goal.returns-then-byte-eq-ESCAPE-clause-advances
 returns-then-byte-eq-ESCAPE-clause-advances g c =
     advances-then (reached g (goal.at.returns-then-byte-eq-ESCAPE-clause-advances g c).Joined-IN_RUNS-2)
     (advances-part c.read_sequence.ensures.advances)
 
+-- A stop after a byte: the run and the byte.
 pub returns-then-terminated-2-clause-advances : goal.returns-then-terminated-2-clause-advances
 returns-then-terminated-2-clause-advances g c =
     let places = goal.at.returns-then-terminated-2-clause-advances g c in
     advances-then (reached g places.Joined-IN_RUNS-2)
     (read g places.Joined-is_printed_ascii-2 (at g places.Joined-IN_RUNS-2))
 
+-- A stop after a longer character, in a call that asks.
 pub returns-then-terminated-clause-advances : goal.returns-then-terminated-clause-advances
 returns-then-terminated-clause-advances g c =
     advances-then (reached g (goal.at.returns-then-terminated-clause-advances g c).Joined-IN_RUNS-2)
     (advances-part c.read_longer-next-then-is_lead-2.ensures.advances)
 
+-- .. and without a stop: the next round begins after the character.
 pub loop-position-2-preserved-then-not-IN_RUNS : goal.loop-position-2-preserved-then-not-IN_RUNS
 loop-position-2-preserved-then-not-IN_RUNS g c =
     let places = goal.at.loop-position-2-preserved-then-not-IN_RUNS g c in
@@ -169,6 +182,7 @@ loop-position-2-preserved-then-not-IN_RUNS g c =
       memory = search rules;
     }
 
+-- A round that goes on. Only a longer character can change the state, and does so only with the last bytes of the call.
 pub loop-position-2-preserved : goal.loop-position-2-preserved
 loop-position-2-preserved g c =
     let places = goal.at.loop-position-2-preserved g c in
@@ -203,6 +217,7 @@ loop-position-2-preserved g c =
       memory = search rules;
     }
 
+-- The places and looks add up in each branch.
 pub returns-then-terminated-2-clause-moves : goal.returns-then-terminated-2-clause-moves
 returns-then-terminated-2-clause-moves g c =
     let join = (goal.at.returns-then-terminated-2-clause-moves g c).Joined-is_printed_ascii-2 in

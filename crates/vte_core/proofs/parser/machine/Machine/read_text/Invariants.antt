@@ -1,8 +1,8 @@
+-- The call stands at this place, between characters if bytes are left. A byte of text has three looks at most, and one
+-- more if it is searched; one of a text in runs, which is not searched, has five.
 use Rattle.vte_core.proofs.Common.{◌≡◌, ◌+◌, ◌-◌, ◌*◌, ◌<◌, ◌≤◌, ℕ, not, eqb, true, false, length, slice_index, Text, Nothing, looked, Advances, MayGoOn}
 use Rattle.vte_core.proofs.parser.machine.Machine.read_text.Given as goal
 
--- A byte of text has three looks at most, and one more if it is searched. One of a text in runs,
--- which isn't, has five.
 abbrev pub invariant-loop-position-2 : goal.invariant-loop-position-2
 invariant-loop-position-2 g l = record {
   advances : Advances ⊥ (not (eqb g.row.ASKS 0)) g.P.CountedPerform.step g.P.CountedPerform.is_terminated

@@ -1,12 +1,16 @@
+-- A longer character is read as one. Otherwise each byte is single (`advances-single`), up to ESC, the end, a stop or a
+-- byte that may begin a run.
 use Rattle.vte_core.proofs.Common.{refl, sym, ◌∙◌, arith, rules}
-use Rattle.vte_core.proofs.calls.Runs.{advances-byte, advances-nothing, advances-telling, advances-then, advances-when, settled-by}
-use Rattle.vte_core.proofs.calls.Characters.{adds-single, performs-single}
+use Rattle.vte_core.proofs.calls.Runs.{advances-nothing, advances-then, advances-when, settled-by}
+use Rattle.vte_core.proofs.calls.BetweenCharacters.{advances-single}
 use Rattle.vte_core.proofs.bytes.Ends.{ends-unprinted}
 use Rattle.vte_core.proofs.parser.machine.Machine.read_unprinted.Goals as goal
 
+-- A byte that begins a longer one: no run begins here, so the character is none that is printed.
 pub returns-then-is_lead-clause-advances : goal.returns-then-is_lead-clause-advances
 returns-then-is_lead-clause-advances g c = advances-when (refl, c.requires.other) c.read_character.ensures.advances
 
+-- The first byte is single: it is no printed ASCII, for no run begins here, and begins no longer one.
 pub loop-byte-init : goal.loop-byte-init
 loop-byte-init g c =
     let may_read = c.requires.may_read in
@@ -25,17 +29,15 @@ loop-byte-init g c =
       seen = search rules;
     }
 
+-- One more single byte was read, and the next is single too.
 pub loop-byte-preserved : goal.loop-byte-preserved
 loop-byte-preserved g c =
     let v = c.loop-byte.invariant in
     let told = c.tell_single.ensures in
     record {
       advances =
-          advances-then v.advances (advances-telling (advances-byte v.may_read.within v.may_read.is v.may_read.may_go_on
-          (performs-single v.may_read.begun c.loop-byte-test.true v.lone told.control told.malformed)
-          (settled-by _ _ v.may_read.begun tt))
-          (λ stream place s.
-          adds-single _ v.may_read.begun c.loop-byte-test.true v.other v.lone v.may_read.within v.may_read.is s));
+          advances-then v.advances
+          (advances-single v.may_read c.loop-byte-test.true v.other v.lone told.control told.malformed);
       may_read = record {
         begun = v.may_read.begun;
         may_go_on = λ _. sym c.terminated.ensures ∙ c.if-terminated.false;
@@ -48,26 +50,23 @@ loop-byte-preserved g c =
       seen = search rules;
     }
 
+-- The byte was the last one, or the performer was terminated after it.
 pub returns-then-position-len-clause-advances : goal.returns-then-position-len-clause-advances
 returns-then-position-len-clause-advances g c =
     let v = c.loop-byte.invariant in
     let told = c.tell_single.ensures in
-    advances-then v.advances (advances-telling (advances-byte v.may_read.within v.may_read.is v.may_read.may_go_on
-    (performs-single v.may_read.begun c.loop-byte-test.true v.lone told.control told.malformed)
-    (settled-by _ _ v.may_read.begun tt))
-    (λ stream place s.
-    adds-single _ v.may_read.begun c.loop-byte-test.true v.other v.lone v.may_read.within v.may_read.is s))
+    advances-then v.advances
+    (advances-single v.may_read c.loop-byte-test.true v.other v.lone told.control told.malformed)
 
+-- The next byte may begin a run or a character.
 pub returns-then-is_printed_ascii-clause-advances : goal.returns-then-is_printed_ascii-clause-advances
 returns-then-is_printed_ascii-clause-advances g c =
     let v = c.loop-byte.invariant in
     let told = c.tell_single.ensures in
-    advances-then v.advances (advances-telling (advances-byte v.may_read.within v.may_read.is v.may_read.may_go_on
-    (performs-single v.may_read.begun c.loop-byte-test.true v.lone told.control told.malformed)
-    (settled-by _ _ v.may_read.begun tt))
-    (λ stream place s.
-    adds-single _ v.may_read.begun c.loop-byte-test.true v.other v.lone v.may_read.within v.may_read.is s))
+    advances-then v.advances
+    (advances-single v.may_read c.loop-byte-test.true v.other v.lone told.control told.malformed)
 
+-- ESC: the looks at the bytes before it and at the sequence add up.
 pub returns-clause-moves : goal.returns-clause-moves
 returns-clause-moves g c =
     let v = c.loop-byte.invariant in

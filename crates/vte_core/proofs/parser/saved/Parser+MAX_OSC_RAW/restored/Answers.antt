@@ -1,3 +1,4 @@
+-- A parser whose fields are those that were saved has read what the saved one had.
 use Rattle.vte_core.proofs.Common.{refl, rules}
 use Rattle.vte_core.proofs.parser.saved.Parser+MAX_OSC_RAW.restored.Goals as goal
 

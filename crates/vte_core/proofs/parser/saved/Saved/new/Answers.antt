@@ -1,3 +1,4 @@
+-- What is saved first is the state of a new parser.
 use Rattle.vte_core.proofs.Common.{refl, Text, Nothing}
 use Rattle.vte_core.proofs.fields.Standing.{stands-text_begun}
 use Rattle.vte_core.proofs.streams.After.{begins}

@@ -1,3 +1,4 @@
+-- A control that is kept is a text of one character, whose event is the control.
 use Rattle.vte_core.proofs.Common.{◌≡◌, arith, true, false, low_scalar, IsScalar, is_left_out, is_layout, run_event, Execute, ap, sym, refl, ◌∙◌}
 use Rattle.vte_core.proofs.bytes.Printable.{after_one, layout-is_ascii, layout-stays, run_one}
 use Rattle.vte_core.proofs.scan.grain.AnyPerformAsInRuns.execute_control.Goals as goal

@@ -1,3 +1,4 @@
+-- A character is a text of one, whose event is to print it.
 use Rattle.vte_core.proofs.Common.{ap, ◌∙◌}
 use Rattle.vte_core.proofs.bytes.Printable.{after_one, no_control-stays, no_control_event, run_one}
 use Rattle.vte_core.proofs.scan.grain.AnyPerformAsInRuns.print_char.Goals as goal

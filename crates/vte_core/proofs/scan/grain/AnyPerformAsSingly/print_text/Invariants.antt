@@ -1,3 +1,4 @@
+-- The characters so far are printed.
 use Rattle.vte_core.proofs.Common.{◌≡◌, map, Print, after}
 use Rattle.vte_core.proofs.scan.grain.AnyPerformAsSingly.print_text.Given as goal
 

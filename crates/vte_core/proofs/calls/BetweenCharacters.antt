@@ -1,0 +1,146 @@
+-- A byte between characters: it is one (`performs-printed`), a control or malformed (`performs-single`), or the first
+-- of one (`performs-opened`). What the code does is what `places/PlaceLeads` says of the byte, and the parser is at the
+-- next place. A single byte tells nothing that a run would (`advances-single`).
+use Rattle.vte_core.proofs.Common.{◌≡◌, ◌≢◌, ℕ, ◌+◌, ◌<◌, ◌≤◌, inl, inr, true, false, Option, List, [], ◌∷◌, length, refl, ap, sym, subst, ◌∙◌, arith, cases_lt, nat_tests, slice_index, Advances, Bool, Machine, Text, Nothing, Event, Print, replacement, Stands, Performs, Place, InText, IsBetween, Carries, escape, character_event, malformed_event, to, is_in, is_truncated, is_well_formed, Unfinished, All-cons, All-nil, IsOther, Execute, is_control_character, AddsOthers, IsAfter, stream_at, Reads, All, cases_Bool}
+use Rattle.vte_core.specs.declared.utf8.Carried.TheVariants.{Unfinished as StillUnfinished}
+use Rattle.vte_core.proofs.bytes.CarriedLemmas.{begins_none}
+use Rattle.vte_core.proofs.bytes.FirstBytes.{ascii_alone}
+use Rattle.vte_core.proofs.fields.Standing.{stands-by}
+use Rattle.vte_core.proofs.calls.Runs.{advances-byte, advances-telling, not_escape, performs-begun, settled-by}
+use Rattle.vte_core.specs.machine.Words.{MayReadByte}
+use Rattle.vte_core.proofs.calls.States.{between_characters}
+use Rattle.vte_core.proofs.places.PlaceLeads.{text-lone, text-unfinished, text-whole}
+use Rattle.vte_core.proofs.streams.Others.{other_control}
+use Rattle.vte_core.proofs.calls.Telling.{adds-reads}
+use Rattle.vte_core.proofs.streams.StreamLemmas.{reads-byte}
+
+prints : (b : ℕ) → is_in (to 0x20 0x7f) b ≡ true → character_event b ≡ Print b
+unfolding character_event
+prints b printed = grind (arith, nat_tests)
+
+module _ {V B : Type 0} {step : V → Event → V} {old new : V} {limit : Option ℕ} {b : ℕ} {parser : Machine B} where
+  -- a byte that is a character
+  performs-whole : parser.state ≡ Text Nothing → b ≢ escape → is_well_formed (b ∷ []) ≡ true
+      → new ≡ step old (character_event b) → (place : Place) → Stands limit parser place → IsBetween place
+      → Performs step old new limit place (b ∷ []) parser
+  performs-whole e n whole performed =
+      performs-begun e n
+      (λ s. record {
+        told = character_event b ∷ [];
+        next = InText [];
+        performed = performed;
+        stands = s;
+        leads = text-whole limit [] b whole;
+      })
+
+  -- a byte that begins none
+  performs-lone : parser.state ≡ Text Nothing → b ≢ escape
+      → is_well_formed (b ∷ []) ≡ false → is_truncated (b ∷ []) ≡ false → new ≡ step old (malformed_event (b ∷ []))
+      → (place : Place) → Stands limit parser place → IsBetween place
+      → Performs step old new limit place (b ∷ []) parser
+  performs-lone e n whole more performed =
+      performs-begun e n
+      (λ s. record {
+        told = malformed_event (b ∷ []) ∷ [];
+        next = InText [];
+        performed = performed;
+        stands = s;
+        leads = text-lone limit b whole more;
+      })
+
+  -- a character of ASCII that is printed
+  pub performs-printed : {c : ℕ} → parser.state ≡ Text Nothing → is_in (to 0x20 0x7f) b ≡ true → c ≡ b
+      → new ≡ step old (Print c) → (place : Place) → Stands limit parser place → IsBetween place
+      → Performs step old new limit place (b ∷ []) parser
+  performs-printed e printed same told =
+      let low : 0x20 ≤ b = grind (arith, nat_tests) in
+      let high : b < 0x80 = grind (arith, nat_tests) in
+      performs-whole e (λ escape. omega (arith, escape, low)) (ascii_alone b high).is_whole
+      (told ∙ ap (λ x. step old (Print x)) same ∙ ap (step old) (sym (prints b printed)))
+
+  -- a byte that is neither printed nor begins a longer one
+  pub performs-single : parser.state ≡ Text Nothing → b ≢ escape
+      → is_in (to 0xc2 0xf4) b ≡ false → (b < 0x80 → new ≡ step old (character_event b))
+      → (0x80 ≤ b → new ≡ step old (malformed_event (b ∷ []))) → (place : Place)
+      → Stands limit parser place → IsBetween place → Performs step old new limit place (b ∷ []) parser
+  performs-single e n no_lead control malformed = elim (cases_lt b 0x80) [
+    | inl low ↦ performs-whole e n (ascii_alone b low).is_whole (control low)
+    | inr high ↦
+        let lone = begins_none b high no_lead in performs-lone e n lone.is_whole lone.is_open (malformed high)
+  ]
+
+-- a byte that begins a longer one
+pub performs-opened : {V B : Type 0} {step : V → Event → V} {value : V} {limit : Option ℕ} {b : ℕ} {v : Unfinished}
+    {parser next : Machine B} → parser.state ≡ Text Nothing
+    → b ≢ escape → Carries [] b (StillUnfinished v) → next.state ≡ Text v → (place : Place) → Stands limit parser place
+    → IsBetween place
+    → Performs step value value limit place (b ∷ []) next
+performs-opened {limit = limit} {b = b} {v = v} {next = next} e n carries state =
+    let more : is_truncated (b ∷ []) ≡ true = rw carries.0 at carries.1 in
+    performs-begun e n
+    (λ s. record {
+      told = [];
+      next = InText (b ∷ []);
+      performed = refl;
+      stands = stands-by state (carries.0, more);
+      leads = text-unfinished limit [] b;
+    })
+
+-- ---- what a byte tells that is neither printed nor begins a longer one
+
+record Single (limit : Option ℕ) (b : ℕ) : Type 0 where
+  told : List Event
+  reads : Reads limit (InText []) (b ∷ []) told (InText [])
+  are : All IsOther told
+
+malformed_other : (b : ℕ) → All IsOther (malformed_event (b ∷ []) ∷ [])
+unfolding malformed_event
+malformed_other b = elim (cases_Bool (is_control_character b)) [
+  | inl is ↦ rw is (All-cons IsOther (Execute b) [] tt (All-nil IsOther))
+  | inr is ↦ rw is (All-cons IsOther (Print replacement) [] refl (All-nil IsOther))
+]
+
+single : (limit : Option ℕ) (b : ℕ) → b ≢ escape → is_in (to 0x20 0x7f) b ≡ false → is_in (to 0xc2 0xf4) b ≡ false
+    → Single limit b
+single limit b n other no_lead = elim (cases_lt b 0x80) [
+  | inl low ↦ record {
+    told = character_event b ∷ [];
+    reads =
+        reads-byte limit (InText []) (InText []) b _ (not_escape b n)
+        (text-whole limit [] b (ascii_alone b low).is_whole);
+    are = other_control b (grind (arith, nat_tests));
+  }
+  | inr high ↦
+      let lone = begins_none b high no_lead in
+      record {
+        told = malformed_event (b ∷ []) ∷ [];
+        reads =
+            reads-byte limit (InText []) (InText []) b _ (not_escape b n)
+            (text-lone limit b lone.is_whole lone.is_open);
+        are = malformed_other b;
+      }
+]
+
+adds-single : {B : Type 0} {limit : Option ℕ} {stream bytes : List ℕ} {i b : ℕ} {place : Place} (parser : Machine B)
+    → parser.state ≡ Text Nothing → b ≢ escape
+    → is_in (to 0x20 0x7f) b ≡ false → is_in (to 0xc2 0xf4) b ≡ false → i < length bytes → b ≡ slice_index bytes i
+    → Stands limit parser place
+    → IsAfter limit (stream_at stream bytes i) place → AddsOthers limit stream bytes i (i + 1)
+adds-single {limit = limit} {stream = stream} {bytes = bytes} {i = i} {b = b}
+    {place = place} parser e n other no_lead within is s after =
+    let one = single limit b n other no_lead in
+    adds-reads within is
+    (subst (IsAfter limit (stream_at stream bytes i)) (between_characters parser place e s) after)
+    one.reads refl one.are
+
+pub advances-single : {quiet V B : Type 0} {asks : Bool} {step : V → Event → V} {is_terminated : V → Bool} {old new : V}
+    {limit : Option ℕ} {bytes : List ℕ} {i b : ℕ} {parser : Machine B}
+    → MayReadByte asks is_terminated old (Text Nothing) parser bytes i b → b ≢ escape
+    → is_in (to 0x20 0x7f) b ≡ false → is_in (to 0xc2 0xf4) b ≡ false
+    → (b < 0x80 → new ≡ step old (character_event b)) → (0x80 ≤ b → new ≡ step old (malformed_event (b ∷ [])))
+    → Advances quiet asks step is_terminated old new limit bytes i (i + 1) parser parser
+advances-single r n other no_lead control malformed =
+    advances-telling
+    (advances-byte r.within r.is r.may_go_on (performs-single r.begun n no_lead control malformed)
+    (settled-by _ _ r.begun tt))
+    (λ stream place s. adds-single _ r.begun n other no_lead r.within r.is s)

@@ -1,0 +1,144 @@
+-- A byte inside a character, whose bytes the parser has: the character goes on with it, is whole, or is broken before
+-- it (`carried-more`, `carried-whole`, `carried-broken`). The place is a text with these bytes open, so
+-- `places/PlaceLeads` and `stops/Told` say what the byte tells.
+use Rattle.vte_core.proofs.Common.{◌≡◌, ◌≢◌, ℕ, ◌+◌, ◌<◌, inl, inr, Bool, true, Option, List, [], ◌∷◌, ◌++◌, length, refl, ap, sym, subst, ◌∙◌, slice_index, Machine, Text, Nothing, Event, Print, replacement, CameInside, StandsAt, StandsInside, Stands, StandsBy, Place, InText, bytes_of, is_open, Carries, character_event, is_truncated, scalar_of, Unfinished, HasReadUnder, open_at, open_end}
+use Rattle.vte_core.specs.declared.utf8.Carried.TheVariants.{Unfinished as StillUnfinished, Whole, Broken}
+use Rattle.vte_core.proofs.fields.Standing.{is_open-truncated, stands-by, stands-in, stands-place}
+use Rattle.vte_core.proofs.places.PlaceLeads.{text-unfinished, text-whole}
+use Rattle.vte_core.proofs.streams.Performing.{carried_is_no_escape}
+use Rattle.vte_core.proofs.stops.Told.{breaks-broken, breaks-unfinished, breaks-whole}
+use Rattle.vte_core.proofs.calls.Places.{come-between, come-broken, come-carried}
+use Rattle.vte_core.proofs.streams.After.{after-open_end}
+use Rattle.vte_core.proofs.streams.StreamLemmas.{reads-byte}
+
+stands_in_text : {B : Type 0} {limit : Option ℕ} (parser : Machine B) (v : Unfinished) (u : List ℕ)
+    → parser.state ≡ Text v → bytes_of v ≡ u
+    → is_open u ≡ true → Stands limit parser (InText u)
+stands_in_text parser v u e same more = stands-by e (same, more)
+
+-- the parser, inside a character of these bytes
+abbrev pub in_text : {B : Type 0} → Machine B → Unfinished → Machine B
+in_text parser unfinished = record { state = Text unfinished; collected = parser.collected; command = parser.command }
+
+by_other : {B : Type 0} (limit : Option ℕ) (parser other : Machine B) (u : Unfinished) (place : Place)
+    → StandsBy limit (Text u) parser place → StandsBy limit (Text u) other place
+by_other limit parser other u (InText bytes) s = s
+by_other limit parser other u _ s = absurd s
+
+-- in a text only the state counts
+pub inside-same : {V B : Type 0} {asks : Bool} {step : V → Event → V} {is_terminated : V → Bool} {old new : V}
+    {limit : Option ℕ}
+    {stream bytes : List ℕ} {i : ℕ} {u : Unfinished} {parser next : Machine B}
+    → parser.state ≡ Text u → next.state ≡ Text u
+    → StandsInside asks step is_terminated old new limit stream bytes i parser
+    → StandsInside asks step is_terminated old new limit stream bytes i next
+inside-same {limit = limit} {u = u} {parser = parser} {next = next} e f s =
+    record {
+      place = s.place;
+      stands = stands-by f (by_other limit parser next u s.place (stands-in e s.stands));
+      has_come = s.has_come;
+    }
+
+record AtText (u : Unfinished) (place : Place) : Type 0 where
+  same : place ≡ InText (bytes_of u)
+  begun : is_open (bytes_of u) ≡ true
+
+by_text : {B : Type 0} (limit : Option ℕ) (parser : Machine B) (u : Unfinished) (place : Place)
+    → StandsBy limit (Text u) parser place → AtText u place
+by_text limit parser u (InText bytes) s = record { same = ap InText (sym s.0); begun = ap is_open s.0 ∙ s.1 }
+by_text limit parser u _ s = absurd s
+
+-- an unfinished character has bytes
+pub some : (x : ℕ) (u : List ℕ) → x ∷ u ≢ []
+some x u none = cc
+
+pub truncated-some : (u : List ℕ) → is_truncated u ≡ true → u ≢ []
+unfolding is_truncated
+truncated-some [] more none = cc
+truncated-some (x ∷ u) more none = cc
+
+module _ {V B : Type 0} {asks : Bool} {step : V → Event → V} {is_terminated : V → Bool} {old mid : V} {limit : Option ℕ}
+    {stream bytes : List ℕ} where
+  pub inside-open : {i : ℕ} {u : Unfinished} {parser : Machine B} → parser.state ≡ Text u
+      → StandsInside asks step is_terminated old mid limit stream bytes i parser
+      → is_open (bytes_of u) ≡ true
+  inside-open {u = u} {parser = parser} e s = (by_text limit parser u s.place (stands-in e s.stands)).begun
+
+  -- a byte that the character goes on with
+  pub carried-more : {i b : ℕ} {u v : Unfinished} {parser next : Machine B}
+      → parser.state ≡ Text u → is_truncated (bytes_of u) ≡ true → Carries (bytes_of u) b (StillUnfinished v)
+      → next.state ≡ Text v
+      → StandsInside asks step is_terminated old mid limit stream bytes i parser → i < length bytes
+      → b ≡ slice_index bytes i
+      → StandsInside asks step is_terminated old mid limit stream bytes (i + 1) next
+  carried-more {i = i} {b = b} {u = u} {v = v} {parser = parser} {next = next} e opened carries state s within is =
+      let t = by_text limit parser u s.place (stands-in e s.stands) in
+      let more : is_truncated (bytes_of u ++ b ∷ []) ≡ true = subst (λ x. is_truncated x ≡ true) carries.0 carries.1 in
+      record {
+        place = InText (bytes_of u ++ b ∷ []);
+        stands =
+            stands_in_text next v (bytes_of u ++ b ∷ []) state carries.0
+            (is_open-truncated (bytes_of u ++ b ∷ []) more);
+        has_come =
+            come-carried {these = []} t.begun within is (truncated-some (bytes_of u) opened)
+            (breaks-unfinished (bytes_of u) b more)
+            (reads-byte limit (InText (bytes_of u)) (InText (bytes_of u ++ b ∷ [])) b []
+            (carried_is_no_escape (bytes_of u) b opened (inr more))
+            (text-unfinished limit (bytes_of u) b)) refl (is_open-truncated (bytes_of u ++ b ∷ []) more)
+            (subst (CameInside asks step is_terminated old mid limit stream bytes i) t.same s.has_come);
+      }
+
+  -- a byte that ends it
+  pub carried-whole : {new : V} {i j b c : ℕ} {u : Unfinished} {parser next : Machine B}
+      → parser.state ≡ Text u → is_truncated (bytes_of u) ≡ true → Carries (bytes_of u) b (Whole c)
+      → next.state ≡ Text Nothing
+      → new ≡ step mid (character_event c)
+      → StandsInside asks step is_terminated old mid limit stream bytes i parser → i < length bytes
+      → b ≡ slice_index bytes i → j ≡ i + 1
+      → StandsAt asks step is_terminated old new limit stream bytes j next
+  carried-whole {new = new} {i = i} {b = b} {u = u} {parser = parser}
+      {next = next} e opened carries state performed s within is later =
+      let t = by_text limit parser u s.place (stands-in e s.stands) in
+      let c =
+      come-carried {new = new} {next = InText []}
+      {these = character_event (scalar_of (bytes_of u ++ b ∷ [])) ∷ []} t.begun within is
+      (truncated-some (bytes_of u) opened)
+      (breaks-whole (bytes_of u) b carries.0)
+      (reads-byte limit (InText (bytes_of u)) (InText []) b _
+      (carried_is_no_escape (bytes_of u) b opened (inl carries.0)) (text-whole limit (bytes_of u) b carries.0))
+      (performed ∙ ap (λ n. step mid (character_event n)) carries.1) refl
+      (subst (CameInside asks step is_terminated old mid limit stream bytes i) t.same s.has_come) in
+      subst (λ n. StandsAt asks step is_terminated old new limit stream bytes n next) (sym later)
+      (record {
+        place = InText [];
+        stands = stands_in_text next Nothing [] state refl refl;
+        between = λ _. refl;
+        has_come = come-between refl refl c;
+      })
+
+  -- a byte that breaks it
+  pub carried-broken : {new : V} {i b : ℕ} {u : Unfinished} {parser next : Machine B}
+      → parser.state ≡ Text u → is_truncated (bytes_of u) ≡ true → Carries (bytes_of u) b Broken
+      → next.state ≡ Text Nothing → new ≡ step mid (Print replacement)
+      → StandsInside asks step is_terminated old mid limit stream bytes i parser → i < length bytes
+      → b ≡ slice_index bytes i
+      → StandsAt asks step is_terminated old new limit stream bytes i next
+  carried-broken {i = i} {b = b} {u = u} {parser = parser} {next = next} e opened carries state performed s within is =
+      let t = by_text limit parser u s.place (stands-in e s.stands) in
+      record {
+        place = InText [];
+        stands = stands_in_text next Nothing [] state refl refl;
+        between = λ _. refl;
+        has_come = come-broken t.begun within is (breaks-broken (bytes_of u) b opened carries.0 carries.1) performed
+            (subst (CameInside asks step is_terminated old mid limit stream bytes i) t.same s.has_come);
+      }
+
+-- what is open in a text
+pub opens-text : {B : Type 0} {limit : Option ℕ} {stream : List ℕ} {u : Unfinished} (parser : Machine B)
+    → parser.state ≡ Text u → bytes_of u ≢ [] → HasReadUnder limit parser stream
+    → open_end stream ≡ [] → ⊥
+opens-text {limit = limit} {stream = stream} {u = u} parser e some h none =
+    let t = by_text limit parser u h.place (stands-in e h.stands) in
+    some
+    (sym (ap open_at t.same)
+    ∙ sym (after-open_end limit stream h.place h.is_after (stands-place parser h.place h.stands)) ∙ none)

@@ -35,7 +35,7 @@ returns-then-first-lt224-clause-advances g c =
     (completes-whole (goes-nowhere c.args.self.now (some _ _)) (λ more. (spells.is_whole, c.character_of_two.ensures))
     r.may_read.begun c.tell_character.ensures.value (omega arith) c.at-second.ensures.value refl)
 
--- Three and four bytes.
+-- Three bytes.
 pub returns-then-first-lt240-clause-advances : goal.returns-then-first-lt240-clause-advances
 returns-then-first-lt240-clause-advances g c =
     advances-first c.requires.may_read c.requires.lead c.requires.fits c.complete_three.ensures.completes

@@ -1,12 +1,11 @@
 -- What the first byte begins is open, so the call goes on by what completes it (`advances-first`): the second byte
 -- here, or three and four bytes in functions of their own.
-use Rattle.vte_core.proofs.Common.{◌+◌, ◌<◌, ◌≤◌, ℕ, Bool, List, Option, refl, ap, sym, ◌∙◌, arith, inl, inr, false, suc, ◌∷◌, ◌≡◌, drop, drop_more, take, EndsRun, Machine, Text, Nothing, One, Event, Advances}
+use Rattle.vte_core.proofs.Common.{◌+◌, ◌<◌, ◌≤◌, ℕ, Bool, List, Option, refl, ap, sym, ◌∙◌, arith, inl, inr, false, suc, ◌∷◌, ◌≡◌, drop, drop_more, take, EndsRun, Machine, Text, Nothing, One, Event, Advances, All, IsOther, false≢true, subst}
 use Rattle.vte_core.specs.machine.Words.{Completes, MayReadByte}
 use Rattle.vte_core.proofs.bytes.CarriedLemmas.{first_truncated, second_broken, second_lone, spells_two}
 use Rattle.vte_core.proofs.calls.Runs.{reads-byte_at, settled-by}
 use Rattle.vte_core.proofs.streams.Others.{other_control}
 use Rattle.vte_core.proofs.calls.Telling.{added-inside, adds-character, keep, keeps-at, never}
-use Rattle.vte_core.proofs.Common.{All, IsOther, false≢true, subst}
 use Rattle.vte_core.proofs.calls.BetweenCharacters.{performs-opened}
 use Rattle.vte_core.proofs.calls.Characters.{completes-all, completes-broken, completes-whole, goes-nowhere}
 use Rattle.vte_core.proofs.calls.InsideCharacters.{in_text, some}

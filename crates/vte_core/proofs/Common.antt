@@ -1,18 +1,14 @@
 -- Words from std and specs/ for the files of proofs, so that a file imports one list from here instead of one line for
 -- each module. Words that only proofs use stand at the end.
-pub use Rattle.std.proofs.Common.{Bool, Bor, Err, IfErr, IfOk, IsOk, List, None, Ok, Option, Result, Some, [], add-one, ap, append_assoc, arith, cond, drop, eqb, false, get_or}
-pub use Rattle.std.proofs.Common.{if◌then◌else◌, inl, inr, length, length-append, length-drop, length-take, length-take-le, lit<, map, min, nat_le, not, refl, rules, set}
-pub use Rattle.std.proofs.Common.{subst, suc, sum, sym, take, take_at, true, zero, ℕ, ◌%◌, ◌&&◌, ◌*◌, ◌++◌, ◌+◌, ◌-◌, ◌/◌, ◌<◌, ◌==◌, ◌||◌}
+pub use Rattle.std.proofs.Common.{Bool, Bor, Err, IfErr, IfOk, IsOk, List, None, Ok, Option, Result, Some, [], add-one, ap, append_assoc, arith, cond, drop, eqb, false, get_or, if◌then◌else◌, inl, inr, length, length-append, length-drop, length-take, length-take-le, lit<, map, min, nat_le, not, refl, rules, set, subst, suc, sum, sym, take, take_at, true, zero, ℕ, ◌%◌, ◌&&◌, ◌*◌, ◌++◌, ◌+◌, ◌-◌, ◌/◌, ◌<◌, ◌==◌, ◌||◌}
 pub use Rattle.std.proofs.Common.{◌∙◌, ◌∷◌, ◌≡◌, ◌≢◌, ◌≤◌, ◌⊎◌}
 pub use Rattle.std.proofs.Math.Seq.{drop-append_seam, take-add, take-append_seam, take-nil}
 pub use Rattle.std.proofs.Math.Utf8.{encodes, low_scalar, scalar, scalar_cases, scalars}
 unfoldable pub use Rattle.std.proofs.Math.Utf8.{encode}
-pub use Rattle.std.proofs.lemmas.Bool.{and_from, and_left, and_parts, and_right, cases_Bool, cases_eq, cases_lt, eqb-false, eqb-true, false≢true, le-leb, leb-true, lt-leb, ltb-false, ltb-true}
-pub use Rattle.std.proofs.lemmas.Bool.{ne_eqb, not-true}
+pub use Rattle.std.proofs.lemmas.Bool.{and_from, and_left, and_parts, and_right, cases_Bool, cases_eq, cases_lt, eqb-false, eqb-true, false≢true, le-leb, leb-true, lt-leb, ltb-false, ltb-true, ne_eqb, not-true}
 pub use Rattle.std.proofs.lemmas.Bool.Decides.{nat_tests}
 pub use Rattle.std.proofs.lemmas.Grind.{common_steps, flat_map-append}
-pub use Rattle.std.proofs.lemmas.List.{append-nil, drop-append-le, drop-drop, drop_all, drop_more, get_or-drop, take-append-drop, take-append-le}
-pub use Rattle.std.proofs.lemmas.List.{take_all, take_more, take_rest}
+pub use Rattle.std.proofs.lemmas.List.{append-nil, drop-append-le, drop-drop, drop_all, drop_more, get_or-drop, take-append-drop, take-append-le, take_all, take_more, take_rest}
 pub use Rattle.std.proofs.lemmas.List.Elements.{All-append, All-cons, All-drop, All-head, All-map, All-nil, All-pop, All-push, All-tail, All-take, All-weaker}
 pub use Rattle.std.proofs.lemmas.List.Sums.{fold-append, fold_push, sum_by-cons, sum_by-take-le, sum_by_push}
 pub use Rattle.std.proofs.lemmas.Result.{IfErr-weaker, IfOk-weaker, err_from_is_err_and}
@@ -24,8 +20,7 @@ pub use Rattle.std.specs.Str.{IsAscii, IsUtf8, chars}
 pub use Rattle.vte_core.specs.Body.{body_rest, shape_outcome}
 unfoldable pub use Rattle.vte_core.specs.Body.{body_outcome}
 pub use Rattle.vte_core.specs.Brief.{FitsStore, IsBounded, IsBrief, IsExecuted, IsPrintable, IsShort}
-pub use Rattle.vte_core.specs.Class.{AreOf, Cancel, Class, Colon, Control, Delete, Digit, Final, High, Intermediate, Marker, Semicolon, dispatches_escape, ends_all, ends_head, is_cancel}
-pub use Rattle.vte_core.specs.Class.{IsPut, is_control, is_data, is_final, is_head, is_intermediate, is_key, is_marker, is_parameter_text}
+pub use Rattle.vte_core.specs.Class.{AreOf, Cancel, Class, Colon, Control, Delete, Digit, Final, High, Intermediate, Marker, Semicolon, dispatches_escape, ends_all, ends_head, is_cancel, IsPut, is_control, is_data, is_final, is_head, is_intermediate, is_key, is_marker, is_parameter_text}
 unfoldable pub use Rattle.vte_core.specs.Class.{class_of}
 unfoldable pub use Rattle.vte_core.specs.ControlSequence.{control_sequence_end, control_sequence_outcome}
 pub use Rattle.vte_core.specs.DeviceControl.{ends_data}
@@ -69,8 +64,7 @@ pub use Rattle.vte_core.specs.machine.Data.{AreIgnored, ArePut, IsIgnored}
 pub use Rattle.vte_core.specs.machine.Leads.{Leads, Reads}
 pub use Rattle.vte_core.specs.machine.Moves.{Spends}
 pub use Rattle.vte_core.specs.machine.Parser.{Counts, Holds, HoldsHead, HasReadUnder, IsMarker, KeepsIntermediates, KeepsNumbers, numbers_from, Settles, Stands, StandsBy, StandsInHead, StaysMalformed}
-pub use Rattle.vte_core.specs.machine.Place.{AtEscape, InControlSequence, InData, InDeviceControl, InEscape, InIgnoredString, InSystemCommand, InText, IsAfter, IsBetween, Place, closing_at}
-pub use Rattle.vte_core.specs.machine.Place.{left_at, rest_outcome}
+pub use Rattle.vte_core.specs.machine.Place.{AtEscape, InControlSequence, InData, InDeviceControl, InEscape, InIgnoredString, InSystemCommand, InText, IsAfter, IsBetween, Place, closing_at, left_at, rest_outcome}
 unfoldable pub use Rattle.vte_core.specs.machine.Place.{outcome_from}
 pub use Rattle.vte_core.specs.machine.Progress.{Advances, CameTo, CameInside, IsRefusedAt, IsSettled, MayGoOn, ReadsUpTo, RefusesAt, StandsAt, StandsInside}
 pub use Rattle.vte_core.specs.machine.Reading.{ReadsHead}

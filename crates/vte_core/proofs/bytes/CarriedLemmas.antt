@@ -1,11 +1,9 @@
 -- What one more byte makes of an unfinished character, by the ranges of its bytes: a well-formed sequence, a longer
 -- truncated one, or neither. Each is computed from the rows that its first byte leaves.
-use Rattle.vte_core.proofs.Common.{◌≡◌, ℕ, ◌+◌, ◌*◌, ◌%◌, ◌<◌, ◌≤◌, true, false, List, [], ◌∷◌, ◌++◌, refl, sym, ap, subst, ◌∙◌, arith, inl}
-use Rattle.vte_core.proofs.Common.{inr, IsScalar, InScalarRange, and_from, cases_lt, nat_tests, Two, Three, to, is_in, is_well_formed, is_truncated, scalar_of, utf8_rows, second_range, Carries}
+use Rattle.vte_core.proofs.Common.{◌≡◌, ℕ, ◌+◌, ◌*◌, ◌%◌, ◌<◌, ◌≤◌, true, false, List, [], ◌∷◌, ◌++◌, refl, sym, ap, subst, ◌∙◌, arith, inl, inr, IsScalar, InScalarRange, and_from, cases_lt, nat_tests, Two, Three, to, is_in, is_well_formed, is_truncated, scalar_of, utf8_rows, second_range, Carries}
 use Rattle.vte_core.specs.declared.utf8.Carried.{Carried}
 use Rattle.vte_core.specs.declared.utf8.Carried.TheVariants.{Unfinished, Whole, Broken}
-use Rattle.vte_core.proofs.bytes.FirstBytes.{second_plain, continuation, rows_lone, rows_none, Tests, tests_none, tests_two, tests_three, tests_four, truncated_first, TruncatedTwo, truncated_two}
-use Rattle.vte_core.proofs.bytes.FirstBytes.{TruncatedThree, truncated_three}
+use Rattle.vte_core.proofs.bytes.FirstBytes.{second_plain, continuation, rows_lone, rows_none, Tests, tests_none, tests_two, tests_three, tests_four, truncated_first, TruncatedTwo, truncated_two, TruncatedThree, truncated_three}
 use Rattle.vte_core.proofs.bytes.Scalars.{SecondByte, second_byte, continuation-bounds, scalar_of-in_range, well_formed_is_scalar}
 
 -- ---- nothing

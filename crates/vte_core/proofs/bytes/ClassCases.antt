@@ -1,6 +1,5 @@
 -- What the tests of a byte's class say together. All by cases of the class, of which most are absurd.
-use Rattle.vte_core.proofs.Common.{◌≡◌, ℕ, true, false, eqb, refl, arith, nat_tests, Class, Control, Cancel, Intermediate, Digit, Colon, Semicolon, Marker, Final, Delete, High, class_of}
-use Rattle.vte_core.proofs.Common.{is_cancel, is_control, is_data, is_final, is_head, is_intermediate, dispatches_escape, ends_all, ends_data, IsCommandData}
+use Rattle.vte_core.proofs.Common.{◌≡◌, ℕ, true, false, eqb, refl, arith, nat_tests, Class, Control, Cancel, Intermediate, Digit, Colon, Semicolon, Marker, Final, Delete, High, class_of, is_cancel, is_control, is_data, is_final, is_head, is_intermediate, dispatches_escape, ends_all, ends_data, IsCommandData}
 use Rattle.vte_core.specs.Class.{Escape}
 use Rattle.vte_core.proofs.shapes.PlainKeys.{is_dropped, is_dropped_in_head}
 

@@ -1,6 +1,5 @@
 -- What the rows of UTF-8 say of a first byte, and of short sequences, in numbers: by the nine rows, which ascend.
-use Rattle.vte_core.proofs.Common.{◌≡◌, ℕ, ◌<◌, ◌≤◌, Bool, true, false, ◌&&◌, List, [], ◌∷◌, ◌++◌, refl, sym, ap, ◌∙◌, arith, ◌≢◌, inl, inr, false≢true, length}
-use Rattle.vte_core.proofs.Common.{and_right, cases_lt, cases_Bool, nat_tests, Range, to, is_in, utf8_rows, rows_after, wanted, is_well_formed, is_truncated, second_range}
+use Rattle.vte_core.proofs.Common.{◌≡◌, ℕ, ◌<◌, ◌≤◌, Bool, true, false, ◌&&◌, List, [], ◌∷◌, ◌++◌, refl, sym, ap, ◌∙◌, arith, ◌≢◌, inl, inr, false≢true, length, and_right, cases_lt, cases_Bool, nat_tests, Range, to, is_in, utf8_rows, rows_after, wanted, is_well_formed, is_truncated, second_range}
 use Rattle.vte_core.proofs.bytes.Utf8Lemmas.{wanted_none, some_whole, some_open}
 
 -- ---- what the rows want after a first byte

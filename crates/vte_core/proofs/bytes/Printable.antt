@@ -1,8 +1,7 @@
 -- The text of runs: bytes of ASCII, or a character, are well-formed text whose events are theirs, and two runs one
 -- after another are a run. By induction over the bytes.
-use Rattle.vte_core.proofs.Common.{◌≡◌, ℕ, zero, suc, ◌+◌, ◌-◌, ◌<◌, ◌≤◌, Bool, true, false, ◌&&◌, not, List, [], ◌∷◌, ◌++◌, map, length, get_or, take, drop, refl, sym, ap, subst, ◌∙◌, arith}
-use Rattle.vte_core.proofs.Common.{and_right, nat_tests, drop_more, get_or-drop, All-append, All-nil, All-cons, All, slice_index, IsAscii, chars, Print, IsPrinted, ArePrinted, AreRun, IsRun, to}
-use Rattle.vte_core.proofs.Common.{append-nil, encode, IsScalar, after, Event, is_in, is_control_character, is_layout, is_left_out, run_event}
+use Rattle.vte_core.proofs.Common.{◌≡◌, ℕ, zero, suc, ◌+◌, ◌-◌, ◌<◌, ◌≤◌, Bool, true, false, ◌&&◌, not, List, [], ◌∷◌, ◌++◌, map, length, get_or, take, drop, refl, sym, ap, subst, ◌∙◌, arith, and_right, nat_tests, drop_more, get_or-drop, All-append, All-nil, All-cons, All, slice_index, IsAscii, chars, Print, IsPrinted, ArePrinted, AreRun, IsRun, to, append-nil, encode, IsScalar, after, Event, is_in}
+use Rattle.vte_core.proofs.Common.{is_control_character, is_layout, is_left_out, run_event}
 use Rattle.std.proofs.Common.{take-add}
 use Rattle.std.proofs.lemmas.List.{length-take, get_or-take}
 use Rattle.std.proofs.Math.Seq.{drop-drop}

@@ -1,6 +1,5 @@
 -- The number of a well-formed sequence is that of a character: of its bytes, each in its range, the sum has bounds.
-use Rattle.vte_core.proofs.Common.{◌≡◌, ℕ, suc, ◌<◌, ◌≤◌, true, ◌&&◌, List, [], ◌∷◌, length, refl, sym, ap, ◌∙◌, arith, inl, inr, nat_le, low_scalar, IsScalar, InScalarRange, false≢true}
-use Rattle.vte_core.proofs.Common.{leb-true, and_parts, cases_lt, cases_eq, nat_tests, Range, is_in, is_well_formed, scalar_of, second_range, utf8_rows}
+use Rattle.vte_core.proofs.Common.{◌≡◌, ℕ, suc, ◌<◌, ◌≤◌, true, ◌&&◌, List, [], ◌∷◌, length, refl, sym, ap, ◌∙◌, arith, inl, inr, nat_le, low_scalar, IsScalar, InScalarRange, false≢true, leb-true, and_parts, cases_lt, cases_eq, nat_tests, Range, is_in, is_well_formed, scalar_of, second_range, utf8_rows}
 use Rattle.vte_core.proofs.bytes.FirstBytes.{continuation, fits, FirstByte, ascii, lone, of_two, of_three, of_four, first_byte, tests_none, tests_ascii, tests_two, tests_three, tests_four}
 
 -- ---- numbers from ranges

@@ -1,7 +1,6 @@
 -- What the rows of UTF-8 say of bytes one after the other. The rows ascend, so after a first byte at most one is left,
 -- and bytes are well formed, truncated or neither by what it still wants.
-use Rattle.vte_core.proofs.Common.{◌≡◌, ℕ, suc, ◌+◌, ◌<◌, ◌≤◌, Bool, true, false, not, ◌&&◌, List, [], ◌∷◌, ◌++◌, length, refl, sym, ap, ◌∙◌, arith, inl, inr, nat_le, list_any, false≢true, le-leb}
-use Rattle.vte_core.proofs.Common.{lt-leb, leb-true, and_from, and_left, cases_Bool, and_parts, Range, is_in, utf8_rows, rows_after, wanted, wants_none, allowed}
+use Rattle.vte_core.proofs.Common.{◌≡◌, ℕ, suc, ◌+◌, ◌<◌, ◌≤◌, Bool, true, false, not, ◌&&◌, List, [], ◌∷◌, ◌++◌, length, refl, sym, ap, ◌∙◌, arith, inl, inr, nat_le, list_any, false≢true, le-leb, lt-leb, leb-true, and_from, and_left, cases_Bool, and_parts, Range, is_in, utf8_rows, rows_after, wanted, wants_none, allowed}
 
 -- ---- one row
 

@@ -1,8 +1,7 @@
 -- A byte that a state's function reads: the state says at which place the parser is, so what the byte does after that
 -- place is what the function must have done.
-use Rattle.vte_core.proofs.Common.{◌≡◌, ℕ, ◌+◌, ◌<◌, Bool, false, Option, List, [], ◌∷◌, sym, subst, length, slice_index, class_of, ends_all, Machine, State, Escape, EscapeIntermediate, DeviceData}
-use Rattle.vte_core.proofs.Common.{SystemCommand, IgnoredString, Event, Advances, MayGoOn, IsSettled, Leads, Reads, Holds, Stands, StandsBy, Performs, Place, AtEscape, InEscape, InData}
-use Rattle.vte_core.proofs.Common.{InSystemCommand, InIgnoredString, IsBetween, closing_at, Keeps, Takes, after, escape}
+use Rattle.vte_core.proofs.Common.{◌≡◌, ℕ, ◌+◌, ◌<◌, Bool, false, Option, List, [], ◌∷◌, sym, subst, length, slice_index, class_of, ends_all, Machine, State, Escape, EscapeIntermediate, DeviceData, SystemCommand, IgnoredString, Event, Advances, MayGoOn, IsSettled, Leads, Reads, Holds, Stands, StandsBy, Performs, Place, AtEscape, InEscape, InData, InSystemCommand, InIgnoredString, IsBetween, closing_at, Keeps, Takes}
+use Rattle.vte_core.proofs.Common.{after, escape}
 use Rattle.vte_core.proofs.calls.Runs.{advances-byte, advances-if}
 use Rattle.vte_core.specs.machine.ToRun.{IsQuietIn}
 use Rattle.vte_core.proofs.fields.Standing.{stands-by, stands-in, stands-place}

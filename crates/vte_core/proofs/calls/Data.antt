@@ -1,6 +1,5 @@
 -- A call that asks nothing goes on by data that are put, a stretch at a time: bytes that lead back to the same place.
-use Rattle.vte_core.proofs.Common.{◌≡◌, ℕ, zero, suc, ◌+◌, ◌-◌, ◌<◌, ◌≤◌, Bool, false, Option, List, [], ◌∷◌, map, length, take, drop, refl, sym, subst, ◌∙◌, arith, false≢true, drop_more, slice_index}
-use Rattle.vte_core.proofs.Common.{Machine, DeviceData, Event, Put, InData, Advances, after, ArePut, IsPut}
+use Rattle.vte_core.proofs.Common.{◌≡◌, ℕ, zero, suc, ◌+◌, ◌-◌, ◌<◌, ◌≤◌, Bool, false, Option, List, [], ◌∷◌, map, length, take, drop, refl, sym, subst, ◌∙◌, arith, false≢true, drop_more, slice_index, Machine, DeviceData, Event, Put, InData, Advances, after, ArePut, IsPut}
 use Rattle.vte_core.proofs.bytes.Between.{each-both, each-one}
 use Rattle.vte_core.proofs.bytes.ClassCases.{data_ends_nothing}
 use Rattle.vte_core.proofs.calls.Arms.{advances-in, in_data, taken}

@@ -1,10 +1,8 @@
 -- The bytes of a head: a function that reads several of them goes on by each. `ReadsHeadUpTo` says which, without the
 -- performer, which learns of a head only at its end; both shapes share it.
 use Rattle.vte_core.specs.machine.ToRun.{IsQuietIn}
-use Rattle.vte_core.proofs.Common.{◌≡◌, ℕ, zero, suc, ◌+◌, ◌-◌, ◌<◌, ◌≤◌, ◌⊎◌, inr, eqb, Option, List, [], ◌∷◌, ◌++◌, Bool, true, false, length, take, drop, refl, sym, subst, append_assoc, arith}
-use Rattle.vte_core.proofs.Common.{nat_tests, append-nil, drop-drop, drop_more, take-add, slice_index, MatchOption, class_of, is_head, is_parameter_text, AreOf, Collected, HeadPart, Entry, Parameters}
-use Rattle.vte_core.proofs.Common.{Machine, State, ControlSequence, DeviceControl, Event, Leads, Counts, KeepsIntermediates, Stands, StandsBy, StandsInHead, Place, InControlSequence, InDeviceControl}
-use Rattle.vte_core.proofs.Common.{IsBetween, Advances, CameTo, IsSettled, MayGoOn, Performs, Takes, ends_all, part_after, ReadsHead, Some, None}
+use Rattle.vte_core.proofs.Common.{◌≡◌, ℕ, zero, suc, ◌+◌, ◌-◌, ◌<◌, ◌≤◌, ◌⊎◌, inr, eqb, Option, List, [], ◌∷◌, ◌++◌, Bool, true, false, length, take, drop, refl, sym, subst, append_assoc, arith, nat_tests, append-nil, drop-drop, drop_more, take-add, slice_index, MatchOption, class_of, is_head, is_parameter_text, AreOf, Collected, HeadPart, Entry, Parameters, Machine, State, ControlSequence, DeviceControl, Event}
+use Rattle.vte_core.proofs.Common.{Leads, Counts, KeepsIntermediates, Stands, StandsBy, StandsInHead, Place, InControlSequence, InDeviceControl, IsBetween, Advances, CameTo, IsSettled, MayGoOn, Performs, Takes, ends_all, part_after, ReadsHead, Some, None, told, false≢true}
 use Rattle.vte_core.proofs.bytes.ClassCases.{head_ends_nothing}
 use Rattle.vte_core.proofs.bytes.PieceLemmas.{AreOf-append, parameter_is_head}
 use Rattle.vte_core.proofs.calls.Places.{come-between, come-byte}
@@ -13,7 +11,6 @@ use Rattle.vte_core.proofs.calls.Runs.{advances-byte, advances-when, advances-th
 use Rattle.vte_core.proofs.fields.HeadSteps.{holds-parameter}
 use Rattle.vte_core.proofs.fields.Standing.{IsPlace, stands-in}
 use Rattle.vte_core.proofs.places.PlaceLeads.{control-head, device-head}
-use Rattle.vte_core.proofs.Common.{told, false≢true, subst}
 use Rattle.vte_core.proofs.calls.Telling.{adds-same, come-told, keep, came-kept, never}
 use Rattle.vte_core.proofs.streams.StreamLemmas.{no_escape, reads-byte}
 

@@ -1,14 +1,11 @@
 -- What a call without a limit ensures, refused memory or not: the facts that `drive` ensures, put into each contract.
 use Rattle.vte_core.specs.declared.scan.taken.Run.{Run}
 use Rattle.vte_core.specs.declared.scan.taken.RunPlace.{RunPlace}
-use Rattle.vte_core.specs.LongAdvance.{ReadsToRunLong}
+use Rattle.vte_core.specs.LongAdvance.{ReadsToRunLong, GoesOnLong, PassesLong, ReadsBytesLong, ReadsUntilTerminatedLong}
 use Rattle.vte_core.specs.machine.ToRun.{ComesToRun, IsTaken, bytes_at}
-use Rattle.vte_core.proofs.Common.{◌≡◌, TellsOthers}
+use Rattle.vte_core.proofs.Common.{◌≡◌, TellsOthers, ℕ, ◌+◌, ◌*◌, ◌≤◌, Bool, List, None, length, Result, Ok, Err, IfErr, IfOk, IfErr-weaker, IfOk-weaker, refl, arith, rules, false, read_count, ReadsUpTo, Event, Machine, HasReadUnder, RefusesAt, true, Refused}
 use Rattle.vte_core.proofs.calls.ToRun.{reads-run, returns-run}
-use Rattle.vte_core.proofs.Common.{ℕ, ◌+◌, ◌*◌, ◌≤◌, Bool, List, None, length, Result, Ok, Err, IfErr, IfOk, IfErr-weaker, IfOk-weaker}
-use Rattle.vte_core.proofs.Common.{refl, arith, rules, false, read_count, ReadsUpTo, Event, Machine, HasReadUnder, RefusesAt, true, Refused}
 use Rattle.vte_core.specs.declared.parser.long.LongParser.{LongParser}
-use Rattle.vte_core.specs.LongAdvance.{GoesOnLong, PassesLong, ReadsBytesLong, ReadsUntilTerminatedLong}
 use Rattle.vte_core.specs.LongParser.{HasReadLong, memory_of}
 use Rattle.vte_core.specs.machine.Moves.{Costs}
 use Rattle.vte_core.specs.Looks.{looks_long}

@@ -1,14 +1,12 @@
 -- How a call comes from one place to the next, to its end, or to a stop. A stretch of bytes that leads to a place adds
 -- its events to those told so far; at starts among them a call that asks may stop.
-use Rattle.vte_core.proofs.Common.{◌≡◌, ℕ, zero, suc, ◌+◌, ◌-◌, ◌<◌, ◌≤◌, inl, inr, Bool, true, false, Option, List, [], ◌∷◌, ◌++◌, length, take, drop, refl, ap, sym, subst, ◌∙◌, append_assoc, arith}
-use Rattle.vte_core.proofs.Common.{slice_index, cases_Bool, cases_lt, append-nil, drop_more, take-add, breaks, breaks_at, IsStart, told, stream_at, Event, Print, replacement, after, added, open_end}
-use Rattle.vte_core.proofs.Common.{CameTo, CameInside, MayGoOn, Reads, Place, InText, InSystemCommand, IsAfter, IsBetween, open_at, ComesTo}
+use Rattle.vte_core.proofs.Common.{◌≡◌, ℕ, zero, suc, ◌+◌, ◌-◌, ◌<◌, ◌≤◌, inl, inr, Bool, true, false, Option, List, [], ◌∷◌, ◌++◌, length, take, drop, refl, ap, sym, subst, ◌∙◌, append_assoc, arith, slice_index, cases_Bool, cases_lt, append-nil, drop_more, take-add, breaks, breaks_at, IsStart, told, stream_at, Event, Print, replacement, after, added, open_end, CameTo, CameInside, MayGoOn, Reads, Place, InText}
+use Rattle.vte_core.proofs.Common.{InSystemCommand, IsAfter, IsBetween, open_at, ComesTo}
 use Rattle.vte_core.proofs.streams.After.{after-left, after-nothing, after-open_end, after-reads, added-reads, added-nothing}
 use Rattle.vte_core.proofs.calls.States.{reads-item}
 use Rattle.vte_core.proofs.fields.Standing.{IsPlace, open_at-between}
 use Rattle.vte_core.proofs.streams.Performing.{after-append}
-use Rattle.vte_core.proofs.stops.Told.{breaks_at-all, breaks_at-between, breaks_at-byte, no_start, starts-between, starts-broken, stream_at-between, stream_at-broken, told-all, told-between}
-use Rattle.vte_core.proofs.stops.Told.{told-broken}
+use Rattle.vte_core.proofs.stops.Told.{breaks_at-all, breaks_at-between, breaks_at-byte, no_start, starts-between, starts-broken, stream_at-between, stream_at-broken, told-all, told-between, told-broken}
 use Rattle.vte_core.proofs.stops.Units.{added_from, after_from, breaks_there, goes_on_from}
 
 -- ---- the bytes of a call from one place to the next

@@ -1,8 +1,7 @@
 -- What a call without a limit stores, and where it stops for lack of memory. What is stored of an open command is said
 -- of its place, so it holds of every parser that is at one.
-use Rattle.vte_core.proofs.Common.{◌≡◌, ℕ, ◌+◌, ◌≤◌, Bool, Option, None, List, [], ◌∷◌, ◌++◌, length, take, Result, Ok, Err, IfErr, IfOk, IsOk, refl, ap, sym, subst, ◌∙◌, length-take, IsAfter}
-use Rattle.vte_core.proofs.Common.{arith, concat, slice_index, Machine, Event, MeetsData, data_left, open_size, read_count, State, SystemCommand, CameTo, IsRefusedAt, RefusesAt}
-use Rattle.vte_core.proofs.Common.{StandsInside, HasReadUnder, Stands, StandsBy, Place, InSystemCommand, InText, left_at, Stored, Keeps, Open, OpenCommand, drops_data, outcome, pieces_of, Refused}
+use Rattle.vte_core.proofs.Common.{◌≡◌, ℕ, ◌+◌, ◌≤◌, Bool, Option, None, List, [], ◌∷◌, ◌++◌, length, take, Result, Ok, Err, IfErr, IfOk, IsOk, refl, ap, sym, subst, ◌∙◌, length-take, IsAfter, arith, concat, slice_index, Machine, Event, MeetsData, data_left, open_size, read_count, State, SystemCommand, CameTo, IsRefusedAt, RefusesAt, StandsInside, HasReadUnder, Stands, StandsBy, Place, InSystemCommand, InText}
+use Rattle.vte_core.proofs.Common.{left_at, Stored, Keeps, Open, OpenCommand, drops_data, outcome, pieces_of, Refused}
 use Rattle.vte_core.proofs.calls.States.{reads-item}
 use Rattle.vte_core.proofs.calls.Places.{come-command}
 use Rattle.vte_core.proofs.fields.OpenPieces.{open_for}

@@ -1,8 +1,6 @@
 -- The bytes after ESC that begin no string: ESC once more and dropped bytes leave the place as it is, and `[` leads to
 -- an empty head.
-use Rattle.vte_core.proofs.Common.{◌≡◌, ℕ, ◌+◌, ◌<◌, Bool, false, Option, List, [], ◌∷◌, length, refl, slice_index, class_of, ends_all}
-use Rattle.vte_core.proofs.Common.{is_control, is_final, is_head, Entry, Machine, Escape, ControlSequence, Event, key_of, Advances, MayGoOn, Holds, HoldsHead, Stands, StandsBy}
-use Rattle.vte_core.proofs.Common.{Performs, Place, AtEscape, InControlSequence, IsBetween}
+use Rattle.vte_core.proofs.Common.{◌≡◌, ℕ, ◌+◌, ◌<◌, Bool, false, Option, List, [], ◌∷◌, length, refl, slice_index, class_of, ends_all, is_control, is_final, is_head, Entry, Machine, Escape, ControlSequence, Event, key_of, Advances, MayGoOn, Holds, HoldsHead, Stands, StandsBy, Performs, Place, AtEscape, InControlSequence, IsBetween}
 use Rattle.vte_core.proofs.bytes.ClassCases.{left_is_dropped}
 use Rattle.vte_core.proofs.calls.Arms.{advances-in, at_escape, performs-escape, performs-in, taken}
 use Rattle.vte_core.proofs.fields.Standing.{stands-by, stands-in}

@@ -1,8 +1,7 @@
 -- What is told from place to place. A call is followed with a performer that keeps all events; so what any performer
 -- receives is a function of the bytes, and a stretch that tells no run is known by its events.
-use Rattle.vte_core.proofs.Common.{◌≡◌, ℕ, ◌+◌, ◌-◌, ◌<◌, inl, inr, Bool, false, Option, List, [], ◌∷◌, ◌++◌, length, take, drop, refl, ap, sym, ◌∙◌, append_assoc, append-nil, arith, cases_Bool, drop_more}
-use Rattle.vte_core.proofs.Common.{slice_index, false≢true, All, All-append, All-cons, All-nil, Event, Print, replacement, after, added, told, stream_at, breaks_at, State, Text, DeviceData, Machine, StandsBy}
-use Rattle.vte_core.proofs.Common.{CameTo, StandsAt, StandsInside, Reads, Place, InText, InData, IsAfter, AddsOthers, IsOther}
+use Rattle.vte_core.proofs.Common.{◌≡◌, ℕ, ◌+◌, ◌-◌, ◌<◌, inl, inr, Bool, false, Option, List, [], ◌∷◌, ◌++◌, length, take, drop, refl, ap, sym, ◌∙◌, append_assoc, append-nil, arith, cases_Bool, drop_more, slice_index, false≢true, All, All-append, All-cons, All-nil, Event, Print, replacement, after, added, told, stream_at, breaks_at, State, Text, DeviceData, Machine, StandsBy, CameTo, StandsAt, StandsInside, Reads}
+use Rattle.vte_core.proofs.Common.{Place, InText, InData, IsAfter, AddsOthers, IsOther}
 use Rattle.vte_core.specs.machine.Completes.{AddsCharacter}
 use Rattle.vte_core.specs.machine.Progress.{HasCome}
 use Rattle.vte_core.specs.machine.ToRun.{IsQuietIn}

@@ -1,7 +1,6 @@
 -- What a call tells before a run is told by no run: nothing at its start, then what an open character is, then
 -- stretches of which each tells none.
-use Rattle.vte_core.proofs.Common.{◌≡◌, ℕ, inl, inr, Option, List, [], ◌++◌, ap, sym, subst, ◌∙◌, false, All, All-append, All-nil, Event, Machine, HasReadUnder, IsSettled, told, open_end}
-use Rattle.vte_core.proofs.Common.{AddsOthers, IsOther, IsWide, TellsOthers}
+use Rattle.vte_core.proofs.Common.{◌≡◌, ℕ, inl, inr, Option, List, [], ◌++◌, ap, sym, subst, ◌∙◌, false, All, All-append, All-nil, Event, Machine, HasReadUnder, IsSettled, told, open_end, AddsOthers, IsOther, IsWide, TellsOthers}
 use Rattle.vte_core.specs.machine.Completes.{AddsCharacter}
 use Rattle.vte_core.proofs.calls.Runs.{starts-at}
 use Rattle.vte_core.proofs.calls.Telling.{keep, never, told-at}

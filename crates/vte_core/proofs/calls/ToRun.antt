@@ -1,9 +1,7 @@
 -- Runs that a caller takes from its own input: bytes that lead from the parser's place back to it, so the parser
 -- needn't change, and that no further printed character or data byte follows.
-use Rattle.vte_core.proofs.Common.{◌≡◌, ℕ, zero, suc, ◌+◌, ◌-◌, ◌<◌, ◌≤◌, false, true, Bool, Option, List, [], ◌∷◌, ◌++◌, drop, length, length-take, length-drop, map, take, refl, ap, sym}
-use Rattle.vte_core.proofs.Common.{subst, ◌∙◌, arith, append-nil, drop_more, slice_index, Machine, DeviceData, Text, State, Nothing, class_of}
-use Rattle.vte_core.proofs.Common.{stream_at, Event, Print, Put, Reads, Stands, StandsBy, HasReadUnder, Place, InData, InText, IsAfter, IsSettled, StandsAt, EndsRun, IsRun}
-use Rattle.vte_core.proofs.Common.{chars, Unfinished, IsRange}
+use Rattle.vte_core.proofs.Common.{◌≡◌, ℕ, zero, suc, ◌+◌, ◌-◌, ◌<◌, ◌≤◌, false, true, Bool, Option, List, [], ◌∷◌, ◌++◌, drop, length, length-take, length-drop, map, take, refl, ap, sym, subst, ◌∙◌, arith, append-nil, drop_more, slice_index, Machine, DeviceData, Text, State, Nothing, class_of, stream_at, Event, Print, Put, Reads, Stands, StandsBy, HasReadUnder, Place, InData, InText, IsAfter, IsSettled, StandsAt}
+use Rattle.vte_core.proofs.Common.{EndsRun, IsRun, chars, Unfinished, IsRange}
 use Rattle.vte_core.specs.machine.Words.{ArePut, AreOfKind, ComesToRun, IsOutside, IsPut, IsTaken}
 use Rattle.vte_core.specs.machine.ToRun.{HasRun, IsWholeAt, bytes_at, kind_events}
 use Rattle.vte_core.specs.AdvanceToRun.{IsRunIn, IsWhole, ReturnsRun, run_bytes, taken_bytes, taken_events}

@@ -1,7 +1,6 @@
 -- The division of a text is Unicode's: the longest piece at each place, and nothing lost. Where the rows still allow a
 -- byte, a longer piece exists; where they don't, no longer one does.
-use Rattle.vte_core.proofs.Common.{◌≡◌, ℕ, zero, suc, ◌<◌, ◌≤◌, Bool, true, false, List, [], ◌∷◌, length, take, drop, refl, sym, ap, ◌∙◌, arith, inl, inr, length-take-le}
-use Rattle.vte_core.proofs.Common.{concat, take-append-drop, false≢true, cases_lt, Range, utf8_rows, rows_after, wanted, is_well_formed, is_truncated, allowed, further, segments_after}
+use Rattle.vte_core.proofs.Common.{◌≡◌, ℕ, zero, suc, ◌<◌, ◌≤◌, Bool, true, false, List, [], ◌∷◌, length, take, drop, refl, sym, ap, ◌∙◌, arith, inl, inr, length-take-le, concat, take-append-drop, false≢true, cases_lt, Range, utf8_rows, rows_after, wanted, is_well_formed, is_truncated, allowed, further, segments_after}
 use Rattle.vte_core.specs.Division.{IsPiece, IsAllDivided}
 use Rattle.vte_core.proofs.bytes.Utf8Lemmas.{wanted_none, some_whole, some_open, neither_whole_nor_open, allowed_none}
 use Rattle.vte_core.proofs.shapes.TextLemmas.{further_whole}

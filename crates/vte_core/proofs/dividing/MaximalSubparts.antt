@@ -1,7 +1,6 @@
 -- The pieces of a text are the right ones, each where it stands, and no other division has only right ones: of two
 -- right pieces before one text neither is longer. By induction over the pieces.
-use Rattle.vte_core.proofs.Common.{◌≡◌, ℕ, zero, suc, ◌<◌, ◌≤◌, true, List, [], ◌∷◌, ◌++◌, length, take, drop, refl, sym, ap, ◌∙◌, inl, inr, arith, length-append}
-use Rattle.vte_core.proofs.Common.{length-drop, concat, false≢true, take-append-drop, take-append_seam, drop-append_seam, is_well_formed, is_truncated, further, segments_after, segments}
+use Rattle.vte_core.proofs.Common.{◌≡◌, ℕ, zero, suc, ◌<◌, ◌≤◌, true, List, [], ◌∷◌, ◌++◌, length, take, drop, refl, sym, ap, ◌∙◌, inl, inr, arith, length-append, length-drop, concat, false≢true, take-append-drop, take-append_seam, drop-append_seam, is_well_formed, is_truncated, further, segments_after, segments}
 use Rattle.std.proofs.lemmas.List.{length-take}
 use Rattle.vte_core.specs.Division.{IsPiece, IsRightPiece, AreRightPieces}
 use Rattle.vte_core.proofs.dividing.DivisionLemmas.{IsDividedRight, divided_right, all_divided, concat-segments_after}

@@ -1,8 +1,6 @@
 -- A character of two to four bytes, at the front of some bytes or in a call's input, that is no control: so it is a
 -- run.
-use Rattle.vte_core.proofs.Common.{◌≡◌, ℕ, suc, ◌+◌, ◌-◌, ◌<◌, ◌≤◌, Bool, true, false, List, [], ◌∷◌, length, take, drop, get_or, inl, inr, refl, sym, ap, subst, ◌∙◌, arith, and_from, scalar, encode}
-use Rattle.vte_core.proofs.Common.{encodes, cases_eq, nat_tests, append-nil, drop_more, All-nil, All-cons, All, slice_index, second_range, is_control_character, is_left_out, to, is_in, is_well_formed}
-use Rattle.vte_core.proofs.Common.{scalar_of, IsUtf8, chars, AreRun, IsRun}
+use Rattle.vte_core.proofs.Common.{◌≡◌, ℕ, suc, ◌+◌, ◌-◌, ◌<◌, ◌≤◌, Bool, true, false, List, [], ◌∷◌, length, take, drop, get_or, inl, inr, refl, sym, ap, subst, ◌∙◌, arith, and_from, scalar, encode, encodes, cases_eq, nat_tests, append-nil, drop_more, All-nil, All-cons, All, slice_index, second_range, is_control_character, is_left_out, to, is_in, is_well_formed, scalar_of, IsUtf8, chars, AreRun, IsRun}
 use Rattle.std.proofs.lemmas.Str.{IsUtf8-encode, chars-encodes}
 use Rattle.vte_core.proofs.bytes.FirstBytes.{second_plain, tests_two, tests_three, tests_four}
 use Rattle.vte_core.proofs.bytes.Printable.{no_control-stays}

@@ -1,7 +1,5 @@
 -- What one byte makes of the numbers that are held: the numbers of the text read so far, of which the last is open.
-use Rattle.vte_core.proofs.Common.{◌≡◌, ℕ, ◌+◌, ◌<◌, ◌≤◌, ◌*◌, ◌-◌, min, Bool, true, false, List, [], ◌∷◌, ◌++◌, length, take, refl, ap, sym, ◌∙◌, arith, length-append, take_all}
-use Rattle.vte_core.proofs.Common.{take-append-le, nat_tests, Collected, numbers, grouped, groups_of, has_too_many_numbers, with_number, count_of, most_numbers, is_separator, is_colon}
-use Rattle.vte_core.proofs.Common.{greatest_number, Counts, Settles, append_assoc, append-nil}
+use Rattle.vte_core.proofs.Common.{◌≡◌, ℕ, ◌+◌, ◌<◌, ◌≤◌, ◌*◌, ◌-◌, min, Bool, true, false, List, [], ◌∷◌, ◌++◌, length, take, refl, ap, sym, ◌∙◌, arith, length-append, take_all, take-append-le, nat_tests, Collected, numbers, grouped, groups_of, has_too_many_numbers, with_number, count_of, most_numbers, is_separator, is_colon, greatest_number, Counts, Settles, append_assoc, append-nil}
 use Rattle.std.proofs.lemmas.List.{length-take}
 use Rattle.vte_core.proofs.fields.Groups.{numbered}
 use Rattle.vte_core.proofs.fields.Parameters.{count_of-grouped, grouped-push, is_digit_no_separator, number_of-push, numbers_are}

@@ -1,7 +1,6 @@
 -- The pieces of an open command, before and after one more data byte: with fewer than 16 `;` the byte joins the last
 -- piece, and the others stay.
-use Rattle.vte_core.proofs.Common.{◌≡◌, ◌≢◌, ℕ, ◌<◌, suc, zero, None, List, [], ◌∷◌, ◌++◌, length, take, drop, refl, ap, ◌∙◌, arith, length-append, slice_range}
-use Rattle.vte_core.proofs.Common.{◌+◌, All-cons, All-nil, append-nil, concat, drop-append-le, drops_data, nat_tests, take_all, Stored, Keeps, PiecesEnd, cut_at, semicolon, most_pieces, pieces_of}
+use Rattle.vte_core.proofs.Common.{◌≡◌, ◌≢◌, ℕ, ◌<◌, suc, zero, None, List, [], ◌∷◌, ◌++◌, length, take, drop, refl, ap, ◌∙◌, arith, length-append, slice_range, ◌+◌, All-cons, All-nil, append-nil, concat, drop-append-le, drops_data, nat_tests, take_all, Stored, Keeps, PiecesEnd, cut_at, semicolon, most_pieces, pieces_of}
 use Rattle.std.proofs.lemmas.List.Folds.{concat-append}
 use Rattle.vte_core.proofs.fields.StoreLemmas.{after_byte, after_nothing, count-run, ends-within, pieces_held, slice_within}
 

@@ -1,9 +1,7 @@
 -- The slices that a dispatch hands over are the pieces that the ends cut: with fewer than 16 ends one more piece stands
 -- after the last.
 use Rattle.std.proofs.lemmas.List.{length-map, map_push, take_more_set}
-use Rattle.vte_core.proofs.Common.{Bor, map, set, ◌≡◌, ℕ, ◌+◌, ◌<◌, List, ◌++◌, length, take, drop, sym}
-use Rattle.vte_core.proofs.Common.{ap, ◌∙◌, arith, take_at, length-take, drop_all, take_all}
-use Rattle.vte_core.proofs.Common.{cut_at, most_pieces}
+use Rattle.vte_core.proofs.Common.{Bor, map, set, ◌≡◌, ℕ, ◌+◌, ◌<◌, List, ◌++◌, length, take, drop, sym, ap, ◌∙◌, arith, take_at, length-take, drop_all, take_all, cut_at, most_pieces}
 use Rattle.vte_core.proofs.fields.KeptItems.{length_cut_at}
 
 -- what slices show

@@ -1,7 +1,5 @@
 -- A machine that is made of what was saved of another is at the place where that one was: by cases of the state.
-use Rattle.vte_core.proofs.Common.{◌≡◌, ℕ, Option, Some, List, take, arith, refl, subst, ◌∙◌, Machine, State, Text, Escape, EscapeIntermediate, ControlSequence}
-use Rattle.vte_core.proofs.Common.{DeviceControl, DeviceData, SystemCommand, IgnoredString, Holds, HasReadUnder, StandsBy, StandsInHead, Place, InText, AtEscape}
-use Rattle.vte_core.proofs.Common.{InEscape, InControlSequence, InDeviceControl, InData, InSystemCommand, InIgnoredString, SameItems}
+use Rattle.vte_core.proofs.Common.{◌≡◌, ℕ, Option, Some, List, take, arith, refl, subst, ◌∙◌, Machine, State, Text, Escape, EscapeIntermediate, ControlSequence, DeviceControl, DeviceData, SystemCommand, IgnoredString, Holds, HasReadUnder, StandsBy, StandsInHead, Place, InText, AtEscape, InEscape, InControlSequence, InDeviceControl, InData, InSystemCommand, InIgnoredString, SameItems}
 use Rattle.vte_core.specs.declared.parser.saved.Saved.{Saved}
 use Rattle.vte_core.specs.machine.Saved.{IsInHead, IsRestored, flag_of, state_bytes}
 use Rattle.vte_core.specs.machine.Groups.{AreParts}

@@ -1,9 +1,6 @@
 -- The events of one byte are small: a character, a control, or a dispatch whose intermediates and final byte have
 -- bounds. By the kind of event.
-use Rattle.vte_core.proofs.Common.{IsOther}
-use Rattle.vte_core.proofs.Common.{◌≡◌, ℕ, ◌<◌, ◌≤◌, Bool, true, false, cond, Option, List, [], ◌∷◌, ◌++◌, length, refl, arith, nat_tests, IsBounded, IsBrief, IsExecuted}
-use Rattle.vte_core.proofs.Common.{IsPrintable, IsShort, IsTiny, first_two, Event, Print, Execute, Hook, CsiDispatch, replacement, Head, dispatched, collected, character_event, malformed_event}
-use Rattle.vte_core.proofs.Common.{is_control_character, is_well_formed, scalar_of}
+use Rattle.vte_core.proofs.Common.{IsOther, ◌≡◌, ℕ, ◌<◌, ◌≤◌, Bool, true, false, cond, Option, List, [], ◌∷◌, ◌++◌, length, refl, arith, nat_tests, IsBounded, IsBrief, IsExecuted, IsPrintable, IsShort, IsTiny, first_two, Event, Print, Execute, Hook, CsiDispatch, replacement, Head, dispatched, collected, character_event, malformed_event, is_control_character, is_well_formed, scalar_of}
 use Rattle.std.proofs.lemmas.List.{length-take}
 use Rattle.vte_core.proofs.fields.Parameters.{AreGroups-groups_of, some_group}
 use Rattle.vte_core.proofs.bytes.Scalars.{well_formed_is_scalar}

@@ -1,11 +1,8 @@
 -- What one byte reports after each place, and where it leads: one lemma for each kind of place and of byte, by the
 -- definition of that shape alone.
-use Rattle.vte_core.proofs.Common.{◌≡◌, ℕ, ◌≤◌, true, false, eqb, Option, List, [], ◌∷◌, ◌++◌, ap, sym, append_assoc, append-nil, arith, nat_tests, Class, Control, Intermediate, Delete, Digit, Colon}
-use Rattle.vte_core.proofs.Common.{Semicolon, Marker, Final, High, dispatches_escape, class_of, is_cancel, is_data, is_head, Dispatch, key_of, body_outcome, control_sequence_end}
-use Rattle.vte_core.proofs.Common.{control_sequence_outcome, data_outcome, device_control_end, ends_command, ends_data, device_control_outcome, escape_outcome, executed, first_two, are_too_many}
-use Rattle.vte_core.proofs.Common.{Execute, Hook, Put, Unhook, OscDispatch, CsiDispatch, EscDispatch, head_of, is_well_shaped, dispatched, Leads, InText, AtEscape, InEscape, InControlSequence}
-use Rattle.vte_core.proofs.Common.{InDeviceControl, InData, InSystemCommand, InIgnoredString, pieces_of, bell, system_command_outcome, text_outcome, character_event, Bool, Place, refl}
-use Rattle.vte_core.proofs.Common.{malformed_event, is_truncated, is_well_formed, scalar_of, nat_le}
+use Rattle.vte_core.proofs.Common.{◌≡◌, ℕ, ◌≤◌, true, false, eqb, Option, List, [], ◌∷◌, ◌++◌, ap, sym, append_assoc, append-nil, arith, nat_tests, Class, Control, Intermediate, Delete, Digit, Colon, Semicolon, Marker, Final, High, dispatches_escape, class_of, is_cancel, is_data, is_head, Dispatch, key_of, body_outcome, control_sequence_end, control_sequence_outcome, data_outcome, device_control_end, ends_command}
+use Rattle.vte_core.proofs.Common.{ends_data, device_control_outcome, escape_outcome, executed, first_two, are_too_many, Execute, Hook, Put, Unhook, OscDispatch, CsiDispatch, EscDispatch, head_of, is_well_shaped, dispatched, Leads, InText, AtEscape, InEscape, InControlSequence, InDeviceControl, InData, InSystemCommand, InIgnoredString, pieces_of, bell, system_command_outcome, text_outcome, character_event, Bool}
+use Rattle.vte_core.proofs.Common.{Place, refl, malformed_event, is_truncated, is_well_formed, scalar_of, nat_le}
 use Rattle.vte_core.specs.IgnoredString.{ignored_string_outcome}
 use Rattle.vte_core.specs.Key.{ControlSequence, DeviceControl, SystemCommand, IgnoredString}
 use Rattle.vte_core.specs.machine.Place.{control_sequence_from, device_control_from, escape_from, system_command_from}

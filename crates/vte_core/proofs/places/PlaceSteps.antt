@@ -1,11 +1,9 @@
 -- After every place every byte reports at most two small events and leads to a place (`steps`): by cases of the place
 -- and of the byte's class, each by a lemma of `PlaceLeads`.
-use Rattle.vte_core.proofs.Common.{◌≡◌, ℕ, inl, inr, false, eqb, Option, List, refl, arith, cases_Bool, nat_tests, Class, Control, Cancel, Intermediate, Final, Delete, High, class_of, ends_all, Key}
-use Rattle.vte_core.proofs.Common.{Dispatch, key_of, IsBrief, Event, head_of, is_well_shaped, Leads, Place, InText, AtEscape, InEscape, InControlSequence, InDeviceControl, InData, InSystemCommand}
-use Rattle.vte_core.proofs.Common.{InIgnoredString, closing_at, escape, bell, pieces_of, kept_items, data_left, left_at, breaks, open_at, sym, false≢true, ◌∙◌, [], ◌∷◌, ◌++◌}
+use Rattle.vte_core.proofs.Common.{◌≡◌, ℕ, inl, inr, false, eqb, Option, List, refl, arith, cases_Bool, nat_tests, Class, Control, Cancel, Intermediate, Final, Delete, High, class_of, ends_all, Key, Dispatch, key_of, IsBrief, Event, head_of, is_well_shaped, Leads, Place, InText, AtEscape, InEscape, InControlSequence, InDeviceControl, InData, InSystemCommand, InIgnoredString, closing_at, escape, bell, pieces_of}
+use Rattle.vte_core.proofs.Common.{kept_items, data_left, left_at, breaks, open_at, sym, false≢true, ◌∙◌, [], ◌∷◌, ◌++◌, Execute, is_data, true}
 use Rattle.vte_core.proofs.bytes.FirstBytes.{Tests, ascii_breaks}
 use Rattle.vte_core.proofs.stops.Told.{breaks-broken}
-use Rattle.vte_core.proofs.Common.{Execute, is_data, true}
 use Rattle.vte_core.specs.Class.{Escape}
 use Rattle.vte_core.specs.Key.{ControlSequence, DeviceControl, SystemCommand, IgnoredString}
 use Rattle.vte_core.proofs.places.BriefLemmas.{bounded-csi, bounded-hook, executed_low, other-csi, other-hook, two_at_most}
@@ -13,9 +11,7 @@ use Rattle.vte_core.proofs.shapes.CancelLemmas.{cancel, closing_brief, closing_a
 use Rattle.vte_core.proofs.bytes.ClassCases.{ends_not_cancel}
 use Rattle.vte_core.proofs.bytes.ClassLemmas.{Spans, spans}
 use Rattle.vte_core.proofs.shapes.PlainKeys.{below_finals}
-use Rattle.vte_core.proofs.places.PlaceLeads.{escape-control, escape-intermediate, escape-end, escape-control_sequence, escape-device_control, escape-system_command}
-use Rattle.vte_core.proofs.places.PlaceLeads.{escape-ignored_string, intermediate-control, intermediate-more, intermediate-end, control-control, byte-dropped}
-use Rattle.vte_core.proofs.places.PlaceLeads.{control-head, control-dispatched, control-silent, device-dropped, device-head, device-well_shaped, device-malformed, data-put, data-dropped}
+use Rattle.vte_core.proofs.places.PlaceLeads.{escape-control, escape-intermediate, escape-end, escape-control_sequence, escape-device_control, escape-system_command, escape-ignored_string, intermediate-control, intermediate-more, intermediate-end, control-control, byte-dropped, control-head, control-dispatched, control-silent, device-dropped, device-head, device-well_shaped, device-malformed, data-put, data-dropped}
 use Rattle.vte_core.proofs.places.PlaceLeads.{data-terminator, command-item, command-control, command-bell, ignored-more}
 use Rattle.vte_core.proofs.fields.Standing.{IsPlace}
 use Rattle.vte_core.proofs.fields.KeptItems.{few_pieces, pieces_push, some_pieces}

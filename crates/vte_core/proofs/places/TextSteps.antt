@@ -1,7 +1,5 @@
 -- What one byte reports in a text, whatever it is: by whether it ends, continues or breaks the open character.
-use Rattle.vte_core.proofs.Common.{◌≡◌, ℕ, ◌⊎◌, inl, inr, true, false, eqb, Option, List, [], ◌∷◌, ◌++◌, refl, ap, sym, subst, ◌∙◌, cases_Bool, false≢true, IsBrief, IsTiny, IsOther, class_of, is_data, Event, Print}
-use Rattle.vte_core.proofs.Common.{◌≤◌, ◌+◌, None, arith, FitsStore, Open, OpenCommand, data_left, left_at}
-use Rattle.vte_core.proofs.Common.{replacement, tell, Place, InData, InText, breaks, open_at, escape, Leads, Reads, is_open, is_truncated, is_well_formed}
+use Rattle.vte_core.proofs.Common.{◌≡◌, ℕ, ◌⊎◌, inl, inr, true, false, eqb, Option, List, [], ◌∷◌, ◌++◌, refl, ap, sym, subst, ◌∙◌, cases_Bool, false≢true, IsBrief, IsTiny, IsOther, class_of, is_data, Event, Print, ◌≤◌, ◌+◌, None, arith, FitsStore, Open, OpenCommand, data_left, left_at, replacement, tell, Place, InData, InText, breaks, open_at, escape, Leads, Reads, is_open, is_truncated, is_well_formed}
 use Rattle.vte_core.proofs.places.PlaceLeads.{text-unfinished, text-whole, text-lone}
 use Rattle.vte_core.proofs.shapes.TextLemmas.{text_broken}
 use Rattle.vte_core.proofs.places.BriefLemmas.{short-character, short-malformed, tiny_brief, tiny-both}

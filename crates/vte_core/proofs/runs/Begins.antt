@@ -1,6 +1,5 @@
 -- What a first byte begins: nothing, or a character with these ranges to come, as the rows of UTF-8 say.
-use Rattle.vte_core.proofs.Common.{List, [], arith, inl, inr, nat_le, refl, subst, sym, true, ℕ, ◌∙◌, ◌∷◌, ◌≡◌, ◌≢◌, ◌≤◌, and_parts, cases_Bool, cases_eq, cases_lt, false≢true, leb-true, nat_tests}
-use Rattle.vte_core.proofs.Common.{Range, is_in, to, rows_after, utf8_rows, second_range, IsPrinted, AreRun, is_layout}
+use Rattle.vte_core.proofs.Common.{List, [], arith, inl, inr, nat_le, refl, subst, sym, true, ℕ, ◌∙◌, ◌∷◌, ◌≡◌, ◌≢◌, ◌≤◌, and_parts, cases_Bool, cases_eq, cases_lt, false≢true, leb-true, nat_tests, Range, is_in, to, rows_after, utf8_rows, second_range, IsPrinted, AreRun, is_layout}
 use Rattle.vte_core.proofs.bytes.Between.{each-one}
 use Rattle.vte_core.proofs.bytes.FirstBytes.{fits, tests_row, tests_two}
 use Rattle.vte_core.proofs.bytes.Printable.{run-ascii, run-layout}

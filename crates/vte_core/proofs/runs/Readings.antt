@@ -1,6 +1,5 @@
 -- What the automaton's readings of a text say: a block more, and where the last character ended.
-use Rattle.vte_core.proofs.Common.{Bool, List, [], ap, arith, drop, false, get_or, inl, inr, length, length-append, length-take, refl, subst, sym, take, true, ℕ, ◌++◌, ◌+◌, ◌<◌, ◌∙◌, ◌∷◌, ◌≡◌, ◌≢◌}
-use Rattle.vte_core.proofs.Common.{◌≤◌, take-add, encodes, encode, cases_lt, nat_tests, get_or-drop, All-cons, All-head, All-nil, All-tail, All, slice_index, is_left_out, chars, AreRun}
+use Rattle.vte_core.proofs.Common.{Bool, List, [], ap, arith, drop, false, get_or, inl, inr, length, length-append, length-take, refl, subst, sym, take, true, ℕ, ◌++◌, ◌+◌, ◌<◌, ◌∙◌, ◌∷◌, ◌≡◌, ◌≢◌, ◌≤◌, take-add, encodes, encode, cases_lt, nat_tests, get_or-drop, All-cons, All-head, All-nil, All-tail, All, slice_index, is_left_out, chars, AreRun}
 use Rattle.std.proofs.lemmas.List.{get_or-take, get_or-append-add}
 use Rattle.std.proofs.lemmas.Str.{encode_ascii, encodes-chars}
 use Rattle.vte_core.specs.machine.Between.{Each}

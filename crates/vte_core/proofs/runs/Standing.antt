@@ -1,7 +1,6 @@
 -- What the automaton's state says of the text that it has read: characters that are printed, and then the bytes of one
 -- that has begun. Each step of the automaton keeps that.
-use Rattle.vte_core.proofs.Common.{List, [], add-one, ap, append_assoc, arith, cond, drop, inl, inr, length, length-drop, nat_le, refl, subst, suc, sym, take, true, zero, ℕ, ◌&&◌, ◌++◌, ◌+◌, ◌-◌, ◌<◌}
-use Rattle.vte_core.proofs.Common.{◌∙◌, ◌∷◌, ◌≡◌, ◌≢◌, ◌≤◌, take-add, and_parts, cases_Bool, false≢true, leb-true, append-nil, get_or-drop, take_more, slice_index, Range, is_in, AreRun}
+use Rattle.vte_core.proofs.Common.{List, [], add-one, ap, append_assoc, arith, cond, drop, inl, inr, length, length-drop, nat_le, refl, subst, suc, sym, take, true, zero, ℕ, ◌&&◌, ◌++◌, ◌+◌, ◌-◌, ◌<◌, ◌∙◌, ◌∷◌, ◌≡◌, ◌≢◌, ◌≤◌, take-add, and_parts, cases_Bool, false≢true, leb-true, append-nil, get_or-drop, take_more, slice_index, Range, is_in, AreRun}
 use Rattle.vte_core.specs.machine.Between.{Each}
 use Rattle.vte_core.proofs.bytes.Between.{each-next}
 use Rattle.vte_core.proofs.bytes.FirstBytes.{fits}

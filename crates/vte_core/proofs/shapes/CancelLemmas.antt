@@ -1,7 +1,5 @@
 -- CAN and SUB, which end what is open and are executed: what is closed comes first. By cases of the place.
-use Rattle.vte_core.proofs.Common.{◌≡◌, ℕ, ◌<◌, true, false, eqb, Option, List, [], ◌∷◌, ◌++◌, refl, ap, ◌∙◌, arith, nat_tests, Cancel, class_of, IsBrief, Print, Execute}
-use Rattle.vte_core.proofs.Common.{replacement, Leads, tell, Place, InText, InData, InSystemCommand, closing_at, left_at, bell}
-use Rattle.vte_core.proofs.Common.{text_outcome, character_event, is_control_character, append-nil, body_outcome, control_sequence_end, data_outcome, device_control_end, executed}
+use Rattle.vte_core.proofs.Common.{◌≡◌, ℕ, ◌<◌, true, false, eqb, Option, List, [], ◌∷◌, ◌++◌, refl, ap, ◌∙◌, arith, nat_tests, Cancel, class_of, IsBrief, Print, Execute, replacement, Leads, tell, Place, InText, InData, InSystemCommand, closing_at, left_at, bell, text_outcome, character_event, is_control_character, append-nil, body_outcome, control_sequence_end, data_outcome, device_control_end, executed}
 use Rattle.vte_core.specs.IgnoredString.{ignored_string_outcome}
 use Rattle.vte_core.specs.machine.Place.{control_sequence_from, device_control_from, escape_from, system_command_from}
 use Rattle.vte_core.proofs.bytes.ClassLemmas.{spans}

@@ -1,11 +1,9 @@
 -- The division of a text, and what it gives, from the front: a well-formed sequence, a maximal subpart or a byte comes
 -- off, and the rest is divided as a text of its own.
-use Rattle.vte_core.proofs.Common.{◌≡◌, ℕ, ◌≤◌, true, false, List, [], ◌∷◌, ◌++◌, length, refl, sym, ap, subst, ◌∙◌, arith, take-append_seam, false≢true}
-use Rattle.vte_core.proofs.Common.{nat_tests, Event, Print, replacement, NothingOpen, OpenCharacter, leaves, tell, utf8_rows, rows_after, wanted, is_well_formed, is_truncated, further}
-use Rattle.vte_core.proofs.Common.{segments_after, segments, scalar_of, is_control_character, character_event, malformed_event, segment_event, pieces_outcome, text_outcome}
+use Rattle.vte_core.proofs.Common.{◌≡◌, ℕ, ◌≤◌, true, false, List, [], ◌∷◌, ◌++◌, length, refl, sym, ap, subst, ◌∙◌, arith, take-append_seam, false≢true, nat_tests, Event, Print, replacement, NothingOpen, OpenCharacter, leaves, tell, utf8_rows, rows_after, wanted, is_well_formed, is_truncated, further, segments_after, segments, scalar_of, is_control_character, character_event, malformed_event, segment_event}
+use Rattle.vte_core.proofs.Common.{pieces_outcome, text_outcome}
 use Rattle.std.proofs.Common.{append-nil}
-use Rattle.vte_core.proofs.bytes.Utf8Lemmas.{AtMostOne-first, AtMostOne-wanted, wanted-append, whole_not_open, open_not_whole, neither_whole_nor_open, allowed_none, allowed_whole, allowed_broken}
-use Rattle.vte_core.proofs.bytes.Utf8Lemmas.{allowed_end}
+use Rattle.vte_core.proofs.bytes.Utf8Lemmas.{AtMostOne-first, AtMostOne-wanted, wanted-append, whole_not_open, open_not_whole, neither_whole_nor_open, allowed_none, allowed_whole, allowed_broken, allowed_end}
 use Rattle.vte_core.proofs.bytes.FirstBytes.{truncated_first}
 
 -- ---- the two tests of a sequence

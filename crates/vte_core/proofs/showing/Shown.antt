@@ -1,7 +1,6 @@
 -- The text of groups has separators between the parts; a loop writes one before each part but the first. Both are the
 -- same text.
-use Rattle.vte_core.proofs.Common.{◌≡◌, ℕ, ◌-◌, ◌≤◌, List, [], ◌∷◌, ◌++◌, length, take, drop, get_or, map, refl, sym, ap, ◌∙◌, arith, decimal, flat_map}
-use Rattle.vte_core.proofs.Common.{join_with_byte, append-nil, take_all, colon, semicolon, shown}
+use Rattle.vte_core.proofs.Common.{◌≡◌, ℕ, ◌-◌, ◌≤◌, List, [], ◌∷◌, ◌++◌, length, take, drop, get_or, map, refl, sym, ap, ◌∙◌, arith, decimal, flat_map, join_with_byte, append-nil, take_all, colon, semicolon, shown}
 use Rattle.std.proofs.lemmas.List.Folds.{flat_map-map}
 
 -- the text of one group

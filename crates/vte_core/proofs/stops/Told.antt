@@ -1,6 +1,5 @@
 -- Starts, what is told before them, and where a call stops: by whether the next byte breaks an open character.
-use Rattle.vte_core.proofs.Common.{◌≡◌, ℕ, ◌+◌, ◌<◌, ◌≤◌, inl, inr, true, false, Option, List, [], ◌∷◌, ◌++◌, length, take, drop, get_or, refl, ap, sym, ◌∙◌, arith, slice_index, false≢true}
-use Rattle.vte_core.proofs.Common.{append-nil, drop_more, drop_all, take_all, breaks, breaks_at, IsStart, told, stream_at, Print, replacement, added, open_end, is_truncated, is_well_formed}
+use Rattle.vte_core.proofs.Common.{◌≡◌, ℕ, ◌+◌, ◌<◌, ◌≤◌, inl, inr, true, false, Option, List, [], ◌∷◌, ◌++◌, length, take, drop, get_or, refl, ap, sym, ◌∙◌, arith, slice_index, false≢true, append-nil, drop_more, drop_all, take_all, breaks, breaks_at, IsStart, told, stream_at, Print, replacement, added, open_end, is_truncated, is_well_formed}
 use Rattle.vte_core.proofs.shapes.TextLemmas.{well_formed_not_truncated}
 
 -- ---- whether a byte breaks the open character

@@ -1,7 +1,6 @@
 -- The size of the store has no say in what is unfinished at the end: by the definitions, part by part, only what is
 -- kept of a command depends on it.
-use Rattle.vte_core.proofs.Common.{◌≡◌, ℕ, Bool, cases_Bool, inl, inr, Option, None, List, [], ◌∷◌, refl, Key, key_of, body_rest, body_outcome, shape_outcome, class_of, is_cancel, is_key}
-use Rattle.vte_core.proofs.Common.{Outcome, unfinished, from_first, cut_at_escape, with_bodies, outcome, open_end, ends_command, system_command_outcome, system_command_rest, text_outcome}
+use Rattle.vte_core.proofs.Common.{◌≡◌, ℕ, Bool, cases_Bool, inl, inr, Option, None, List, [], ◌∷◌, refl, Key, key_of, body_rest, body_outcome, shape_outcome, class_of, is_cancel, is_key, Outcome, unfinished, from_first, cut_at_escape, with_bodies, outcome, open_end, ends_command, system_command_outcome, system_command_rest, text_outcome}
 use Rattle.vte_core.specs.Key.{SystemCommand}
 
 by_pieces : (pieces others : List (List ℕ)) (dropped other : Bool) (rest : List ℕ)

@@ -1,8 +1,6 @@
 -- Events that no run tells: a control, and a character of two bytes or more only where its event is no printed one.
 -- Such a character is never ASCII.
-use Rattle.vte_core.proofs.Common.{◌≡◌, ◌≢◌, ℕ, ◌<◌, ◌≤◌, true, inl, inr, List, [], ◌∷◌, ◌++◌, length, length-append, refl, ap, sym, ◌∙◌, arith, cases_Bool, cases_lt, nat_tests, Event, Print}
-use Rattle.vte_core.proofs.Common.{Execute, Put, character_event, is_control_character, is_well_formed, scalar_of, IsOther, IsWide}
-use Rattle.vte_core.proofs.Common.{All, All-cons, All-nil, All-weaker}
+use Rattle.vte_core.proofs.Common.{◌≡◌, ◌≢◌, ℕ, ◌<◌, ◌≤◌, true, inl, inr, List, [], ◌∷◌, ◌++◌, length, length-append, refl, ap, sym, ◌∙◌, arith, cases_Bool, cases_lt, nat_tests, Event, Print, Execute, Put, character_event, is_control_character, is_well_formed, scalar_of, IsOther, IsWide, All, All-cons, All-nil, All-weaker}
 use Rattle.std.proofs.lemmas.Str.{length-encode}
 use Rattle.vte_core.proofs.dividing.Utf8Agrees.{well_formed_is_encoded}
 

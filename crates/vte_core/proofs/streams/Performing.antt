@@ -1,6 +1,5 @@
 -- From a byte to bytes, and from a place to what a parser has read: `Takes` of a byte is `Performs` of one.
-use Rattle.vte_core.proofs.Common.{◌≡◌, ℕ, ◌⊎◌, inl, inr, cases_Bool, true, false, eqb, Option, List, [], ◌∷◌, ◌++◌, refl, ap, sym, ◌∙◌, arith, Machine, Event, Print}
-use Rattle.vte_core.proofs.Common.{replacement, tell, after, Place, InText, AtEscape, closing_at, outcome_from, events, escape, Takes, Performs, is_open, is_truncated, is_well_formed}
+use Rattle.vte_core.proofs.Common.{◌≡◌, ℕ, ◌⊎◌, inl, inr, cases_Bool, true, false, eqb, Option, List, [], ◌∷◌, ◌++◌, refl, ap, sym, ◌∙◌, arith, Machine, Event, Print, replacement, tell, after, Place, InText, AtEscape, closing_at, outcome_from, events, escape, Takes, Performs, is_open, is_truncated, is_well_formed}
 use Rattle.std.proofs.Common.{eqb-true}
 use Rattle.vte_core.proofs.bytes.FirstBytes.{Tests, ascii_breaks}
 use Rattle.vte_core.proofs.shapes.TextLemmas.{text_broken}

@@ -1,9 +1,7 @@
 -- A stream of any bytes, from its front: each byte leads from a place to a place (`arrives`), so what a stream gives
 -- stays as it is whatever follows, and it begins anew where all places lead to the same.
 use Rattle.vte_core.specs.Laws.{Resyncs, ResyncsAfter, Grows, OpensSilently}
-use Rattle.vte_core.proofs.Common.{◌≡◌, ℕ, inl, inr, Option, List, [], ◌∷◌, ◌++◌, drop, length, refl, ap, sym, ◌∙◌, append_assoc, All, All-append, All-cons, All-nil, Cancel, class_of}
-use Rattle.vte_core.proofs.Common.{IsBounded, IsBrief, Event, Place, InText, AtEscape, open_at, events_from, IsAfter, added, events}
-use Rattle.vte_core.proofs.Common.{open_end, escape, Reads, InSystemCommand, left_at}
+use Rattle.vte_core.proofs.Common.{◌≡◌, ℕ, inl, inr, Option, List, [], ◌∷◌, ◌++◌, drop, length, refl, ap, sym, ◌∙◌, append_assoc, All, All-append, All-cons, All-nil, Cancel, class_of, IsBounded, IsBrief, Event, Place, InText, AtEscape, open_at, events_from, IsAfter, added, events, open_end, escape, Reads, InSystemCommand, left_at}
 use Rattle.vte_core.proofs.places.BriefLemmas.{short_bounded}
 use Rattle.vte_core.proofs.shapes.CancelLemmas.{cancel}
 use Rattle.vte_core.proofs.streams.After.{added-after, added-reads, after-events, after-nothing, after-open_end, after-reads}

@@ -4,8 +4,7 @@ use Rattle.vte_core.proofs.Common.{refl, sym, ◌∙◌, arith, rules}
 use Rattle.vte_core.specs.machine.Reading.{with_open_number}
 use Rattle.vte_core.proofs.calls.Heads.{part_after-more, part_after-none, reads-nothing, reads-parameter}
 use Rattle.vte_core.proofs.fields.NumberSteps.{counts-digit, counts-separator}
-use Rattle.vte_core.proofs.head.Collected.read_numbers.Goals.{else-loop-position-test, then-loop-position-test+in_default+else-several}
-use Rattle.vte_core.proofs.head.Collected.read_numbers.Goals.{in-Some, in_default+then-several+then-is_separator}
+use Rattle.vte_core.proofs.head.Collected.read_numbers.Goals.{else-loop-position-test, then-loop-position-test+in_default+else-several, in-Some, in_default+then-several+then-is_separator}
 use Rattle.vte_core.proofs.head.Collected.read_numbers.Goals as goal
 
 -- No byte is read.

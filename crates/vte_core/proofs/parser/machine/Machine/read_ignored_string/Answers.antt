@@ -1,6 +1,5 @@
 -- Bytes of an ignored string lead back to it, one by one (`advances-by`); then it ends, or the bytes do.
-use Rattle.vte_core.proofs.Common.{◌≡◌, ℕ, zero, suc, ◌+◌, ◌-◌, ◌≤◌, Bool, Option, List, [], length, refl, arith, slice_index, Machine, IgnoredString, Event, Advances, MayGoOn}
-use Rattle.vte_core.proofs.Common.{AreIgnored, InIgnoredString}
+use Rattle.vte_core.proofs.Common.{◌≡◌, ℕ, zero, suc, ◌+◌, ◌-◌, ◌≤◌, Bool, Option, List, [], length, refl, arith, slice_index, Machine, IgnoredString, Event, Advances, MayGoOn, AreIgnored, InIgnoredString}
 use Rattle.vte_core.proofs.bytes.ClassCases.{ends_not_cancel}
 use Rattle.vte_core.proofs.calls.Arms.{advances-in, in_ignored, taken}
 use Rattle.vte_core.proofs.calls.Runs.{advances-moved, advances-nothing, advances-when, advances-then, settled-by}

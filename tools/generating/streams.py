@@ -180,7 +180,7 @@ PARTS = {
 for name, (what, part) in PARTS.items():
     stream(name, what)(part)
 
-# ---- one part again and again, behind a beginning
+# ---- one part again and again, after a beginning
 
 REPEATED = {
     "bad_ff": ("FF alone", b"", b"\xff"),

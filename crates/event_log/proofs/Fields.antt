@@ -1,12 +1,12 @@
 -- Parts of a line that are pushed one after another: they extend it by all of them.
 use Rattle.event_log.proofs.Common.{◌≡◌, ℕ, ◌+◌, ◌/◌, ◌%◌, ◌^◌, ◌<◌, ◌≤◌, Bool, true, false, ◌&&◌, List, [], ◌∷◌, ◌++◌, length, IsTrue, refl, sym, ap}
 use Rattle.event_log.proofs.Common.{◌∙◌, append_assoc, map, length-append, arith, length-map, nat_tests, decimal_digit, decimal_step, decimal, flat_map, blank, hex_field, pieces_fields}
-use Rattle.event_log.proofs.Common.{has_room, Extends, Lines}
+use Rattle.event_log.proofs.Common.{has_room_after, ExtendsLine, Lines}
 use Rattle.std.proofs.lemmas.List.Folds.{flat_map-map}
 
 -- if both texts had room, they have it together
-fit_together : (f fb fc : Bool) (a s b t : List ℕ) → fb ≡ (f && has_room a s) → fc ≡ (fb && has_room b t)
-    → (IsTrue fb → b ≡ a ++ s) → fc ≡ (f && has_room a (s ++ t))
+fit_together : (f fb fc : Bool) (a s b t : List ℕ) → fb ≡ (f && has_room_after a s) → fc ≡ (fb && has_room_after b t)
+    → (IsTrue fb → b ≡ a ++ s) → fc ≡ (f && has_room_after a (s ++ t))
 fit_together false fb fc a s b t h k e = rw (k, h)
 fit_together true true fc a s b t h k e = simp length-append
     (let l = ap length (e refl) ∙ length-append a s in grind (arith, nat_tests))
@@ -17,7 +17,7 @@ fitted_before : (fb fc r : Bool) → fc ≡ (fb && r) → IsTrue fc → IsTrue f
 fitted_before true fc r h e = refl
 fitted_before false fc r h e = sym h ∙ e
 
-pub extends_then : {a b c : Lines} {s t : List ℕ} → Extends a s b → Extends b t c → Extends a (s ++ t) c
+pub extends_then : {a b c : Lines} {s t : List ℕ} → ExtendsLine a s b → ExtendsLine b t c → ExtendsLine a (s ++ t) c
 extends_then {a} {b} {c} {s} {t} h k = record {
   start = k.start ∙ h.start;
   fits = fit_together a.fits b.fits c.fits a.bytes.items s b.bytes.items t h.fits k.fits h.appended;

@@ -2,7 +2,7 @@
 -- each start.
 use Rattle.event_log.proofs.Common.{◌≡◌, ℕ, zero, suc, ◌+◌, ◌<◌, ◌≤◌, Bool, false, List, [], ◌∷◌, ◌++◌, length, Some, inl, inr, refl, sym, ap, subst, ◌∙◌}
 use Rattle.event_log.proofs.Common.{append_assoc, append-nil, length-append, arith, take-append_seam, cases_Bool, le-leb, nat_tests, flat_map-append, flat_map, IsBrief, IsStart, told, Event, after}
-use Rattle.event_log.proofs.Common.{TellsUnits, Record, Begins, Extends, Ends, has_room, held_in, is_to_be_written, most_bytes, with_event, with_text, Lines}
+use Rattle.event_log.proofs.Common.{TellsUnits, Record, BeginsLine, ExtendsLine, EndsLine, has_room_after, record_in, is_to_be_written, most_bytes, with_event, with_text, Lines}
 use Rattle.vte_core.proofs.streams.Performing.{after-append}
 
 -- ---- one text
@@ -21,11 +21,11 @@ unfolding with_text
 with_text_taken held text fits = rw (le-leb _ _ fits) refl
 
 -- a line that begins, is written and ends is taken if there is room for it
-pub takes_line : {a b c d : Lines} {line : List ℕ} → Begins a b → Extends b line c → Ends c d
-    → held_in d ≡ with_text (held_in a) line
+pub takes_line : {a b c d : Lines} {line : List ℕ} → BeginsLine a b → ExtendsLine b line c → EndsLine c d
+    → record_in d ≡ with_text (record_in a) line
 unfolding with_text
 takes_line {a} {b} {c} {d} {line} h k e =
-    let room : c.fits ≡ has_room a.bytes.items line = rw (k.fits, h.fits, h.bytes) refl in
+    let room : c.fits ≡ has_room_after a.bytes.items line = rw (k.fits, h.fits, h.bytes) refl in
     elim (cases_Bool c.fits) [
       | inl fits ↦
           let bytes = rw fits at e.bytes in
@@ -87,7 +87,7 @@ module _ (text_of : Event → List ℕ) (small : IsSmall text_of) (units : Tells
   takes_unit : (events unit : List Event) → Takes events → HasRoomForUnit (after (with_event text_of) old events)
       → IsBrief (Some 1024) unit
       → Takes (events ++ unit)
-  takes_unit events unit taken has_room brief =
+  takes_unit events unit taken has_room_after brief =
       after-append (with_event text_of) old events unit
       ∙ ap (λ (r : Record). after (with_event text_of) r unit) taken
       ∙ all_taken text_of (old.bytes ++ flat_map text_of events) false unit

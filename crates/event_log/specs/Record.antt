@@ -19,13 +19,13 @@ abbrev pub half_of_bytes : ℕ
 half_of_bytes = 4096
 
 -- Whether there is room for a text after these bytes.
-abbrev pub has_room : List ℕ → List ℕ → Bool
-has_room bytes text = nat_le (length bytes + length text) most_bytes
+abbrev pub has_room_after : List ℕ → List ℕ → Bool
+has_room_after bytes text = nat_le (length bytes + length text) most_bytes
 
 -- A text is appended whole if there is room for it, and dropped otherwise.
 unfoldable pub with_text : Record → List ℕ → Record
 with_text held text =
-    if has_room held.bytes text then record { bytes = held.bytes ++ text; lost = held.lost }
+    if has_room_after held.bytes text then record { bytes = held.bytes ++ text; lost = held.lost }
     else record { bytes = held.bytes; lost = true }
 
 abbrev pub with_event : (Event → List ℕ) → Record → Event → Record
@@ -36,11 +36,11 @@ abbrev pub is_to_be_written : Record → Bool
 is_to_be_written held = nat_lt half_of_bytes (length held.bytes)
 
 -- What a `Lines` holds.
-abbrev pub held_in : Lines → Record
-held_in lines = record { bytes = lines.bytes.items; lost = lines.lost }
+abbrev pub record_in : Lines → Record
+record_in lines = record { bytes = lines.bytes.items; lost = lines.lost }
 
 -- A line begins after the bytes that are there.
-pub record Begins (old new : Lines) : Type 0 where
+pub record BeginsLine (old new : Lines) : Type 0 where
   pub bytes : new.bytes.items ≡ old.bytes.items
   pub start : new.start ≡ length old.bytes.items
   pub fits : new.fits ≡ true
@@ -48,15 +48,15 @@ pub record Begins (old new : Lines) : Type 0 where
 
 -- A part of a line is appended if there is room and the line has fitted so far. The bytes that were
 -- there stay.
-pub record Extends (old : Lines) (text : List ℕ) (new : Lines) : Type 0 where
+pub record ExtendsLine (old : Lines) (text : List ℕ) (new : Lines) : Type 0 where
   pub start : new.start ≡ old.start
-  pub fits : new.fits ≡ (old.fits && has_room old.bytes.items text)
+  pub fits : new.fits ≡ (old.fits && has_room_after old.bytes.items text)
   pub appended : IsTrue new.fits → new.bytes.items ≡ old.bytes.items ++ text
   pub kept : (more : List ℕ) × (new.bytes.items ≡ old.bytes.items ++ more)
   pub lost : new.lost ≡ old.lost
 
 -- A line ends. If it doesn't fit, it is removed and counts as lost.
-pub record Ends (old new : Lines) : Type 0 where
+pub record EndsLine (old new : Lines) : Type 0 where
   pub bytes : new.bytes.items
       ≡ (if old.fits then old.bytes.items else take old.start old.bytes.items)
   pub lost : new.lost ≡ (not old.fits || old.lost)

@@ -11,8 +11,8 @@ abbrev pub log_of : List ℕ → List ℕ
 log_of stream = lines_of (events (Some 1024) stream)
 
 -- The text of a stream without its sequences.
-abbrev pub text_in : List ℕ → List ℕ
-text_in stream = plain_text (events (Some 1024) stream)
+abbrev pub stripped_text : List ℕ → List ℕ
+stripped_text stream = plain_text (events (Some 1024) stream)
 
 -- The maximum number of reads of a run.
 abbrev pub most_reads : ℕ
@@ -56,4 +56,4 @@ abbrev pub StripsExactly : Result (Unit {0}) Fault → (input held : List ℕ) �
     → Option (List ℕ) → Bool
     → Type 0
 StripsExactly result input held to_come taken failed =
-    WritesExactly text_in result input held to_come taken failed
+    WritesExactly stripped_text result input held to_come taken failed

@@ -22,7 +22,7 @@ pub(crate) trait Collector {
     fn collect<'a>(&mut self, parser: &mut RunParser, bytes: &'a [u8]) -> &'a [u8]
         requires parsed { HasReadSome parser.old }
         requires empty { record_of self.old ≡ empty_record }
-        ensures further { 0 < length bytes.now → length result.now < length bytes.now }
+        ensures progress { 0 < length bytes.now → length result.now < length bytes.now }
         ensures collects { (whole : List ℕ → List ℕ)
             → AddsUpTo text_of whole [] parser.old bytes.now →
             HasKept text_of whole (record_of self.new) parser.new result.now };

@@ -1,6 +1,6 @@
 //! Lines of text, each appended whole or not at all.
 ghost use Rattle.std.specs.Prelude.{◌≡◌, ◌+◌, [], false, length};
-ghost use Rattle.event_log.specs.Record.{Begins, Ends, Extends, empty_record, held_in, is_to_be_written, most_bytes, with_text};
+ghost use Rattle.event_log.specs.Record.{BeginsLine, EndsLine, ExtendsLine, empty_record, record_in, is_to_be_written, most_bytes, with_text};
 
 mod fields;
 mod short;
@@ -27,7 +27,7 @@ pub struct Lines {
 impl Lines {
     /// Creates an empty buffer.
     pub fn new() -> Self
-        ensures { held_in result ≡ empty_record }
+        ensures { record_in result ≡ empty_record }
     {
         Lines {
             bytes: ArrayVec::new(),
@@ -39,42 +39,42 @@ impl Lines {
 
     /// Returns the lines.
     pub fn bytes(&self) -> &[u8]
-        ensures { result.now ≡ (held_in self.now).bytes }
+        ensures { result.now ≡ (record_in self.now).bytes }
     {
         self.bytes.as_slice()
     }
 
     /// Returns the number of bytes in the buffer.
     pub fn len(&self) -> usize
-        ensures { result ≡ length (held_in self.now).bytes }
+        ensures { result ≡ length (record_in self.now).bytes }
     {
         self.bytes.len()
     }
 
     /// Returns the number of bytes that still fit.
     pub(crate) fn room(&self) -> usize
-        ensures { length (held_in self.now).bytes + result ≡ most_bytes }
+        ensures { length (record_in self.now).bytes + result ≡ most_bytes }
     {
         ROOM - self.bytes.len()
     }
 
     /// Returns whether more than half of the room is in use, so that the lines should be written.
     pub(crate) fn is_more_than_half_full(&self) -> bool
-        ensures { result ≡ is_to_be_written (held_in self.now) }
+        ensures { result ≡ is_to_be_written (record_in self.now) }
     {
         self.bytes.len() > ROOM / 2
     }
 
     /// Returns whether a line was dropped since the last `clear`.
     pub fn lost(&self) -> bool
-        ensures { result ≡ (held_in self.now).lost }
+        ensures { result ≡ (record_in self.now).lost }
     {
         self.lost
     }
 
     /// Removes all lines, and forgets that any was lost.
     pub fn clear(&mut self)
-        ensures { held_in self.new ≡ empty_record }
+        ensures { record_in self.new ≡ empty_record }
     {
         self.bytes.clear();
         self.lost = false;
@@ -84,7 +84,7 @@ impl Lines {
     #[inline]
     #[tactic(auto, unfolding(crate::specs::Record::with_text))]
     pub fn append(&mut self, line: &[u8])
-        ensures { held_in self.new ≡ with_text (held_in self.old) line.now }
+        ensures { record_in self.new ≡ with_text (record_in self.old) line.now }
     {
         if self.bytes.try_extend_from_slice(line).is_err() {
             self.lost = true;
@@ -93,14 +93,14 @@ impl Lines {
 
     /// Begins a line. Its parts are pushed until `end`.
     pub(crate) fn begin(&mut self)
-        ensures { Begins self.old self.new }
+        ensures { BeginsLine self.old self.new }
     {
         self.start = self.bytes.len();
         self.fits = true;
     }
 
     pub(crate) fn push(&mut self, text: &[u8])
-        ensures { Extends self.old text.now self.new }
+        ensures { ExtendsLine self.old text.now self.new }
     {
         if self.fits {
             self.fits = self.bytes.try_extend_from_slice(text).is_ok();
@@ -109,7 +109,7 @@ impl Lines {
 
     /// Ends the line, and removes it if it didn't fit.
     pub(crate) fn end(&mut self)
-        ensures { Ends self.old self.new }
+        ensures { EndsLine self.old self.new }
     {
         if !self.fits {
             self.bytes.truncate(self.start);

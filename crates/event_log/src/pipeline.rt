@@ -116,7 +116,7 @@ fn write_some<'a, C: Collector, W: Sink>(
 ) -> Result<&'a [u8], ()>
     requires parsed { HasReadSome parser.old }
     requires empty { C.record_of collector.old ≡ empty_record }
-    ensures further { IfOk result (λ unread. 0 < length bytes.now
+    ensures progress { IfOk result (λ unread. 0 < length bytes.now
         → length unread.now < length bytes.now) }
     ensures reads { OnOk result (HasReadSome parser.new) }
     ensures empties { OnOk result (C.record_of collector.new ≡ empty_record) }

@@ -1,7 +1,7 @@
 //! The performer that keeps only text.
 ghost use Rattle.std.specs.Prelude.{◌≡◌, true};
 ghost use Rattle.event_log.specs.Plain.{plain_text_of};
-ghost use Rattle.event_log.specs.Record.{Record, empty_record, held_in, is_to_be_written, with_event};
+ghost use Rattle.event_log.specs.Record.{Record, empty_record, record_in, is_to_be_written, with_event};
 
 use crate::collector::{Collector, RunParser};
 use crate::lines::Lines;
@@ -24,7 +24,7 @@ pub struct Plain {
 impl Model for Plain {
     ghost Value = { Record };
 
-    ghost view = { λ plain. held_in plain.texts };
+    ghost view = { λ plain. record_in plain.texts };
 }
 
 impl Plain {

@@ -1,7 +1,7 @@
 //! The performer that writes lines.
 ghost use Rattle.std.specs.Prelude.{◌≡◌, ◌++◌};
 ghost use Rattle.event_log.specs.Lines.{line_feed, line_of, sequence_fields};
-ghost use Rattle.event_log.specs.Record.{Record, empty_record, held_in, is_to_be_written, with_event, with_text};
+ghost use Rattle.event_log.specs.Record.{Record, empty_record, record_in, is_to_be_written, with_event, with_text};
 
 use crate::collector::{Collector, RunParser};
 use crate::lines::{Lines, execute_line, put_line};
@@ -20,7 +20,7 @@ pub struct Recorder {
 impl Model for Recorder {
     ghost Value = { Record };
 
-    ghost view = { λ recorder. held_in recorder.lines };
+    ghost view = { λ recorder. record_in recorder.lines };
 }
 
 impl Recorder {

@@ -2,5 +2,5 @@
 use Rattle.std.specs.Prelude.{ℕ, Bool, List, Option, Some, None, if◌then◌else◌}
 
 -- The bytes, unless memory was refused.
-abbrev pub told_unless : Bool → List ℕ → Option (List ℕ)
-told_unless refused bytes = if refused then None else Some bytes
+abbrev pub bytes_unless : Bool → List ℕ → Option (List ℕ)
+bytes_unless refused bytes = if refused then None else Some bytes

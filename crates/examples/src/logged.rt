@@ -14,9 +14,9 @@ struct Text {
 }
 
 impl Sink for Text {
-    ghost use Rattle.examples.specs.Logged.{told_unless};
+    ghost use Rattle.examples.specs.Logged.{bytes_unless};
 
-    ghost taken = { λ text. told_unless text.refused text.bytes.items };
+    ghost taken = { λ text. bytes_unless text.refused text.bytes.items };
 
     ghost has_failed = { λ text. text.refused };
 

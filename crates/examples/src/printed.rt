@@ -52,12 +52,12 @@ impl Perform for Printed {
     }
 }
 
-/// Whether a stream, which comes in pieces, prints a character.
-pub fn prints(pieces: &[&[u8]]) -> bool
+/// Whether a stream, which comes in chunks, prints a character.
+pub fn prints(chunks: &[&[u8]]) -> bool
     ensures { result
-        ≡ after seen_after false (events (Some 1024) (flat_map (λ piece. piece.now) pieces.now)) }
+        ≡ after seen_after false (events (Some 1024) (flat_map (λ chunk. chunk.now) chunks.now)) }
 {
     let mut printed = Printed { seen: false };
-    laws::replay::<Printed, 1024>(&mut printed, pieces);
+    laws::replay::<Printed, 1024>(&mut printed, chunks);
     printed.seen
 }

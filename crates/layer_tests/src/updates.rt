@@ -49,7 +49,7 @@ fn processor_without_memory_returns_its_timeout(rt: HostRuntime) -> Result<(), F
 }
 
 #[test]
-fn processor_takes_no_memory_behind_its_hold(rt: HostRuntime) -> Result<(), Fail> {
+fn processor_takes_no_memory_beyond_its_hold(rt: HostRuntime) -> Result<(), Fail> {
     // The heap has no room beyond the first allocation.
     let heap = LocalHeap::new(rt.alloc(), HOLD)?;
     let mut handler = ByCall(CallLines::new(rt.alloc()));

@@ -33,11 +33,11 @@ pub use Rattle.vte_core.specs.declared.parser.refused.Refused.{Refused}
 pub use Rattle.vte_handler.specs.Call.{Call, Input, ResetColor}
 pub use Rattle.vte_handler.specs.Handler.{after}
 pub use Rattle.vte_handler.specs.Timeout.{AllowsAlone, IsKept, TimeoutMeaning}
-pub use Rattle.vte.specs.Processor.{EndsInBegin, HoldsWellAt, IsInsideUpdate, IsOutsideUpdate, Meaning, TakesSteps, Stage, TakesAllTurns, TakesTurns, all_bytes, begin_front, given_bytes, calls_added, calls_with_stops, cut_at, done, extend, hold_turn, is_held, is_stopped, keep, meaning, most_held, open_turn, opened, parse, place_of_stop, set_times, stop, stops_in_hold, stops_of, stops_of_advance, stops_of_turn, timeout_meaning, turn, turns, update_nanos}
-pub use Rattle.vte.specs.Refusal.{Halts, HasTaken, TakesSome, TurnHalts, between, within}
+pub use Rattle.vte.specs.Processor.{EndsInBegin, HoldsWellAt, IsInsideUpdate, IsOutsideUpdate, Meaning, TakesSteps, Stage, TakesAllTurns, TakesTurns, all_bytes, begin_front, given_bytes, calls_added, calls_with_stops, parse_held, done, extend, hold_turn, is_held, is_stopped, keep, meaning, most_held, open_turn, stop_if_due, parse, place_of_stop, set_times, stop, stops_in_hold, stops_of, stops_of_advance, stops_of_turn, timeout_meaning, turn, turns, update_nanos}
+pub use Rattle.vte.specs.Refusal.{OpenTurnHalts, HasTaken, TakesSome, TurnHalts, between, within}
 pub use Rattle.vte.specs.BeginUpdate.{begin_count, begins_of, is_update_group, update_groups}
-pub use Rattle.vte.specs.Calls.{added_calls, calls, calls_from, calls_of, last_from, last_printed, last_printed_from}
-pub use Rattle.vte.specs.Change.{changes}
+pub use Rattle.vte.specs.Calls.{added_calls, calls, calls_from, calls_of, last_printed_after, last_printed, last_printed_from}
+pub use Rattle.vte.specs.Change.{change_calls}
 pub use Rattle.vte.specs.ColorReading.{kind_reading, part_of}
 pub use Rattle.vte.specs.CommandCalls.{dynamic_calls, id_of, link_to, pair_calls, pairs_calls}
 unfoldable pub use Rattle.vte.specs.CommandCalls.{all_reset}
@@ -49,7 +49,7 @@ pub use Rattle.vte.specs.Memory.{HasRoom, LacksMemoryOnTheWay}
 pub use Rattle.vte.specs.Numbers.{first_number, first_numbers}
 pub use Rattle.vte.specs.Parts.{first_after, parts_left, parts_of}
 pub use Rattle.vte.specs.machine.Performer.{FitsText, Lent, with_event}
-pub use Rattle.vte.specs.machine.Turns.{AreNextAt, EndsOpen, EndsTurn, Halted, IsAtBegin, IsOpenAt, IsParsed, IsParsedOn, IsReady, Opened, Turned}
+pub use Rattle.vte.specs.machine.Turns.{AreNextAt, EndsOpen, EndsTurn, Halted, IsAtBegin, IsOpenAt, IsParsed, IsParsedOn, IsParsedWithRoom, Opened, Turned}
 pub use Rattle.vte.specs.machine.TurnsMeaning.{AreAt, HaveTaken, KeepsRoom, KeepsTurnRoom, LacksSome, ParserMeaning, ReadsSome, ReservesRoom, StopsUpdate, TurnsMeaning, long_meaning, short_meaning, of_turns}
 pub use Rattle.vte.specs.Rendition.{attribute_calls, attributes_from}
 pub use Rattle.vte.specs.Synchronized.{begin_update, begins_among, begins_with, after_last_end, end_update, from_begin, kept_of, last_part}

@@ -23,18 +23,18 @@ calls_of last (OscDispatch pieces bell) = system_command_calls pieces bell
 calls_of last _ = []
 
 -- The last printed character after an event.
-abbrev pub last_from : Option ℕ → Event → Option ℕ
-last_from last (Print c) = Some c
-last_from last _ = last
+abbrev pub last_printed_after : Option ℕ → Event → Option ℕ
+last_printed_after last (Print c) = Some c
+last_printed_after last _ = last
 
 abbrev pub last_printed_from : Option ℕ → List Event → Option ℕ
 last_printed_from last [] = last
-last_printed_from last (event ∷ events) = last_printed_from (last_from last event) events
+last_printed_from last (event ∷ events) = last_printed_from (last_printed_after last event) events
 
 abbrev pub calls_from : Option ℕ → List Event → List Call
 calls_from last [] = []
 calls_from last (event ∷ events) =
-    calls_of last event ++ calls_from (last_from last event) events
+    calls_of last event ++ calls_from (last_printed_after last event) events
 
 -- The character of the last `Print` among the events.
 abbrev pub last_printed : List Event → Option ℕ

@@ -12,5 +12,5 @@ change_call change.Reset number = call.UnsetMode (mode_of number)
 change_call change.SetPrivate number = call.SetPrivateMode (private_mode_of number)
 change_call change.ResetPrivate number = call.UnsetPrivateMode (private_mode_of number)
 
-abbrev pub changes : Change → List ℕ → List Call
-changes which numbers = map (λ number. change_call which number) numbers
+abbrev pub change_calls : Change → List ℕ → List Call
+change_calls which numbers = map (λ number. change_call which number) numbers

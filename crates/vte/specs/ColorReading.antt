@@ -1,12 +1,12 @@
 -- Colours as numbers: 2 and three components, or 5 and an index (ISO 8613-6, xterm).
 use Rattle.std.specs.Prelude.{ℕ, Bool, List, [], ◌∷◌, length, take, drop, take_while, nat_lt, if◌then◌else◌, ◌==◌, Option, Some, None, suc}
-use Rattle.vte_types.specs.Rows.{Row, beside}
+use Rattle.vte_types.specs.Rows.{Row, entry_of}
 use Rattle.vte_types.specs.declared.color.Color.{Color}
 use Rattle.vte_types.specs.declared.color.Color.TheVariants.{Spec, Indexed}
 
 -- How many components a kind of colour has: red, green and blue, or an index of the palette.
-abbrev pub kinds : List (Row ℕ)
-kinds = (2, 3) ∷ (5, 1) ∷ []
+abbrev pub component_counts : List (Row ℕ)
+component_counts = (2, 3) ∷ (5, 1) ∷ []
 
 -- The colour of these components.
 abbrev pub color_of_numbers : List ℕ → Option Color
@@ -14,8 +14,8 @@ color_of_numbers (r ∷ g ∷ b ∷ []) = Some (Spec (record { r = r; g = g; b =
 color_of_numbers (index ∷ []) = Some (Indexed index)
 color_of_numbers _ = None
 
-abbrev pub is_part : ℕ → Bool
-is_part number = nat_lt number 256
+abbrev pub is_component : ℕ → Bool
+is_component number = nat_lt number 256
 
 -- The result of reading a colour: the colour, if any, and how many numbers were used.
 pub record ReadColor : Type 0 where
@@ -31,7 +31,7 @@ short_color parts (number ∷ numbers) = record { color = None; used = suc parts
 -- The components are the numbers up to 255 at the start, at most as many as the kind has.
 abbrev pub parts_reading : ℕ → List ℕ → ReadColor
 parts_reading count numbers =
-    let parts = take_while is_part (take count numbers) in
+    let parts = take_while is_component (take count numbers) in
     if length parts == count then record { color = color_of_numbers parts; used = count }
     else short_color (length parts) (drop (length parts) numbers)
 
@@ -41,7 +41,7 @@ reading_of (Some count) numbers = parts_reading count numbers
 
 -- A colour of this kind.
 abbrev pub kind_reading : ℕ → List ℕ → ReadColor
-kind_reading kind numbers = reading_of (beside kinds kind) numbers
+kind_reading kind numbers = reading_of (entry_of component_counts kind) numbers
 
 abbrev pub color_reading : List ℕ → ReadColor
 color_reading [] = record { color = None; used = 0 }
@@ -59,4 +59,4 @@ without_space numbers = numbers
 -- The first number, if it is at most 255.
 abbrev pub part_of : List ℕ → Option ℕ
 part_of [] = None
-part_of (number ∷ numbers) = if is_part number then Some number else None
+part_of (number ∷ numbers) = if is_component number then Some number else None

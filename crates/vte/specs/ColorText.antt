@@ -11,12 +11,12 @@ abbrev pub is_size : ℕ → Bool
 is_size count = nat_le 1 count && nat_le count 4
 
 -- A number scaled so that the greatest with this many digits becomes 255.
-abbrev pub share : ℕ → ℕ → ℕ
-share count number = 255 * number / (16 ^ count - 1)
+abbrev pub scaled_to_255 : ℕ → ℕ → ℕ
+scaled_to_255 count number = 255 * number / (16 ^ count - 1)
 
 -- The top eight bits of a number with this many digits.
-abbrev pub top : ℕ → ℕ → ℕ
-top count number = 256 * number / 16 ^ count
+abbrev pub top_eight_bits : ℕ → ℕ → ℕ
+top_eight_bits count number = 256 * number / 16 ^ count
 
 -- A component of one to four hex digits, converted by `value`.
 abbrev pub part_by : (ℕ → ℕ → ℕ) → List ℕ → Option ℕ
@@ -26,7 +26,8 @@ part_by value digits =
 
 -- r/g/b
 abbrev pub color_of_parts : List (List ℕ) → Option Rgb
-color_of_parts (r ∷ g ∷ b ∷ []) = color_by (part_by share r) (part_by share g) (part_by share b)
+color_of_parts (r ∷ g ∷ b ∷ []) =
+    color_by (part_by scaled_to_255 r) (part_by scaled_to_255 g) (part_by scaled_to_255 b)
 color_of_parts _ = None
 
 -- Three components with the same number of digits.
@@ -34,8 +35,9 @@ abbrev pub color_of_thirds : List ℕ → Option Rgb
 color_of_thirds digits =
     let count = length digits / 3 in
     if length digits == 3 * count
-    then color_by (part_by top (take count digits)) (part_by top (take count (drop count digits)))
-    (part_by top (drop (2 * count) digits))
+    then color_by (part_by top_eight_bits (take count digits))
+    (part_by top_eight_bits (take count (drop count digits)))
+    (part_by top_eight_bits (drop (2 * count) digits))
     else None
 
 -- `rgb:` and three components, or `#` and three components with the same number of digits.

@@ -5,13 +5,13 @@ use Rattle.std.specs.List.{filter_map, range_with_len}
 use Rattle.vte.specs.ColorText.{xparse_color_of}
 use Rattle.vte.specs.Maybe.{for_some}
 use Rattle.vte.specs.Parts.{first_after, parts_of}
-use Rattle.vte_types.specs.Rows.{Row, beside}
+use Rattle.vte_types.specs.Rows.{Row, entry_of}
 use Rattle.vte.specs.Titles.{decimal_number, joined_texts, text_in, title_calls}
 use Rattle.vte_handler.specs.Call.{Call}
 use Rattle.vte_handler.specs.Call as call
 use Rattle.vte_handler.specs.Link.{Link}
 use Rattle.vte_types.specs.CursorIcon.{icon_of}
-use Rattle.vte_types.specs.Words.{is_word, after_word, beside_word}
+use Rattle.vte_types.specs.Words.{is_word, after_word, entry_of_word}
 use Rattle.vte_types.specs.declared.screen.CursorShape.{CursorShape}
 use Rattle.vte_types.specs.declared.screen.CursorShape.TheVariants as shape
 
@@ -71,7 +71,7 @@ dynamic_call code terminator text (Some prefix) =
 abbrev pub dynamic_calls : ℕ → List ℕ → List (List ℕ) → List Call
 dynamic_calls code terminator [] = []
 dynamic_calls code terminator (text ∷ texts) =
-    dynamic_call code terminator text (beside dynamic_prefixes code)
+    dynamic_call code terminator text (entry_of dynamic_prefixes code)
     ++ dynamic_calls (code + 1) terminator texts
 
 -- 22
@@ -86,7 +86,7 @@ shapes = (0x30, shape.Block) ∷ (0x31, shape.Beam) ∷ (0x32, shape.Underline) 
 abbrev pub shape_after : Option (List ℕ) → Option CursorShape
 shape_after None = None
 shape_after (Some []) = None
-shape_after (Some (byte ∷ bytes)) = beside shapes byte
+shape_after (Some (byte ∷ bytes)) = entry_of shapes byte
 
 abbrev pub shape_calls : List (List ℕ) → List Call
 shape_calls [] = []
@@ -144,4 +144,4 @@ calls_by terminator texts (Some calls_of) = calls_of terminator texts
 abbrev pub system_command_calls : List (List ℕ) → Bool → List Call
 system_command_calls [] bell = []
 system_command_calls (first ∷ texts) bell =
-    calls_by (terminator_of bell) texts (beside_word command_rows first)
+    calls_by (terminator_of bell) texts (entry_of_word command_rows first)

@@ -1,20 +1,20 @@
 -- The calls of a control sequence, by its final byte and intermediates (ECMA-48, the VT500, xterm).
 use Rattle.std.specs.Prelude.{ℕ, pos, List, [], ◌∷◌, if◌then◌else◌, ◌==◌, ◌&&◌, ◌-◌, Option, Some, None, drop, replicate}
 use Rattle.vte.specs.declared.ansi.control_calls.Change.TheVariants as change
-use Rattle.vte.specs.Change.{changes}
+use Rattle.vte.specs.Change.{change_calls}
 use Rattle.vte.specs.Numbers.{first_of, first_or, first_numbers, is_four}
 use Rattle.vte.specs.Rendition.{attribute_calls}
 use Rattle.vte.specs.Maybe.{for_both, or_none, for_some}
-use Rattle.vte_types.specs.Rows.{Row, beside}
+use Rattle.vte_types.specs.Rows.{Row, entry_of}
 use Rattle.vte.specs.Values.{behavior_of, bottom_of, cursor_rows, keyboard_modes, keys_rows, line_rows, path_rows, screen_rows, tab_rows, update_rows}
 use Rattle.vte_handler.specs.Call.{Call}
 use Rattle.vte_handler.specs.Call as call
 use Rattle.vte_types.specs.Mode.{mode_of, private_mode_of}
 
 -- The last printed character, this many times, or nothing if no character was printed (REP).
-abbrev pub repeated : Option ℕ → ℕ → List Call
-repeated None count = []
-repeated (Some c) count = replicate count (call.Input c)
+abbrev pub repeat_calls : Option ℕ → ℕ → List Call
+repeat_calls None count = []
+repeat_calls (Some c) count = replicate count (call.Input c)
 
 abbrev pub set_tabs_rows : List (Row (List Call))
 set_tabs_rows = (5, call.SetTabs 8 ∷ []) ∷ []
@@ -49,7 +49,7 @@ module _ (last : Option ℕ) (intermediates : List ℕ) (groups : List (List ℕ
       (0x41, call.MoveUp pn ∷ []) ∷  -- A: CUU
       (0x42, call.MoveDown pn ∷ []) ∷  -- B: CUD
       (0x65, call.MoveDown pn ∷ []) ∷  -- e: VPR
-      (0x62, repeated last pn) ∷  -- b: REP
+      (0x62, repeat_calls last pn) ∷  -- b: REP
       (0x43, call.MoveForward pn ∷ []) ∷  -- C: CUF
       (0x61, call.MoveForward pn ∷ []) ∷  -- a: HPR
       (0x44, call.MoveBackward pn ∷ []) ∷  -- D: CUB
@@ -58,16 +58,16 @@ module _ (last : Option ℕ) (intermediates : List ℕ) (groups : List (List ℕ
       (0x46, call.MoveUpAndCr pn ∷ []) ∷  -- F: CPL
       (0x47, call.GotoCol (pn - 1) ∷ []) ∷  -- G: CHA
       (0x60, call.GotoCol (pn - 1) ∷ []) ∷  -- `: HPA
-      (0x67, for_some (λ which. call.ClearTabs which) (beside tab_rows ps)) ∷  -- g: TBC
+      (0x67, for_some (λ which. call.ClearTabs which) (entry_of tab_rows ps)) ∷  -- g: TBC
       (0x48, call.Goto (pos (pn - 1)) (pn2 - 1) ∷ []) ∷  -- H: CUP
       (0x66, call.Goto (pos (pn - 1)) (pn2 - 1) ∷ []) ∷  -- f: HVP
-      (0x68, changes change.Set (first_numbers groups)) ∷  -- h: SM
+      (0x68, change_calls change.Set (first_numbers groups)) ∷  -- h: SM
       (0x6d, attribute_calls groups) ∷  -- m: SGR
       (0x49, call.MoveForwardTabs pn ∷ []) ∷  -- I: CHT
-      (0x4a, for_some (λ part. call.ClearScreen part) (beside screen_rows ps)) ∷  -- J: ED
-      (0x4b, for_some (λ part. call.ClearLine part) (beside line_rows ps)) ∷  -- K: EL
+      (0x4a, for_some (λ part. call.ClearScreen part) (entry_of screen_rows ps)) ∷  -- J: ED
+      (0x4b, for_some (λ part. call.ClearLine part) (entry_of line_rows ps)) ∷  -- K: EL
       (0x4c, call.InsertBlankLines pn ∷ []) ∷  -- L: IL
-      (0x6c, changes change.Reset (first_numbers groups)) ∷  -- l: RM
+      (0x6c, change_calls change.Reset (first_numbers groups)) ∷  -- l: RM
       (0x4d, call.DeleteLines pn ∷ []) ∷  -- M: DL
       (0x6e, call.DeviceStatus ps ∷ []) ∷  -- n: DSR
       (0x50, call.DeleteChars pn ∷ []) ∷  -- P: DCH
@@ -75,7 +75,7 @@ module _ (last : Option ℕ) (intermediates : List ℕ) (groups : List (List ℕ
       (0x53, call.ScrollUp pn ∷ []) ∷  -- S: SU
       (0x73, call.SaveCursorPosition ∷ []) ∷  -- s: SCOSC
       (0x54, call.ScrollDown pn ∷ []) ∷  -- T: SD
-      (0x74, or_none (beside window_rows pn)) ∷  -- t: XTWINOPS
+      (0x74, or_none (entry_of window_rows pn)) ∷  -- t: XTWINOPS
       (0x75, call.RestoreCursorPosition ∷ []) ∷  -- u: SCORC
       (0x58, call.EraseChars pn ∷ []) ∷  -- X: ECH
       (0x5a, call.MoveBackwardTabs pn ∷ []) ∷  -- Z: CBT
@@ -83,9 +83,9 @@ module _ (last : Option ℕ) (intermediates : List ℕ) (groups : List (List ℕ
 
   abbrev pub question_rows : List (Row (List Call))
   question_rows =
-      (0x57, or_none (beside set_tabs_rows ps)) ∷  -- W: DECST8C
-      (0x68, changes change.SetPrivate (first_numbers groups)) ∷  -- h: DECSET
-      (0x6c, changes change.ResetPrivate (first_numbers groups)) ∷  -- l: DECRST
+      (0x57, or_none (entry_of set_tabs_rows ps)) ∷  -- W: DECST8C
+      (0x68, change_calls change.SetPrivate (first_numbers groups)) ∷  -- h: DECSET
+      (0x6c, change_calls change.ResetPrivate (first_numbers groups)) ∷  -- l: DECRST
       (0x6d, if is_four groups then call.ReportModifyOtherKeys ∷ [] else []) ∷  -- m: XTQMODKEYS
       (0x75, call.ReportKeyboardMode ∷ []) ∷  -- u: kitty
       []
@@ -93,7 +93,7 @@ module _ (last : Option ℕ) (intermediates : List ℕ) (groups : List (List ℕ
   abbrev pub greater_rows : List (Row (List Call))
   greater_rows = (
     0x6d,
-    if pn == 4 then for_some (λ keys. call.SetModifyOtherKeys keys) (beside keys_rows ps2)
+    if pn == 4 then for_some (λ keys. call.SetModifyOtherKeys keys) (entry_of keys_rows ps2)
         else [],
   ) ∷  -- m: XTMODKEYS
       (0x75, call.PushKeyboardMode (keyboard_modes ps) ∷ []) ∷  -- u: kitty
@@ -112,10 +112,10 @@ module _ (last : Option ℕ) (intermediates : List ℕ) (groups : List (List ℕ
   abbrev pub blank_rows : List (Row (List Call))
   blank_rows = (
     0x6b,
-    for_both (λ path update. call.SetScp path update) (beside path_rows ps)
-        (beside update_rows ps2),
+    for_both (λ path update. call.SetScp path update) (entry_of path_rows ps)
+        (entry_of update_rows ps2),
   ) ∷  -- k: SCP
-      (0x71, for_some (λ kind. call.SetCursorStyle kind) (beside cursor_rows ps)) ∷  -- q: DECSCUSR
+      (0x71, for_some (λ x. call.SetCursorStyle x) (entry_of cursor_rows ps)) ∷  -- q: DECSCUSR
       []
 
   abbrev pub dollar_rows : List (Row (List Call))
@@ -147,4 +147,4 @@ module _ (last : Option ℕ) (intermediates : List ℕ) (groups : List (List ℕ
   control_calls final =
       if final == 0x63
       then (if ps == 0 then call.IdentifyTerminal (first_of intermediates) ∷ [] else [])
-      else or_none (beside (rows_of intermediates) final)
+      else or_none (entry_of (rows_of intermediates) final)

@@ -1,7 +1,7 @@
 -- The calls of executed bytes and of escape sequences.
 use Rattle.std.specs.Prelude.{ℕ, List, [], ◌∷◌, if◌then◌else◌, ◌==◌, Option, Some, None}
 use Rattle.vte.specs.Maybe.{or_none}
-use Rattle.vte_types.specs.Rows.{Row, beside}
+use Rattle.vte_types.specs.Rows.{Row, entry_of}
 use Rattle.vte_handler.specs.Call.{Call}
 use Rattle.vte_handler.specs.Call as call
 use Rattle.vte_types.specs.declared.charset.CharsetIndex.{CharsetIndex}
@@ -25,7 +25,7 @@ execute_rows =
     []
 
 abbrev pub execute_calls : ℕ → List Call
-execute_calls byte = or_none (beside execute_rows byte)
+execute_calls byte = or_none (entry_of execute_rows byte)
 
 -- Without intermediates.
 abbrev pub escape_rows : List (Row (List Call))
@@ -49,13 +49,13 @@ charset_rows = (0x28, G0) ∷ (0x29, G1) ∷ (0x2a, G2) ∷ (0x2b, G3) ∷ []
 abbrev pub standard_charsets : List (Row StandardCharset)
 standard_charsets = (0x42, Ascii) ∷ (0x30, SpecialCharacterAndLineDrawing) ∷ []
 
-abbrev pub configured : Option CharsetIndex → Option StandardCharset → List Call
-configured (Some index) (Some charset) = call.ConfigureCharset index charset ∷ []
-configured _ _ = []
+abbrev pub charset_calls : Option CharsetIndex → Option StandardCharset → List Call
+charset_calls (Some index) (Some charset) = call.ConfigureCharset index charset ∷ []
+charset_calls _ _ = []
 
 abbrev pub escape_calls : List ℕ → ℕ → List Call
-escape_calls [] byte = or_none (beside escape_rows byte)
+escape_calls [] byte = or_none (entry_of escape_rows byte)
 escape_calls (i ∷ []) byte =
     if i == 0x23 then (if byte == 0x38 then call.Decaln ∷ [] else [])
-    else configured (beside charset_rows i) (beside standard_charsets byte)
+    else charset_calls (entry_of charset_rows i) (entry_of standard_charsets byte)
 escape_calls _ byte = []

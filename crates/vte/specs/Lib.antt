@@ -38,6 +38,7 @@ pub use Rattle.vte_core.specs.EarlyStop
 pub use Rattle.vte_core.specs.Escape
 pub use Rattle.vte_core.specs.Event
 pub use Rattle.vte_core.specs.Examples
+pub use Rattle.vte_core.specs.FirstMatch
 pub use Rattle.vte_core.specs.Head
 pub use Rattle.vte_core.specs.IgnoredString
 pub use Rattle.vte_core.specs.Intermediates
@@ -51,7 +52,6 @@ pub use Rattle.vte_core.specs.Outcome
 pub use Rattle.vte_core.specs.Parameters
 pub use Rattle.vte_core.specs.Parser
 pub use Rattle.vte_core.specs.Perform
-pub use Rattle.vte_core.specs.Pieces
 pub use Rattle.vte_core.specs.Saved
 pub use Rattle.vte_core.specs.Stops
 pub use Rattle.vte_core.specs.Stream

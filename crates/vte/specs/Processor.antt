@@ -109,14 +109,14 @@ extend m s bytes = let all = s.held ++ bytes in record {
 }
 
 -- The held bytes before a place are parsed, and the others stay.
-abbrev pub cut_at : {H W : Type 0} → Meaning H W → Stage H W → ℕ → Stage H W
-cut_at m s place = with_held (parse m s (take place s.held)) (drop place s.held)
+abbrev pub parse_held : {H W : Type 0} → Meaning H W → Stage H W → ℕ → Stage H W
+parse_held m s place = with_held (parse m s (take place s.held)) (drop place s.held)
 
 -- Bytes at the end of the hold are kept, and those before them parsed. If none are kept, the update
 -- is stopped.
 abbrev pub keep : {H W : Type 0} → Meaning H W → Stage H W → List ℕ → Stage H W
 keep m s [] = stop m s
-keep m s (b ∷ kept) = cut_at m s (length s.held - length (b ∷ kept))
+keep m s (b ∷ kept) = parse_held m s (length s.held - length (b ∷ kept))
 
 -- A hold turn. Without an end-update everything stays held; after the last one, what the next
 -- begin-update begins.
@@ -132,14 +132,14 @@ is_held answer s bytes = answer && nat_le (length (s.held ++ bytes)) most_held
 abbrev pub is_stopped : {H W : Type 0} → Bool → Stage H W → Bool
 is_stopped answer s = answer || nat_lt 0 (length s.held)
 
-abbrev pub opened : {H W : Type 0} → Meaning H W → Bool → Stage H W → Stage H W
-opened m answer s = if is_stopped answer s then stop m s else s
+abbrev pub stop_if_due : {H W : Type 0} → Meaning H W → Bool → Stage H W → Stage H W
+stop_if_due m answer s = if is_stopped answer s then stop m s else s
 
 -- A turn, by the timeout's answer.
 abbrev pub turn : {H W : Type 0} → Meaning H W → Bool → Stage H W → List ℕ → Turn H W
 turn m answer s bytes =
     if is_held answer s bytes then record { state = hold_turn m s bytes; rest = [] }
-    else open_turn m (opened m answer s) bytes
+    else open_turn m (stop_if_due m answer s) bytes
 
 -- Turns of a call that led to a state and left these bytes, each with an answer that the timeout's
 -- value allows.

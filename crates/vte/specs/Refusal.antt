@@ -1,8 +1,9 @@
--- What turns, a call and a list of calls have led to if memory is refused. Only for `LongProcessor`.
+-- What turns, a call and a list of calls have led to if memory is refused. Only for
+-- `LongProcessor`.
 use Rattle.std.specs.Prelude.{◌≡◌, ℕ, ◌+◌, ◌-◌, ◌<◌, ◌++◌, Bool, false, List, [], ◌∷◌, length, take, drop}
 use Rattle.vte_core.specs.Stream.{added}
 use Rattle.vte.specs.BeginUpdate.{begin_count}
-use Rattle.vte.specs.Processor.{HoldsWellAt, Meaning, Stage, TakesTurns, all_bytes, is_held, opened, parse}
+use Rattle.vte.specs.Processor.{HoldsWellAt, Meaning, Stage, TakesTurns, all_bytes, is_held, stop_if_due, parse}
 use Rattle.vte.specs.ProcessorCalls.{Replayed}
 use Rattle.vte.specs.declared.ansi.laws.runs.RefusedStep.{RefusedStep}
 use Rattle.vte.specs.declared.ansi.laws.runs.Step.{Step}
@@ -10,7 +11,8 @@ use Rattle.vte.specs.declared.ansi.laws.runs.Step.TheVariants.{Advance, StopSync
 
 -- An open turn that was refused memory: it has parsed a front of its bytes, in which no update
 -- begins, and left some.
-pub record Halts {H W : Type 0} (m : Meaning H W) (s : Stage H W) (bytes : List ℕ) (t : Stage H W)
+pub record OpenTurnHalts {H W : Type 0} (m : Meaning H W) (s : Stage H W) (bytes : List ℕ)
+    (t : Stage H W)
     (left : List ℕ) : Type 0 where
   pub front : List ℕ
   pub bytes_are : front ++ left ≡ bytes
@@ -22,7 +24,7 @@ pub record Halts {H W : Type 0} (m : Meaning H W) (s : Stage H W) (bytes : List 
 abbrev pub TurnHalts : {H W : Type 0} → Meaning H W → Bool → Stage H W → List ℕ → Stage H W
     → List ℕ → Type 0
 TurnHalts m answer s bytes t left =
-    (is_held answer s bytes ≡ false) × Halts m (opened m answer s) bytes t left
+    (is_held answer s bytes ≡ false) × OpenTurnHalts m (stop_if_due m answer s) bytes t left
 
 -- Turns of a call, after which a further one may have been refused memory on the way.
 pub data TakesSome {H W : Type 0} (m : Meaning H W) (s : Stage H W) (bytes : List ℕ) (t : Stage H W)

@@ -2,7 +2,7 @@
 use Rattle.std.specs.Prelude.{ℕ, List, [], ◌∷◌, ◌++◌, map, if◌then◌else◌, ◌==◌, Option, Some, None, suc, zero, option_map, option_to_list}
 use Rattle.vte.specs.ColorReading.{ReadColor, color_reading, without_space}
 use Rattle.vte.specs.Numbers.{first_numbers}
-use Rattle.vte_types.specs.Rows.{Row, beside}
+use Rattle.vte_types.specs.Rows.{Row, entry_of}
 use Rattle.vte_handler.specs.Call.{Call, TerminalAttribute}
 use Rattle.vte_types.specs.declared.color.Attr.{Attr}
 use Rattle.vte_types.specs.declared.color.Attr.TheVariants as attr
@@ -101,14 +101,14 @@ abbrev pub rendition_read : (Color → Attr) → ReadColor → Rendition
 rendition_read with_color reading =
     record { attribute = option_map with_color reading.color; used = reading.used }
 
-abbrev pub alone : Option Attr → Rendition
-alone attribute = record { attribute = attribute; used = 0 }
+abbrev pub attribute_alone : Option Attr → Rendition
+attribute_alone attribute = record { attribute = attribute; used = 0 }
 
 -- A group of one number.
-abbrev pub single : ℕ → Option (Color → Attr) → List (List ℕ) → Rendition
-single number (Some with_color) groups =
+abbrev pub single_rendition : ℕ → Option (Color → Attr) → List (List ℕ) → Rendition
+single_rendition number (Some with_color) groups =
     rendition_read with_color (color_reading (first_numbers groups))
-single number None groups = alone (beside attribute_rows number)
+single_rendition number None groups = attribute_alone (entry_of attribute_rows number)
 
 -- Any other kind is a plain underline.
 abbrev pub or_underline : Option Attr → Attr
@@ -116,20 +116,21 @@ or_underline None = attr.Underline
 or_underline (Some attribute) = attribute
 
 abbrev pub underline_of : List ℕ → Attr
-underline_of (kind ∷ []) = or_underline (beside underline_rows kind)
+underline_of (kind ∷ []) = or_underline (entry_of underline_rows kind)
 underline_of _ = attr.Underline
 
 -- A group of several numbers.
-abbrev pub joined : ℕ → List ℕ → Option (Color → Attr) → Rendition
-joined number numbers (Some with_color) =
+abbrev pub joined_rendition : ℕ → List ℕ → Option (Color → Attr) → Rendition
+joined_rendition number numbers (Some with_color) =
     alone (option_map with_color (color_reading (without_space numbers)).color)
-joined number numbers None = if number == 4 then alone (Some (underline_of numbers)) else alone None
+joined_rendition number numbers None =
+    if number == 4 then attribute_alone (Some (underline_of numbers)) else attribute_alone None
 
 abbrev pub rendition : List ℕ → List (List ℕ) → Rendition
-rendition [] groups = alone None
-rendition (number ∷ []) groups = single number (beside color_rows number) groups
+rendition [] groups = attribute_alone None
+rendition (number ∷ []) groups = single_rendition number (entry_of color_rows number) groups
 rendition (number ∷ more ∷ numbers) groups =
-    joined number (more ∷ numbers) (beside color_rows number)
+    joined_rendition number (more ∷ numbers) (entry_of color_rows number)
 
 -- The attributes of groups, the first of which may already be used.
 abbrev pub attributes_from : ℕ → List (List ℕ) → List Attr

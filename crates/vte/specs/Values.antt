@@ -47,21 +47,21 @@ update_rows =
     ∷ (2, update.PresentationToData) ∷ []
 
 -- DECSCUSR; `None` is the terminal's default style
-abbrev pub steady : CursorShape → Option CursorStyle
-steady shape = Some (record { shape = shape; blinking = false })
+abbrev pub steady_style : CursorShape → Option CursorStyle
+steady_style shape = Some (record { shape = shape; blinking = false })
 
-abbrev pub blinking : CursorShape → Option CursorStyle
-blinking shape = Some (record { shape = shape; blinking = true })
+abbrev pub blinking_style : CursorShape → Option CursorStyle
+blinking_style shape = Some (record { shape = shape; blinking = true })
 
 abbrev pub cursor_rows : List (Row (Option CursorStyle))
 cursor_rows =
     (0, None) ∷
-    (1, blinking Block) ∷
-    (2, steady Block) ∷
-    (3, blinking Underline) ∷
-    (4, steady Underline) ∷
-    (5, blinking Beam) ∷
-    (6, steady Beam) ∷
+    (1, blinking_style Block) ∷
+    (2, steady_style Block) ∷
+    (3, blinking_style Underline) ∷
+    (4, steady_style Underline) ∷
+    (5, blinking_style Beam) ∷
+    (6, steady_style Beam) ∷
     []
 
 -- DECSTBM: without a bottom margin the region extends to the last line

@@ -3,7 +3,7 @@ use Rattle.vte_c.proofs.Common.{AreGroups, AreReadable, Bool, CsiDispatch, DataR
 use Rattle.vte_c.proofs.Common.{Single, Some, TextRun, VteEvent, [], add-zero, ap, append-nil, append_assoc, arith, cases_Bool, chars, chars-encodes, concat, count_byte}
 use Rattle.vte_c.proofs.Common.{count_of, data_of, drop, drop-append_seam, drop-drop, eqb-true, event_in, events_of, false, flag_byte, flat_map, get_or, group_bytes, groups_in}
 use Rattle.vte_c.proofs.Common.{inl, inr, intermediates_in, item_data, item_events, kinds_of, length, length-append, map, map-set_same, min, numbers_in, piece_bytes, pieces_in}
-use Rattle.vte_c.proofs.Common.{placed, records_from, refl, run_events, run_kind, run_record, set, sum_by-cons, sym, take, take-append-drop, take-append_seam, take-map, true}
+use Rattle.vte_c.proofs.Common.{record_at, records_from, refl, run_events, run_kind, run_record, set, sum_by-cons, sym, take, take-append-drop, take-append_seam, take-map, true}
 use Rattle.vte_c.proofs.Common.{two_bytes, with_intermediates, with_loss, without_loss, ℕ, ◌%◌, ◌&&◌, ◌*◌, ◌++◌, ◌+◌, ◌/◌, ◌==◌, ◌∙◌, ◌∷◌, ◌≡◌, ◌≤◌}
 use Rattle.std.specs.Char.{IsScalar, encode_utf8}
 use Rattle.vte_c.proofs.Sizes.{few_groups, length_numbers}
@@ -73,7 +73,7 @@ chars-encode c is = rw append-nil at (chars-encodes (c ∷ []) (ap (λ (b : Bool
 -- an event whose data is at its place in the area
 read_single : (input area back : List ℕ) (place : ℕ) (event : Event) → IsBounded (Some 1024) event
     → drop place area ≡ data_of event ++ back
-    → events_of input area (placed place (Single event)) ≡ event ∷ []
+    → events_of input area (record_at place (Single event)) ≡ event ∷ []
 unfolding events_of event_in
 read_single input area back place (Print c) h e = rw (e, take-append_seam (encode_utf8 c) back, chars-encode c h.0) refl
 read_single input area back place (Hook groups ints ignore final) h e =

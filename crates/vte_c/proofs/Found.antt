@@ -1,5 +1,5 @@
 -- What a caller finds in its buffers.
-use Rattle.vte_c.proofs.Common.{AreEncoded, AreReadable, Event, Events, HasFed, HasGone, HasItems, HasRead, HasReadSaved, HasTold, HaveOtherRecords, InInput, IsRunAt, Item, List}
+use Rattle.vte_c.proofs.Common.{AreEncoded, AreReadable, Event, Events, HasFed, HasReadOn, HasItems, HasRead, HasReadSaved, HasTold, HaveOtherRecords, InInput, IsRunAt, Item, List}
 use Rattle.vte_c.proofs.Common.{Parser, Room, Run, Saved, Single, Starts, VteEvent, [], ap, arith, drop, drop-append-le, events_in, filter-append, flat_map, item_events, length}
 use Rattle.vte_c.proofs.Common.{length-append, length-drop, length-map, length-take, min, refl, room_of, sym, take, take-append-le, without_loss, ℕ, ◌++◌, ◌+◌, ◌<◌, ◌∙◌, ◌∷◌}
 use Rattle.vte_c.proofs.Common.{◌≡◌, ◌≤◌}
@@ -66,7 +66,7 @@ module _ (old new : Events) (input : List ℕ) (items : List Item) (starts : Sta
 pub fed : {old new : Events} {parser : Parser 1024} {saved : Saved} {told : List Event} {stream bytes rest : List ℕ}
     {n : ℕ} → Starts (room_of old)
     → {before : Saved} (h : HasTold (room_of old).kinds before told stream (bytes ++ rest))
-    → HasGone (room_of old) (room_of new) parser h.since bytes 0 n
+    → HasReadOn (room_of old) (room_of new) parser h.since bytes 0 n
     → ((since : List ℕ) → HasRead parser since → HasReadSaved saved since)
     → (HaveOtherRecords (room_of old).stops (room_of new).events → 0 < length bytes → 0 < n)
     → HasFed old new saved told stream bytes rest n
@@ -76,7 +76,7 @@ fed {old} {new} {told = told} {stream = stream} {bytes = bytes} {rest = rest} {n
     record {
       events_name = ap (λ (r : Room). r.events_name) gone.goes.holds.room;
       area_name = ap (λ (r : Room). r.area_name) gone.goes.holds.room;
-      further = λ others. further (rw (kinds_without_loss (take new.count new.events.now)) others);
+      progress = λ others. further (rw (kinds_without_loss (take new.count new.events.now)) others);
       first =
           rw (← kinds_without_loss (take new.count new.events.now), (there []).recorded, ← starts.used)
           gone.goes.holds.first;

@@ -1,5 +1,5 @@
 -- How a call goes on by calls of the parser and by the runs that these return.
-use Rattle.vte_c.proofs.Common.{AreCharacters, Bool, ComesTo, DataRun, Event, Goes, GoesOnFromPlaces, Grows, HasGone, HasItems, HasRead, HaveOtherRecords, InInput, IsRun}
+use Rattle.vte_c.proofs.Common.{AreCharacters, Bool, ComesTo, DataRun, Event, ReadsOn, GoesOnFromPlaces, Grows, HasReadOn, HasItems, HasRead, HaveOtherRecords, InInput, IsRunOfKind}
 use Rattle.vte_c.proofs.Common.{IsRunAt, List, OpensSilently, Parser, Print, Put, Room, Run, Single, Some, Starts, StopsAtNone, TellsUnits, TextRun, [], added, after, ap}
 use Rattle.vte_c.proofs.Common.{append-nil, arith, breaks_at, cases_Bool, cases_lt, chars, data_of, drop, drop-drop, false, false≢true, filter-append, flat_map, flat_map-append}
 use Rattle.vte_c.proofs.Common.{has, if◌then◌else◌, inl, inr, is_full, is_stop, item_events, kind_of, len_utf8_bounds, length, length-append, length-drop, length-encode, map}
@@ -37,7 +37,7 @@ run_stops room DataRun none = none.1
 goes-run : {old new : Room} {since bytes : List ℕ} (run : Run) {from size : ℕ} → Grows (Some 1024) → is_full old ≡ false
     → new ≡ with_wanted old (run_record (run_kind run) from size) → IsRunAt bytes run from size
     → added (Some 1024) since (take size (drop from bytes)) ≡ run_events run (take size (drop from bytes))
-    → Goes old new since (since ++ take size (drop from bytes)) bytes from size
+    → ReadsOn old new since (since ++ take size (drop from bytes)) bytes from size
 goes-run {old} {new} {since = since} {bytes = bytes} run {from = from} {size = size} grows free is stands adds =
     let part : List ℕ = take size (drop from bytes) in
     let goes_on = rw adds at (continues-added grows since (drop from bytes) size) in
@@ -119,7 +119,7 @@ module _ (old new : Room) (since bytes : List ℕ) (from n : ℕ) (laws : Laws) 
       (items-unit_more bytes old)
       i (omega (arith, s.within)) (λ j earlier. s.earlier j (omega arith))
 
-  goes-call : Goes old (resumed new) since (stream_at since (drop from bytes) n) bytes from n
+  goes-call : ReadsOn old (resumed new) since (stream_at since (drop from bytes) n) bytes from n
   goes-call = record {
     told = told_at n;
     items = items_of old (told_at n);
@@ -139,7 +139,7 @@ module _ (old new : Room) (since bytes : List ℕ) (from n : ℕ) (laws : Laws) 
 
 -- ---- one after the other
 
-goes-nothing : {room : Room} {since bytes : List ℕ} {from : ℕ} → Goes room room since since bytes from 0
+goes-nothing : {room : Room} {since bytes : List ℕ} {from : ℕ} → ReadsOn room room since since bytes from 0
 goes-nothing {room} {since} {bytes} {from} = record {
   told = [];
   items = [];
@@ -150,9 +150,9 @@ goes-nothing {room} {since} {bytes} {from} = record {
 }
 
 goes-then : {old mid new : Room} {since next last bytes : List ℕ} {from n m : ℕ}
-    (a : Goes old mid since next bytes from n)
-    → is_full mid ≡ false → from + n + m ≤ length bytes → Goes mid new next last bytes (from + n) m
-    → Goes old new since last bytes from (n + m)
+    (a : ReadsOn old mid since next bytes from n)
+    → is_full mid ≡ false → from + n + m ≤ length bytes → ReadsOn mid new next last bytes (from + n) m
+    → ReadsOn old new since last bytes from (n + m)
 goes-then {old} {mid} {since = since} {bytes = bytes} {from = from} {n = n} {m = m} a free within b =
     let unread : List ℕ = drop from bytes in
     let size = length-drop from bytes in
@@ -185,13 +185,13 @@ goes-then {old} {mid} {since = since} {bytes = bytes} {from = from} {n = n} {m =
     }
 
 pub gone-nothing : {old : Room} {parser : Parser 1024} {since bytes : List ℕ} → HasRead parser since
-    → HasGone old old parser since bytes 0 0
+    → HasReadOn old old parser since bytes 0 0
 gone-nothing {since = since} reads = record { next = since; reads = reads; goes = goes-nothing }
 
 pub gone-then : {old mid new : Room} {parser last : Parser 1024} {since bytes : List ℕ} {n m : ℕ}
-    (a : HasGone old mid parser since bytes 0 n)
-    → is_full mid ≡ false → n + m ≤ length bytes → HasGone mid new last a.next bytes n m
-    → HasGone old new last since bytes 0 (n + m)
+    (a : HasReadOn old mid parser since bytes 0 n)
+    → is_full mid ≡ false → n + m ≤ length bytes → HasReadOn mid new last a.next bytes n m
+    → HasReadOn old new last since bytes 0 (n + m)
 gone-then a free within b =
     record { next = b.next; reads = b.reads; goes = goes-then a.goes free (rw zero-add within) (rw zero-add b.goes) }
 
@@ -212,14 +212,14 @@ module _ (old mid new : Room) (since bytes : List ℕ) (from : ℕ) (run : Retur
   abbrev after_call : List ℕ
   after_call = stream_at since (drop from bytes) run.start
 
-  call : Goes old (resumed mid) since after_call bytes from run.start
+  call : ReadsOn old (resumed mid) since after_call bytes from run.start
   call = goes-call old mid since bytes from run.start laws free (r.comes since before)
 
   -- a run of this kind was recorded
   goes-some : (kind : Run) → 0 < length (run_bytes run)
       → new ≡ with_wanted mid (run_record (run_kind kind) (from + run.start) (length (run_bytes run)))
-      → IsRun kind (run_bytes run) → returned_events run ≡ run_events kind (run_bytes run)
-      → Goes old new since (after_call ++ run_bytes run) bytes from run.end
+      → IsRunOfKind kind (run_bytes run) → returned_events run ≡ run_events kind (run_bytes run)
+      → ReadsOn old new since (after_call ++ run_bytes run) bytes from run.end
   goes-some kind some is plain same =
       let here : take (length (run_bytes run)) (drop (from + run.start) bytes) ≡ run_bytes run =
       ap (take (length (run_bytes run))) (sym (drop-drop run.start from bytes)) ∙ sym r.stands.is in
@@ -234,7 +234,7 @@ module _ (old mid new : Room) (since bytes : List ℕ) (from : ℕ) (run : Retur
 
   goes-taken : (taken : Taken) → run.taken ≡ taken → AreCharacters taken → IsWhole (drop from bytes) run.end taken
       → new ≡ with_taken mid (from + run.start) taken
-      → Goes old new since (after_call ++ run_bytes run) bytes from run.end
+      → ReadsOn old new since (after_call ++ run_bytes run) bytes from run.end
   goes-taken (Text text) is utf8 whole written =
       let bytes_are : run_bytes run ≡ text.now = ap taken_bytes is in
       goes-some TextRun (rw bytes_are whole.0) (rw bytes_are written) (rw bytes_are (utf8, whole.1)) (rw is refl)
@@ -247,7 +247,7 @@ module _ (old mid new : Room) (since bytes : List ℕ) (from : ℕ) (run : Retur
       rw (none, append-nil after_call, end, written) call
 
   pub goes-to-run : AreCharacters run.taken → new ≡ with_run mid from run
-      → Goes old new since (after_call ++ run_bytes run) bytes from run.end
+      → ReadsOn old new since (after_call ++ run_bytes run) bytes from run.end
   goes-to-run utf8 is = goes-taken run.taken refl utf8 r.stands.whole is
 
   -- with room for what two bytes add a call reads one, unless a record was written that stops

@@ -1,10 +1,10 @@
 -- From calls to streams, for events and for text.
 use Rattle.vte_c.proofs.Common.{CsiDispatch, EscDispatch, Event, Execute, HasGiven, HasReadSaved, Hook, List, OscDispatch, Print, Put, Saved, Some, Unhook, [], added, append-nil}
-use Rattle.vte_c.proofs.Common.{append_assoc, arith, drop, events, has, kind_of, nat_tests, no_room, read_count, refl, reported, true, ℕ, ◌++◌, ◌<◌, ◌∷◌, ◌≡◌}
+use Rattle.vte_c.proofs.Common.{append_assoc, arith, drop, events, has, kind_of, nat_tests, no_room, fed_count, refl, reported, true, ℕ, ◌++◌, ◌<◌, ◌∷◌, ◌≡◌}
 use Rattle.vte_c.proofs.Added.{added_nothing}
 
 -- what a call has read that isn't short of room
-pub counted : (n : ℕ) → n < no_room → read_count n ≡ n
+pub counted : (n : ℕ) → n < no_room → fed_count n ≡ n
 counted n small = grind (arith, nat_tests)
 
 -- every event has one of eight kinds

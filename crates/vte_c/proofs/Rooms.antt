@@ -1,9 +1,9 @@
 -- What events leave in a room.
 use Rattle.vte_c.proofs.Common.{AreReadable, Bool, CsiDispatch, DataRun, EscDispatch, Event, Events, Execute, HasItems, HaveOtherRecords, Holds, Hook, InInput, IsBounded}
 use Rattle.vte_c.proofs.Common.{IsBrief, IsRunAt, Item, List, OscDispatch, Print, Put, Room, Run, Single, Some, StopsAtKind, TextRun, Unhook, VteEvent, [], add-zero, after, ap}
-use Rattle.vte_c.proofs.Common.{append-nil, append_assoc, arith, cases_Bool, data_of, false, filter-append, flag_byte, flat_map, flat_map-append, has, has_kind, has_room}
+use Rattle.vte_c.proofs.Common.{append-nil, append_assoc, arith, cases_Bool, data_of, false, filter-append, flag_byte, flat_map, flat_map-append, has, has_kind, has_room_for}
 use Rattle.vte_c.proofs.Common.{if◌then◌else◌, inl, inr, may_have_lost, is_full, item_data, kind_of, kinds_of, length, length-append, length-map, map, map-append, most_added}
-use Rattle.vte_c.proofs.Common.{nat_lt, nat_tests, or_parts, placed, records_from, refl, reported, resumed, room_of, run_kind, run_record, subst, sym, take, true, with_event}
+use Rattle.vte_c.proofs.Common.{nat_lt, nat_tests, or_parts, record_at, records_from, refl, reported, resumed, room_of, run_kind, run_record, subst, sym, take, true, with_event}
 use Rattle.vte_c.proofs.Common.{with_items, with_one, with_record, without_loss, ℕ, ◌%◌, ◌++◌, ◌+◌, ◌∙◌, ◌∷◌, ◌≡◌, ◌≤◌}
 use Rattle.std.proofs.Math.Bool.{or-false, or_assoc}
 use Rattle.std.proofs.lemmas.List.Folds.{list_any-append}
@@ -114,7 +114,8 @@ bell_plain : (bell : Bool) → flag_byte bell % 2 ≡ flag_byte bell
 bell_plain true = refl
 bell_plain false = refl
 
-single_plain : (place : ℕ) (event : Event) → without_loss (placed place (Single event)) ≡ placed place (Single event)
+single_plain : (place : ℕ) (event : Event)
+    → without_loss (record_at place (Single event)) ≡ record_at place (Single event)
 unfolding without_loss
 single_plain place (OscDispatch pieces bell) = rw (bell_plain bell) refl
 single_plain place (Print c) = refl
@@ -165,7 +166,7 @@ with_event_resumed : (room : Room) (event : Event)
 unfolding with_one with_record
 with_event_resumed room event =
     either (has room.kinds (kind_of event)) _ _ _ _
-    (either (has_room room (length (data_of event))) _ _ _ _
+    (either (has_room_for room (length (data_of event))) _ _ _ _
     (either (nat_lt room.count room.most) _ _ _ _ refl refl) refl) refl
 
 pub paused_after : (room : Room) (event : Event) → may_have_lost event ≡ false
@@ -174,7 +175,7 @@ unfolding with_one with_record
 paused_after room event kept =
     either_paused (has room.kinds (kind_of event)) room.paused _ _
     (rw kept
-    (either_paused (has_room room (length (data_of event))) room.paused _ _
+    (either_paused (has_room_for room (length (data_of event))) room.paused _ _
     (either_paused (nat_lt room.count room.most) room.paused _ _ refl refl) refl)) refl
 
 -- ---- events of the parser
@@ -193,7 +194,7 @@ pub event_written : (room : Room) (event : Event) → room.paused ≡ false
     → has room.kinds (kind_of event) ≡ true → resumed (with_event room event) ≡ with_items room (Single event ∷ [])
 unfolding with_one with_record
 event_written room event going room_for wanted =
-    let has_both : has_room room (length (data_of event)) ≡ true = grind (arith, nat_tests) in
+    let has_both : has_room_for room (length (data_of event)) ≡ true = grind (arith, nat_tests) in
     let some : nat_lt room.count room.most ≡ true = grind (arith, nat_tests) in
     rw (wanted, has_both, some, single_plain room.used event, going) (simp (append-nil, or-false))
 

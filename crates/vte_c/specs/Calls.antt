@@ -5,7 +5,7 @@ use Rattle.vte_core.specs.Saved.{HasReadSaved}
 use Rattle.vte_core.specs.Stream.{added}
 use Rattle.vte_core.specs.declared.parser.saved.Saved.{Saved}
 use Rattle.vte_c.specs.Record.{events_in, kinds_in}
-use Rattle.vte_c.specs.Told.{AreEncoded, AreOthers, HasStripped, HasTold, HaveOtherKinds, StopsAtKind, is_stop, no_room, read_count}
+use Rattle.vte_c.specs.Told.{AreEncoded, AreOthers, HasStripped, HasTold, HaveOtherKinds, StopsAtKind, is_stop, no_room, fed_count}
 use Rattle.vte_c.specs.declared.event.VteEvent.{VteEvent}
 use Rattle.vte_c.specs.declared.feed.VteCounts.{VteCounts}
 
@@ -21,13 +21,13 @@ pub record Feeds (kinds stops : ℕ) (parser next : Saved) (bytes : List ℕ)
     (old_events events : List VteEvent) (old_area area : List ℕ)
     (counts : VteCounts) (result : ℕ) : Type 0 where
   -- With enough room, the result is how many bytes were read.
-  pub enough : 4 ≤ length old_events → 2112 ≤ length old_area → result ≡ read_count result
-  pub within : read_count result ≤ length bytes
+  pub enough : 4 ≤ length old_events → 2112 ≤ length old_area → result ≡ fed_count result
+  pub within : fed_count result ≤ length bytes
   -- Whatever was told of these kinds before, what is written now comes next, and nothing else.
   pub exact : (told : List Event) (stream rest : List ℕ) →
       HasTold kinds parser told stream (bytes ++ rest) →
       HasTold kinds next (told ++ events_in counts.events events bytes area) stream
-      (drop (read_count result) bytes ++ rest)
+      (drop (fed_count result) bytes ++ rest)
   -- The records and the data are the encoding of these events, and the counts are theirs.
   pub encoded : (told : List Event) (stream rest : List ℕ) →
       HasTold kinds parser told stream (bytes ++ rest) →
@@ -39,7 +39,7 @@ pub record Feeds (kinds stops : ℕ) (parser next : Saved) (bytes : List ℕ)
   pub few : length old_events < 4 → FeedsNothing parser next counts result
   pub little : length old_area < 2112 → FeedsNothing parser next counts result
   -- With enough room, it reads at least one byte, unless it writes a record among the stops.
-  pub further : (told : List Event) (stream rest : List ℕ) →
+  pub progress : (told : List Event) (stream rest : List ℕ) →
       HasTold kinds parser told stream (bytes ++ rest) →
       4 ≤ length old_events → 2112 ≤ length old_area →
       HaveOtherKinds stops (kinds_in counts.events events) → 0 < length bytes → 0 < result
@@ -50,20 +50,20 @@ pub record Feeds (kinds stops : ℕ) (parser next : Saved) (bytes : List ℕ)
   -- .. and unless text or data stop, it came with the last byte that was read: no shorter front of
   -- the bytes adds one.
   pub until : (stream : List ℕ) → HasReadSaved parser stream → is_stop kinds stops 0 ≡ false →
-      is_stop kinds stops 3 ≡ false → (i : ℕ) → i < read_count result →
+      is_stop kinds stops 3 ≡ false → (i : ℕ) → i < fed_count result →
       AreOthers (is_stop kinds stops) (added (Some 1024) stream (take i bytes))
 
 -- `vte_strip`
 pub record Strips (parser next : Saved) (bytes old_text text : List ℕ)
     (written result : ℕ) : Type 0 where
   -- With enough room, the result is how many bytes were read.
-  pub enough : 16 ≤ length old_text → result ≡ read_count result
-  pub within : read_count result ≤ length bytes
+  pub enough : 16 ≤ length old_text → result ≡ fed_count result
+  pub within : fed_count result ≤ length bytes
   -- With enough room, it reads at least one byte, whatever the parser's bytes are.
-  pub further : 16 ≤ length old_text → 0 < length bytes → 0 < result
+  pub progress : 16 ≤ length old_text → 0 < length bytes → 0 < result
   -- Whatever text was written before, the text written now comes next, and nothing else.
   pub exact : (given stream rest : List ℕ) → HasStripped parser given stream (bytes ++ rest) →
-      HasStripped next (given ++ take written text) stream (drop (read_count result) bytes ++ rest)
+      HasStripped next (given ++ take written text) stream (drop (fed_count result) bytes ++ rest)
   -- Whatever the parser's bytes are, what was written is in the buffer.
   pub room : written ≤ length text
   -- With less than the least room the result says so, and nothing is read or written.

@@ -58,14 +58,14 @@ with_one room event =
     else room
 
 -- There is room for an event with this many data bytes.
-abbrev pub has_room : Room → ℕ → Bool
-has_room room more = nat_lt room.count room.most && nat_le (room.used + more) room.size
+abbrev pub has_room_for : Room → ℕ → Bool
+has_room_for room more = nat_lt room.count room.most && nat_le (room.used + more) room.size
 
 -- A record is written with its data, which follows that of the others, if there is room for both.
 unfoldable pub with_record : Room → VteEvent → List ℕ → Room
 with_record room event bytes =
     let written = record room { area = room.area ++ bytes; used = room.used + length bytes } in
-    if has_room room (length bytes)
+    if has_room_for room (length bytes)
     then with_one written (record event { start = room.used })
     else room
 

@@ -65,7 +65,7 @@ pub record HasItems (old new : Room) (input : List ℕ) (items : List Item) : Ty
 
 -- After bytes up to a place n more were read: their events of the kinds are those of items, which
 -- were written, and the parser goes on as if it had read `next`.
-pub record Goes (old new : Room) (since next bytes : List ℕ) (from n : ℕ) : Type 0 where
+pub record ReadsOn (old new : Room) (since next bytes : List ℕ) (from n : ℕ) : Type 0 where
   pub told : List Event
   pub items : List Item
   pub continues : Continues since next (drop from bytes) n told
@@ -75,8 +75,8 @@ pub record Goes (old new : Room) (since next bytes : List ℕ) (from n : ℕ) : 
       AreOthersIn old (added (Some 1024) since (take i (drop from bytes)))
 
 -- A call that had read bytes up to a place has read n more.
-pub record HasGone (old new : Room) (parser : Parser 1024) (since bytes : List ℕ)
+pub record HasReadOn (old new : Room) (parser : Parser 1024) (since bytes : List ℕ)
     (from n : ℕ) : Type 0 where
   pub next : List ℕ
   pub reads : HasRead parser next
-  pub goes : Goes old new since next bytes from n
+  pub goes : ReadsOn old new since next bytes from n

@@ -159,15 +159,15 @@ item_data (Single event) = data_of event
 item_data (InInput run start size) = []
 
 -- The record of an item whose data starts at a place.
-abbrev pub placed : ℕ → Item → VteEvent
-placed place (Single event) = record (record_of event) { start = place }
-placed place (InInput run start size) = run_record (run_kind run) start size
+abbrev pub record_at : ℕ → Item → VteEvent
+record_at place (Single event) = record (record_of event) { start = place }
+record_at place (InInput run start size) = run_record (run_kind run) start size
 
 -- The records of items, each of whose data starts where that of the one before it ends.
 abbrev pub records_from : ℕ → List Item → List VteEvent
 records_from place [] = []
 records_from place (item ∷ items) =
-    placed place item ∷ records_from (place + length (item_data item)) items
+    record_at place item ∷ records_from (place + length (item_data item)) items
 
 -- The events of an item.
 abbrev pub item_events : List ℕ → Item → List Event

@@ -39,8 +39,8 @@ abbrev pub no_room : ℕ
 no_room = 2 ^ 64 - 1
 
 -- How many bytes a call with this result has read.
-abbrev pub read_count : ℕ → ℕ
-read_count result = if result == no_room then 0 else result
+abbrev pub fed_count : ℕ → ℕ
+fed_count result = if result == no_room then 0 else result
 
 -- Events of a kind stop a call if they are reported and among the stops.
 abbrev pub is_stop : ℕ → ℕ → ℕ → Bool
@@ -66,15 +66,15 @@ pub record StopsAtKind (stops : ℕ) (kinds : List ℕ) : Type 0 where
 
 -- A text is well-formed characters, none of them a control. Data may be any bytes: its events are
 -- these.
-abbrev pub IsRun : Run → List ℕ → Type 0
-IsRun TextRun bytes = IsUtf8 bytes × HasNoControls bytes
-IsRun DataRun bytes = Unit {0}
+abbrev pub IsRunOfKind : Run → List ℕ → Type 0
+IsRunOfKind TextRun bytes = IsUtf8 bytes × HasNoControls bytes
+IsRunOfKind DataRun bytes = Unit {0}
 
 -- A part of the input that is a run, of one byte or more.
 pub record IsRunAt (input : List ℕ) (run : Run) (start size : ℕ) : Type 0 where
   pub within : start + size ≤ length input
   pub some : 0 < size
-  pub is : IsRun run (take size (drop start input))
+  pub is : IsRunOfKind run (take size (drop start input))
 
 -- The items can be read: an event is within the limits, and what is in the input is a run.
 abbrev pub AreReadable : List ℕ → List Item → Type 0
@@ -102,7 +102,7 @@ pub record HasFed (old new : Events) (parser : Saved) (told : List Event)
     (stream bytes rest : List ℕ) (n : ℕ) : Type 0 where
   pub events_name : new.events.ghost_name ≡ old.events.ghost_name
   pub area_name : new.area.ghost_name ≡ old.area.ghost_name
-  pub further : HaveOtherKinds (room_of old).stops (kinds_in new.count new.events.now) →
+  pub progress : HaveOtherKinds (room_of old).stops (kinds_in new.count new.events.now) →
       0 < length bytes → 0 < n
   pub first : StopsAtKind (room_of old).stops (kinds_in new.count new.events.now)
   pub encodes : (more : List ℕ) →

@@ -6,7 +6,7 @@ ghost use Rattle.vte_core.specs.Saved.{HasReadSaved};
 ghost use Rattle.vte_core.specs.Stream.{added};
 ghost use Rattle.vte_c.specs.Calls.{Feeds};
 ghost use Rattle.vte_c.specs.Events.{Starts, is_full, room_of};
-ghost use Rattle.vte_c.specs.Feeding.{AreOthersIn, HasGone, HaveOtherRecords, StopsAtNone};
+ghost use Rattle.vte_c.specs.Feeding.{AreOthersIn, HasReadOn, HaveOtherRecords, StopsAtNone};
 ghost use Rattle.vte_c.specs.Told.{HasFed, HasTold};
 
 use crate::event::VteEvent;
@@ -86,8 +86,8 @@ fn read_all(parser: &mut Parser<1024>, bytes: &[u8], room: &mut Events<'_>) -> u
     requires small { length bytes.now < 2 ^ 32 }
     ensures within { result ≤ length bytes.now }
     ensures goes { (since : List ℕ) → HasRead parser.old since →
-        HasGone (room_of room.old) (room_of room.new) parser.new since bytes.now 0 result }
-    ensures further { (since : List ℕ) → HasRead parser.old since →
+        HasReadOn (room_of room.old) (room_of room.new) parser.new since bytes.now 0 result }
+    ensures progress { (since : List ℕ) → HasRead parser.old since →
         HaveOtherRecords (room_of room.old).stops (room_of room.new).events →
         0 < length bytes.now → 0 < result }
 {
@@ -109,8 +109,8 @@ fn read_more(parser: &mut Parser<1024>, bytes: &[u8], from: usize, room: &mut Ev
     requires roomy { is_full (room_of room.old) ≡ false }
     ensures within { from + result ≤ length bytes.now }
     ensures goes { (since : List ℕ) → HasRead parser.old since →
-        HasGone (room_of room.old) (room_of room.new) parser.new since bytes.now from result }
-    ensures further { (since : List ℕ) → HasRead parser.old since → Starts (room_of room.old) →
+        HasReadOn (room_of room.old) (room_of room.new) parser.new since bytes.now from result }
+    ensures progress { (since : List ℕ) → HasRead parser.old since → Starts (room_of room.old) →
         HaveOtherRecords (room_of room.old).stops (room_of room.new).events → 0 < result }
 {
     laws::early_stops();

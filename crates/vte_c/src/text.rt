@@ -148,7 +148,7 @@ pub(crate) fn strip(parser: &mut Saved, bytes: &[u8], room: &mut [u8], written: 
 fn read_into(saved: &mut Saved, bytes: &[u8], room: &mut Text<'_>) -> usize
     requires starts { StartsText (text_room_of room.old) }
     ensures within { result ≤ length bytes.now }
-    ensures further { 0 < length bytes.now → 0 < result }
+    ensures progress { 0 < length bytes.now → 0 < result }
     ensures strips { (text stream rest : List ℕ) →
         HasStripped saved.old text stream (bytes.now ++ rest) →
         StripsMore room.old room.new saved.new text stream bytes.now rest result }

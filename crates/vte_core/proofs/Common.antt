@@ -20,7 +20,7 @@ pub use Rattle.std.specs.Str.{IsAscii, IsUtf8, chars}
 pub use Rattle.vte_core.specs.Body.{body_rest, shape_outcome}
 unfoldable pub use Rattle.vte_core.specs.Body.{body_outcome}
 pub use Rattle.vte_core.specs.Brief.{FitsStore, IsBounded, IsBrief, IsExecuted, IsPrintable, IsShort}
-pub use Rattle.vte_core.specs.Class.{AreOf, Cancel, Class, Colon, Control, Delete, Digit, Final, High, Intermediate, Marker, Semicolon, dispatches_escape, ends_all, ends_head, is_cancel, IsPut, is_control, is_data, is_final, is_head, is_intermediate, is_key, is_marker, is_parameter_text}
+pub use Rattle.vte_core.specs.Class.{AreInClass, Cancel, Class, Colon, Control, Delete, Digit, Final, High, Intermediate, Marker, Semicolon, dispatches_escape, ends_all, ends_head, is_cancel, IsPut, is_control, is_data, is_final, is_head, is_intermediate, is_key, is_marker, is_parameter_text}
 unfoldable pub use Rattle.vte_core.specs.Class.{class_of}
 unfoldable pub use Rattle.vte_core.specs.ControlSequence.{control_sequence_end, control_sequence_outcome}
 pub use Rattle.vte_core.specs.DeviceControl.{ends_data}
@@ -29,8 +29,8 @@ pub use Rattle.vte_core.specs.EarlyStop.{ComesTo, IsStart, NoCharacterStops, Sto
 unfoldable pub use Rattle.vte_core.specs.EarlyStop.{breaks_at, stream_at, told}
 unfoldable pub use Rattle.vte_core.specs.Escape.{escape_outcome}
 pub use Rattle.vte_core.specs.Event.{CsiDispatch, EscDispatch, Event, Execute, Hook, OscDispatch, Print, Put, Unhook, replacement}
-pub use Rattle.vte_core.specs.Head.{Head, head_after, collected}
-unfoldable pub use Rattle.vte_core.specs.Head.{dispatched, head_of, is_well_shaped}
+pub use Rattle.vte_core.specs.Head.{Head, head_after, reported_intermediates}
+unfoldable pub use Rattle.vte_core.specs.Head.{sequence_event, head_of, is_well_shaped}
 pub use Rattle.vte_core.specs.Intermediates.{are_too_many, first_two}
 pub use Rattle.vte_core.specs.Key.{Dispatch, Key}
 unfoldable pub use Rattle.vte_core.specs.Key.{key_of}
@@ -38,19 +38,19 @@ pub use Rattle.vte_core.specs.Laws.{AreParameters, CountsData, DispatchesShown}
 pub use Rattle.vte_core.specs.LongParser.{MeetsData, data_left, open_size, read_count}
 pub use Rattle.vte_core.specs.Looks.{looked}
 pub use Rattle.vte_core.specs.Others.{AddsOthers, IsOther, IsWide, TellsOthers}
-pub use Rattle.vte_core.specs.Outcome.{IsLoss, NothingOpen, Open, OpenCharacter, OpenCommand, Outcome, closed, closing, leaves, tell, unfinished}
+pub use Rattle.vte_core.specs.Outcome.{IsLoss, NothingOpen, Open, OpenCharacter, OpenCommand, Outcome, closed_events, closing_events, leaves, tell, unfinished}
 pub use Rattle.vte_core.specs.Parameters.{AreGroups, Number, colon, count_of, greatest_number, grouped, is_colon, is_separator, most_numbers, number_of, numbers_of, semicolon, with_number}
 unfoldable pub use Rattle.vte_core.specs.Parameters.{groups_of, has_too_many_numbers, numbers, shown}
 pub use Rattle.vte_core.specs.Perform.{after}
-pub use Rattle.vte_core.specs.Pieces.{from_first}
+pub use Rattle.vte_core.specs.FirstMatch.{from_first}
 pub use Rattle.vte_core.specs.Stream.{added, cut_at_escape, escape, with_bodies}
 unfoldable pub use Rattle.vte_core.specs.Stream.{events, open_end, outcome}
 pub use Rattle.vte_core.specs.SystemCommand.{IsCommandData, bell, ends_command, has_room, is_data_byte, kept_after, most_pieces, system_command_rest}
 unfoldable pub use Rattle.vte_core.specs.SystemCommand.{drops_data, kept_items, pieces_of, system_command_outcome}
-pub use Rattle.vte_core.specs.Text.{is_control_character, is_layout, is_left_out, pieces_outcome, run_event}
-unfoldable pub use Rattle.vte_core.specs.Text.{character_event, executed, malformed_event, segment_event, text_outcome}
-pub use Rattle.vte_core.specs.Utf8.{Range, allowed, is_in, scalar_of, segments, segments_after, to, wanted, rows_after, wants_none}
-unfoldable pub use Rattle.vte_core.specs.Utf8.{further, is_truncated, is_well_formed, utf8_rows}
+pub use Rattle.vte_core.specs.Text.{is_control_character, is_layout, is_left_out, segments_outcome, run_event}
+unfoldable pub use Rattle.vte_core.specs.Text.{character_event, executed_events, malformed_event, segment_event, text_outcome}
+pub use Rattle.vte_core.specs.Utf8.{Range, allowed_length, is_in, scalar_of, segments, segments_after, from_to, rows_after_bytes, rows_after_byte, is_complete}
+unfoldable pub use Rattle.vte_core.specs.Utf8.{trailing_count, is_truncated, is_well_formed, utf8_rows}
 pub use Rattle.vte_core.specs.declared.head.Collected.{Collected}
 pub use Rattle.vte_core.specs.declared.head.HeadPart.{HeadPart}
 pub use Rattle.vte_core.specs.declared.head.HeadPart.TheVariants.{Entry, Malformed, Intermediates, Parameters}
@@ -63,15 +63,15 @@ pub use Rattle.vte_core.specs.declared.utf8.Unfinished.TheVariants.{Nothing, One
 pub use Rattle.vte_core.specs.machine.Data.{AreIgnored, ArePut, IsIgnored}
 pub use Rattle.vte_core.specs.machine.Leads.{Leads, Reads}
 pub use Rattle.vte_core.specs.machine.Moves.{Spends}
-pub use Rattle.vte_core.specs.machine.Parser.{Counts, Holds, HoldsHead, HasReadUnder, IsMarker, KeepsIntermediates, KeepsNumbers, numbers_from, Settles, Stands, StandsBy, StandsInHead, StaysMalformed}
-pub use Rattle.vte_core.specs.machine.Place.{AtEscape, InControlSequence, InData, InDeviceControl, InEscape, InIgnoredString, InSystemCommand, InText, IsAfter, IsBetween, Place, closing_at, left_at, rest_outcome}
+pub use Rattle.vte_core.specs.machine.Parser.{CountsNumbers, HoldsIntermediates, HoldsHead, HasReadUnder, IsMarker, KeepsIntermediates, KeepsNumbers, numbers_from, HoldsNumbers, Stands, StandsBy, StandsInHead, StaysMalformed}
+pub use Rattle.vte_core.specs.machine.Place.{AtEscape, InControlSequence, InData, InDeviceControl, InEscape, InIgnoredString, InSystemCommand, InText, IsAfter, IsBetween, Place, closing_events_at, left_at, rest_outcome}
 unfoldable pub use Rattle.vte_core.specs.machine.Place.{outcome_from}
 pub use Rattle.vte_core.specs.machine.Progress.{Advances, CameTo, CameInside, IsRefusedAt, IsSettled, MayGoOn, ReadsUpTo, RefusesAt, StandsAt, StandsInside}
 pub use Rattle.vte_core.specs.machine.Reading.{ReadsHead}
 pub use Rattle.vte_core.specs.machine.TextRun.{ArePrinted, AreRun, EndsRun, IsPrinted, IsRun, PrintsRun}
 pub use Rattle.vte_core.specs.machine.Scans.{IsRange, Scans}
-pub use Rattle.vte_core.specs.machine.Store.{Stored, Keeps, PiecesEnd, SameItems, cut_at, cut_pieces, ends_after, fitting, pieces_from}
-pub use Rattle.vte_core.specs.machine.Takes.{Performs, Takes}
+pub use Rattle.vte_core.specs.machine.Store.{Stored, Keeps, PiecesEnd, SameItems, cut_data, cut_pieces, ends_after, fitting, pieces_from}
+pub use Rattle.vte_core.specs.machine.Takes.{TakesBytes, TakesByte}
 pub use Rattle.vte_core.specs.machine.Unfinished.{Carries, bytes_of, is_open}
 unfoldable pub use Rattle.vte_core.specs.machine.Unfinished.{second_range}
 

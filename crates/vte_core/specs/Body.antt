@@ -10,9 +10,9 @@ use Rattle.vte_core.specs.Event.{Execute}
 use Rattle.vte_core.specs.IgnoredString.{ignored_string_outcome}
 use Rattle.vte_core.specs.Key.{key_of}
 use Rattle.vte_core.specs.Outcome.{Outcome, NothingOpen, leaves, tell}
-use Rattle.vte_core.specs.Pieces.{before, from_first}
+use Rattle.vte_core.specs.FirstMatch.{before_first, from_first}
 use Rattle.vte_core.specs.SystemCommand.{system_command_outcome}
-use Rattle.vte_core.specs.Text.{text_outcome, executed}
+use Rattle.vte_core.specs.Text.{text_outcome, executed_events}
 
 -- The bytes after the key, read as the kind of sequence that the key selects.
 abbrev pub shape_outcome : Option ℕ → Key → ℕ → List ℕ → Outcome
@@ -34,5 +34,5 @@ body_rest limit (key ∷ bytes) =
 -- else is dropped.
 unfoldable pub body_outcome : Option ℕ → List ℕ → Outcome
 body_outcome limit bytes =
-    tell (executed (before (λ b. is_key (class_of b)) bytes))
+    tell (executed_events (before_first (λ b. is_key (class_of b)) bytes))
     (body_rest limit (from_first (λ b. is_key (class_of b)) bytes))

@@ -122,6 +122,6 @@ abbrev pub IsPut : ℕ → Type 0
 IsPut b = is_data (class_of b) ≡ true
 
 -- Each byte is in the class.
-abbrev pub AreOf : (Class → Bool) → List ℕ → Type 0
-AreOf has [] = Unit {0}
-AreOf has (b ∷ bytes) = (has (class_of b) ≡ true) × AreOf has bytes
+abbrev pub AreInClass : (Class → Bool) → List ℕ → Type 0
+AreInClass has [] = Unit {0}
+AreInClass has (b ∷ bytes) = (has (class_of b) ≡ true) × AreInClass has bytes

@@ -2,17 +2,17 @@
 use Rattle.std.specs.Prelude.{ℕ, List, [], ◌∷◌, if◌then◌else◌}
 use Rattle.vte_core.specs.Class.{class_of, is_cancel, ends_head}
 use Rattle.vte_core.specs.Event.{Event, Execute, CsiDispatch}
-use Rattle.vte_core.specs.Head.{head_of, head_bytes, is_well_shaped, dispatched}
+use Rattle.vte_core.specs.Head.{head_of, head_bytes, is_well_shaped, sequence_event}
 use Rattle.vte_core.specs.Outcome.{Outcome, NothingOpen, leaves, tell}
-use Rattle.vte_core.specs.Pieces.{before, from_first}
-use Rattle.vte_core.specs.Text.{text_outcome, executed}
+use Rattle.vte_core.specs.FirstMatch.{before_first, from_first}
+use Rattle.vte_core.specs.Text.{text_outcome, executed_events}
 
 -- CAN and SUB are executed. A final byte dispatches a well-shaped head, and gives nothing after any
 -- other.
 unfoldable pub control_sequence_end : List ℕ → ℕ → List Event
 control_sequence_end head end =
     if is_cancel (class_of end) then Execute end ∷ []
-    else if is_well_shaped (head_of head) then dispatched CsiDispatch (head_of head) end ∷ []
+    else if is_well_shaped (head_of head) then sequence_event CsiDispatch (head_of head) end ∷ []
     else []
 
 -- The end, and the text that follows it. Without an end nothing is left open.
@@ -24,6 +24,6 @@ control_sequence_rest head (end ∷ text) = tell (control_sequence_end head end)
 -- the rest is dropped.
 unfoldable pub control_sequence_outcome : List ℕ → Outcome
 control_sequence_outcome bytes =
-    let inside = before (λ b. ends_head (class_of b)) bytes in
-    tell (executed inside)
+    let inside = before_first (λ b. ends_head (class_of b)) bytes in
+    tell (executed_events inside)
     (control_sequence_rest (head_bytes inside) (from_first (λ b. ends_head (class_of b)) bytes))

@@ -3,10 +3,10 @@ use Rattle.std.specs.Prelude.{ℕ, Bool, ◌||◌, List, [], ◌∷◌, map, if�
 use Rattle.std.specs.List.{filter}
 use Rattle.vte_core.specs.Class.{class_of, is_cancel, is_data, ends_head}
 use Rattle.vte_core.specs.Event.{Event, Execute, Hook, Put, Unhook}
-use Rattle.vte_core.specs.Head.{head_of, head_bytes, is_well_shaped, dispatched}
+use Rattle.vte_core.specs.Head.{head_of, head_bytes, is_well_shaped, sequence_event}
 use Rattle.vte_core.specs.IgnoredString.{ignored_string_outcome}
 use Rattle.vte_core.specs.Outcome.{Outcome, NothingOpen, OpenData, leaves, tell}
-use Rattle.vte_core.specs.Pieces.{before, from_first}
+use Rattle.vte_core.specs.FirstMatch.{before_first, from_first}
 use Rattle.vte_core.specs.Text.{text_outcome}
 
 -- ST as a single byte. It is the only 8-bit control that is recognised outside text, and only in
@@ -30,7 +30,7 @@ data_rest (end ∷ text) = tell (data_end end) (text_outcome text)
 -- is dropped.
 unfoldable pub data_outcome : List ℕ → Outcome
 data_outcome bytes =
-    tell (map Put (filter (λ b. is_data (class_of b)) (before ends_data bytes)))
+    tell (map Put (filter (λ b. is_data (class_of b)) (before_first ends_data bytes)))
     (data_rest (from_first ends_data bytes))
 
 -- CAN and SUB are executed. A final byte hooks if the head is well shaped; otherwise the string is
@@ -39,7 +39,7 @@ unfoldable pub device_control_end : List ℕ → ℕ → List ℕ → Outcome
 device_control_end head end bytes =
     if is_cancel (class_of end) then tell (Execute end ∷ []) (text_outcome bytes)
     else if is_well_shaped (head_of head)
-    then tell (dispatched Hook (head_of head) end ∷ []) (data_outcome bytes)
+    then tell (sequence_event Hook (head_of head) end ∷ []) (data_outcome bytes)
     else ignored_string_outcome bytes
 
 -- The end of the head, and the bytes that follow it. Without an end nothing is left open.
@@ -50,5 +50,5 @@ device_control_rest head (end ∷ bytes) = device_control_end head end bytes
 -- The head ends as that of a control sequence does, but C0 in it is dropped.
 unfoldable pub device_control_outcome : List ℕ → Outcome
 device_control_outcome bytes =
-    device_control_rest (head_bytes (before (λ b. ends_head (class_of b)) bytes))
+    device_control_rest (head_bytes (before_first (λ b. ends_head (class_of b)) bytes))
     (from_first (λ b. ends_head (class_of b)) bytes)

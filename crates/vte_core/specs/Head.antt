@@ -6,7 +6,7 @@ use Rattle.vte_core.specs.Class.{class_of, is_head, is_intermediate, is_marker, 
 use Rattle.vte_core.specs.Intermediates.{first_two, are_too_many}
 use Rattle.vte_core.specs.Event.{Event}
 use Rattle.vte_core.specs.Parameters.{groups_of, has_too_many_numbers}
-use Rattle.vte_core.specs.Pieces.{before, from_first}
+use Rattle.vte_core.specs.FirstMatch.{before_first, from_first}
 
 -- A head: an optional private marker, then parameter bytes, then the rest, which should be
 -- intermediates.
@@ -19,7 +19,7 @@ pub record Head : Type 0 where
 abbrev pub head_after : List ℕ → List ℕ → Head
 head_after marker bytes = record {
   marker = marker;
-  parameters = before (λ b. not (is_parameter_text (class_of b))) bytes;
+  parameters = before_first (λ b. not (is_parameter_text (class_of b))) bytes;
   intermediates = from_first (λ b. not (is_parameter_text (class_of b))) bytes;
 }
 
@@ -33,14 +33,15 @@ unfoldable pub is_well_shaped : Head → Bool
 is_well_shaped head = list_all (λ b. is_intermediate (class_of b)) head.intermediates
 
 -- A dispatch reports the marker as the first intermediate.
-abbrev pub collected : Head → List ℕ
-collected head = head.marker ++ head.intermediates
+abbrev pub reported_intermediates : Head → List ℕ
+reported_intermediates head = head.marker ++ head.intermediates
 
 -- The event of a well-shaped head: groups, intermediates, whether there were too many of either,
 -- final byte.
-unfoldable pub dispatched : (List (List ℕ) → List ℕ → Bool → ℕ → Event) → Head → ℕ → Event
-dispatched call head final = call (groups_of head.parameters) (first_two (collected head))
-    (are_too_many (collected head) || has_too_many_numbers head.parameters) final
+unfoldable pub sequence_event : (List (List ℕ) → List ℕ → Bool → ℕ → Event) → Head → ℕ → Event
+sequence_event event head final =
+    event (groups_of head.parameters) (first_two (reported_intermediates head))
+    (are_too_many (reported_intermediates head) || has_too_many_numbers head.parameters) final
 
 -- The bytes 20..3F.
 abbrev pub head_bytes : List ℕ → List ℕ

@@ -59,7 +59,7 @@ pub record IsDecoded (c : ℕ) : Type 0 where
   pub same : scalar_of (encode_utf8 c) ≡ c
 
 abbrev pub AreWellFormed : List (List ℕ) → Type 0
-AreWellFormed pieces = All (λ piece. is_well_formed piece ≡ true) pieces
+AreWellFormed sequences = All (λ bytes. is_well_formed bytes ≡ true) sequences
 
 -- A text of the standard library without ESC gives one event per character.
 abbrev pub GivesCharacters : Option ℕ → List ℕ → Type 0

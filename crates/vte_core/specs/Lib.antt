@@ -11,6 +11,7 @@ pub mod EarlyStop
 pub mod Escape
 pub mod Event
 pub mod Examples
+pub mod FirstMatch
 pub mod Head
 pub mod IgnoredString
 pub mod Intermediates
@@ -25,7 +26,6 @@ pub mod Outcome
 pub mod Parameters
 pub mod Parser
 pub mod Perform
-pub mod Pieces
 pub mod Saved
 pub mod Stops
 pub mod Stream

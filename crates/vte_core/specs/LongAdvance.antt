@@ -21,7 +21,7 @@ pub record GoesOnLong {A Answer : Type 0} (rate : ℕ) (bytes : List ℕ)
   -- Of a command that is open then it stores the pieces alone.
   pub stores : (stream : List ℕ) → HasReadLong parser stream → StoresPieces next (later stream)
   -- Memory is refused before a byte ..
-  pub before : IfErr result (λ refused. refused.read < length bytes)
+  pub within : IfErr result (λ refused. refused.read < length bytes)
   -- .. that is a data byte of an open operating system command with fewer than 16 `;`.
   pub meets : IfErr result (λ refused. (stream : List ℕ) → HasReadLong parser stream
       → MeetsData (later stream) (slice_index bytes refused.read))

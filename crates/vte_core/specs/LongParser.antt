@@ -33,8 +33,8 @@ abbrev pub LacksMemory : {A : Type 0} → LongParser A → List ℕ → ℕ → 
 LacksMemory parser bytes from = LacksMemoryAt parser.machine.command bytes from
 
 -- .. nor for so many after those that it stores.
-abbrev pub LacksRoom : {A : Type 0} → LongParser A → ℕ → Type 0
-LacksRoom parser more = memory_of parser < length parser.machine.command.bytes + more
+abbrev pub LacksMemoryForMore : {A : Type 0} → LongParser A → ℕ → Type 0
+LacksMemoryForMore parser more = memory_of parser < length parser.machine.command.bytes + more
 
 -- The bytes that a call read.
 abbrev pub bytes_read : Result (Unit {0}) Refused → List ℕ → List ℕ

@@ -12,11 +12,11 @@ pub data Open : Type 0 where
   OpenCommand : List (List ℕ) → Bool → Open
 
 -- The events of an ESC that follows.
-abbrev pub closing : Open → List Event
-closing NothingOpen = []
-closing (OpenCharacter bytes) = Print replacement ∷ []
-closing OpenData = Unhook ∷ []
-closing (OpenCommand pieces dropped) = OscDispatch pieces false ∷ []
+abbrev pub closing_events : Open → List Event
+closing_events NothingOpen = []
+closing_events (OpenCharacter bytes) = Print replacement ∷ []
+closing_events OpenData = Unhook ∷ []
+closing_events (OpenCommand pieces dropped) = OscDispatch pieces false ∷ []
 
 -- If a command is open, the flag says whether data bytes of it are in no piece.
 abbrev pub IsLoss : Open → Bool → Type 0
@@ -42,5 +42,5 @@ abbrev pub tell : List Event → Outcome → Outcome
 tell events rest = record { told = events ++ rest.told; left = rest.left }
 
 -- All events if an ESC follows.
-abbrev pub closed : Outcome → List Event
-closed outcome = outcome.told ++ closing outcome.left
+abbrev pub closed_events : Outcome → List Event
+closed_events outcome = outcome.told ++ closing_events outcome.left

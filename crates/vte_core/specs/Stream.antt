@@ -3,7 +3,7 @@ use Rattle.std.specs.Prelude.{◌≡◌, ◌≢◌, ℕ, List, [], ◌∷◌, �
 use Rattle.std.specs.Prelude.{if◌then◌else◌, ◌==◌}
 use Rattle.vte_core.specs.Body.{body_outcome}
 use Rattle.vte_core.specs.Event.{Event, Print}
-use Rattle.vte_core.specs.Outcome.{Outcome, unfinished, tell, closed}
+use Rattle.vte_core.specs.Outcome.{Outcome, unfinished, tell, closed_events}
 use Rattle.vte_core.specs.Text.{text_outcome}
 
 abbrev pub escape : ℕ
@@ -25,7 +25,7 @@ cut_at_escape (b ∷ stream) =
 abbrev pub with_bodies : Option ℕ → Outcome → List (List ℕ) → Outcome
 with_bodies limit part [] = part
 with_bodies limit part (body ∷ bodies) =
-    tell (closed part) (with_bodies limit (body_outcome limit body) bodies)
+    tell (closed_events part) (with_bodies limit (body_outcome limit body) bodies)
 
 -- `limit` is how many data bytes of an operating system command are kept.
 unfoldable pub outcome : Option ℕ → List ℕ → Outcome

@@ -41,21 +41,21 @@ malformed_event (b ∷ []) = if is_control_character b then Execute b else Print
 malformed_event _ = Print replacement
 
 unfoldable pub segment_event : List ℕ → Event
-segment_event piece =
-    if is_well_formed piece then character_event (scalar_of piece) else malformed_event piece
+segment_event segment =
+    if is_well_formed segment then character_event (scalar_of segment) else malformed_event segment
 
--- The events of the pieces in order. A truncated sequence at the end stays open.
-abbrev pub pieces_outcome : List (List ℕ) → Outcome
-pieces_outcome [] = leaves NothingOpen
-pieces_outcome (piece ∷ []) =
-    if is_truncated piece then leaves (OpenCharacter piece)
-    else tell (segment_event piece ∷ []) (leaves NothingOpen)
-pieces_outcome (piece ∷ next ∷ pieces) =
-    tell (segment_event piece ∷ []) (pieces_outcome (next ∷ pieces))
+-- The events of the segments in order. A truncated sequence at the end stays open.
+abbrev pub segments_outcome : List (List ℕ) → Outcome
+segments_outcome [] = leaves NothingOpen
+segments_outcome (segment ∷ []) =
+    if is_truncated segment then leaves (OpenCharacter segment)
+    else tell (segment_event segment ∷ []) (leaves NothingOpen)
+segments_outcome (segment ∷ next ∷ more) =
+    tell (segment_event segment ∷ []) (segments_outcome (next ∷ more))
 
 unfoldable pub text_outcome : List ℕ → Outcome
-text_outcome text = pieces_outcome (segments text)
+text_outcome text = segments_outcome (segments text)
 
 -- The bytes in C0 are executed, and the rest is dropped.
-unfoldable pub executed : List ℕ → List Event
-executed bytes = map Execute (filter (λ b. is_control (class_of b)) bytes)
+unfoldable pub executed_events : List ℕ → List Event
+executed_events bytes = map Execute (filter (λ b. is_control (class_of b)) bytes)

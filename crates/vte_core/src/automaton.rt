@@ -4,7 +4,7 @@
 //! in six bits at the place that the state's number gives. So a step is a load and a shift, without
 //! a branch. But the block in which a run ends is read in vain, so only long runs come here.
 ghost use Rattle.std.specs.Prelude.{◌≡◌, ◌+◌, ◌*◌, ◌%◌, ◌<◌, ◌≤◌, IsTrue, false, drop, length};
-ghost use Rattle.vte_core.specs.machine.Automaton.{AutomatonState, Between, code, begun, next, state_after, HasScanned, LastEnd};
+ghost use Rattle.vte_core.specs.machine.Automaton.{AutomatonState, Between, state_code, next_between, next_state, state_after, HasScanned, LastEnd};
 ghost use Rattle.vte_core.specs.machine.Words.{Each, IsRun, Scans, is_layout, looked};
 
 use crate::scan::{Input, Looks};
@@ -112,7 +112,8 @@ static TABLE: [u64; 256] = [
 /// Returns the state after a byte, in the lowest six bits.
 #[inline(always)]
 fn step(state: u64, byte: u8) -> u64
-    ensures { (s : AutomatonState) → state % 64 ≡ code s → result % 64 ≡ code (next s byte) }
+    ensures { (s : AutomatonState) → state % 64 ≡ state_code s
+        → result % 64 ≡ state_code (next_state s byte) }
 {
     TABLE[byte as usize] >> (state % 64)
 }
@@ -166,7 +167,8 @@ impl<B> Looks<B> {
 /// ASCII, HT, LF and CR.
 #[inline(always)]
 fn state_after_block(state: u64, block: &[u8; 16]) -> u64
-    ensures { (s : AutomatonState) → state ≡ code s → result ≡ code (state_after s block.now) }
+    ensures { (s : AutomatonState) → state ≡ state_code s
+        → result ≡ state_code (state_after s block.now) }
 {
     if state == BETWEEN && is_ascii_block(block) {
         return BETWEEN;
@@ -182,7 +184,7 @@ fn state_after_block(state: u64, block: &[u8; 16]) -> u64
 /// of the loop.
 #[inline(always)]
 fn is_ascii_block(block: &[u8; 16]) -> bool
-    ensures { IsTrue result → Each (λ byte. begun byte ≡ Between) block.now 0 16 }
+    ensures { IsTrue result → Each (λ byte. next_between byte ≡ Between) block.now 0 16 }
 {
     let mut all = true;
     for byte in block {

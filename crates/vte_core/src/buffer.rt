@@ -1,6 +1,6 @@
 //! The buffer for the data bytes of an operating system command.
 ghost use Rattle.std.specs.Prelude.{◌≡◌, ◌+◌, ◌-◌, ◌<◌, ◌≤◌, ◌++◌, ℕ, true, false, List, [], Option, Some, None, not, length, drop, take, vec_capacity};
-ghost use Rattle.vte_core.specs.machine.Words.{HasCapacity, IsRange, Reserves, TakesFew, fitting, has_room};
+ghost use Rattle.vte_core.specs.machine.Words.{HasCapacity, IsRange, ReservesCapacity, TakesFew, fitting, has_room};
 
 use crate::scan::{Input, Looks};
 use arrayvec::ArrayVec;
@@ -31,7 +31,7 @@ pub(crate) trait Buffer {
     /// limit, it always is.
     fn reserve(&mut self, more: usize) -> bool
         ensures same { held self.new ≡ held self.old }
-        ensures reserves { Reserves limit (length (held self.new)) more (capacity self.old)
+        ensures reserves { ReservesCapacity limit (length (held self.new)) more (capacity self.old)
             (capacity self.new) result };
 
     /// Adds the bytes of an input from one place to another, up to the limit.

@@ -1,7 +1,7 @@
 //! What is collected of an escape sequence, and of the head of a control sequence or a device
 //! control string.
 ghost use Rattle.std.specs.Prelude.{◌≡◌, ◌<◌, ◌≤◌, ◌+◌, ◌*◌, ◌-◌, ◌↔◌, ◌⊎◌, min, IsTrue, List, ℕ, true, false, [], ◌∷◌, ◌++◌, length, slice_index, IfSome};
-ghost use Rattle.vte_core.specs.machine.Words.{Counts, Holds, HoldsHead, IsReady, KeepsIntermediates, KeepsNumbers, ReadsHeadUpTo, Settles, StandsInHead, class_of, is_head, is_parameter_text};
+ghost use Rattle.vte_core.specs.machine.Words.{CountsNumbers, HoldsIntermediates, HoldsHead, IsReady, KeepsIntermediates, KeepsNumbers, ReadsHeadUpTo, HoldsNumbers, StandsInHead, class_of, is_head, is_parameter_text};
 ghost use Rattle.vte_core.specs.machine.Words.{is_separator, looked, with_open_number};
 
 use crate::class::{digit_of, is_head, is_intermediate, is_parameter_text, is_separator};
@@ -56,7 +56,7 @@ pub(crate) struct Collected {
 impl Collected {
     /// Creates an empty collection.
     pub(crate) fn new() -> Self
-        ensures { Holds result [] }
+        ensures { HoldsIntermediates result [] }
     {
         Collected {
             intermediates: ArrayVec::new(),
@@ -69,7 +69,7 @@ impl Collected {
 
     /// Forgets the intermediates.
     pub(crate) fn begin_escape(&mut self)
-        ensures { Holds self.new [] }
+        ensures { HoldsIntermediates self.new [] }
     {
         self.intermediates = ArrayVec::new();
         self.too_many = false;
@@ -77,7 +77,7 @@ impl Collected {
 
     /// Forgets the numbers, before a head. The ESC before it has forgotten the intermediates.
     pub(crate) fn begin_head(&mut self)
-        ensures { Holds self.old [] → HoldsHead self.new HeadPart.Entry [] }
+        ensures { HoldsIntermediates self.old [] → HoldsHead self.new HeadPart.Entry [] }
     {
         self.params.clear();
         self.number = 0;
@@ -86,8 +86,8 @@ impl Collected {
 
     /// Collects an intermediate or a marker.
     pub(crate) fn collect(&mut self, byte: u8)
-        ensures holds { (intermediates : List ℕ) → Holds self.old intermediates
-            → Holds self.new (intermediates ++ byte ∷ []) }
+        ensures holds { (intermediates : List ℕ) → HoldsIntermediates self.old intermediates
+            → HoldsIntermediates self.new (intermediates ++ byte ∷ []) }
         ensures numbers { KeepsNumbers self.old self.new }
     {
         if self.intermediates.try_push(byte).is_err() {
@@ -98,8 +98,8 @@ impl Collected {
     /// Moves a number that was read into the parameters, or returns true if there are 32 already.
     #[inline(always)]
     fn settle_number(&mut self, number: u16) -> bool
-        ensures settles { (text : List ℕ) → Counts (with_open_number self.old number) text
-            → Settles self.new result text }
+        ensures settles { (text : List ℕ) → CountsNumbers (with_open_number self.old number) text
+            → HoldsNumbers self.new result text }
         ensures keeps { KeepsIntermediates self.old self.new }
     {
         if self.params.is_full() {
@@ -148,7 +148,7 @@ impl Collected {
         requires in_order { from ≤ length input.bytes.now }
         requires may { reached ≡ HeadPart.Entry ⊎ reached ≡ HeadPart.Parameters }
         ensures reads { ReadsHeadUpTo input.entry.bytes.now from reached result self.old self.new }
-        ensures further { several ≡ true → from < length input.entry.bytes.now
+        ensures progress { several ≡ true → from < length input.entry.bytes.now
             → is_parameter_text (class_of (slice_index input.entry.bytes.now from)) ≡ true
             → (from < result.position) × (result.part ≡ HeadPart.Parameters) }
         ensures count { looked looks.new + from

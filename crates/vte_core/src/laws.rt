@@ -3,7 +3,7 @@ ghost use Rattle.std.specs.Prelude.{◌≡◌, ◌+◌, ◌≤◌, ◌^◌, List
 ghost use Rattle.std.specs.Char.{IsScalar, encode_utf8};
 ghost use Rattle.std.specs.List.{concat, flat_map};
 ghost use Rattle.vte_core.specs.Brief.{IsBounded, IsBrief};
-ghost use Rattle.vte_core.specs.Division.{AreRightPieces, IsAllDivided};
+ghost use Rattle.vte_core.specs.Division.{AreRightSegments, IsAllDivided};
 ghost use Rattle.vte_core.specs.Examples.{AreRight, text_examples, escape_examples, control_sequence_examples, device_control_examples, system_command_examples, full_store_examples};
 ghost use Rattle.vte_core.specs.Examples.{store_of_five_examples, store_of_two_examples, empty_store_examples, ignored_string_examples};
 ghost use Rattle.vte_core.specs.Examples.{AreLeft, open_command_examples};
@@ -16,18 +16,18 @@ ghost use Rattle.vte_core.specs.Utf8.{is_well_formed, segments};
 use crate::parser::Parser;
 use crate::perform::Perform;
 
-/// Reads the pieces with a new parser, one call of `advance` per piece.
+/// Reads the chunks with a new parser, one call of `advance` per chunk.
 ///
 /// No type in Rust has 2^63 bytes or more, so no parser has a larger buffer.
-pub fn replay<P: Perform, const OSC_RAW_BUF_SIZE: usize>(performer: &mut P, pieces: &[&[u8]])
+pub fn replay<P: Perform, const OSC_RAW_BUF_SIZE: usize>(performer: &mut P, chunks: &[&[u8]])
     requires { OSC_RAW_BUF_SIZE + 512 ≤ 2 ^ 63 }
     // However the stream is cut, the performer takes exactly its events.
     ensures { P.value_of performer.new ≡ after P.step (P.value_of performer.old)
-        (events (Some OSC_RAW_BUF_SIZE) (flat_map (λ piece. piece.now) pieces.now)) }
+        (events (Some OSC_RAW_BUF_SIZE) (flat_map (λ chunk. chunk.now) chunks.now)) }
 {
     let mut parser = Parser::<OSC_RAW_BUF_SIZE>::new_with_size();
-    for piece in pieces {
-        parser.advance(performer, piece);
+    for chunk in chunks {
+        parser.advance(performer, chunk);
     }
 }
 
@@ -93,21 +93,22 @@ pub fn resync()
 
 /// A text is divided as Unicode recommends: each piece is the well-formed sequence that starts
 /// there, else the longest truncated one, else one byte. No other division has this property.
-#[tactic(auto, using(crate::proofs::dividing::DivisionLemmas::all_divided, crate::proofs::dividing::MaximalSubparts::are_right_pieces, crate::proofs::dividing::MaximalSubparts::only_division))]
+#[tactic(auto, using(crate::proofs::dividing::DivisionLemmas::all_divided, crate::proofs::dividing::MaximalSubparts::are_right_segments, crate::proofs::dividing::MaximalSubparts::only_division))]
 pub fn maximal_subparts()
     ensures all { (text : List ℕ) → IsAllDivided text }
-    ensures right { (text : List ℕ) → AreRightPieces (segments text) }
-    ensures only { (pieces : List (List ℕ)) → AreRightPieces pieces
-        → segments (concat pieces) ≡ pieces }
+    ensures right { (text : List ℕ) → AreRightSegments (segments text) }
+    ensures only { (division : List (List ℕ)) → AreRightSegments division
+        → segments (concat division) ≡ division }
 {}
 
 /// The rows of UTF-8 agree with the standard library: the well-formed sequences are the encodings
 /// of characters, and the texts that consist of them are those of a `str`.
-#[tactic(auto, using(crate::proofs::dividing::Utf8Agrees::well_formed_is_encoded, crate::proofs::dividing::Utf8Agrees::pieces_of_text, crate::proofs::dividing::Utf8Agrees::text_of_pieces, crate::proofs::bytes::Scalars::well_formed_is_scalar))]
+#[tactic(auto, using(crate::proofs::dividing::Utf8Agrees::well_formed_is_encoded, crate::proofs::dividing::Utf8Agrees::segments_of_text, crate::proofs::dividing::Utf8Agrees::text_of_segments, crate::proofs::bytes::Scalars::well_formed_is_scalar))]
 pub fn utf8_agrees()
     ensures sequence { (bytes : List ℕ) → is_well_formed bytes ≡ true → IsEncoding bytes }
     ensures character { (c : ℕ) → IsScalar c → IsDecoded c }
-    ensures pieces { (text : List ℕ) → IsUtf8 text → segments text ≡ map encode_utf8 (chars text) }
+    ensures characters { (text : List ℕ) → IsUtf8 text
+        → segments text ≡ map encode_utf8 (chars text) }
     ensures whole { (text : List ℕ) → AreWellFormed (segments text) → IsUtf8 text }
 {}
 

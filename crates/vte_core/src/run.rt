@@ -3,7 +3,7 @@
 //! A word is eight bytes and counts eight looks. So printed ASCII begins with bytes that are read
 //! one by one, and only then takes words: they pay for the bytes that the word has after its end.
 ghost use Rattle.std.specs.Prelude.{◌≡◌, ◌+◌, ◌*◌, ◌<◌, ◌≤◌, ◌↔◌, true, false, None, MatchOption, IfSome, IsTrue, length, slice_index};
-ghost use Rattle.vte_core.specs.machine.Words.{ArePrinted, EndsRun, IsPrinted, IsRange, IsRun, Scans, TakesFew, is_in, looked, to};
+ghost use Rattle.vte_core.specs.machine.Words.{ArePrinted, EndsRun, IsPrinted, IsRange, IsRun, Scans, TakesFew, is_in, looked, from_to};
 
 use crate::automaton::is_layout;
 use crate::scan::{CountedPerform, Grain, Input, Looks};
@@ -42,7 +42,7 @@ impl<B> Looks<B> {
     ) -> usize
         requires within { from + 4 ≤ length input.bytes.now }
         requires printed { ArePrinted input.bytes.now from (from + 4) }
-        ensures further { from < result }
+        ensures progress { from < result }
         ensures high { result ≤ length input.entry.bytes.now }
         ensures run { IsRun P.keeps input.entry.bytes.now from result }
         ensures count { looked self.new + 4 * from + 4 ≤ looked self.old + 4 * result }
@@ -178,8 +178,8 @@ impl<B> Looks<B> {
     ) -> Option<usize>
         requires within { from < length input.bytes.now }
         requires is { first ≡ slice_index input.bytes.now from }
-        requires other { is_in (to 0x20 0x7f) first ≡ false }
-        ensures further { IfSome result (λ end. from < end) }
+        requires other { is_in (from_to 0x20 0x7f) first ≡ false }
+        ensures progress { IfSome result (λ end. from < end) }
         ensures high { IfSome result (λ end. end ≤ length input.entry.bytes.now) }
         ensures run { IfSome result (IsRun keeps input.entry.bytes.now from) }
         ensures ended { result ≡ None → EndsRun keeps input.entry.bytes.now from }
@@ -266,7 +266,7 @@ fn first_unprinted(word: &[u8; 8]) -> Option<usize>
 /// bytes.
 #[inline(always)]
 fn is_printed_pair(first: u8, second: u8) -> bool
-    ensures { IsTrue result ↔ (is_in (to 0x80 0xbf) second ≡ true)
+    ensures { IsTrue result ↔ (is_in (from_to 0x80 0xbf) second ≡ true)
         × (first ≡ 0xc2 → 0xa0 ≤ second) }
 {
     // U+0080 to U+009F are controls.

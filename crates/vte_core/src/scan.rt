@@ -6,7 +6,7 @@
 //! the caller. Whoever is generic in the buffer `B` has no count but the one it was lent, for a
 //! `Looks<B>` is made for the buffers of the two parsers alone.
 ghost use Rattle.std.specs.Prelude.{◌≡◌, ◌+◌, ◌-◌, ◌<◌, ◌≤◌, ℕ, [], ◌∷◌, ◌++◌, false, length, drop, map, take, slice_index, vec_capacity, MatchOption, IsUtf8};
-ghost use Rattle.vte_core.specs.machine.Words.{AreOfKind, ArePut, IsRange, IsRun, IsTaken, PrintsRun, Put, Tells, after, character_event, is_in, looked, malformed_event, to};
+ghost use Rattle.vte_core.specs.machine.Words.{AreOfKind, ArePut, IsRange, IsRun, IsTaken, PrintsRun, Put, Tells, after, character_event, is_in, looked, malformed_event, from_to};
 
 mod counted_perform;
 mod grain;
@@ -222,7 +222,7 @@ impl<B> Looks<B> {
     #[inline(always)]
     #[tactic(auto, unfolding(crate::specs::Text::character_event, crate::specs::Text::malformed_event))]
     pub(crate) fn tell_single<P: CountedPerform<B, G>, G>(&mut self, performer: &mut P, byte: u8)
-        requires { is_in (to 0x20 0x7f) byte ≡ false }
+        requires { is_in (from_to 0x20 0x7f) byte ≡ false }
         ensures control { byte < 0x80
             → P.value_of performer.new ≡ P.step (P.value_of performer.old) (character_event byte) }
         ensures malformed { 0x80 ≤ byte

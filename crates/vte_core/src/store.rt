@@ -1,7 +1,7 @@
 //! The store of an operating system command.
 ghost use Rattle.std.specs.Prelude.{◌≡◌, ◌≢◌, ◌+◌, ◌-◌, ◌≤◌, ◌<◌, List, ℕ, [], ◌∷◌, ◌++◌, length, drop, map, take, false, ◌↔◌, IsTrue, All};
 ghost use Rattle.std.specs.List.Sorted.{IsNonDecreasing};
-ghost use Rattle.vte_core.specs.machine.Words.{ArePieceEnds, HasCapacity, Stored, IsRange, Keeps, OscDispatch, Reserves, SameItems, TakesFew, Tells, cut_pieces, most_pieces};
+ghost use Rattle.vte_core.specs.machine.Words.{ArePieceEnds, HasCapacity, Stored, IsRange, Keeps, OscDispatch, ReservesCapacity, SameItems, TakesFew, Tells, cut_pieces, most_pieces};
 
 use crate::buffer::Buffer;
 use crate::scan::{CountedPerform, Grain, Input, Looks};
@@ -73,7 +73,7 @@ impl<B: Buffer> Store<B> {
     /// Takes memory for this many more data bytes, and returns whether it is there.
     pub(crate) fn reserve(&mut self, more: usize) -> bool
         ensures same { SameItems self.old self.new }
-        ensures reserves { Reserves B.limit
+        ensures reserves { ReservesCapacity B.limit
             (length self.new.bytes) more self.old.capacity self.new.capacity result }
     {
         self.bytes.reserve(more)
@@ -86,7 +86,7 @@ impl<B: Buffer> Store<B> {
         ensures memory { self.old.capacity ≤ self.new.capacity }
         ensures few { result ≡ false → length self.new.ends < most_pieces }
         ensures reserves { length self.new.ends < most_pieces
-            → Reserves B.limit
+            → ReservesCapacity B.limit
             (length self.new.bytes) more self.old.capacity self.new.capacity result }
     {
         self.ends.is_full() || self.reserve(more)

@@ -1,7 +1,7 @@
 //! Characters of UTF-8, byte by byte.
 ghost use Rattle.std.specs.Prelude.{◌≡◌, ◌+◌, ◌*◌, ◌%◌, ◌<◌, ◌≤◌, ◌↔◌, IsTrue, [], ◌∷◌, true, false};
 ghost use Rattle.std.specs.Char.{InScalarRange};
-ghost use Rattle.vte_core.specs.machine.Words.{BeginsFour, BeginsThree, BeginsTwo, Carries, bytes_of, is_in, is_truncated, scalar_of, second_range, to};
+ghost use Rattle.vte_core.specs.machine.Words.{BeginsFour, BeginsThree, BeginsTwo, Carries, bytes_of, is_in, is_truncated, scalar_of, second_range, from_to};
 
 /// The bytes of an unfinished character, at most three.
 #[derive(Clone, Copy)]
@@ -95,7 +95,7 @@ pub(crate) fn may_begin_four(first: u8, second: u8) -> bool
 /// Returns whether `byte` is an ASCII character that is printed. DEL is.
 #[inline(always)]
 pub(crate) fn is_printed_ascii(byte: u8) -> bool
-    ensures { result ≡ is_in (to 0x20 0x7f) byte }
+    ensures { result ≡ is_in (from_to 0x20 0x7f) byte }
 {
     matches!(byte, 0x20..=0x7f)
 }
@@ -103,14 +103,14 @@ pub(crate) fn is_printed_ascii(byte: u8) -> bool
 /// Returns whether `byte` begins a sequence of two bytes or more.
 #[inline(always)]
 pub(crate) fn is_lead(byte: u8) -> bool
-    ensures { result ≡ is_in (to 0xc2 0xf4) byte }
+    ensures { result ≡ is_in (from_to 0xc2 0xf4) byte }
 {
     matches!(byte, 0xc2..=0xf4)
 }
 
 /// Returns whether `byte` may stand after the second of a sequence.
 pub(crate) fn is_continuation(byte: u8) -> bool
-    ensures { result ≡ is_in (to 0x80 0xbf) byte }
+    ensures { result ≡ is_in (from_to 0x80 0xbf) byte }
 {
     matches!(byte, 0x80..=0xbf)
 }
@@ -153,7 +153,7 @@ fn whole_character(code: u32) -> Carried
 #[inline(always)]
 pub(crate) fn character_of_two(first: u8, second: u8) -> char
     requires lead { BeginsTwo first }
-    requires second { is_in (to 0x80 0xbf) second ≡ true }
+    requires second { is_in (from_to 0x80 0xbf) second ≡ true }
     ensures { result ≡ scalar_of (first ∷ second ∷ []) }
 {
     unsafe { char::from_u32_unchecked(number_of_two(first, second)) }
@@ -164,7 +164,7 @@ pub(crate) fn character_of_two(first: u8, second: u8) -> char
 pub(crate) fn character_of_three(first: u8, second: u8, third: u8) -> char
     requires lead { BeginsThree first }
     requires second { is_in (second_range first) second ≡ true }
-    requires third { is_in (to 0x80 0xbf) third ≡ true }
+    requires third { is_in (from_to 0x80 0xbf) third ≡ true }
     ensures { result ≡ scalar_of (first ∷ second ∷ third ∷ []) }
 {
     unsafe { char::from_u32_unchecked(number_of_three(first, second, third)) }
@@ -175,8 +175,8 @@ pub(crate) fn character_of_three(first: u8, second: u8, third: u8) -> char
 pub(crate) fn character_of_four(first: u8, second: u8, third: u8, fourth: u8) -> char
     requires lead { BeginsFour first }
     requires second { is_in (second_range first) second ≡ true }
-    requires third { is_in (to 0x80 0xbf) third ≡ true }
-    requires fourth { is_in (to 0x80 0xbf) fourth ≡ true }
+    requires third { is_in (from_to 0x80 0xbf) third ≡ true }
+    requires fourth { is_in (from_to 0x80 0xbf) fourth ≡ true }
     ensures { result ≡ scalar_of (first ∷ second ∷ third ∷ fourth ∷ []) }
 {
     unsafe { char::from_u32_unchecked(number_of_four(first, second, third, fourth)) }

@@ -9,9 +9,9 @@ after step value [] = value
 after step value (call ∷ calls) = after step (step value call) calls
 
 -- C0 and C1: U+0000..U+001F and U+0080..U+009F.
-abbrev pub is_control : ℕ → Bool
-is_control c = nat_lt c 0x20 || (nat_le 0x80 c && nat_lt c 0xa0)
+abbrev pub is_control_character : ℕ → Bool
+is_control_character c = nat_lt c 0x20 || (nat_le 0x80 c && nat_lt c 0xa0)
 
 -- Every character of a text is one to show.
 abbrev pub AreShown : List ℕ → Type 0
-AreShown text = All (λ c. is_control c ≡ false) (chars text)
+AreShown text = All (λ c. is_control_character c ≡ false) (chars text)

@@ -3,7 +3,7 @@ ghost use Rattle.std.specs.Prelude.{◌≡◌, ◌<◌, length, map};
 ghost use Rattle.std.specs.Str.{chars};
 ghost use Rattle.vte_handler.specs.Call as call;
 ghost use Rattle.vte_handler.specs.Call.{Call};
-ghost use Rattle.vte_handler.specs.Given.{given};
+ghost use Rattle.vte_handler.specs.Given.{call_of};
 ghost use Rattle.vte_handler.specs.Handler.{AreShown, after};
 
 use crate::handler::{Handler, HandlerText};
@@ -117,7 +117,7 @@ pub trait TakeCall {
 
     /// Takes one call.
     fn take(&mut self, call: HandlerCall<'_>)
-        ensures { value_of self.new ≡ step (value_of self.old) (given call.entry) };
+        ensures { value_of self.new ≡ step (value_of self.old) (call_of call.entry) };
 }
 
 /// Takes characters to show in runs, and the other calls of a handler as values.

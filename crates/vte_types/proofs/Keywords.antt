@@ -5,7 +5,7 @@ use Rattle.std.proofs.lemmas.Str.{IsUtf8-from_ascii, is_utf8-from_IsUtf8}
 use Rattle.std.specs.Prelude.{nat_lt, ◌&&◌}
 use Rattle.std.specs.Str.{is_utf8, IsAscii}
 use Rattle.vte_types.specs.CursorIcon.{icons, icon_of}
-use Rattle.vte_types.specs.Words.{beside_word, is_word}
+use Rattle.vte_types.specs.Words.{entry_of_word, is_word}
 use Rattle.vte_types.proofs.Words.{other_word}
 
 row_by : {A : Type 0} (x : A) (others : Option A) (t : Bool) → t ≡ false → others ≡ None → cond t (Some x) others ≡ None
@@ -40,10 +40,10 @@ ascii_is_utf8 : (bytes : List ℕ) → are_ascii bytes ≡ true → is_utf8 byte
 ascii_is_utf8 bytes e = is_utf8-from_IsUtf8 bytes (IsUtf8-from_ascii bytes (are_below bytes e))
 
 other_bytes : {A : Type 0} (rows : List (List ℕ × A)) (text : List ℕ) → have_ascii_words rows ≡ true
-    → is_utf8 text ≡ false → beside_word rows text ≡ None
+    → is_utf8 text ≡ false → entry_of_word rows text ≡ None
 other_bytes [] text are not = refl
 other_bytes (row ∷ rows) text are not =
-    row_by row.1 (beside_word rows text) (is_word text row.0)
+    row_by row.1 (entry_of_word rows text) (is_word text row.0)
     (other_word text row.0 (λ e. let same = ap is_utf8 e in let is = ascii_is_utf8 row.0 (first_and _ _ are) in cc))
     (other_bytes rows text (second_and _ _ are) not)
 

@@ -3,7 +3,7 @@ use Rattle.std.proofs.Common.{◌≡◌, false, Some, refl, ap}
 use Rattle.std.specs.Prelude.{List, [], ◌∷◌}
 use Rattle.vte_types.specs.Bright.{bright_of, dim_of, is_bright, is_dim}
 use Rattle.vte_types.specs.NamedColor.{number_of_color}
-use Rattle.vte_types.specs.Rows.{Row, beside}
+use Rattle.vte_types.specs.Rows.{Row, entry_of}
 use Rattle.vte_types.specs.declared.color.NamedColor.{NamedColor}
 use Rattle.vte_types.specs.declared.color.NamedColor.TheVariants.{Black, Red, Green, Yellow, Blue, Magenta, Cyan, White, BrightBlack, BrightRed, BrightGreen, BrightYellow, BrightBlue, BrightMagenta}
 use Rattle.vte_types.specs.declared.color.NamedColor.TheVariants.{BrightCyan, BrightWhite, Foreground, Background, Cursor, DimBlack, DimRed, DimGreen, DimYellow, DimBlue, DimMagenta, DimCyan}
@@ -46,10 +46,10 @@ color_rows =
     ∷ (262, DimYellow) ∷ (263, DimBlue) ∷
     (264, DimMagenta) ∷ (265, DimCyan) ∷ (266, DimWhite) ∷ (267, BrightForeground) ∷ (268, DimForeground) ∷ []
 
-row_of : (color : NamedColor) → beside color_rows (number_of_color color) ≡ Some color
+row_of : (color : NamedColor) → entry_of color_rows (number_of_color color) ≡ Some color
 unfolding number_of_color color_rows
 row_of Black = refl
 row_of color = refl
 
 pub number_decides : (a b : NamedColor) → number_of_color a ≡ number_of_color b → a ≡ b
-number_decides a b e = let one = row_of a in let other = row_of b in let same = ap (beside color_rows) e in cc
+number_decides a b e = let one = row_of a in let other = row_of b in let same = ap (entry_of color_rows) e in cc

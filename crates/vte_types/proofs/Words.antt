@@ -4,7 +4,7 @@ use Rattle.std.proofs.Common.{drop-cons, Option, None, Some, option_map, refl, s
 use Rattle.std.proofs.lemmas.Bool.Decides.{nat_tests}
 use Rattle.std.specs.Prelude.{map, ◌&&◌}
 use Rattle.std.specs.Str.{bytes_eq}
-use Rattle.vte_types.specs.Words.{is_word, after_word, beside_word}
+use Rattle.vte_types.specs.Words.{is_word, after_word, entry_of_word}
 
 same_by : (a b : ℕ) (text word : List ℕ) (rest : is_word text word ≡ true → text ≡ word) (t : Bool) → eqb a b ≡ t
     → cond t (is_word text word) false ≡ true → (a ∷ text) ≡ (b ∷ word)
@@ -78,11 +78,11 @@ rows_of rows = map (λ row. (row.0.now, row.1)) rows
 -- from a row on, a text is beside that row or among those after it
 pub from_row : {A : Type 0} (rows : List (Bor (List ℕ) × A)) (i : ℕ) (d : Bor (List ℕ) × A) (text : List ℕ) (t : Bool)
     → i < length rows → t ≡ bytes_eq text (get_or rows i d).0.now
-    → beside_word (rows_of (drop i rows)) text
-    ≡ cond t (Some (get_or rows i d).1) (beside_word (rows_of (drop (i + 1) rows)) text)
+    → entry_of_word (rows_of (drop i rows)) text
+    ≡ cond t (Some (get_or rows i d).1) (entry_of_word (rows_of (drop (i + 1) rows)) text)
 from_row rows i d text t within told =
     let next : suc i ≡ i + 1 = omega arith in
-    ap (λ rows. beside_word (rows_of rows) text)
+    ap (λ rows. entry_of_word (rows_of rows) text)
     (drop-cons rows i d within ∙ ap (λ n. get_or rows i d ∷ drop n rows) next)
-    ∙ ap (λ t. cond t (Some (get_or rows i d).1) (beside_word (rows_of (drop (i + 1) rows)) text))
+    ∙ ap (λ t. cond t (Some (get_or rows i d).1) (entry_of_word (rows_of (drop (i + 1) rows)) text))
     (sym (told ∙ tests_agree text (get_or rows i d).0.now))

@@ -1,6 +1,6 @@
 -- The characters that a character set shows.
 use Rattle.std.specs.Prelude.{ℕ, List, [], ◌∷◌, unwrap_or}
-use Rattle.vte_types.specs.Rows.{Row, beside}
+use Rattle.vte_types.specs.Rows.{Row, entry_of}
 use Rattle.vte_types.specs.declared.charset.StandardCharset.{StandardCharset}
 use Rattle.vte_types.specs.declared.charset.StandardCharset.TheVariants.{Ascii, SpecialCharacterAndLineDrawing}
 
@@ -42,6 +42,6 @@ line_drawing =
     []
 
 -- The character that a set shows for c. A character without a row is unchanged.
-abbrev pub drawn : StandardCharset → ℕ → ℕ
-drawn Ascii c = c
-drawn SpecialCharacterAndLineDrawing c = unwrap_or (beside line_drawing c) c
+abbrev pub shown_character : StandardCharset → ℕ → ℕ
+shown_character Ascii c = c
+shown_character SpecialCharacterAndLineDrawing c = unwrap_or (entry_of line_drawing c) c

@@ -4,7 +4,7 @@ use Rattle.vte_types.specs.declared.cursor_icon.CursorIcon.{CursorIcon}
 use Rattle.vte_types.specs.declared.cursor_icon.CursorIcon.TheVariants.{Default, ContextMenu, Help, Pointer, Progress, Wait, Cell, Crosshair, Text, VerticalText, Alias, Copy, Move, NoDrop}
 use Rattle.vte_types.specs.declared.cursor_icon.CursorIcon.TheVariants.{NotAllowed, Grab, Grabbing, EResize, NResize, NeResize, NwResize, SResize, SeResize, SwResize, WResize, EwResize, NsResize}
 use Rattle.vte_types.specs.declared.cursor_icon.CursorIcon.TheVariants.{NeswResize, NwseResize, ColResize, RowResize, AllScroll, ZoomIn, ZoomOut}
-use Rattle.vte_types.specs.Words.{beside_word}
+use Rattle.vte_types.specs.Words.{entry_of_word}
 
 abbrev pub icons : List (List ℕ × CursorIcon)
 icons =
@@ -46,4 +46,4 @@ icons =
 
 -- The result of `from_str`.
 abbrev pub icon_of : List ℕ → Option CursorIcon
-icon_of text = beside_word icons text
+icon_of text = entry_of_word icons text

@@ -1,6 +1,6 @@
 -- Modes and their numbers (ECMA-48; private modes of DEC, xterm and others).
 use Rattle.std.specs.Prelude.{ℕ, List, [], ◌∷◌, map, Option, Some, None}
-use Rattle.vte_types.specs.Rows.{Row, beside}
+use Rattle.vte_types.specs.Rows.{Row, entry_of}
 use Rattle.vte_types.specs.declared.mode.Mode.{Mode}
 use Rattle.vte_types.specs.declared.mode.Mode.TheVariants as mode
 use Rattle.vte_types.specs.declared.mode.NamedMode.{NamedMode}
@@ -56,7 +56,7 @@ named_or number None = mode.Unknown number
 
 -- The result of `Mode::new`.
 abbrev pub mode_of : ℕ → Mode
-mode_of number = named_or number (beside named_modes number)
+mode_of number = named_or number (entry_of named_modes number)
 
 -- The same for private modes.
 abbrev pub private_named_or : ℕ → Option NamedPrivateMode → PrivateMode
@@ -65,7 +65,7 @@ private_named_or number None = private.Unknown number
 
 -- The result of `PrivateMode::new`.
 abbrev pub private_mode_of : ℕ → PrivateMode
-private_mode_of number = private_named_or number (beside named_private_modes number)
+private_mode_of number = private_named_or number (entry_of named_private_modes number)
 
 -- The result of `raw`.
 abbrev pub number_of_mode : Mode → ℕ

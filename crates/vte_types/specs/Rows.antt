@@ -6,6 +6,6 @@ abbrev pub Row : Type 0 → Type 0
 Row A = ℕ × A
 
 -- The entry of a number in a table.
-abbrev pub beside : {A : Type 0} → List (Row A) → ℕ → Option A
-beside [] number = None
-beside (row ∷ rows) number = if number == row.0 then Some row.1 else beside rows number
+abbrev pub entry_of : {A : Type 0} → List (Row A) → ℕ → Option A
+entry_of [] number = None
+entry_of (row ∷ rows) number = if number == row.0 then Some row.1 else entry_of rows number

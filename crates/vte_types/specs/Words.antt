@@ -9,9 +9,9 @@ is_word (a ∷ text) [] = false
 is_word (a ∷ text) (b ∷ word) = if a == b then is_word text word else false
 
 -- The entry of a word in a table.
-abbrev pub beside_word : {A : Type 0} → List (List ℕ × A) → List ℕ → Option A
-beside_word [] text = None
-beside_word (row ∷ rows) text = if is_word text row.0 then Some row.1 else beside_word rows text
+abbrev pub entry_of_word : {A : Type 0} → List (List ℕ × A) → List ℕ → Option A
+entry_of_word [] text = None
+entry_of_word (row ∷ rows) text = if is_word text row.0 then Some row.1 else entry_of_word rows text
 
 -- What follows a word at the start of the text.
 abbrev pub after_word : List ℕ → List ℕ → Option (List ℕ)

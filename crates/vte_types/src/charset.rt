@@ -1,6 +1,6 @@
 //! Character sets (ECMA-35).
 ghost use Rattle.std.specs.Prelude.{◌≡◌};
-ghost use Rattle.vte_types.specs.Charset.{drawn};
+ghost use Rattle.vte_types.specs.Charset.{shown_character};
 
 /// One of the four character sets that a terminal keeps ready (ECMA-35). `ESC (` to `ESC +`
 /// designate them; SI and SO invoke the first two.
@@ -36,7 +36,7 @@ impl StandardCharset {
     /// ASCII shows `c` itself. DEC Special Graphics replaces each of `_` to `~`, and shows any
     /// other character as it is.
     pub fn map(self, c: char) -> char
-        ensures { result ≡ drawn self c }
+        ensures { result ≡ shown_character self c }
     {
         match self {
             StandardCharset::Ascii => c,

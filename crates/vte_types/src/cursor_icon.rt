@@ -2,7 +2,7 @@
 ghost use Rattle.std.specs.Option.{ok_or};
 ghost use Rattle.std.specs.Prelude.{◌≡◌, map};
 ghost use Rattle.vte_types.specs.CursorIcon.{icon_of};
-ghost use Rattle.vte_types.specs.Words.{beside_word};
+ghost use Rattle.vte_types.specs.Words.{entry_of_word};
 
 use std::str::FromStr;
 
@@ -95,13 +95,13 @@ impl FromStr for CursorIcon {
     ghost from_str_gives = { λ text result. result ≡ ok_or (icon_of text) tt };
 
     fn from_str(s: &str) -> Result<CursorIcon, ()> {
-        icon_beside(&KEYWORDS, s).ok_or(())
+        find_icon(&KEYWORDS, s).ok_or(())
     }
 }
 
 /// Returns the icon with this keyword.
-fn icon_beside(rows: &[(&str, CursorIcon)], text: &str) -> Option<CursorIcon>
-    ensures { result ≡ beside_word (map (λ row. (row.0.now, row.1)) rows.now) text.now }
+fn find_icon(rows: &[(&str, CursorIcon)], text: &str) -> Option<CursorIcon>
+    ensures { result ≡ entry_of_word (map (λ row. (row.0.now, row.1)) rows.now) text.now }
 {
     for (keyword, icon) in rows {
         if text == *keyword {

@@ -13,7 +13,7 @@ page_of (word ∷ []) =
 page_of (word ∷ next ∷ words) = None
 
 -- The mode that the arguments choose.
-abbrev pub mode_of : List (List ℕ) → Option Mode
-mode_of [] = Some Lines
-mode_of (word ∷ []) = if bytes_eq word (codes "text") then Some Text else None
-mode_of (word ∷ next ∷ words) = None
+abbrev pub chosen_mode : List (List ℕ) → Option Mode
+chosen_mode [] = Some Lines
+chosen_mode (word ∷ []) = if bytes_eq word (codes "text") then Some Text else None
+chosen_mode (word ∷ next ∷ words) = None

@@ -1,10 +1,10 @@
 -- How the program ends, and what it has read and written.
 use Rattle.std.specs.Prelude.{◌≡◌, ℕ, Bool, true, false, List, [], Option, Some, None, Ok, Err, Result, OnOk, OnErr, is_err, codes}
 use Rattle.std.specs.Io.KnownBytes.{Appends}
-use Rattle.event_log.specs.Run.{WritesExactly, log_of, text_in}
+use Rattle.event_log.specs.Run.{WritesExactly, log_of, stripped_text}
 use Rattle.event_log.specs.declared.fault.Fault.{Fault}
 use Rattle.event_log.specs.declared.fault.Fault.TheVariants.{Read, Write}
-use Rattle.vtlog.specs.Arguments.{mode_of, page_of}
+use Rattle.vtlog.specs.Arguments.{chosen_mode, page_of}
 use Rattle.vtlog.specs.declared.Mode.{Mode}
 use Rattle.vtlog.specs.declared.Mode.TheVariants.{Lines, Text}
 
@@ -22,7 +22,7 @@ words_of (Err Write) = codes "vtlog: write failed"
 -- What is written for a stream.
 abbrev pub meaning_of : Mode → (List ℕ → List ℕ)
 meaning_of Lines = log_of
-meaning_of Text = text_in
+meaning_of Text = stripped_text
 
 -- What was known of the bytes of the reader and the writer when the program began, and what is at
 -- the end.
@@ -51,7 +51,7 @@ pub record Runs (mode : Mode) (streams : Streams) (outcome : Result (Unit {0}) F
   pub write_failed : outcome ≡ Err Write → streams.writer_failed ≡ true
 
 -- The argument is unexpected, and nothing was read or written.
-pub record Refuses (streams : Streams) (status : ℕ) (words : List ℕ) : Type 0 where
+pub record RefusesArguments (streams : Streams) (status : ℕ) (words : List ℕ) : Type 0 where
   pub status_is : status ≡ 2
   pub words_are : words ≡ codes "vtlog: unexpected argument"
   pub unread : streams.to_come ≡ streams.input
@@ -69,8 +69,8 @@ pub record EndsBy (IsOutcome : Result (Unit {0}) Fault → Type 0) (status : ℕ
 abbrev pub EndsFor : Option (List ℕ) → Option Mode → Streams → ℕ → List ℕ → Type 0
 EndsFor (Some page) mode streams status words = EndsBy (Prints page streams) status words
 EndsFor None (Some mode) streams status words = EndsBy (Runs mode streams) status words
-EndsFor None None streams status words = Refuses streams status words
+EndsFor None None streams status words = RefusesArguments streams status words
 
 -- How the program ends with these arguments.
 abbrev pub Ends : List (List ℕ) → Streams → ℕ → List ℕ → Type 0
-Ends args streams status words = EndsFor (page_of args) (mode_of args) streams status words
+Ends args streams status words = EndsFor (page_of args) (chosen_mode args) streams status words

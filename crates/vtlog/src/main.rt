@@ -6,7 +6,7 @@ mod output;
 
 ghost use Rattle.std.specs.Prelude.{◌≡◌, OnOk, OnErr, is_err, map, option_map};
 ghost use Rattle.std.specs.Io.KnownBytes.{Appends};
-ghost use Rattle.vtlog.specs.Arguments.{mode_of, page_of};
+ghost use Rattle.vtlog.specs.Arguments.{chosen_mode, page_of};
 ghost use Rattle.vtlog.specs.End.{Ends, status_of, words_of};
 
 use crate::output::Output;
@@ -99,7 +99,7 @@ fn page_of(args: &[&str]) -> Option<&'static str>
 
 /// Returns what the arguments choose, or None if any was unexpected.
 fn choose(args: &[&str]) -> Option<Mode>
-    ensures { result ≡ mode_of (map (λ arg. arg.now) args.now) }
+    ensures { result ≡ chosen_mode (map (λ arg. arg.now) args.now) }
 {
     match args {
         [] => Some(Mode::Lines),

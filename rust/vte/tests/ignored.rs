@@ -26,12 +26,12 @@ impl Perform for Told {
 
 /// What a string tells that has this byte in it, then `y`, `w` forty times, ESC, `c` and `z`.
 fn expected(byte: u8) -> Told {
-    let behind = "w".repeat(40);
+    let rest = "w".repeat(40);
     let (text, executed, escapes) = match byte {
         // CAN and SUB are executed, and text follows.
-        0x18 | 0x1a => (format!("y{behind}z"), vec![byte], vec![b'c']),
+        0x18 | 0x1a => (format!("y{rest}z"), vec![byte], vec![b'c']),
         // ESC begins a sequence.
-        0x1b => (format!("{behind}z"), vec![], vec![b'y', b'c']),
+        0x1b => (format!("{rest}z"), vec![], vec![b'y', b'c']),
         _ => ("z".to_string(), vec![], vec![b'c']),
     };
     Told {

@@ -4,7 +4,7 @@ ghost use Rattle.std.specs.Fmt.{decimal};
 ghost use Rattle.std.specs.List.{join_with_byte};
 ghost use Rattle.vte_core.specs.Parameters.{colon, shown};
 ghost use Rattle.event_log.specs.Lines.{flag_field, hex_byte, hex_character, hex_field, pieces_fields, sequence_fields};
-ghost use Rattle.event_log.specs.Record.{Extends};
+ghost use Rattle.event_log.specs.Record.{ExtendsLine};
 
 use super::Lines;
 use super::short::{hex_length, hex_pair, six_hex_digits};
@@ -13,7 +13,7 @@ use vte_core::Params;
 impl Lines {
     /// Pushes the decimal digits of a number, three at a time.
     pub(crate) fn push_decimal(&mut self, number: usize)
-        ensures { Extends self.old (decimal number) self.new }
+        ensures { ExtendsLine self.old (decimal number) self.new }
     {
         match number {
             0..10 => self.push(&[digit(number)]),
@@ -28,7 +28,7 @@ impl Lines {
 
     /// Pushes a byte as two hex digits.
     pub(crate) fn push_hex_byte(&mut self, byte: u8)
-        ensures { Extends self.old (hex_byte byte) self.new }
+        ensures { ExtendsLine self.old (hex_byte byte) self.new }
     {
         self.push(&hex_pair(byte));
     }
@@ -36,7 +36,7 @@ impl Lines {
     /// Pushes a blank, and bytes as hex digits, or `-` for none.
     #[tactic(auto, using(crate::proofs::Fields::extends_then), unfolding(crate::specs::Lines::hex_field))]
     pub(crate) fn push_hex_field(&mut self, bytes: &[u8])
-        ensures { Extends self.old (hex_field bytes.now) self.new }
+        ensures { ExtendsLine self.old (hex_field bytes.now) self.new }
     {
         if bytes.is_empty() {
             self.push(b" -");
@@ -51,14 +51,15 @@ impl Lines {
     /// Pushes a blank, and `true` or `false`.
     #[tactic(auto, unfolding(crate::specs::Lines::flag_field))]
     pub(crate) fn push_flag_field(&mut self, flag: bool)
-        ensures { Extends self.old (flag_field flag) self.new }
+        ensures { ExtendsLine self.old (flag_field flag) self.new }
     {
         self.push(if flag { b" true" } else { b" false" });
     }
 
     /// Pushes the number of pieces, and each piece as a field.
     pub(crate) fn push_pieces_fields(&mut self, pieces: &[&[u8]])
-        ensures { Extends self.old (pieces_fields (map (λ piece. piece.now) pieces.now)) self.new }
+        ensures { ExtendsLine self.old
+            (pieces_fields (map (λ piece. piece.now) pieces.now)) self.new }
     {
         self.push(b" ");
         self.push_decimal(pieces.len());
@@ -75,7 +76,7 @@ impl Lines {
         ignore: bool,
         action: char,
     )
-        ensures { Extends self.old
+        ensures { ExtendsLine self.old
             (sequence_fields params.now intermediates.now ignore action) self.new }
     {
         self.push_groups(params);
@@ -87,7 +88,7 @@ impl Lines {
 
     /// Pushes the groups, separated by `;`, and the numbers of each, separated by `:`.
     fn push_groups(&mut self, params: &Params)
-        ensures { Extends self.old (codes " [" ++ shown params.now ++ codes "]") self.new }
+        ensures { ExtendsLine self.old (codes " [" ++ shown params.now ++ codes "]") self.new }
     {
         self.push(b" [");
         let mut groups = params.iter();
@@ -104,7 +105,7 @@ impl Lines {
     /// Pushes the numbers of a group.
     fn push_numbers(&mut self, group: &[u16])
         requires { 0 < length group.now }
-        ensures { Extends self.old (join_with_byte colon (map decimal group.now)) self.new }
+        ensures { ExtendsLine self.old (join_with_byte colon (map decimal group.now)) self.new }
     {
         self.push_decimal(usize::from(group[0]));
         for number in &group[1..] {
@@ -117,7 +118,7 @@ impl Lines {
     #[tactic(auto, unfolding(crate::specs::Lines::hex_character))]
     pub(crate) fn push_character(&mut self, least: usize, c: char)
         requires { least ≤ 6 }
-        ensures { Extends self.old (hex_character least c) self.new }
+        ensures { ExtendsLine self.old (hex_character least c) self.new }
     {
         let number = c as u32;
         let digits = six_hex_digits(number);

@@ -1,7 +1,7 @@
 -- The calls of events that follow one another, and those that more bytes add: those of the whole are those of the
 -- parts joined. By induction over the events, with the last printed character carried along.
 use Rattle.vte.proofs.Common.{◌≡◌, ℕ, None, List, [], ◌∷◌, ◌++◌, Option, refl, ap, ◌∙◌, append_assoc, drop-append_seam, Event, added, events, added_both, added-nothing}
-use Rattle.vte.proofs.Common.{events_grow, Call, after, calls_added, added_calls, calls, calls_from, last_from, last_printed, last_printed_from, zero, suc, ◌+◌, zero-add, suc-add, Bool, ◌||◌}
+use Rattle.vte.proofs.Common.{events_grow, Call, after, calls_added, added_calls, calls, calls_from, last_printed_after, last_printed, last_printed_from, zero, suc, ◌+◌, zero-add, suc-add, Bool, ◌||◌}
 use Rattle.vte.proofs.Common.{nat_lt, arith, nat_tests, TimeoutMeaning, set_times, update_nanos, Lent, first_number, is_update_group, update_groups, with_private_mode, with_private_modes}
 use Rattle.std.specs.Bool.{if◌then◌else◌}
 
@@ -15,12 +15,12 @@ pub ruleset appended = (after-append)
 calls-append : (last : Option ℕ) (xs ys : List Event)
     → calls_from last (xs ++ ys) ≡ calls_from last xs ++ calls_from (last_printed_from last xs) ys
 calls-append last [] ys = refl
-calls-append last (x ∷ xs) ys = rw (calls-append (last_from last x) xs ys, append_assoc)
+calls-append last (x ∷ xs) ys = rw (calls-append (last_printed_after last x) xs ys, append_assoc)
 
 pub last-append : (last : Option ℕ) (xs ys : List Event)
     → last_printed_from last (xs ++ ys) ≡ last_printed_from (last_printed_from last xs) ys
 last-append last [] ys = refl
-last-append last (x ∷ xs) ys = last-append (last_from last x) xs ys
+last-append last (x ∷ xs) ys = last-append (last_printed_after last x) xs ys
 
 added_calls-append : (before more : List Event)
     → added_calls before (before ++ more) ≡ calls_from (last_printed before) more

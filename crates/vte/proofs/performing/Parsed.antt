@@ -2,7 +2,7 @@
 -- calls of their rows and set the timeout once per begin of an update. An early stop is the front up to the begin.
 use Rattle.vte.proofs.Common.{◌≡◌, ℕ, ◌+◌, ◌<◌, inl, inr, Bool, false, ◌||◌, nat_lt, All, List, [], ◌∷◌, ◌++◌, length, take, refl, ap, sym, ◌∙◌, arith, or-false}
 use Rattle.vte.proofs.Common.{cases_lt, false≢true, nat_tests, All-head, All-tail, told, stream_at, StopsExactly, Event, added, events, starts-between, stream_at-between, told-between, events_grow}
-use Rattle.vte.proofs.Common.{after, ProcessorState, begin_count, begins_of, calls_of, calls_from, last_from, last_printed, last_printed_from, lent_of, Meaning, set_times, FitsText, Lent}
+use Rattle.vte.proofs.Common.{after, ProcessorState, begin_count, begins_of, calls_of, calls_from, last_printed_after, last_printed, last_printed_from, lent_of, Meaning, set_times, FitsText, Lent}
 use Rattle.vte.proofs.Common.{with_event, of_turns, IsParsed, IsParsedOn, KeepsRoom, Stage, parse, begin_front, ParserMeaning}
 use Rattle.vte_core.specs.Perform.{after as performed}
 use Rattle.vte.specs.declared.ansi.performer.Performer.{Performer}
@@ -34,7 +34,8 @@ performed-events m lent (event ∷ events) fit =
     performed-events m (with_event m.step m.timeout lent event) events (All-tail (FitsText lent.room) event events fit)
     ∙ rw (
       All-head (FitsText lent.room) event events fit lent.last,
-      ← after-append m.step lent.handler (calls_of lent.last event) (calls_from (last_from lent.last event) events),
+      ← after-append m.step lent.handler (calls_of lent.last event)
+          (calls_from (last_printed_after lent.last event) events),
       ← set_times-add m.timeout lent.timeout (begins_of event) (begin_count events),
       or_some lent.terminated (begins_of event) (begin_count events),
     ) refl

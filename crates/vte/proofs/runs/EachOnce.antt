@@ -2,7 +2,7 @@
 -- together are those of before, and `Grows` composes over the turns of a call and the calls of a run.
 use Rattle.vte.proofs.Common.{◌≡◌, ℕ, ◌-◌, suc, inl, inr, Bool, Option, List, [], ◌∷◌, ◌++◌, length, take, drop, refl, ap, sym, ◌∙◌, append_assoc, arith}
 use Rattle.vte.proofs.Common.{take-append-drop, Step, Advance, StopSync, Meaning, TakesSteps, given_bytes, kept_of, Stage, TakesTurns, all_bytes, begin_front, extend, hold_turn, is_held, is_stopped, keep}
-use Rattle.vte.proofs.Common.{cases_Bool, nat_tests, append-nil, opened, parse, stop, turn, done, turns}
+use Rattle.vte.proofs.Common.{cases_Bool, nat_tests, append-nil, stop_if_due, parse, stop, turn, done, turns}
 use Rattle.std.proofs.lemmas.List.{nil_from_length}
 use Rattle.vte.proofs.turns.Fronts.{is_front}
 
@@ -49,14 +49,15 @@ module _ {V W : Type 0} (m : Meaning V W) where
   stop_grows s bytes = record { more = s.held; parsed_is = refl; each_once = refl }
 
   -- before bytes are parsed
-  pub opened_none : (answer : Bool) (s : Stage V W) → (opened m answer s).held ≡ []
-  opened_none answer s = elim (cases_Bool (is_stopped answer s)) [
+  pub stop_if_due_none : (answer : Bool) (s : Stage V W) → (stop_if_due m answer s).held ≡ []
+  stop_if_due_none answer s = elim (cases_Bool (is_stopped answer s)) [
     | inl stopped ↦ rw stopped refl
     | inr none ↦ rw none (nil_from_length s.held (grind (arith, nat_tests)))
   ]
 
-  pub opened_grows : (answer : Bool) (s : Stage V W) (bytes : List ℕ) → Grows s (opened m answer s) bytes bytes
-  opened_grows answer s bytes =
+  pub stop_if_due_grows : (answer : Bool) (s : Stage V W) (bytes : List ℕ)
+      → Grows s (stop_if_due m answer s) bytes bytes
+  stop_if_due_grows answer s bytes =
       elim (cases_Bool (is_stopped answer s)) [
         | inl stopped ↦ rw stopped (stop_grows s bytes)
         | inr none ↦ rw none (same s bytes)
@@ -87,9 +88,9 @@ module _ {V W : Type 0} (m : Meaning V W) where
     | inl held ↦ rw held (hold_grows s r)
     | inr parses ↦
         rw parses
-        (grows_on (opened_grows answer s r)
-        (parse_grows (opened m answer s) _ _ r (opened_none answer s)
-        (front_rest m.limit (opened m answer s).parsed r)))
+        (grows_on (stop_if_due_grows answer s r)
+        (parse_grows (stop_if_due m answer s) _ _ r (stop_if_due_none answer s)
+        (front_rest m.limit (stop_if_due m answer s).parsed r)))
   ]
 
   pub turns_grow : (s t : Stage V W) (bytes left : List ℕ) → TakesTurns m s bytes t left → Grows s t bytes left

@@ -5,7 +5,7 @@ use Rattle.vte.proofs.Common.{Meaning, Advanced, HasParsedAll, IsAt, Replayed, R
 use Rattle.vte_core.proofs.streams.Performing.{events-empty}
 use Rattle.vte.specs.ProcessorCalls.{AreAdvances, IsNeverPending, ParsesAll}
 use Rattle.vte.proofs.performing.CallLists.{after-append, calls_whole}
-use Rattle.vte.proofs.runs.EachOnce.{opened_none}
+use Rattle.vte.proofs.runs.EachOnce.{stop_if_due_none}
 use Rattle.vte.proofs.runs.Runs.{advance_runs}
 use Rattle.vte.proofs.runs.Tellings.{told_run}
 
@@ -21,7 +21,7 @@ module _ {V W : Type 0} (m : Meaning V W) (never : IsNeverPending m.timeout.allo
   plain_advances s t (b ∷ r) (turns true allowed more) none =
       absurd (let e : true ≡ false = never s.timeout true allowed in cc)
   plain_advances s t (b ∷ r) (turns false allowed more) none =
-      let rest = plain_advances _ t _ more (opened_none m false s) in
+      let rest = plain_advances _ t _ more (stop_if_due_none m false s) in
       let no_stop : stops_of_turn false s (b ∷ r) ≡ [] = rw none refl in
       record {
         none_held = rest.none_held;

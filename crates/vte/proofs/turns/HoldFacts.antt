@@ -3,9 +3,9 @@
 use Rattle.vte.proofs.Common.{◌≡◌, ℕ, zero, suc, ◌-◌, ◌<◌, ◌≤◌, inl, inr, Bool, true, false, List, [], ◌∷◌, ◌++◌, length, take, refl, sym}
 use Rattle.vte.proofs.Common.{length-drop, arith, cases_Bool, cases_lt, false≢true, nat_tests, added}
 use Rattle.vte.proofs.Common.{TimeoutMeaning, AllowsAlone, IsKept, begin_count, IsOutsideUpdate, IsInsideUpdate, Meaning, set_times}
-use Rattle.vte.proofs.Common.{update_nanos, HoldsWellAt, begin_update, begins_among, kept_of, last_part, Stage, TakesTurns, stop, is_held, is_stopped, opened, begin_front, open_turn, keep}
+use Rattle.vte.proofs.Common.{update_nanos, HoldsWellAt, begin_update, begins_among, kept_of, last_part, Stage, TakesTurns, stop, is_held, is_stopped, stop_if_due, begin_front, open_turn, keep}
 use Rattle.vte.proofs.Common.{extend, hold_turn, turn, done, turns, most_held, drop, ap, append-nil}
-use Rattle.vte.proofs.runs.EachOnce.{opened_none}
+use Rattle.vte.proofs.runs.EachOnce.{stop_if_due_none}
 use Rattle.vte.proofs.turns.Fronts.{is_front}
 use Rattle.vte.proofs.updates.Sequences.{StaysHeld, begins_with-append, stays_held, stays-is}
 
@@ -86,10 +86,10 @@ module _ {V W : Type 0} (m : Meaning V W) where
     | inr i ↦ absurd (false≢true (i.pending.1 false allowed))
   ]
 
-  pub opened_outside : (answer : Bool) (s : Stage V W) → m.timeout.allows s.timeout answer → HoldsWellAt m s
+  pub stop_if_due_outside : (answer : Bool) (s : Stage V W) → m.timeout.allows s.timeout answer → HoldsWellAt m s
       → IsKept m.timeout
-      → IsOutsideUpdate m.timeout (opened m answer s).held (opened m answer s).timeout
-  opened_outside answer s allowed h k = elim (cases_Bool (is_stopped answer s)) [
+      → IsOutsideUpdate m.timeout (stop_if_due m answer s).held (stop_if_due m answer s).timeout
+  stop_if_due_outside answer s allowed h k = elim (cases_Bool (is_stopped answer s)) [
     | inl stopped ↦ rw stopped (stop_outside s k)
     | inr none ↦ let no : answer ≡ false = grind (arith, nat_tests) in rw none (outside_of s h (rw no at allowed) k)
   ]
@@ -111,7 +111,9 @@ module _ {V W : Type 0} (m : Meaning V W) where
     | inl held ↦ let yes : answer ≡ true =
         grind (arith, nat_tests) in rw held (hold_well s r h (rw yes at allowed) (grind (arith, nat_tests)))
     | inr parses ↦
-        rw parses (open_well (opened m answer s) r (opened_none m answer s) (opened_outside answer s allowed h))
+        rw parses
+        (open_well (stop_if_due m answer s) r (stop_if_due_none m answer s)
+        (stop_if_due_outside answer s allowed h))
   ]
 
   pub taken_well : (s t : Stage V W) (bytes left : List ℕ) → TakesTurns m s bytes t left → HoldsWellAt m s

@@ -1,14 +1,14 @@
 -- A hold turn by its parts: bytes join the hold, the timeout is set as often as they begin updates, and what the hold
 -- releases is parsed. Parsing a front of the held bytes and keeping the rest is `keep`.
 use Rattle.vte.proofs.Common.{◌≡◌, ℕ, ◌+◌, ◌-◌, ◌<◌, List, [], ◌∷◌, ◌++◌, length, length-append, length-take, take, refl, sym, ◌∙◌, arith, take_all, Turns, IsAdded}
-use Rattle.vte.proofs.Common.{held_of, released_of, kept_of, Meaning, set_times, AreAt, TurnsMeaning, AreNextAt, IsParsed, IsParsedOn, IsReady, Stage, cut_at, extend, hold_turn, keep}
+use Rattle.vte.proofs.Common.{held_of, released_of, kept_of, Meaning, set_times, AreAt, TurnsMeaning, AreNextAt, IsParsed, IsParsedOn, IsParsedWithRoom, Stage, parse_held, extend, hold_turn, keep}
 use Rattle.vte.proofs.Common.{parse, stop}
 use Rattle.std.proofs.lemmas.List.{nil_from_length}
 use Rattle.vte.proofs.updates.Sequences.{stays_held, stays-is, suffix-length}
 use Rattle.vte.specs.declared.ansi.hold.SyncState.{SyncState}
 
 keeps_some : {V W : Type 0} (m : Meaning V W) (t : Stage V W) (kept : List ℕ) → 0 < length kept
-    → keep m t kept ≡ cut_at m t (length t.held - length kept)
+    → keep m t kept ≡ parse_held m t (length t.held - length kept)
 keeps_some m t [] some = absurd (omega arith)
 keeps_some m t (b ∷ kept) some = refl
 
@@ -37,7 +37,7 @@ module _ {P J T A V W : Type 0} {w : TurnsMeaning P J T W} (m : Meaning V W) {s 
       → (0 < length (released_of hold)
       → w.reading.has_room set.parser (w.room_of set.state.text) t.parsed (length (released_of hold) + n))
       → IsParsedOn w set.parser set.state last.parser last.state next (parse m t (released_of hold)))
-      → ((t : Stage V W) (n : ℕ) → IsReady w set.parser set.state value t (length (released_of hold) + n)
+      → ((t : Stage V W) (n : ℕ) → IsParsedWithRoom w set.parser set.state value t (length (released_of hold) + n)
       → w.reading.has_room last.parser (w.room_of last.state.text) (t.parsed ++ released_of hold) n)
       → last.hold ≡ hold → AreNextAt w old last next (hold_turn m s more)
   turned_cut {last} {next} some parses leaves kept =

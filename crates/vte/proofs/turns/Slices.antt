@@ -1,13 +1,14 @@
 -- An open turn by its slices, and turns that are refused memory. Slices in which no update begins add up to a longer
--- front, so the turn ends where the front of the whole does; where one is refused, `Halts` says how far it came.
+-- front, so the turn ends where the front of the whole does; where one is refused, `OpenTurnHalts` says how far it
+-- came.
 use Rattle.vte.proofs.Common.{◌≡◌, ℕ, ◌+◌, ◌-◌, ◌<◌, ◌≤◌, inl, Bool, true, false, nat_lt, List, [], ◌∷◌, ◌++◌, length, take, drop, refl, ap, sym, subst}
 use Rattle.vte.proofs.Common.{◌∙◌, arith, length-append, length-drop, append_assoc, drop-append-add, take-add, nat_tests, append-nil, drop_all, length-take-le}
 use Rattle.vte.proofs.Common.{take-append-drop, take_all, take_at, added, IsKept, begin_count, IsOutsideUpdate, Meaning, HoldsWellAt, Halted, IsAtBegin, IsOpenAt, Opened}
-use Rattle.vte.proofs.Common.{TakesAllTurns, Halts, Stage, TakesSome, TakesTurns, TurnHalts, begin_front, between, done, is_stopped, open_turn, opened, parse, turn, turns, within}
+use Rattle.vte.proofs.Common.{TakesAllTurns, OpenTurnHalts, Stage, TakesSome, TakesTurns, TurnHalts, begin_front, between, done, is_stopped, open_turn, stop_if_due, parse, turn, turns, within}
 use Rattle.vte.proofs.performing.CallLists.{after-append, calls_added-append, calls_added-nothing, set_times-add}
-use Rattle.vte.proofs.runs.EachOnce.{Grows, grows_on, opened_grows, opened_none, parse_grows, turns_grow}
+use Rattle.vte.proofs.runs.EachOnce.{Grows, grows_on, stop_if_due_grows, stop_if_due_none, parse_grows, turns_grow}
 use Rattle.vte.proofs.turns.Fronts.{begins_in, front_after, front_is_all, front_of_more, front_some, none_begin, none_begin_in}
-use Rattle.vte.proofs.turns.HoldFacts.{opened_outside, taken_well}
+use Rattle.vte.proofs.turns.HoldFacts.{stop_if_due_outside, taken_well}
 
 -- ---- the slices of an open turn
 
@@ -31,7 +32,8 @@ module _ {V W : Type 0} (m : Meaning V W) where
         append_assoc s.parsed a b,
       ) refl
 
-  open_on : (s t : Stage V W) (bytes left : List ℕ) → Halts m s bytes t left → open_turn m t left ≡ open_turn m s bytes
+  open_on : (s t : Stage V W) (bytes left : List ℕ) → OpenTurnHalts m s bytes t left
+      → open_turn m t left ≡ open_turn m s bytes
   open_on s t bytes left h =
       let front = begin_front m.limit (s.parsed ++ h.front) left in
       rw (
@@ -122,7 +124,7 @@ module _ {V W : Type 0} (m : Meaning V W) (s : Stage V W) (bytes : List ℕ) whe
       }
 
   pub halts : {read : ℕ} {there : Stage V W → Type 0} → IsOpenAt m s bytes read there → read < length bytes
-      → Halts m s bytes (parse m s (take read bytes)) (drop read bytes)
+      → OpenTurnHalts m s bytes (parse m s (take read bytes)) (drop read bytes)
   halts {read} o less = record {
     front = take read bytes;
     bytes_are = take-append-drop read bytes;
@@ -170,8 +172,8 @@ module _ {V W : Type 0} (m : Meaning V W) where
       → Grows s t bytes left
   turn_halts_grow answer s t bytes left (parses, h) =
       rw h.state_is
-      (grows_on (opened_grows m answer s bytes)
-      (parse_grows m (opened m answer s) h.front left bytes (opened_none m answer s) h.bytes_are))
+      (grows_on (stop_if_due_grows m answer s bytes)
+      (parse_grows m (stop_if_due m answer s) h.front left bytes (stop_if_due_none m answer s) h.bytes_are))
 
   pub some_grow : (s t : Stage V W) (bytes left : List ℕ) → TakesSome m s bytes t left → Grows s t bytes left
   some_grow s t bytes left (between taken) = turns_grow m s t bytes left taken
@@ -183,11 +185,11 @@ module _ {V W : Type 0} (m : Meaning V W) where
       → m.timeout.allows s.timeout answer
       → TurnHalts m answer s bytes t left → IsOutsideUpdate m.timeout t.held t.timeout
   turn_halts_outside answer s t bytes left kept well allowed (parses, h) =
-      rw (h.state_is, h.none_begin) (opened_outside m answer s allowed well kept)
+      rw (h.state_is, h.none_begin) (stop_if_due_outside m answer s allowed well kept)
 
   turn_halts_held : (answer : Bool) (s t : Stage V W) (bytes left : List ℕ)
       → TurnHalts m answer s bytes t left → t.held ≡ []
-  turn_halts_held answer s t bytes left (parses, h) = ap (λ t. t.held) h.state_is ∙ opened_none m answer s
+  turn_halts_held answer s t bytes left (parses, h) = ap (λ t. t.held) h.state_is ∙ stop_if_due_none m answer s
 
   pub some_well : (s t : Stage V W) (bytes left : List ℕ) → TakesSome m s bytes t left → HoldsWellAt m s
       → HoldsWellAt m t
@@ -208,7 +210,7 @@ module _ {V W : Type 0} (m : Meaning V W) where
       → turn m false t left ≡ turn m answer s bytes
   turn_goes_on answer s t bytes left (parses, h) =
       let none : is_stopped false t ≡ false = rw (turn_halts_held answer s t bytes left (parses, h)) refl in
-      rw (none, parses) (open_on m (opened m answer s) t bytes left h)
+      rw (none, parses) (open_on m (stop_if_due m answer s) t bytes left h)
 
   halted_goes_on : (answer : Bool) (s t end : Stage V W) (bytes left : List ℕ) → m.timeout.allows s.timeout answer
       → TurnHalts m answer s bytes t left

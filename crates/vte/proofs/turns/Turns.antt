@@ -4,7 +4,7 @@ use Rattle.vte.proofs.Common.{◌≡◌, ℕ, ◌+◌, ◌-◌, ◌<◌, ◌≤�
 use Rattle.vte.proofs.Common.{append_assoc, Result, Ok, Err, append_cancel_right, drop_all, drop-drop, take_all, take-append-drop, Refused, ProcessorState, Turns, Meaning}
 use Rattle.vte.proofs.Common.{held_of, false, MatchResult, EndsTurn, within}
 use Rattle.vte.proofs.Common.{Advanced, AreAt, HasTaken, TurnsMeaning, KeepsTurnRoom, ReadsSome, StopsUpdate, AreNextAt, EndsOpen, Halted, IsAtBegin, IsOpenAt, IsParsed, IsParsedOn}
-use Rattle.vte.proofs.Common.{IsReady, Turned, Stage, TakesSome, TakesTurns, all_bytes, turn, hold_turn, parse, stop, between, done, LacksSome, ReservesRoom, is_held, opened}
+use Rattle.vte.proofs.Common.{IsParsedWithRoom, Turned, Stage, TakesSome, TakesTurns, all_bytes, turn, hold_turn, parse, stop, between, done, LacksSome, ReservesRoom, is_held, stop_if_due}
 use Rattle.vte.proofs.runs.EachOnce.{grown_bytes, stop_bytes}
 use Rattle.vte.proofs.turns.HoldFacts.{stop_well}
 use Rattle.vte.proofs.turns.Slices.{all_taken, halts, one_taken, some_grow, some_on, some_well, taken_on}
@@ -51,7 +51,7 @@ module _ {P J T A V W : Type 0} {w : TurnsMeaning P J T W} {m : Meaning V W} {s 
     {first old taken : Turns P J T A} {parser : P} {state : ProcessorState T J} {before value : V} where
   pub slice_parsed : IsOpenAt m s bytes read (AreNextAt w first old before) → ReservesRoom w old taken count true
       → length slice ≡ count → s.held ≡ []
-      → ((t : Stage V W) (k : ℕ) → IsReady w taken.parser taken.state before t (length slice + k)
+      → ((t : Stage V W) (k : ℕ) → IsParsedWithRoom w taken.parser taken.state before t (length slice + k)
       → IsAtBegin m t slice n b (IsParsedOn w taken.parser taken.state parser state value))
       → IsAtBegin m (parse m s (take read bytes)) slice n b
       (AreNextAt w first (record taken { parser = parser; state = state }) value)
@@ -92,7 +92,7 @@ pub ends_turn : {P J T A V W : Type 0} {w : TurnsMeaning P J T W} {m : Meaning V
     → m.timeout.allows s.timeout answer → is_held answer s bytes ≡ false → KeepsTurnRoom w old mid
     → (result : Result ℕ Refused)
     → MatchResult result (λ read. read ≤ length bytes) (λ refused. refused.read < length bytes)
-    → EndsOpen m (opened m answer s) bytes result (AreNextAt w mid new value)
+    → EndsOpen m (stop_if_due m answer s) bytes result (AreNextAt w mid new value)
     → EndsTurn m s bytes result (AreNextAt w old new value)
 ends_turn answer allowed parses keeps (Ok read) less e = record {
   turned =
@@ -108,8 +108,8 @@ ends_turn answer allowed parses keeps (Ok read) less e = record {
 ends_turn {m = m} {s = s} {bytes = bytes} answer allowed parses keeps (Err refused) less e = record {
   turned = tt;
   halted = record {
-    next = parse m (opened m answer s) (take refused.read bytes);
-    takes = within done answer allowed (parses, halts m (opened m answer s) bytes e.halted less);
+    next = parse m (stop_if_due m answer s) (take refused.read bytes);
+    takes = within done answer allowed (parses, halts m (stop_if_due m answer s) bytes e.halted less);
     is_at = after-next keeps e.halted.is_at;
   };
 }

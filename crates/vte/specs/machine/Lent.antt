@@ -3,7 +3,7 @@ use Rattle.std.specs.Prelude.{◌≡◌, ℕ, ◌+◌, ◌≤◌, ◌||◌, ◌=
 use Rattle.std.specs.Prelude.{length, nat_lt}
 use Rattle.std.specs.List.{All}
 use Rattle.vte.specs.BeginUpdate.{update_groups, update_mode}
-use Rattle.vte.specs.Change.{change_call, changes}
+use Rattle.vte.specs.Change.{change_call, change_calls}
 use Rattle.vte.specs.Processor.{set_times}
 use Rattle.vte.specs.Numbers.{first_numbers}
 use Rattle.vte.specs.machine.Performer.{FitsText, Lent}
@@ -43,7 +43,7 @@ with_private_mode step timeout lent number = record lent {
 abbrev pub with_private_modes : {H W : Type 0}
     → (H → Call → H) → TimeoutMeaning W → Lent H W → List (List ℕ) → Lent H W
 with_private_modes step timeout lent groups = record lent {
-  handler = after step lent.handler (changes SetPrivate (first_numbers groups));
+  handler = after step lent.handler (change_calls SetPrivate (first_numbers groups));
   timeout = set_times timeout (update_groups groups) lent.timeout;
   terminated = lent.terminated || nat_lt 0 (update_groups groups);
 }

@@ -3,7 +3,7 @@
 use Rattle.std.specs.Prelude.{◌≡◌, ℕ, Bool, ◌||◌, List, [], nat_lt, if◌then◌else◌, Option}
 use Rattle.std.specs.Borrow.{GName}
 use Rattle.vte.specs.BeginUpdate.{begins_of}
-use Rattle.vte.specs.Calls.{calls_of, last_from}
+use Rattle.vte.specs.Calls.{calls_of, last_printed_after}
 use Rattle.vte.specs.CommandCalls.{system_command_calls}
 use Rattle.vte.specs.Processor.{set_times}
 use Rattle.vte.specs.TextRoom.{fits_room}
@@ -37,7 +37,7 @@ abbrev pub with_event : {H W : Type 0}
 with_event step timeout lent event = record {
   handler = after step lent.handler (calls_made lent.room lent.last event);
   timeout = set_times timeout (begins_of event) lent.timeout;
-  last = last_from lent.last event;
+  last = last_printed_after lent.last event;
   room = lent.room;
   terminated = lent.terminated || nat_lt 0 (begins_of event);
   state_name = lent.state_name;

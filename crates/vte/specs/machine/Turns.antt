@@ -16,7 +16,7 @@ pub record IsParsed {P J T V W : Type 0} (w : TurnsMeaning P J T W) (parser : P)
   pub handler_is : value ≡ s.handler
 
 -- There is also memory for so many bytes.
-pub record IsReady {P J T V W : Type 0} (w : TurnsMeaning P J T W) (parser : P)
+pub record IsParsedWithRoom {P J T V W : Type 0} (w : TurnsMeaning P J T W) (parser : P)
     (lent : ProcessorState T J) (value : V) (s : Stage V W) (count : ℕ) : Type 0 where
   pub is_parsed : IsParsed w parser lent value s
   pub room : w.reading.has_room parser (w.room_of lent.text) s.parsed count

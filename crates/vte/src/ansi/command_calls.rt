@@ -2,7 +2,7 @@
 ghost use Rattle.std.specs.Prelude.{◌≡◌, ◌≤◌, map, codes};
 ghost use Rattle.vte.specs.CommandCalls.{all_reset, clipboard_calls, color_calls, dynamic_call, dynamic_calls, dynamic_prefixes, link_calls, link_to, palette_calls, pointer_calls};
 ghost use Rattle.vte.specs.CommandCalls.{reset_calls, shape_calls, system_command_calls, pair_calls};
-ghost use Rattle.vte_types.specs.Rows.{beside};
+ghost use Rattle.vte_types.specs.Rows.{entry_of};
 ghost use Rattle.vte.specs.TextRoom.{FitsRoom};
 ghost use Rattle.vte.specs.Titles.{decimal_number};
 ghost use Rattle.vte_handler.specs.Call.{SetHyperlink};
@@ -147,7 +147,7 @@ fn set_link_to<H: Handler>(handler: &mut H, parameters: &[u8], uri: &str)
 
 fn set_dynamic_color<H: Handler>(handler: &mut H, code: usize, terminator: &str, text: &[u8])
     ensures { H.value_of handler.new ≡ after H.step (H.value_of handler.old)
-        (dynamic_call code terminator.now text.now (beside dynamic_prefixes code)) }
+        (dynamic_call code terminator.now text.now (entry_of dynamic_prefixes code)) }
 {
     match code {
         10 => set_color(handler, "10", 256, terminator, text),

@@ -1,13 +1,13 @@
 //! The calls of control sequences.
 ghost use Rattle.std.specs.Prelude.{◌≡◌, ◌≢◌, [], ◌∷◌};
-ghost use Rattle.vte.specs.ControlCalls.{control_calls, repeated, window_rows};
+ghost use Rattle.vte.specs.ControlCalls.{control_calls, repeat_calls, window_rows};
 ghost use Rattle.vte.specs.ControlCalls.{rows_without_intermediates};
 ghost use Rattle.vte.specs.Numbers.{first_numbers};
 ghost use Rattle.vte.specs.Maybe.{or_none, for_some};
 ghost use Rattle.vte.specs.Values.{cursor_rows, keys_rows, line_rows, screen_rows, tab_rows};
 ghost use Rattle.vte_handler.specs.Call as call;
-ghost use Rattle.vte_types.specs.Rows.{beside};
-ghost use Rattle.vte.specs.Change.{change_call, changes};
+ghost use Rattle.vte_types.specs.Rows.{entry_of};
+ghost use Rattle.vte.specs.Change.{change_call, change_calls};
 ghost use Rattle.vte_handler.specs.Handler.{after};
 
 use crate::ansi::input::InputAs;
@@ -88,7 +88,7 @@ fn perform_plain<H: InputAs<G>, G>(
     action: char,
 )
     ensures { H.value_of handler.new ≡ after H.step (H.value_of handler.old)
-        (or_none (beside (rows_without_intermediates last [] params.now) action)) }
+        (or_none (entry_of (rows_without_intermediates last [] params.now) action)) }
 {
     let mut numbers = params.iter();
     match action {
@@ -137,7 +137,7 @@ fn perform_plain<H: InputAs<G>, G>(
 #[tactic(auto, using(crate::proofs::Calling::one_less))]
 fn repeat<H: InputAs<G>, G>(handler: &mut H, last: Option<char>, count: u16)
     ensures { H.value_of handler.new ≡ after H.step (H.value_of handler.old)
-        (repeated last count) }
+        (repeat_calls last count) }
 {
     if let Some(c) = last {
         for _ in 0..count {
@@ -148,7 +148,7 @@ fn repeat<H: InputAs<G>, G>(handler: &mut H, last: Option<char>, count: u16)
 
 fn operate_window<H: Handler>(handler: &mut H, number: u16)
     ensures { H.value_of handler.new ≡ after H.step (H.value_of handler.old)
-        (or_none (beside window_rows number)) }
+        (or_none (entry_of window_rows number)) }
 {
     match number {
         14 => handler.text_area_size_pixels(),
@@ -162,7 +162,7 @@ fn operate_window<H: Handler>(handler: &mut H, number: u16)
 /// Clears the tab stops that TBC selects.
 fn clear_tabs<H: Handler>(handler: &mut H, number: u16)
     ensures { H.value_of handler.new ≡ after H.step (H.value_of handler.old)
-        (for_some (λ x. call.ClearTabs x) (beside tab_rows number)) }
+        (for_some (λ x. call.ClearTabs x) (entry_of tab_rows number)) }
 {
     match number {
         0 => handler.clear_tabs(TabulationClearMode::Current),
@@ -174,7 +174,7 @@ fn clear_tabs<H: Handler>(handler: &mut H, number: u16)
 /// Clears the part of the screen that ED selects.
 fn clear_screen<H: Handler>(handler: &mut H, number: u16)
     ensures { H.value_of handler.new ≡ after H.step (H.value_of handler.old)
-        (for_some (λ x. call.ClearScreen x) (beside screen_rows number)) }
+        (for_some (λ x. call.ClearScreen x) (entry_of screen_rows number)) }
 {
     match number {
         0 => handler.clear_screen(ClearMode::Below),
@@ -188,7 +188,7 @@ fn clear_screen<H: Handler>(handler: &mut H, number: u16)
 /// Clears the part of the line that EL selects.
 fn clear_line<H: Handler>(handler: &mut H, number: u16)
     ensures { H.value_of handler.new ≡ after H.step (H.value_of handler.old)
-        (for_some (λ x. call.ClearLine x) (beside line_rows number)) }
+        (for_some (λ x. call.ClearLine x) (entry_of line_rows number)) }
 {
     match number {
         0 => handler.clear_line(LineClearMode::Right),
@@ -201,7 +201,7 @@ fn clear_line<H: Handler>(handler: &mut H, number: u16)
 /// Sets how modified keys are sent.
 fn set_other_keys<H: Handler>(handler: &mut H, number: u16)
     ensures { H.value_of handler.new ≡ after H.step (H.value_of handler.old)
-        (for_some (λ x. call.SetModifyOtherKeys x) (beside keys_rows number)) }
+        (for_some (λ x. call.SetModifyOtherKeys x) (entry_of keys_rows number)) }
 {
     match number {
         0 => handler.set_modify_other_keys(ModifyOtherKeys::Reset),
@@ -214,7 +214,7 @@ fn set_other_keys<H: Handler>(handler: &mut H, number: u16)
 /// Sets the cursor style of DECSCUSR. `None` is the terminal's own style.
 fn set_cursor_style<H: Handler>(handler: &mut H, number: u16)
     ensures { H.value_of handler.new ≡ after H.step (H.value_of handler.old)
-        (for_some (λ x. call.SetCursorStyle x) (beside cursor_rows number)) }
+        (for_some (λ x. call.SetCursorStyle x) (entry_of cursor_rows number)) }
 {
     let shape = match number {
         0 => return handler.set_cursor_style(None),
@@ -239,7 +239,7 @@ pub(crate) enum Change {
 /// Changes the modes that the first numbers of the groups name.
 fn change_modes<H: Handler>(handler: &mut H, params: &Params, change: Change)
     ensures { H.value_of handler.new ≡ after H.step (H.value_of handler.old)
-        (changes change (first_numbers params.now)) }
+        (change_calls change (first_numbers params.now)) }
 {
     for group in params {
         change_mode(handler, change, first_number(group));

@@ -1,8 +1,8 @@
 //! The calls of executed bytes and of escape sequences.
 ghost use Rattle.std.specs.Prelude.{◌≡◌, Some};
-ghost use Rattle.vte.specs.EscapeCalls.{charset_rows, configured, execute_calls, escape_calls};
+ghost use Rattle.vte.specs.EscapeCalls.{charset_rows, charset_calls, execute_calls, escape_calls};
 ghost use Rattle.vte_handler.specs.Handler.{after};
-ghost use Rattle.vte_types.specs.Rows.{beside};
+ghost use Rattle.vte_types.specs.Rows.{entry_of};
 
 use vte_handler::Handler;
 use vte_types::{CharsetIndex, StandardCharset};
@@ -60,7 +60,7 @@ pub(crate) fn perform_escape<H: Handler>(handler: &mut H, intermediates: &[u8], 
 fn configure<H: Handler>(handler: &mut H, intermediate: u8, charset: StandardCharset)
     ensures { H.value_of handler.new
         ≡ after H.step (H.value_of handler.old)
-        (configured (beside charset_rows intermediate) (Some charset)) }
+        (charset_calls (entry_of charset_rows intermediate) (Some charset)) }
 {
     match intermediate {
         b'(' => handler.configure_charset(CharsetIndex::G0, charset),

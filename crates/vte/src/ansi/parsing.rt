@@ -4,7 +4,7 @@ ghost use Rattle.std.specs.Prelude.{◌≡◌, ◌≤◌, ◌+◌, ◌++◌, ℕ
 ghost use Rattle.vte.specs.machine.Lent.{ParsesLent, StopsLent, lent_of};
 ghost use Rattle.vte.specs.Processor.{Stage, meaning, parse, timeout_meaning};
 ghost use Rattle.vte.specs.machine.Performer.{with_event};
-ghost use Rattle.vte.specs.machine.Turns.{IsAtBegin, IsParsedOn, IsReady};
+ghost use Rattle.vte.specs.machine.Turns.{IsAtBegin, IsParsedOn, IsParsedWithRoom};
 ghost use Rattle.vte.specs.machine.TurnsMeaning.{KeepsRoom, ParserMeaning, short_meaning, of_turns};
 
 use crate::ansi::performer::{Performer, ProcessorState};
@@ -129,14 +129,14 @@ pub(crate) fn parse_all<
     G: ParseAs<H, T, P>,
 >(parser: &mut P, state: &mut ProcessorState<T, J>, handler: &mut H, bytes: &[u8])
     ensures parsed { (s : Stage H.Value T.Value) (n : ℕ)
-        → IsReady (of_turns P.limit P.reading J.room T.value_of) parser.old state.old
+        → IsParsedWithRoom (of_turns P.limit P.reading J.room T.value_of) parser.old state.old
         (H.value_of handler.old) s (length bytes.now + n) →
         IsParsedOn
         (of_turns P.limit P.reading J.room T.value_of) parser.old state.old parser.new state.new
         (H.value_of handler.new)
         (parse (meaning P.limit H.step T.set T.clear T.allows) s bytes.now) }
     ensures room { (s : Stage H.Value T.Value) (n : ℕ)
-        → IsReady (of_turns P.limit P.reading J.room T.value_of) parser.old state.old
+        → IsParsedWithRoom (of_turns P.limit P.reading J.room T.value_of) parser.old state.old
         (H.value_of handler.old) s (length bytes.now + n) →
         P.reading.has_room parser.new (J.room state.new.text) (s.parsed ++ bytes.now) n }
 {
@@ -160,7 +160,7 @@ pub(crate) fn parse_until_begin<
 >(parser: &mut P, state: &mut ProcessorState<T, J>, handler: &mut H, bytes: &[u8]) -> (usize, bool)
     ensures within { result.0 ≤ length bytes.now }
     ensures stops { (s : Stage H.Value T.Value) (n : ℕ)
-        → IsReady (of_turns P.limit P.reading J.room T.value_of) parser.old state.old
+        → IsParsedWithRoom (of_turns P.limit P.reading J.room T.value_of) parser.old state.old
         (H.value_of handler.old) s (length bytes.now + n) →
         IsAtBegin (meaning P.limit H.step T.set T.clear T.allows) s bytes.now result.0 result.1
         (IsParsedOn

@@ -1,7 +1,7 @@
 //! Select graphic rendition (SGR).
 ghost use Rattle.std.specs.Prelude.{◌≡◌, drop, option_map};
 ghost use Rattle.vte.specs.Rendition.{attribute_calls, attribute_rows, color_rows, rendition, underline_of};
-ghost use Rattle.vte_types.specs.Rows.{beside};
+ghost use Rattle.vte_types.specs.Rows.{entry_of};
 ghost use Rattle.vte_handler.specs.Handler.{after};
 
 use crate::ansi::color_reader::{read_color, read_joined};
@@ -44,7 +44,7 @@ fn attribute(group: &[u16], groups: &mut ParamsIter<'_>) -> Option<Attr>
 
 /// Returns the attribute that a number makes of a colour.
 fn colored_by(number: u16, color: Color) -> Option<Attr>
-    ensures { result ≡ option_map (λ with_color. with_color color) (beside color_rows number) }
+    ensures { result ≡ option_map (λ with_color. with_color color) (entry_of color_rows number) }
 {
     match number {
         38 => Some(Attr::Foreground(color)),
@@ -56,7 +56,7 @@ fn colored_by(number: u16, color: Color) -> Option<Attr>
 
 /// Returns the attribute of a group of one number.
 fn plain_attribute(number: u16) -> Option<Attr>
-    ensures { result ≡ beside attribute_rows number }
+    ensures { result ≡ entry_of attribute_rows number }
 {
     let attribute = match number {
         0 => Attr::Reset,

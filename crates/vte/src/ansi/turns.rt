@@ -3,7 +3,7 @@ ghost use Rattle.std.specs.Prelude.{◌≡◌, ℕ, ◌+◌, ◌≤◌, [], leng
 ghost use Rattle.vte.specs.ProcessorCalls.{held_of};
 ghost use Rattle.vte.specs.machine.Hold.{released_of};
 ghost use Rattle.vte.specs.Processor.{Stage, hold_turn, meaning, most_held, parse, set_times, stop, timeout_meaning};
-ghost use Rattle.vte.specs.machine.Turns.{AreNextAt, EndsOpen, EndsTurn, IsParsed, IsParsedOn, IsReady, LeadOn};
+ghost use Rattle.vte.specs.machine.Turns.{AreNextAt, EndsOpen, EndsTurn, IsParsed, IsParsedOn, IsParsedWithRoom, LeadOn};
 ghost use Rattle.vte.specs.machine.TurnsMeaning.{HaveTaken, LacksSome, ReadsSome, ReservesRoom, StopsUpdate, of_turns};
 
 use crate::ansi::hold::{MOST_HELD, SyncState};
@@ -129,7 +129,8 @@ impl<P: EventParser + Drop, J: TextBuffer + Drop, T: Timeout + Drop, A: Allocato
             self.new.parser self.new.state (H.value_of handler.new)
             (parse (meaning P.limit H.step T.set T.clear T.allows) s (released_of self.old.hold)) }
         ensures room { (s : Stage H.Value T.Value) (n : ℕ) →
-            IsReady (of_turns P.limit P.reading J.room T.value_of) self.old.parser self.old.state
+            IsParsedWithRoom
+            (of_turns P.limit P.reading J.room T.value_of) self.old.parser self.old.state
             (H.value_of handler.old) s (length (released_of self.old.hold) + n) →
             P.reading.has_room self.new.parser (J.room self.new.state.text)
             (s.parsed ++ released_of self.old.hold) n }

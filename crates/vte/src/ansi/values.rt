@@ -1,6 +1,6 @@
 //! What the numbers of control sequences select.
 ghost use Rattle.std.specs.Prelude.{◌≡◌};
-ghost use Rattle.vte_types.specs.Rows.{beside};
+ghost use Rattle.vte_types.specs.Rows.{entry_of};
 ghost use Rattle.vte.specs.Values.{behavior_of, bottom_of, keyboard_modes as modes_of, path_rows, update_rows};
 
 use vte_types::{KeyboardModes, KeyboardModesApplyBehavior, ScpCharPath, ScpUpdateMode};
@@ -35,7 +35,7 @@ pub(crate) fn keyboard_modes(number: u16) -> KeyboardModes
 
 /// Returns the character path, the first selection of SCP.
 pub(crate) fn character_path(number: u16) -> Option<ScpCharPath>
-    ensures { result ≡ beside path_rows number }
+    ensures { result ≡ entry_of path_rows number }
 {
     match number {
         0 => Some(ScpCharPath::Default),
@@ -47,7 +47,7 @@ pub(crate) fn character_path(number: u16) -> Option<ScpCharPath>
 
 /// Returns how what is shown follows the path, the second selection of SCP.
 pub(crate) fn update_mode(number: u16) -> Option<ScpUpdateMode>
-    ensures { result ≡ beside update_rows number }
+    ensures { result ≡ entry_of update_rows number }
 {
     match number {
         0 => Some(ScpUpdateMode::ImplementationDependant),

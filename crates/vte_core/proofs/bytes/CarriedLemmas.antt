@@ -1,6 +1,6 @@
 -- What one more byte makes of an unfinished character, by the ranges of its bytes: a well-formed sequence, a longer
 -- truncated one, or neither. Each is computed from the rows that its first byte leaves.
-use Rattle.vte_core.proofs.Common.{◌≡◌, ℕ, ◌+◌, ◌*◌, ◌%◌, ◌<◌, ◌≤◌, true, false, List, [], ◌∷◌, ◌++◌, refl, sym, ap, subst, ◌∙◌, arith, inl, inr, IsScalar, InScalarRange, and_from, cases_lt, nat_tests, Two, Three, to, is_in, is_well_formed, is_truncated, scalar_of, utf8_rows, second_range, Carries}
+use Rattle.vte_core.proofs.Common.{◌≡◌, ℕ, ◌+◌, ◌*◌, ◌%◌, ◌<◌, ◌≤◌, true, false, List, [], ◌∷◌, ◌++◌, refl, sym, ap, subst, ◌∙◌, arith, inl, inr, IsScalar, InScalarRange, and_from, cases_lt, nat_tests, Two, Three, from_to, is_in, is_well_formed, is_truncated, scalar_of, utf8_rows, second_range, Carries}
 use Rattle.vte_core.specs.declared.utf8.Carried.{Carried}
 use Rattle.vte_core.specs.declared.utf8.Carried.TheVariants.{Unfinished, Whole, Broken}
 use Rattle.vte_core.proofs.bytes.FirstBytes.{second_plain, continuation, rows_lone, rows_none, Tests, tests_none, tests_two, tests_three, tests_four, truncated_first, TruncatedTwo, truncated_two, TruncatedThree, truncated_three}
@@ -13,7 +13,7 @@ unfolding is_truncated utf8_rows
 first_truncated b low high = grind (arith, nat_tests)
 
 -- a byte that begins no sequence and is none
-pub begins_none : (b : ℕ) → 0x80 ≤ b → is_in (to 0xc2 0xf4) b ≡ false → Tests (b ∷ []) false false
+pub begins_none : (b : ℕ) → 0x80 ≤ b → is_in (from_to 0xc2 0xf4) b ≡ false → Tests (b ∷ []) false false
 begins_none b high no_lead = elim (cases_lt b 0xc2) [
   | inl below ↦ tests_none b (rows_lone b high below) []
   | inr from_c2 ↦ tests_none b (rows_none b (grind (arith, nat_tests))) []

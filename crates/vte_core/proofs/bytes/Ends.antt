@@ -1,6 +1,6 @@
 -- Where a run ends: no sequence that is printed begins at a place. Of a sequence that would begin there, the rows say
 -- the bytes; each test of the search excludes one row.
-use Rattle.vte_core.proofs.Common.{◌≡◌, ℕ, zero, suc, ◌+◌, ◌<◌, ◌≤◌, inl, inr, Bool, utf8_rows, true, false, List, [], ◌∷◌, length, take, drop, refl, sym, ap, subst, ◌∙◌, arith, false≢true, cases_Bool, cases_lt, and_parts, nat_tests, drop_all, drop_more, slice_index, Range, to, is_in, is_layout, is_left_out, is_control_character, is_well_formed, second_range, scalar_of, EndsRun}
+use Rattle.vte_core.proofs.Common.{◌≡◌, ℕ, zero, suc, ◌+◌, ◌<◌, ◌≤◌, inl, inr, Bool, utf8_rows, true, false, List, [], ◌∷◌, length, take, drop, refl, sym, ap, subst, ◌∙◌, arith, false≢true, cases_Bool, cases_lt, and_parts, nat_tests, drop_all, drop_more, slice_index, Range, from_to, is_in, is_layout, is_left_out, is_control_character, is_well_formed, second_range, scalar_of, EndsRun}
 use Rattle.vte_core.proofs.bytes.Scalars.{continuation-bounds, in_range-bounds}
 use Rattle.vte_core.proofs.bytes.FirstBytes.{rows_lone, rows_none, continuation, fits, second_plain, tests_ascii, tests_none, tests_two, tests_three, tests_four}
 
@@ -71,7 +71,7 @@ module _ (keeps : Bool) (bytes : List ℕ) (from a : ℕ) (within : from < lengt
       by_test false other = control
 
   -- a byte that is neither printed nor kept, and begins no longer sequence
-  pub ends-single : is_in (to 0x20 0x7f) a ≡ false → is_in (to 0xc2 0xf4) a ≡ false
+  pub ends-single : is_in (from_to 0x20 0x7f) a ≡ false → is_in (from_to 0xc2 0xf4) a ≡ false
       → (keeps ≡ true → is_layout a ≡ false) → EndsRun keeps bytes from
   ends-single other lone plain n far whole =
       let p = begins n whole in
@@ -128,13 +128,13 @@ module _ (keeps : Bool) (bytes : List ℕ) (from a : ℕ) (within : from < lengt
       absurd (none (rw e at those.2.0) those.1 (rw e at those.2.1))
 
   -- .. and none of four
-  pub ends-four : 0xf0 ≤ a → is_in (to 0xc2 0xf4) a ≡ true
+  pub ends-four : 0xf0 ≤ a → is_in (from_to 0xc2 0xf4) a ≡ true
       → (from + 3 < length bytes → is_in (second_range a) (slice_index bytes (from + 1)) ≡ true
       → is_in continuation (slice_index bytes (from + 2)) ≡ true
       → is_in continuation (slice_index bytes (from + 3)) ≡ true → ⊥) → EndsRun keeps bytes from
   ends-four low lead none n far whole =
       let p = begins n whole in
-      let high : a < 0xf5 = omega (arith, (in_range-bounds (to 0xc2 0xf4) a lead).1) in
+      let high : a < 0xf5 = omega (arith, (in_range-bounds (from_to 0xc2 0xf4) a lead).1) in
       let those =
       fits-in (second_range a ∷ continuation ∷ continuation ∷ []) bytes (from + 1) p.m
       (sym (tests_four a low high (later p.m)).is_whole ∙ p.well) in
@@ -143,9 +143,9 @@ module _ (keeps : Bool) (bytes : List ℕ) (from a : ℕ) (within : from < lengt
       absurd (none (rw (e, f) at those.2.2.0) those.1 (rw e at those.2.1) (rw (e, f) at those.2.2.1))
 
   -- no byte follows a first one
-  pub ends-long : is_in (to 0xc2 0xf4) a ≡ true → (from + 1 < length bytes → ⊥) → EndsRun keeps bytes from
+  pub ends-long : is_in (from_to 0xc2 0xf4) a ≡ true → (from + 1 < length bytes → ⊥) → EndsRun keeps bytes from
   ends-long lead none =
-      let bounds = in_range-bounds (to 0xc2 0xf4) a lead in
+      let bounds = in_range-bounds (from_to 0xc2 0xf4) a lead in
       elim (cases_lt a 0xe0) [
         | inl two ↦ ends-two bounds.0 two (λ more continues plain. none more)
         | inr rest ↦ elim (cases_lt a 0xf0) [
@@ -163,9 +163,9 @@ ends-all keeps bytes place all (suc n) far whole = absurd (omega (arith, all, fa
 
 -- ASCII that is printed begins a run
 pub ends-unprinted : (bytes : List ℕ) (from : ℕ) → from < length bytes → EndsRun false bytes from
-    → is_in (to 0x20 0x7f) (slice_index bytes from) ≡ false
+    → is_in (from_to 0x20 0x7f) (slice_index bytes from) ≡ false
 unfolding is_well_formed utf8_rows
-ends-unprinted bytes from within ended = elim (cases_Bool (is_in (to 0x20 0x7f) (slice_index bytes from))) [
+ends-unprinted bytes from within ended = elim (cases_Bool (is_in (from_to 0x20 0x7f) (slice_index bytes from))) [
   | inr other ↦ other
   | inl printed ↦
       let b : ℕ = slice_index bytes from in

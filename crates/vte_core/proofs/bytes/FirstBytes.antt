@@ -1,39 +1,39 @@
 -- What the rows of UTF-8 say of a first byte, and of short sequences, in numbers: by the nine rows, which ascend.
-use Rattle.vte_core.proofs.Common.{◌≡◌, ℕ, ◌<◌, ◌≤◌, Bool, true, false, ◌&&◌, List, [], ◌∷◌, ◌++◌, refl, sym, ap, ◌∙◌, arith, ◌≢◌, inl, inr, false≢true, length, and_right, cases_lt, cases_Bool, nat_tests, Range, to, is_in, utf8_rows, rows_after, wanted, is_well_formed, is_truncated, second_range}
-use Rattle.vte_core.proofs.bytes.Utf8Lemmas.{wanted_none, some_whole, some_open}
+use Rattle.vte_core.proofs.Common.{◌≡◌, ℕ, ◌<◌, ◌≤◌, Bool, true, false, ◌&&◌, List, [], ◌∷◌, ◌++◌, refl, sym, ap, ◌∙◌, arith, ◌≢◌, inl, inr, false≢true, length, and_right, cases_lt, cases_Bool, nat_tests, Range, from_to, is_in, utf8_rows, rows_after_byte, rows_after_bytes, is_well_formed, is_truncated, second_range}
+use Rattle.vte_core.proofs.bytes.Utf8Lemmas.{rows_after_bytes_none, some_whole, some_open}
 
 -- ---- what the rows want after a first byte
 
-pub second_plain : (a : ℕ) → a ≢ 0xe0 → a ≢ 0xed → a ≢ 0xf0 → a ≢ 0xf4 → second_range a ≡ to 0x80 0xbf
+pub second_plain : (a : ℕ) → a ≢ 0xe0 → a ≢ 0xed → a ≢ 0xf0 → a ≢ 0xf4 → second_range a ≡ from_to 0x80 0xbf
 unfolding second_range
 second_plain a e0 ed f0 f4 = grind (arith, nat_tests)
 
 -- a byte after the second
 abbrev pub continuation : Range
-continuation = to 0x80 0xbf
+continuation = from_to 0x80 0xbf
 
-pub rows_ascii : (a : ℕ) → a < 0x80 → rows_after a utf8_rows ≡ [] ∷ []
+pub rows_ascii : (a : ℕ) → a < 0x80 → rows_after_byte a utf8_rows ≡ [] ∷ []
 unfolding utf8_rows
 rows_ascii a high = grind (arith, nat_tests)
 
-pub rows_lone : (a : ℕ) → 0x80 ≤ a → a < 0xc2 → rows_after a utf8_rows ≡ []
+pub rows_lone : (a : ℕ) → 0x80 ≤ a → a < 0xc2 → rows_after_byte a utf8_rows ≡ []
 unfolding utf8_rows
 rows_lone a low high = grind (arith, nat_tests)
 
-pub rows_none : (a : ℕ) → 0xf5 ≤ a → rows_after a utf8_rows ≡ []
+pub rows_none : (a : ℕ) → 0xf5 ≤ a → rows_after_byte a utf8_rows ≡ []
 unfolding utf8_rows
 rows_none a low = grind (arith, nat_tests)
 
-pub rows_two : (a : ℕ) → 0xc2 ≤ a → a < 0xe0 → rows_after a utf8_rows ≡ (second_range a ∷ []) ∷ []
+pub rows_two : (a : ℕ) → 0xc2 ≤ a → a < 0xe0 → rows_after_byte a utf8_rows ≡ (second_range a ∷ []) ∷ []
 unfolding utf8_rows second_range
 rows_two a low high = grind (arith, nat_tests)
 
-pub rows_three : (a : ℕ) → 0xe0 ≤ a → a < 0xf0 → rows_after a utf8_rows ≡ (second_range a ∷ continuation ∷ []) ∷ []
+pub rows_three : (a : ℕ) → 0xe0 ≤ a → a < 0xf0 → rows_after_byte a utf8_rows ≡ (second_range a ∷ continuation ∷ []) ∷ []
 unfolding utf8_rows second_range
 rows_three a low high = grind (arith, nat_tests)
 
 pub rows_four : (a : ℕ) → 0xf0 ≤ a → a < 0xf5
-    → rows_after a utf8_rows ≡ (second_range a ∷ continuation ∷ continuation ∷ []) ∷ []
+    → rows_after_byte a utf8_rows ≡ (second_range a ∷ continuation ∷ continuation ∷ []) ∷ []
 unfolding utf8_rows second_range
 rows_four a low high = grind (arith, nat_tests)
 
@@ -41,7 +41,7 @@ rows_four a low high = grind (arith, nat_tests)
 
 pub data FirstByte (a : ℕ) : Type 0 where
   ascii : a < 0x80 → FirstByte a
-  lone : rows_after a utf8_rows ≡ [] → FirstByte a
+  lone : rows_after_byte a utf8_rows ≡ [] → FirstByte a
   of_two : 0xc2 ≤ a → a < 0xe0 → FirstByte a
   of_three : 0xe0 ≤ a → a < 0xf0 → FirstByte a
   of_four : 0xf0 ≤ a → a < 0xf5 → FirstByte a
@@ -80,24 +80,24 @@ fits_front [] bytes = false
 fits_front (range ∷ ranges) [] = true
 fits_front (range ∷ ranges) (b ∷ bytes) = is_in range b && fits_front ranges bytes
 
-some_whole-row : (ranges : List Range) (u : List ℕ) → some_whole (wanted u (ranges ∷ [])) ≡ fits ranges u
+some_whole-row : (ranges : List Range) (u : List ℕ) → some_whole (rows_after_bytes u (ranges ∷ [])) ≡ fits ranges u
 some_whole-row [] [] = refl
-some_whole-row [] (b ∷ u) = ap some_whole (wanted_none u)
+some_whole-row [] (b ∷ u) = ap some_whole (rows_after_bytes_none u)
 some_whole-row (range ∷ ranges) [] = refl
 some_whole-row (range ∷ ranges) (b ∷ u) =
     elim (cases_Bool (is_in range b)) [
       | inl e ↦ rw e (some_whole-row ranges u)
-      | inr e ↦ rw e (ap some_whole (wanted_none u))
+      | inr e ↦ rw e (ap some_whole (rows_after_bytes_none u))
     ]
 
-some_open-row : (ranges : List Range) (u : List ℕ) → some_open (wanted u (ranges ∷ [])) ≡ fits_front ranges u
+some_open-row : (ranges : List Range) (u : List ℕ) → some_open (rows_after_bytes u (ranges ∷ [])) ≡ fits_front ranges u
 some_open-row [] [] = refl
-some_open-row [] (b ∷ u) = ap some_open (wanted_none u)
+some_open-row [] (b ∷ u) = ap some_open (rows_after_bytes_none u)
 some_open-row (range ∷ ranges) [] = refl
 some_open-row (range ∷ ranges) (b ∷ u) =
     elim (cases_Bool (is_in range b)) [
       | inl e ↦ rw e (some_open-row ranges u)
-      | inr e ↦ rw e (ap some_open (wanted_none u))
+      | inr e ↦ rw e (ap some_open (rows_after_bytes_none u))
     ]
 
 -- what the two tests say of bytes
@@ -105,19 +105,23 @@ pub record Tests (bytes : List ℕ) (whole more : Bool) : Type 0 where
   pub is_whole : is_well_formed bytes ≡ whole
   pub is_open : is_truncated bytes ≡ more
 
-pub tests_row : (a : ℕ) (ranges : List Range) → rows_after a utf8_rows ≡ ranges ∷ [] → (u : List ℕ)
+pub tests_row : (a : ℕ) (ranges : List Range) → rows_after_byte a utf8_rows ≡ ranges ∷ [] → (u : List ℕ)
     → Tests (a ∷ u) (fits ranges u) (fits_front ranges u)
 unfolding is_well_formed is_truncated
 tests_row a ranges same u = record {
-  is_whole = ap (λ (rows : List (List Range)). some_whole (wanted u rows)) same ∙ some_whole-row ranges u;
-  is_open = ap (λ (rows : List (List Range)). some_open (wanted u rows)) same ∙ some_open-row ranges u;
+  is_whole = ap (λ (rows : List (List Range)). some_whole (rows_after_bytes u rows)) same ∙ some_whole-row ranges u;
+  is_open = ap (λ (rows : List (List Range)). some_open (rows_after_bytes u rows)) same ∙ some_open-row ranges u;
 }
 
-pub tests_none : (a : ℕ) → rows_after a utf8_rows ≡ [] → (u : List ℕ) → Tests (a ∷ u) false false
+pub tests_none : (a : ℕ) → rows_after_byte a utf8_rows ≡ [] → (u : List ℕ) → Tests (a ∷ u) false false
 unfolding is_well_formed is_truncated
 tests_none a none u = record {
-  is_whole = ap (λ (rows : List (List Range)). some_whole (wanted u rows)) none ∙ ap some_whole (wanted_none u);
-  is_open = ap (λ (rows : List (List Range)). some_open (wanted u rows)) none ∙ ap some_open (wanted_none u);
+  is_whole =
+      ap (λ (rows : List (List Range)). some_whole (rows_after_bytes u rows)) none
+      ∙ ap some_whole (rows_after_bytes_none u);
+  is_open =
+      ap (λ (rows : List (List Range)). some_open (rows_after_bytes u rows)) none
+      ∙ ap some_open (rows_after_bytes_none u);
 }
 
 pub tests_ascii : (a : ℕ) → a < 0x80 → (u : List ℕ) → Tests (a ∷ u) (fits [] u) false

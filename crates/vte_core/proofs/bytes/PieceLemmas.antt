@@ -1,9 +1,9 @@
 -- Texts of bytes of the same classes join, and bytes of a head or of parameters end nothing and are no controls: by
 -- cases of the class.
-use Rattle.vte_core.proofs.Common.{◌≡◌, ℕ, Bool, true, false, List, [], ◌∷◌, ◌++◌, refl, Class, Control, Cancel, Digit, Colon, Semicolon, Final, is_control, is_head, is_parameter_text, ends_head, AreOf}
+use Rattle.vte_core.proofs.Common.{◌≡◌, ℕ, Bool, true, false, List, [], ◌∷◌, ◌++◌, refl, Class, Control, Cancel, Digit, Colon, Semicolon, Final, is_control, is_head, is_parameter_text, ends_head, AreInClass}
 
-pub AreOf-append : (has : Class → Bool) (front rest : List ℕ) → AreOf has front → AreOf has rest
-    → AreOf has (front ++ rest)
+pub AreOf-append : (has : Class → Bool) (front rest : List ℕ) → AreInClass has front → AreInClass has rest
+    → AreInClass has (front ++ rest)
 AreOf-append has [] rest are more = more
 AreOf-append has (b ∷ front) rest are more = (are.0, AreOf-append has front rest are.1 more)
 

@@ -1,6 +1,6 @@
 -- The text of runs: bytes of ASCII, or a character, are well-formed text whose events are theirs, and two runs one
 -- after another are a run. By induction over the bytes.
-use Rattle.vte_core.proofs.Common.{◌≡◌, ℕ, zero, suc, ◌+◌, ◌-◌, ◌<◌, ◌≤◌, Bool, true, false, ◌&&◌, not, List, [], ◌∷◌, ◌++◌, map, length, get_or, take, drop, refl, sym, ap, subst, ◌∙◌, arith, and_right, nat_tests, drop_more, get_or-drop, All-append, All-nil, All-cons, All, slice_index, IsAscii, chars, Print, IsPrinted, ArePrinted, AreRun, IsRun, to, append-nil, encode, IsScalar, after, Event, is_in}
+use Rattle.vte_core.proofs.Common.{◌≡◌, ℕ, zero, suc, ◌+◌, ◌-◌, ◌<◌, ◌≤◌, Bool, true, false, ◌&&◌, not, List, [], ◌∷◌, ◌++◌, map, length, get_or, take, drop, refl, sym, ap, subst, ◌∙◌, arith, and_right, nat_tests, drop_more, get_or-drop, All-append, All-nil, All-cons, All, slice_index, IsAscii, chars, Print, IsPrinted, ArePrinted, AreRun, IsRun, from_to, append-nil, encode, IsScalar, after, Event, is_in}
 use Rattle.vte_core.proofs.Common.{is_control_character, is_layout, is_left_out, run_event}
 use Rattle.std.proofs.Common.{take-add}
 use Rattle.std.proofs.lemmas.List.{length-take, get_or-take}
@@ -111,7 +111,7 @@ no_control_event keeps c e = grind (arith, nat_tests, layout-is_control c)
 
 -- ---- runs among the bytes
 
-pub printed-is : (b : ℕ) → is_in (to 0x20 0x7f) b ≡ true → IsPrinted b
+pub printed-is : (b : ℕ) → is_in (from_to 0x20 0x7f) b ≡ true → IsPrinted b
 printed-is b e = grind (arith, nat_tests)
 
 -- a run of one byte

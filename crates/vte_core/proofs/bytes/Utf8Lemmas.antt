@@ -1,6 +1,6 @@
 -- What the rows of UTF-8 say of bytes one after the other. The rows ascend, so after a first byte at most one is left,
 -- and bytes are well formed, truncated or neither by what it still wants.
-use Rattle.vte_core.proofs.Common.{◌≡◌, ℕ, suc, ◌+◌, ◌<◌, ◌≤◌, Bool, true, false, not, ◌&&◌, List, [], ◌∷◌, ◌++◌, length, refl, sym, ap, ◌∙◌, arith, inl, inr, nat_le, list_any, false≢true, le-leb, lt-leb, leb-true, and_from, and_left, cases_Bool, and_parts, Range, is_in, utf8_rows, rows_after, wanted, wants_none, allowed}
+use Rattle.vte_core.proofs.Common.{◌≡◌, ℕ, suc, ◌+◌, ◌<◌, ◌≤◌, Bool, true, false, not, ◌&&◌, List, [], ◌∷◌, ◌++◌, length, refl, sym, ap, ◌∙◌, arith, inl, inr, nat_le, list_any, false≢true, le-leb, lt-leb, leb-true, and_from, and_left, cases_Bool, and_parts, Range, is_in, utf8_rows, rows_after_byte, rows_after_bytes, is_complete, allowed_length}
 
 -- ---- one row
 
@@ -24,7 +24,7 @@ pub below_range : (range : Range) (b : ℕ) → b < range.first → is_in range 
 below_range range b low = and_left _ _ (lt-leb range.first b low)
 
 -- rows that begin above the byte want nothing after it
-pub none_after : (n b : ℕ) (rows : List (List Range)) → ascends n rows ≡ true → b < n → rows_after b rows ≡ []
+pub none_after : (n b : ℕ) (rows : List (List Range)) → ascends n rows ≡ true → b < n → rows_after_byte b rows ≡ []
 none_after n b [] up low = refl
 none_after n b ([] ∷ rows) up low = cc
 none_after n b ((range ∷ ranges) ∷ rows) up low =
@@ -37,7 +37,7 @@ none_after n b ((range ∷ ranges) ∷ rows) up low =
     let left : is_in range b ≡ false = below_range range b (omega arith) in
     rw left (none_after (range.last + 1) b rows rest.1 (omega arith))
 
-AtMostOne-after_rows : (n b : ℕ) (rows : List (List Range)) → ascends n rows ≡ true → AtMostOne (rows_after b rows)
+AtMostOne-after_rows : (n b : ℕ) (rows : List (List Range)) → ascends n rows ≡ true → AtMostOne (rows_after_byte b rows)
 AtMostOne-after_rows n b [] up = tt
 AtMostOne-after_rows n b ([] ∷ rows) up = cc
 AtMostOne-after_rows n b ((range ∷ ranges) ∷ rows) up =
@@ -50,40 +50,43 @@ AtMostOne-after_rows n b ((range ∷ ranges) ∷ rows) up =
       | inr e ↦ rw e (AtMostOne-after_rows (range.last + 1) b rows rest.1)
     ]
   where
-    later : b ≤ range.last → ascends (range.last + 1) rows ≡ true → AtMostOne (ranges ∷ rows_after b rows)
+    later : b ≤ range.last → ascends (range.last + 1) rows ≡ true → AtMostOne (ranges ∷ rows_after_byte b rows)
     later low up = rw (none_after (range.last + 1) b rows up (omega arith)) tt
 
-pub AtMostOne-first : (b : ℕ) → AtMostOne (rows_after b utf8_rows)
+pub AtMostOne-first : (b : ℕ) → AtMostOne (rows_after_byte b utf8_rows)
 unfolding utf8_rows
 AtMostOne-first b = AtMostOne-after_rows 0 b utf8_rows refl
 
-pub AtMostOne-next : (b : ℕ) (rows : List (List Range)) → AtMostOne rows → AtMostOne (rows_after b rows)
+pub AtMostOne-next : (b : ℕ) (rows : List (List Range)) → AtMostOne rows → AtMostOne (rows_after_byte b rows)
 AtMostOne-next b [] one = tt
 AtMostOne-next b ([] ∷ []) one = tt
 AtMostOne-next b ((range ∷ ranges) ∷ []) one = elim (cases_Bool (is_in range b)) [ inl e ↦ rw e tt | inr e ↦ rw e tt ]
 AtMostOne-next b (row ∷ next ∷ rows) one = absurd one
 
-pub AtMostOne-wanted : (bytes : List ℕ) (rows : List (List Range)) → AtMostOne rows → AtMostOne (wanted bytes rows)
-AtMostOne-wanted [] rows one = one
-AtMostOne-wanted (b ∷ bytes) rows one = AtMostOne-wanted bytes (rows_after b rows) (AtMostOne-next b rows one)
+pub AtMostOne-rows_after_bytes : (bytes : List ℕ) (rows : List (List Range)) → AtMostOne rows
+    → AtMostOne (rows_after_bytes bytes rows)
+AtMostOne-rows_after_bytes [] rows one = one
+AtMostOne-rows_after_bytes (b ∷ bytes) rows one =
+    AtMostOne-rows_after_bytes bytes (rows_after_byte b rows) (AtMostOne-next b rows one)
 
-pub wanted_none : (bytes : List ℕ) → wanted bytes [] ≡ []
-wanted_none [] = refl
-wanted_none (b ∷ bytes) = wanted_none bytes
+pub rows_after_bytes_none : (bytes : List ℕ) → rows_after_bytes bytes [] ≡ []
+rows_after_bytes_none [] = refl
+rows_after_bytes_none (b ∷ bytes) = rows_after_bytes_none bytes
 
-pub wanted-append : (u v : List ℕ) (rows : List (List Range)) → wanted (u ++ v) rows ≡ wanted v (wanted u rows)
-wanted-append [] v rows = refl
-wanted-append (b ∷ u) v rows = wanted-append u v (rows_after b rows)
+pub rows_after_bytes-append : (u v : List ℕ) (rows : List (List Range))
+    → rows_after_bytes (u ++ v) rows ≡ rows_after_bytes v (rows_after_bytes u rows)
+rows_after_bytes-append [] v rows = refl
+rows_after_bytes-append (b ∷ u) v rows = rows_after_bytes-append u v (rows_after_byte b rows)
 
 -- ---- the two tests of what is left
 
 -- some row wants nothing more
 abbrev pub some_whole : List (List Range) → Bool
-some_whole rows = list_any wants_none rows
+some_whole rows = list_any is_complete rows
 
 -- some row wants more
 abbrev pub some_open : List (List Range) → Bool
-some_open rows = list_any (λ row. not (wants_none row)) rows
+some_open rows = list_any (λ row. not (is_complete row)) rows
 
 pub whole_not_open : (rows : List (List Range)) → AtMostOne rows → some_whole rows ≡ true → some_open rows ≡ false
 whole_not_open [] one whole = refl
@@ -104,48 +107,52 @@ neither_whole_nor_open ((range ∷ ranges) ∷ rows) whole more = cc
 
 -- ---- how many bytes the rows allow
 
-pub allowed_none : (bytes : List ℕ) → allowed [] bytes ≡ 0
-allowed_none [] = refl
-allowed_none (b ∷ bytes) = refl
+pub allowed_length_none : (bytes : List ℕ) → allowed_length [] bytes ≡ 0
+allowed_length_none [] = refl
+allowed_length_none (b ∷ bytes) = refl
 
 -- a sequence is allowed whole, and nothing after it
-pub allowed_whole : (rows : List (List Range)) (bytes x : List ℕ) → AtMostOne rows
-    → some_whole (wanted bytes rows) ≡ true
-    → allowed rows (bytes ++ x) ≡ length bytes
-allowed_whole rows [] [] one whole = refl
-allowed_whole [] [] (c ∷ x) one whole = refl
-allowed_whole ([] ∷ []) [] (c ∷ x) one whole = refl
-allowed_whole ((range ∷ ranges) ∷ []) [] (c ∷ x) one whole = cc
-allowed_whole (row ∷ next ∷ rows) [] (c ∷ x) one whole = absurd one
-allowed_whole rows (b ∷ bytes) x one whole =
-    next (rows_after b rows) whole (allowed_whole (rows_after b rows) bytes x (AtMostOne-next b rows one) whole)
+pub allowed_length_whole : (rows : List (List Range)) (bytes x : List ℕ) → AtMostOne rows
+    → some_whole (rows_after_bytes bytes rows) ≡ true
+    → allowed_length rows (bytes ++ x) ≡ length bytes
+allowed_length_whole rows [] [] one whole = refl
+allowed_length_whole [] [] (c ∷ x) one whole = refl
+allowed_length_whole ([] ∷ []) [] (c ∷ x) one whole = refl
+allowed_length_whole ((range ∷ ranges) ∷ []) [] (c ∷ x) one whole = cc
+allowed_length_whole (row ∷ next ∷ rows) [] (c ∷ x) one whole = absurd one
+allowed_length_whole rows (b ∷ bytes) x one whole =
+    next (rows_after_byte b rows) whole
+    (allowed_length_whole (rows_after_byte b rows) bytes x (AtMostOne-next b rows one) whole)
   where
-    next : (rows : List (List Range)) → some_whole (wanted bytes rows) ≡ true → allowed rows (bytes ++ x) ≡ length bytes
-        → elim rows [ [] ↦ 0 | row ∷ more ↦ suc (allowed (row ∷ more) (bytes ++ x)) ] ≡ suc (length bytes)
-    next [] whole same = absurd (false≢true (sym (ap some_whole (wanted_none bytes)) ∙ whole))
+    next : (rows : List (List Range)) → some_whole (rows_after_bytes bytes rows) ≡ true
+        → allowed_length rows (bytes ++ x) ≡ length bytes
+        → elim rows [ [] ↦ 0 | row ∷ more ↦ suc (allowed_length (row ∷ more) (bytes ++ x)) ] ≡ suc (length bytes)
+    next [] whole same = absurd (false≢true (sym (ap some_whole (rows_after_bytes_none bytes)) ∙ whole))
     next (row ∷ more) whole same = ap suc same
 
 -- a truncated sequence is allowed whole, and nothing after it that no row wants there
-pub allowed_broken : (rows : List (List Range)) (bytes : List ℕ) (b : ℕ) (x : List ℕ)
-    → some_open (wanted bytes rows) ≡ true
-    → rows_after b (wanted bytes rows) ≡ [] → allowed rows (bytes ++ b ∷ x) ≡ length bytes
-allowed_broken rows [] b x more none = rw (none, allowed)
-allowed_broken rows (c ∷ bytes) b x more none =
-    next (rows_after c rows) more (allowed_broken (rows_after c rows) bytes b x more none)
+pub allowed_length_broken : (rows : List (List Range)) (bytes : List ℕ) (b : ℕ) (x : List ℕ)
+    → some_open (rows_after_bytes bytes rows) ≡ true
+    → rows_after_byte b (rows_after_bytes bytes rows) ≡ [] → allowed_length rows (bytes ++ b ∷ x) ≡ length bytes
+allowed_length_broken rows [] b x more none = rw (none, allowed_length)
+allowed_length_broken rows (c ∷ bytes) b x more none =
+    next (rows_after_byte c rows) more (allowed_length_broken (rows_after_byte c rows) bytes b x more none)
   where
-    next : (rows : List (List Range)) → some_open (wanted bytes rows) ≡ true
-        → allowed rows (bytes ++ b ∷ x) ≡ length bytes
-        → elim rows [ [] ↦ 0 | row ∷ more ↦ suc (allowed (row ∷ more) (bytes ++ b ∷ x)) ] ≡ suc (length bytes)
-    next [] more same = absurd (false≢true (sym (ap some_open (wanted_none bytes)) ∙ more))
+    next : (rows : List (List Range)) → some_open (rows_after_bytes bytes rows) ≡ true
+        → allowed_length rows (bytes ++ b ∷ x) ≡ length bytes
+        → elim rows [ [] ↦ 0 | row ∷ more ↦ suc (allowed_length (row ∷ more) (bytes ++ b ∷ x)) ] ≡ suc (length bytes)
+    next [] more same = absurd (false≢true (sym (ap some_open (rows_after_bytes_none bytes)) ∙ more))
     next (row ∷ rows) more same = ap suc same
 
 -- a truncated sequence at the end is allowed whole
-pub allowed_end : (rows : List (List Range)) (bytes : List ℕ) → some_open (wanted bytes rows) ≡ true
-    → allowed rows bytes ≡ length bytes
-allowed_end rows [] more = refl
-allowed_end rows (c ∷ bytes) more = next (rows_after c rows) more (allowed_end (rows_after c rows) bytes more)
+pub allowed_length_end : (rows : List (List Range)) (bytes : List ℕ) → some_open (rows_after_bytes bytes rows) ≡ true
+    → allowed_length rows bytes ≡ length bytes
+allowed_length_end rows [] more = refl
+allowed_length_end rows (c ∷ bytes) more =
+    next (rows_after_byte c rows) more (allowed_length_end (rows_after_byte c rows) bytes more)
   where
-    next : (rows : List (List Range)) → some_open (wanted bytes rows) ≡ true → allowed rows bytes ≡ length bytes
-        → elim rows [ [] ↦ 0 | row ∷ more ↦ suc (allowed (row ∷ more) bytes) ] ≡ suc (length bytes)
-    next [] more same = absurd (false≢true (sym (ap some_open (wanted_none bytes)) ∙ more))
+    next : (rows : List (List Range)) → some_open (rows_after_bytes bytes rows) ≡ true
+        → allowed_length rows bytes ≡ length bytes
+        → elim rows [ [] ↦ 0 | row ∷ more ↦ suc (allowed_length (row ∷ more) bytes) ] ≡ suc (length bytes)
+    next [] more same = absurd (false≢true (sym (ap some_open (rows_after_bytes_none bytes)) ∙ more))
     next (row ∷ rows) more same = ap suc same

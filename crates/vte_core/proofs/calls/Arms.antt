@@ -1,6 +1,6 @@
 -- A byte that a state's function reads: the state says at which place the parser is, so what the byte does after that
 -- place is what the function must have done.
-use Rattle.vte_core.proofs.Common.{◌≡◌, ℕ, ◌+◌, ◌<◌, Bool, false, Option, List, [], ◌∷◌, sym, subst, length, slice_index, class_of, ends_all, Machine, State, Escape, EscapeIntermediate, DeviceData, SystemCommand, IgnoredString, Event, Advances, MayGoOn, IsSettled, Leads, Reads, Holds, Stands, StandsBy, Performs, Place, AtEscape, InEscape, InData, InSystemCommand, InIgnoredString, IsBetween, closing_at, Keeps, Takes}
+use Rattle.vte_core.proofs.Common.{◌≡◌, ℕ, ◌+◌, ◌<◌, Bool, false, Option, List, [], ◌∷◌, sym, subst, length, slice_index, class_of, ends_all, Machine, State, Escape, EscapeIntermediate, DeviceData, SystemCommand, IgnoredString, Event, Advances, MayGoOn, IsSettled, Leads, Reads, HoldsIntermediates, Stands, StandsBy, TakesBytes, Place, AtEscape, InEscape, InData, InSystemCommand, InIgnoredString, IsBetween, closing_events_at, Keeps, TakesByte}
 use Rattle.vte_core.proofs.Common.{after, escape}
 use Rattle.vte_core.proofs.calls.Runs.{advances-byte, advances-if}
 use Rattle.vte_core.specs.machine.ToRun.{IsQuietIn}
@@ -11,22 +11,23 @@ use Rattle.vte_core.proofs.streams.StreamLemmas.{no_escape, reads-escape}
 module _ {V B : Type 0} {step : V → Event → V} {old new : V} {limit : Option ℕ} where
   pub taken : {place : Place} {byte : ℕ} {parser : Machine B} (told : List Event) (next : Place)
       → new ≡ after step old told → Stands limit parser next → Leads limit place byte told next
-      → Takes step old new limit place byte parser
+      → TakesByte step old new limit place byte parser
   taken told next performed stands leads =
       record { told = told; next = next; performed = performed; stands = stands; leads = leads }
 
   -- a byte other than CAN, SUB and ESC, read in a state
   pub performs-in : {b : ℕ} {state : State} {parser next : Machine B}
       → parser.state ≡ state → ends_all (class_of b) ≡ false
-      → ((place : Place) → StandsBy limit state parser place → Takes step old new limit place b next)
-      → (place : Place) → Stands limit parser place → IsBetween place → Performs step old new limit place (b ∷ []) next
+      → ((place : Place) → StandsBy limit state parser place → TakesByte step old new limit place b next)
+      → (place : Place) → Stands limit parser place → IsBetween place
+      → TakesBytes step old new limit place (b ∷ []) next
   performs-in {b = b} {next = next} e ordinary takes place s between =
       takes-performs step old new limit place b next (no_escape b ordinary) (takes place (stands-in e s))
 
   pub advances-in : {asks : Bool} {is_terminated : V → Bool} {bytes : List ℕ} {i b : ℕ} {state : State}
       {parser next : Machine B} → parser.state ≡ state → i < length bytes → b ≡ slice_index bytes i
       → MayGoOn asks is_terminated old → ends_all (class_of b) ≡ false
-      → ((place : Place) → StandsBy limit state parser place → Takes step old new limit place b next)
+      → ((place : Place) → StandsBy limit state parser place → TakesByte step old new limit place b next)
       → IsSettled next.state
       → Advances (IsQuietIn state b) asks step is_terminated old new limit bytes i (i + 1) parser next
   advances-in {b = b} e within is may_go_on ordinary takes settled =
@@ -35,15 +36,15 @@ module _ {V B : Type 0} {step : V → Event → V} {old new : V} {limit : Option
 
   -- ESC closes what is open at a place
   pub performs-escape : {b : ℕ} {parser next : Machine B} → b ≡ escape
-      → next.state ≡ Escape → Holds next.collected [] → (place : Place) → Stands limit parser place
-      → new ≡ after step old (closing_at limit place)
-      → Performs step old new limit place (b ∷ []) next
+      → next.state ≡ Escape → HoldsIntermediates next.collected [] → (place : Place) → Stands limit parser place
+      → new ≡ after step old (closing_events_at limit place)
+      → TakesBytes step old new limit place (b ∷ []) next
   performs-escape {parser = parser} {next = next} is e holds place s closed =
-      let reads : Reads limit place (escape ∷ []) (closing_at limit place) AtEscape =
+      let reads : Reads limit place (escape ∷ []) (closing_events_at limit place) AtEscape =
       reads-escape limit place (stands-place parser place s) in
-      subst (λ c. Performs step old new limit place (c ∷ []) next) (sym is)
+      subst (λ c. TakesBytes step old new limit place (c ∷ []) next) (sym is)
       (record {
-        told = closing_at limit place;
+        told = closing_events_at limit place;
         next = AtEscape;
         performed = closed;
         stands = stands-by e holds;
@@ -54,28 +55,30 @@ module _ {V B : Type 0} {step : V → Event → V} {old new : V} {limit : Option
 
 module _ {V B : Type 0} {step : V → Event → V} {old new : V} {limit : Option ℕ} {b : ℕ} {next : Machine B}
     (parser : Machine B) where
-  pub at_escape : (Holds parser.collected [] → Takes step old new limit AtEscape b next) → (place : Place)
-      → StandsBy limit Escape parser place → Takes step old new limit place b next
+  pub at_escape : (HoldsIntermediates parser.collected [] → TakesByte step old new limit AtEscape b next)
+      → (place : Place)
+      → StandsBy limit Escape parser place → TakesByte step old new limit place b next
   at_escape takes AtEscape s = takes s
   at_escape takes _ s = absurd s
 
-  pub in_escape : ((ints : List ℕ) → Holds parser.collected ints → Takes step old new limit (InEscape ints) b next)
-      → (place : Place) → StandsBy limit EscapeIntermediate parser place → Takes step old new limit place b next
+  pub in_escape :
+      ((ints : List ℕ) → HoldsIntermediates parser.collected ints → TakesByte step old new limit (InEscape ints) b next)
+      → (place : Place) → StandsBy limit EscapeIntermediate parser place → TakesByte step old new limit place b next
   in_escape takes (InEscape ints) s = takes ints s
   in_escape takes _ s = absurd s
 
-  pub in_data : Takes step old new limit InData b next → (place : Place) → StandsBy limit DeviceData parser place
-      → Takes step old new limit place b next
+  pub in_data : TakesByte step old new limit InData b next → (place : Place) → StandsBy limit DeviceData parser place
+      → TakesByte step old new limit place b next
   in_data takes InData s = takes
   in_data takes _ s = absurd s
 
   pub in_system_command : ((items : List ℕ) → Keeps limit parser.command items
-      → Takes step old new limit (InSystemCommand items) b next)
-      → (place : Place) → StandsBy limit SystemCommand parser place → Takes step old new limit place b next
+      → TakesByte step old new limit (InSystemCommand items) b next)
+      → (place : Place) → StandsBy limit SystemCommand parser place → TakesByte step old new limit place b next
   in_system_command takes (InSystemCommand items) s = takes items s
   in_system_command takes _ s = absurd s
 
-  pub in_ignored : Takes step old new limit InIgnoredString b next → (place : Place)
-      → StandsBy limit IgnoredString parser place → Takes step old new limit place b next
+  pub in_ignored : TakesByte step old new limit InIgnoredString b next → (place : Place)
+      → StandsBy limit IgnoredString parser place → TakesByte step old new limit place b next
   in_ignored takes InIgnoredString s = takes
   in_ignored takes _ s = absurd s

@@ -1,7 +1,7 @@
 -- A byte between characters: it is one (`performs-printed`), a control or malformed (`performs-single`), or the first
 -- of one (`performs-opened`). What the code does is what `places/PlaceLeads` says of the byte, and the parser is at the
 -- next place. A single byte tells nothing that a run would (`advances-single`).
-use Rattle.vte_core.proofs.Common.{◌≡◌, ◌≢◌, ℕ, ◌+◌, ◌<◌, ◌≤◌, inl, inr, true, false, Option, List, [], ◌∷◌, length, refl, ap, sym, subst, ◌∙◌, arith, cases_lt, nat_tests, slice_index, Advances, Bool, Machine, Text, Nothing, Event, Print, replacement, Stands, Performs, Place, InText, IsBetween, Carries, escape, character_event, malformed_event, to, is_in, is_truncated, is_well_formed, Unfinished, All-cons, All-nil, IsOther, Execute, is_control_character, AddsOthers, IsAfter, stream_at, Reads, All, cases_Bool}
+use Rattle.vte_core.proofs.Common.{◌≡◌, ◌≢◌, ℕ, ◌+◌, ◌<◌, ◌≤◌, inl, inr, true, false, Option, List, [], ◌∷◌, length, refl, ap, sym, subst, ◌∙◌, arith, cases_lt, nat_tests, slice_index, Advances, Bool, Machine, Text, Nothing, Event, Print, replacement, Stands, TakesBytes, Place, InText, IsBetween, Carries, escape, character_event, malformed_event, from_to, is_in, is_truncated, is_well_formed, Unfinished, All-cons, All-nil, IsOther, Execute, is_control_character, AddsOthers, IsAfter, stream_at, Reads, All, cases_Bool}
 use Rattle.vte_core.specs.declared.utf8.Carried.TheVariants.{Unfinished as StillUnfinished}
 use Rattle.vte_core.proofs.bytes.CarriedLemmas.{begins_none}
 use Rattle.vte_core.proofs.bytes.FirstBytes.{ascii_alone}
@@ -14,7 +14,7 @@ use Rattle.vte_core.proofs.streams.Others.{other_control}
 use Rattle.vte_core.proofs.calls.Telling.{adds-reads}
 use Rattle.vte_core.proofs.streams.StreamLemmas.{reads-byte}
 
-prints : (b : ℕ) → is_in (to 0x20 0x7f) b ≡ true → character_event b ≡ Print b
+prints : (b : ℕ) → is_in (from_to 0x20 0x7f) b ≡ true → character_event b ≡ Print b
 unfolding character_event
 prints b printed = grind (arith, nat_tests)
 
@@ -22,7 +22,7 @@ module _ {V B : Type 0} {step : V → Event → V} {old new : V} {limit : Option
   -- a byte that is a character
   performs-whole : parser.state ≡ Text Nothing → b ≢ escape → is_well_formed (b ∷ []) ≡ true
       → new ≡ step old (character_event b) → (place : Place) → Stands limit parser place → IsBetween place
-      → Performs step old new limit place (b ∷ []) parser
+      → TakesBytes step old new limit place (b ∷ []) parser
   performs-whole e n whole performed =
       performs-begun e n
       (λ s. record {
@@ -37,7 +37,7 @@ module _ {V B : Type 0} {step : V → Event → V} {old new : V} {limit : Option
   performs-lone : parser.state ≡ Text Nothing → b ≢ escape
       → is_well_formed (b ∷ []) ≡ false → is_truncated (b ∷ []) ≡ false → new ≡ step old (malformed_event (b ∷ []))
       → (place : Place) → Stands limit parser place → IsBetween place
-      → Performs step old new limit place (b ∷ []) parser
+      → TakesBytes step old new limit place (b ∷ []) parser
   performs-lone e n whole more performed =
       performs-begun e n
       (λ s. record {
@@ -49,9 +49,9 @@ module _ {V B : Type 0} {step : V → Event → V} {old new : V} {limit : Option
       })
 
   -- a character of ASCII that is printed
-  pub performs-printed : {c : ℕ} → parser.state ≡ Text Nothing → is_in (to 0x20 0x7f) b ≡ true → c ≡ b
+  pub performs-printed : {c : ℕ} → parser.state ≡ Text Nothing → is_in (from_to 0x20 0x7f) b ≡ true → c ≡ b
       → new ≡ step old (Print c) → (place : Place) → Stands limit parser place → IsBetween place
-      → Performs step old new limit place (b ∷ []) parser
+      → TakesBytes step old new limit place (b ∷ []) parser
   performs-printed e printed same told =
       let low : 0x20 ≤ b = grind (arith, nat_tests) in
       let high : b < 0x80 = grind (arith, nat_tests) in
@@ -60,9 +60,9 @@ module _ {V B : Type 0} {step : V → Event → V} {old new : V} {limit : Option
 
   -- a byte that is neither printed nor begins a longer one
   pub performs-single : parser.state ≡ Text Nothing → b ≢ escape
-      → is_in (to 0xc2 0xf4) b ≡ false → (b < 0x80 → new ≡ step old (character_event b))
+      → is_in (from_to 0xc2 0xf4) b ≡ false → (b < 0x80 → new ≡ step old (character_event b))
       → (0x80 ≤ b → new ≡ step old (malformed_event (b ∷ []))) → (place : Place)
-      → Stands limit parser place → IsBetween place → Performs step old new limit place (b ∷ []) parser
+      → Stands limit parser place → IsBetween place → TakesBytes step old new limit place (b ∷ []) parser
   performs-single e n no_lead control malformed = elim (cases_lt b 0x80) [
     | inl low ↦ performs-whole e n (ascii_alone b low).is_whole (control low)
     | inr high ↦
@@ -74,7 +74,7 @@ pub performs-opened : {V B : Type 0} {step : V → Event → V} {value : V} {lim
     {parser next : Machine B} → parser.state ≡ Text Nothing
     → b ≢ escape → Carries [] b (StillUnfinished v) → next.state ≡ Text v → (place : Place) → Stands limit parser place
     → IsBetween place
-    → Performs step value value limit place (b ∷ []) next
+    → TakesBytes step value value limit place (b ∷ []) next
 performs-opened {limit = limit} {b = b} {v = v} {next = next} e n carries state =
     let more : is_truncated (b ∷ []) ≡ true = rw carries.0 at carries.1 in
     performs-begun e n
@@ -100,7 +100,8 @@ malformed_other b = elim (cases_Bool (is_control_character b)) [
   | inr is ↦ rw is (All-cons IsOther (Print replacement) [] refl (All-nil IsOther))
 ]
 
-single : (limit : Option ℕ) (b : ℕ) → b ≢ escape → is_in (to 0x20 0x7f) b ≡ false → is_in (to 0xc2 0xf4) b ≡ false
+single : (limit : Option ℕ) (b : ℕ) → b ≢ escape → is_in (from_to 0x20 0x7f) b ≡ false
+    → is_in (from_to 0xc2 0xf4) b ≡ false
     → Single limit b
 single limit b n other no_lead = elim (cases_lt b 0x80) [
   | inl low ↦ record {
@@ -123,7 +124,8 @@ single limit b n other no_lead = elim (cases_lt b 0x80) [
 
 adds-single : {B : Type 0} {limit : Option ℕ} {stream bytes : List ℕ} {i b : ℕ} {place : Place} (parser : Machine B)
     → parser.state ≡ Text Nothing → b ≢ escape
-    → is_in (to 0x20 0x7f) b ≡ false → is_in (to 0xc2 0xf4) b ≡ false → i < length bytes → b ≡ slice_index bytes i
+    → is_in (from_to 0x20 0x7f) b ≡ false → is_in (from_to 0xc2 0xf4) b ≡ false → i < length bytes
+    → b ≡ slice_index bytes i
     → Stands limit parser place
     → IsAfter limit (stream_at stream bytes i) place → AddsOthers limit stream bytes i (i + 1)
 adds-single {limit = limit} {stream = stream} {bytes = bytes} {i = i} {b = b}
@@ -136,7 +138,7 @@ adds-single {limit = limit} {stream = stream} {bytes = bytes} {i = i} {b = b}
 pub advances-single : {quiet V B : Type 0} {asks : Bool} {step : V → Event → V} {is_terminated : V → Bool} {old new : V}
     {limit : Option ℕ} {bytes : List ℕ} {i b : ℕ} {parser : Machine B}
     → MayReadByte asks is_terminated old (Text Nothing) parser bytes i b → b ≢ escape
-    → is_in (to 0x20 0x7f) b ≡ false → is_in (to 0xc2 0xf4) b ≡ false
+    → is_in (from_to 0x20 0x7f) b ≡ false → is_in (from_to 0xc2 0xf4) b ≡ false
     → (b < 0x80 → new ≡ step old (character_event b)) → (0x80 ≤ b → new ≡ step old (malformed_event (b ∷ [])))
     → Advances quiet asks step is_terminated old new limit bytes i (i + 1) parser parser
 advances-single r n other no_lead control malformed =

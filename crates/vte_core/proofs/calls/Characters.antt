@@ -1,7 +1,7 @@
 -- A call inside a character, over any number of its bytes: it tells nothing while the character goes on (`GoesOn`), and
 -- then completes it (`completes-all`, `completes-whole`, `completes-broken`), a byte at a time by
 -- `calls/InsideCharacters`.
-use Rattle.vte_core.proofs.Common.{◌≡◌, ◌≢◌, ℕ, ◌+◌, ◌<◌, ◌≤◌, inl, inr, Bool, true, false, Option, List, [], ◌∷◌, ◌++◌, length, refl, ap, sym, subst, ◌∙◌, arith, slice_index, Machine, Text, Nothing, One, Two, Three, Event, Print, replacement, StandsInside, bytes_of, is_open, second_range, Carries, character_event, to, is_in, is_truncated, is_well_formed, scalar_of, Unfinished, added, All-cons, All-nil, IsOther, append-nil, append_assoc, drop, drop_more, take, take-add}
+use Rattle.vte_core.proofs.Common.{◌≡◌, ◌≢◌, ℕ, ◌+◌, ◌<◌, ◌≤◌, inl, inr, Bool, true, false, Option, List, [], ◌∷◌, ◌++◌, length, refl, ap, sym, subst, ◌∙◌, arith, slice_index, Machine, Text, Nothing, One, Two, Three, Event, Print, replacement, StandsInside, bytes_of, is_open, second_range, Carries, character_event, from_to, is_in, is_truncated, is_well_formed, scalar_of, Unfinished, added, All-cons, All-nil, IsOther, append-nil, append_assoc, drop, drop_more, take, take-add}
 use Rattle.vte_core.specs.declared.utf8.Carried.TheVariants.{Unfinished as StillUnfinished, Whole, Broken}
 use Rattle.vte_core.proofs.bytes.CarriedLemmas.{second_open, third_open}
 use Rattle.vte_core.specs.machine.Completes.{Completes}
@@ -193,7 +193,7 @@ module _ {V B : Type 0} {asks : Bool} {step : V → Event → V} {is_terminated 
 
   -- the second and the third of one of four
   pub goes-third : {z : ℕ} (next : Machine B) → 0xf0 ≤ x → is_in (second_range x) y ≡ true
-      → is_in (to 0x80 0xbf) z ≡ true → i + 2 < length bytes → y ≡ slice_index bytes i
+      → is_in (from_to 0x80 0xbf) z ≡ true → i + 2 < length bytes → y ≡ slice_index bytes i
       → z ≡ slice_index bytes (i + 1)
       → GoesOn asks step is_terminated value limit bytes i (i + 2) (One x) (Three x y z) next
   goes-third {z = z} next low second third within is is_third =

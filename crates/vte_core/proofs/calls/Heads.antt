@@ -1,8 +1,8 @@
 -- The bytes of a head: a function that reads several of them goes on by each. `ReadsHeadUpTo` says which, without the
 -- performer, which learns of a head only at its end; both shapes share it.
 use Rattle.vte_core.specs.machine.ToRun.{IsQuietIn}
-use Rattle.vte_core.proofs.Common.{◌≡◌, ℕ, zero, suc, ◌+◌, ◌-◌, ◌<◌, ◌≤◌, ◌⊎◌, inr, eqb, Option, List, [], ◌∷◌, ◌++◌, Bool, true, false, length, take, drop, refl, sym, subst, append_assoc, arith, nat_tests, append-nil, drop-drop, drop_more, take-add, slice_index, MatchOption, class_of, is_head, is_parameter_text, AreOf, Collected, HeadPart, Entry, Parameters, Machine, State, ControlSequence, DeviceControl, Event}
-use Rattle.vte_core.proofs.Common.{Leads, Counts, KeepsIntermediates, Stands, StandsBy, StandsInHead, Place, InControlSequence, InDeviceControl, IsBetween, Advances, CameTo, IsSettled, MayGoOn, Performs, Takes, ends_all, part_after, ReadsHead, Some, None, told, false≢true}
+use Rattle.vte_core.proofs.Common.{◌≡◌, ℕ, zero, suc, ◌+◌, ◌-◌, ◌<◌, ◌≤◌, ◌⊎◌, inr, eqb, Option, List, [], ◌∷◌, ◌++◌, Bool, true, false, length, take, drop, refl, sym, subst, append_assoc, arith, nat_tests, append-nil, drop-drop, drop_more, take-add, slice_index, MatchOption, class_of, is_head, is_parameter_text, AreInClass, Collected, HeadPart, Entry, Parameters, Machine, State, ControlSequence, DeviceControl, Event}
+use Rattle.vte_core.proofs.Common.{Leads, CountsNumbers, KeepsIntermediates, Stands, StandsBy, StandsInHead, Place, InControlSequence, InDeviceControl, IsBetween, Advances, CameTo, IsSettled, MayGoOn, TakesBytes, TakesByte, ends_all, part_after, ReadsHead, Some, None, told, false≢true}
 use Rattle.vte_core.proofs.bytes.ClassCases.{head_ends_nothing}
 use Rattle.vte_core.proofs.bytes.PieceLemmas.{AreOf-append, parameter_is_head}
 use Rattle.vte_core.proofs.calls.Places.{come-between, come-byte}
@@ -83,7 +83,7 @@ part_after-may reached from to may = by_test (eqb from to) refl
 pub reads-parameter : {bytes : List ℕ} {from i b : ℕ} {reached : HeadPart} {first old new : Collected}
     → (reached ≡ Entry) ⊎ (reached ≡ Parameters)
     → i < length bytes → b ≡ slice_index bytes i → is_parameter_text (class_of b) ≡ true → KeepsIntermediates old new
-    → ((text : List ℕ) → Counts old text → Counts new (text ++ b ∷ []))
+    → ((text : List ℕ) → CountsNumbers old text → CountsNumbers new (text ++ b ∷ []))
     → ReadsHead bytes from i reached (part_after reached from i) first old
     → ReadsHead bytes from (i + 1) reached (part_after reached from (i + 1)) first new
 reads-parameter {from = from} {i = i} {b = b} {reached = reached} {old = old}
@@ -151,7 +151,7 @@ module _ {V : Type 0} {asks : Bool} {step : V → Event → V} {is_terminated : 
     {bytes : List ℕ} where
   -- n bytes of a head
   come-head : {old value : V} {stream : List ℕ} {i : ℕ} (shape : Shape) (n : ℕ) (head : List ℕ) → i + n ≤ length bytes
-      → AreOf is_head (take n (drop i bytes))
+      → AreInClass is_head (take n (drop i bytes))
       → MayGoOn asks is_terminated value
       → CameTo asks step is_terminated old value limit stream bytes i (in_head shape head)
       → CameTo asks step is_terminated old value limit stream bytes (i + n)
@@ -162,7 +162,7 @@ module _ {V : Type 0} {asks : Bool} {step : V → Event → V} {is_terminated : 
       let here : i < length bytes = omega (arith, within) in
       let b : ℕ = slice_index bytes i in
       let cut : drop i bytes ≡ b ∷ drop (i + 1) bytes = drop_more bytes i 0 here in
-      let both : AreOf is_head (b ∷ take n (drop (i + 1) bytes)) = rw cut at more in
+      let both : AreInClass is_head (b ∷ take n (drop (i + 1) bytes)) = rw cut at more in
       let place = is_place shape (head ++ b ∷ []) in
       let reads =
       reads-byte limit (in_head shape head) (in_head shape (head ++ b ∷ [])) b []
@@ -217,7 +217,7 @@ module _ {V : Type 0} {asks : Bool} {step : V → Event → V} {is_terminated : 
       → ((place : Place)
       → Stands {B = B} limit (record { state = state_of shape part; collected = held; command = parser.command }) place
       → IsBetween place
-      → Performs step old new limit place (b ∷ []) next) → IsSettled next.state
+      → TakesBytes step old new limit place (b ∷ []) next) → IsSettled next.state
       → Advances quiet asks step is_terminated old new limit bytes i (j + 1) parser next
   advances-past {B = B} {part = part} {parser = parser} {held = held} shape begun reads at may_go_on performs settled =
       let head : Machine B = record { state = state_of shape part; collected = held; command = parser.command } in
@@ -228,9 +228,10 @@ module _ {V : Type 0} {asks : Bool} {step : V → Event → V} {is_terminated : 
 pub performs-head : {V B : Type 0} {step : V → Event → V} {old new : V} {limit : Option ℕ} {b : ℕ}
     {parser next : Machine B} (shape : Shape) (part : HeadPart)
     → parser.state ≡ state_of shape part → ends_all (class_of b) ≡ false
-    → ((head : List ℕ) → StandsInHead parser.collected part head → Takes step old new limit (in_head shape head) b next)
-    → (place : Place) → Stands limit parser place → IsBetween place → Performs step old new limit place (b ∷ []) next
+    → ((head : List ℕ) → StandsInHead parser.collected part head
+    → TakesByte step old new limit (in_head shape head) b next)
+    → (place : Place) → Stands limit parser place → IsBetween place → TakesBytes step old new limit place (b ∷ []) next
 performs-head {step = step} {old = old} {new = new} {limit = limit} {b = b} {parser = parser}
     {next = next} shape part e ordinary takes = performs-in e ordinary (λ place s.
     let k = place_in shape limit part parser place s in
-    subst (λ p. Takes step old new limit p b next) (sym k.same) (takes k.head k.stands))
+    subst (λ p. TakesByte step old new limit p b next) (sym k.same) (takes k.head k.stands))

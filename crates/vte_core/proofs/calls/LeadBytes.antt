@@ -11,8 +11,8 @@ use Rattle.vte_core.proofs.calls.BetweenCharacters.{performs-opened}
 use Rattle.vte_core.proofs.calls.InsideCharacters.{in_text}
 
 -- by what completes the character that the first byte begins
-pub advances-first : {V B : Type 0} {given : Type 0} {asks : Bool} {step : V → Event → V} {is_terminated : V → Bool} {old new : V}
-    {limit : Option ℕ} {bytes : List ℕ}
+pub advances-first : {V B given : Type 0} {asks : Bool} {step : V → Event → V} {is_terminated : V → Bool}
+    {old new : V} {limit : Option ℕ} {bytes : List ℕ}
     {i j first : ℕ} {parser next : Machine B} → MayReadByte asks is_terminated old (Text Nothing) parser bytes i first
     → 0xc2 ≤ first → first < 0xf5
     → Completes asks step is_terminated old new limit bytes (i + 1) j (One first) next

@@ -25,7 +25,7 @@ pub goes-on : {A V Answer : Type 0} (asks : Bool) (step : V → Event → V) (is
 goes-on asks step is_terminated old new result reads refuses memory count paid least = record {
   reads = reads;
   stores = λ stream h. stores_pieces _ _ (reads stream h);
-  before = IfErr-weaker result _ _ (λ refused r. r.within) refuses;
+  within = IfErr-weaker result _ _ (λ refused r. r.within) refuses;
   meets = IfErr-weaker result _ _ (λ refused r stream h. meets_data r.refused (reads stream h)) refuses;
   lacks = IfErr-weaker result _ _ (λ refused r. r.refused.lacks) refuses;
   memory = memory;

@@ -1,6 +1,6 @@
 -- The bytes after ESC that begin no string: ESC once more and dropped bytes leave the place as it is, and `[` leads to
 -- an empty head.
-use Rattle.vte_core.proofs.Common.{◌≡◌, ℕ, ◌+◌, ◌<◌, Bool, false, Option, List, [], ◌∷◌, length, refl, slice_index, class_of, ends_all, is_control, is_final, is_head, Entry, Machine, Escape, ControlSequence, Event, key_of, Advances, MayGoOn, Holds, HoldsHead, Stands, StandsBy, Performs, Place, AtEscape, InControlSequence, IsBetween}
+use Rattle.vte_core.proofs.Common.{◌≡◌, ℕ, ◌+◌, ◌<◌, Bool, false, Option, List, [], ◌∷◌, length, refl, slice_index, class_of, ends_all, is_control, is_final, is_head, Entry, Machine, Escape, ControlSequence, Event, key_of, Advances, MayGoOn, HoldsIntermediates, HoldsHead, Stands, StandsBy, TakesBytes, Place, AtEscape, InControlSequence, IsBetween}
 use Rattle.vte_core.proofs.bytes.ClassCases.{left_is_dropped}
 use Rattle.vte_core.proofs.calls.Arms.{advances-in, at_escape, performs-escape, performs-in, taken}
 use Rattle.vte_core.proofs.fields.Standing.{stands-by, stands-in}
@@ -10,7 +10,7 @@ use Rattle.vte_core.proofs.places.PlaceLeads.{byte-dropped, escape-control_seque
 again : {V B : Type 0} (step : V → Event → V) (value : V) (limit : Option ℕ) (b : ℕ) (parser : Machine B)
     (place : Place) → parser.state ≡ Escape → b ≡ 0x1b
     → Stands limit parser place → StandsBy limit Escape parser place
-    → Performs step value value limit place (b ∷ []) parser
+    → TakesBytes step value value limit place (b ∷ []) parser
 again step value limit b parser AtEscape e is s by = performs-escape is e by AtEscape s refl
 again step value limit b parser _ e is s by = absurd by
 
@@ -29,7 +29,7 @@ pub performs-dropped : {V B : Type 0} {step : V → Event → V} {value : V} {li
     → parser.state ≡ Escape → is_head (class_of b) ≡ false → is_final (class_of b) ≡ false
     → ends_all (class_of b) ≡ false → is_control (class_of b) ≡ false
     → (place : Place) → Stands limit parser place → IsBetween place
-    → Performs step value value limit place (b ∷ []) parser
+    → TakesBytes step value value limit place (b ∷ []) parser
 performs-dropped {limit = limit} {b = b} {parser = parser} begun head final ordinary control =
     let dropped = left_is_dropped (class_of b) head final ordinary control in
     performs-in begun ordinary
@@ -41,7 +41,7 @@ pub advances-bracket : {quiet V B : Type 0} {asks : Bool} {step : V → Event �
     {limit : Option ℕ} {bytes : List ℕ} {i b : ℕ}
     {parser next : Machine B} → parser.state ≡ Escape → i < length bytes → b ≡ slice_index bytes i
     → MayGoOn asks is_terminated value → b ≡ 0x5b
-    → next.state ≡ ControlSequence Entry → (Holds parser.collected [] → HoldsHead next.collected Entry [])
+    → next.state ≡ ControlSequence Entry → (HoldsIntermediates parser.collected [] → HoldsHead next.collected Entry [])
     → Advances quiet asks step is_terminated value value limit bytes i (i + 1) parser next
 unfolding class_of key_of
 advances-bracket {limit = limit} {parser = parser} begun within is may_go_on bracket state holds =

@@ -168,7 +168,7 @@ module _ {V B : Type 0} {step : V → Event → V} {is_terminated : V → Bool} 
 -- ---- the run that is taken there
 
 -- what is taken is what stands there
-record Takes (bytes : List ℕ) (end : ℕ) (these : List ℕ) (kind : RunKind) (taken : Taken) : Type 0 where
+record TakesRun (bytes : List ℕ) (end : ℕ) (these : List ℕ) (kind : RunKind) (taken : Taken) : Type 0 where
   are : taken_bytes taken ≡ these
   events : taken_events taken ≡ kind_events kind these
   whole : IsWhole bytes end taken
@@ -176,7 +176,7 @@ record Takes (bytes : List ℕ) (end : ℕ) (these : List ℕ) (kind : RunKind) 
 takes : (bytes : List ℕ) (place : RunPlace) (kind : RunKind) (taken : Taken) → IsTaken kind (bytes_at bytes place) taken
     → AreOfKind kind (bytes_at bytes place)
     → length (bytes_at bytes place) ≡ place.end - place.start → IsWholeAt bytes place kind
-    → Takes bytes place.end (bytes_at bytes place) kind taken
+    → TakesRun bytes place.end (bytes_at bytes place) kind taken
 takes bytes place OfText (TakenText text) same are size whole = record {
   are = same;
   events = ap (λ (x : List ℕ). map Print (chars x)) same;
@@ -207,7 +207,7 @@ size_at bytes place range =
 
 takes-run : {B : Type 0} {limit : Option ℕ} {bytes : List ℕ} {place : RunPlace} {parser : Machine B} (taken : Taken)
     → HasRun limit bytes place parser
-    → IsTaken place.kind (bytes_at bytes place) taken → Takes bytes place.end (bytes_at bytes place) place.kind taken
+    → IsTaken place.kind (bytes_at bytes place) taken → TakesRun bytes place.end (bytes_at bytes place) place.kind taken
 takes-run {bytes = bytes} {place = place} taken h is =
     takes bytes place place.kind taken is h.kind (size_at bytes place h.range) h.whole
 

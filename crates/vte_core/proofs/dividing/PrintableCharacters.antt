@@ -1,6 +1,6 @@
 -- A character of two to four bytes, at the front of some bytes or in a call's input, that is no control: so it is a
 -- run.
-use Rattle.vte_core.proofs.Common.{◌≡◌, ℕ, suc, ◌+◌, ◌-◌, ◌<◌, ◌≤◌, Bool, true, false, List, [], ◌∷◌, length, take, drop, get_or, inl, inr, refl, sym, ap, subst, ◌∙◌, arith, and_from, scalar, encode, encodes, cases_eq, nat_tests, append-nil, drop_more, All-nil, All-cons, All, slice_index, second_range, is_control_character, is_left_out, to, is_in, is_well_formed, scalar_of, IsUtf8, chars, AreRun, IsRun}
+use Rattle.vte_core.proofs.Common.{◌≡◌, ℕ, suc, ◌+◌, ◌-◌, ◌<◌, ◌≤◌, Bool, true, false, List, [], ◌∷◌, length, take, drop, get_or, inl, inr, refl, sym, ap, subst, ◌∙◌, arith, and_from, scalar, encode, encodes, cases_eq, nat_tests, append-nil, drop_more, All-nil, All-cons, All, slice_index, second_range, is_control_character, is_left_out, from_to, is_in, is_well_formed, scalar_of, IsUtf8, chars, AreRun, IsRun}
 use Rattle.std.proofs.lemmas.Str.{IsUtf8-encode, chars-encodes}
 use Rattle.vte_core.proofs.bytes.FirstBytes.{second_plain, tests_two, tests_three, tests_four}
 use Rattle.vte_core.proofs.bytes.Printable.{no_control-stays}
@@ -78,10 +78,10 @@ run-of {keeps = keeps} bytes from b u within is at low plain whole =
 
 pub run-two : {keeps : Bool} (bytes : List ℕ) (from first second : ℕ) → from + 2 ≤ length bytes
     → first ≡ slice_index bytes from → second ≡ slice_index bytes (from + 1)
-    → 0xc2 ≤ first → first < 0xe0 → is_in (to 0x80 0xbf) second ≡ true → (first ≡ 0xc2 → 0xa0 ≤ second)
+    → 0xc2 ≤ first → first < 0xe0 → is_in (from_to 0x80 0xbf) second ≡ true → (first ≡ 0xc2 → 0xa0 ≤ second)
     → IsRun keeps bytes from (from + 2)
 run-two bytes from first second long is_first is_second low high continues plain =
-    let e : second_range first ≡ to 0x80 0xbf =
+    let e : second_range first ≡ from_to 0x80 0xbf =
     second_plain first (λ e. omega (arith, e, high)) (λ e. omega (arith, e, high)) (λ e. omega (arith, e, high))
     (λ e. omega (arith, e, high)) in
     run-of bytes from first (second ∷ []) (omega (arith, long)) is_first (omega (arith, long), is_second, tt) low plain
@@ -90,7 +90,7 @@ run-two bytes from first second long is_first is_second low high continues plain
 pub run-three : {keeps : Bool} (bytes : List ℕ) (from first second third : ℕ) → from + 3 ≤ length bytes
     → first ≡ slice_index bytes from → second ≡ slice_index bytes (from + 1)
     → third ≡ slice_index bytes (from + 2) → 0xe0 ≤ first → first < 0xf0 → is_in (second_range first) second ≡ true
-    → is_in (to 0x80 0xbf) third ≡ true → IsRun keeps bytes from (from + 3)
+    → is_in (from_to 0x80 0xbf) third ≡ true → IsRun keeps bytes from (from + 3)
 run-three bytes from first second third long is_first is_second is_third low high begins continues =
     run-of bytes from first (second ∷ third ∷ []) (omega (arith, long)) is_first
     (omega (arith, long), is_second, (omega (arith, long), is_third, tt))
@@ -101,7 +101,8 @@ pub run-four : {keeps : Bool} (bytes : List ℕ) (from first second third fourth
     → first ≡ slice_index bytes from
     → second ≡ slice_index bytes (from + 1) → third ≡ slice_index bytes (from + 2)
     → fourth ≡ slice_index bytes (from + 3) → 0xf0 ≤ first → first < 0xf5
-    → is_in (second_range first) second ≡ true → is_in (to 0x80 0xbf) third ≡ true → is_in (to 0x80 0xbf) fourth ≡ true
+    → is_in (second_range first) second ≡ true → is_in (from_to 0x80 0xbf) third ≡ true
+    → is_in (from_to 0x80 0xbf) fourth ≡ true
     → IsRun keeps bytes from (from + 4)
 run-four bytes from first second third fourth long is_first is_second is_third is_fourth low high begins
     continues ends =

@@ -7,7 +7,7 @@ use Rattle.std.proofs.lemmas.Str.{encode_ascii, encode_same, encodes-chars, scal
 use Rattle.vte_core.proofs.dividing.DivisionLemmas.{all_divided}
 use Rattle.vte_core.proofs.bytes.FirstBytes.{continuation, ascii_alone, tests_two, tests_three, tests_four}
 use Rattle.vte_core.proofs.bytes.Scalars.{SecondByte, sequence, whole_one, whole_two, whole_three, whole_four, well_formed_is_scalar}
-use Rattle.vte_core.proofs.shapes.TextLemmas.{further_whole, segments_first, text_outcome-well_formed, not_well_formed-nothing}
+use Rattle.vte_core.proofs.shapes.TextLemmas.{trailing_count_whole, segments_first, text_outcome-well_formed, not_well_formed-nothing}
 use Rattle.vte_core.proofs.bytes.Utf8Lemmas.{in_range}
 use Rattle.vte_core.proofs.shapes.OutcomeLemmas.{tell-append}
 
@@ -177,7 +177,7 @@ scalar_of-encoded c is =
 
 segments-well_formed : (p x : List ℕ) → is_well_formed p ≡ true → segments (p ++ x) ≡ p ∷ segments x
 segments-well_formed [] x well = absurd (false≢true (sym not_well_formed-nothing ∙ well))
-segments-well_formed (a ∷ u) x well = segments_first a u x (further_whole a u x well)
+segments-well_formed (a ∷ u) x well = segments_first a u x (trailing_count_whole a u x well)
 
 segments-encodes : (cs : List ℕ) → scalars cs ≡ true → segments (encodes cs) ≡ map encode cs
 segments-encodes [] are = refl
@@ -186,9 +186,9 @@ segments-encodes (c ∷ cs) are =
     segments-well_formed (encode c) (encodes cs) (encoded_is_well_formed c parts.0)
     ∙ ap (λ pieces. encode c ∷ pieces) (segments-encodes cs parts.1)
 
--- the pieces of a text of the library are the encodings of its characters
-pub pieces_of_text : (text : List ℕ) → IsUtf8 text → segments text ≡ map encode (chars text)
-pieces_of_text text is = rw (encodes-chars text is) at (segments-encodes (chars text) (scalars-chars text is))
+-- the segments of a text of the library are the encodings of its characters
+pub segments_of_text : (text : List ℕ) → IsUtf8 text → segments text ≡ map encode (chars text)
+segments_of_text text is = rw (encodes-chars text is) at (segments-encodes (chars text) (scalars-chars text is))
 
 concat-well_formed : (pieces : List (List ℕ)) → All (λ piece. is_well_formed piece ≡ true) pieces
     → IsUtf8 (concat pieces)
@@ -201,9 +201,9 @@ concat-well_formed (piece ∷ pieces) are =
     All-tail (λ piece. is_well_formed piece ≡ true) piece pieces are in
     IsUtf8-append piece (concat pieces) first (concat-well_formed pieces rest)
 
--- a text without a malformed piece is one of the library
-pub text_of_pieces : (text : List ℕ) → All (λ piece. is_well_formed piece ≡ true) (segments text) → IsUtf8 text
-text_of_pieces text are = rw (all_divided text) at (concat-well_formed (segments text) are)
+-- a text without a malformed segment is one of the library
+pub text_of_segments : (text : List ℕ) → All (λ piece. is_well_formed piece ≡ true) (segments text) → IsUtf8 text
+text_of_segments text are = rw (all_divided text) at (concat-well_formed (segments text) are)
 
 -- ---- the events of a text of the library
 

@@ -1,14 +1,14 @@
 -- A machine with the state of another, what is collected there and its items has read the same: by cases of the state.
-use Rattle.vte_core.proofs.Common.{◌≡◌, Option, ℕ, List, [], sym, subst, Machine, State, Text, Escape, EscapeIntermediate, ControlSequence, DeviceControl, DeviceData, SystemCommand, IgnoredString, Holds, HasReadUnder, StandsBy, StandsInHead, Place, InText, AtEscape, InEscape, InControlSequence, InDeviceControl, InData, InSystemCommand, InIgnoredString, SameItems}
+use Rattle.vte_core.proofs.Common.{◌≡◌, Option, ℕ, List, [], sym, subst, Machine, State, Text, Escape, EscapeIntermediate, ControlSequence, DeviceControl, DeviceData, SystemCommand, IgnoredString, HoldsIntermediates, HasReadUnder, StandsBy, StandsInHead, Place, InText, AtEscape, InEscape, InControlSequence, InDeviceControl, InData, InSystemCommand, InIgnoredString, SameItems}
 use Rattle.vte_core.proofs.fields.Standing.{keeps-same, stands-by}
 
 by_clone : {B C : Type 0} (limit : Option ℕ) (state : State) (old : Machine B) (new : Machine C) (place : Place)
     → new.collected ≡ old.collected → SameItems old.command new.command
     → StandsBy limit state old place → StandsBy limit state new place
 by_clone limit (Text unfinished) old new (InText u) same items s = s
-by_clone limit Escape old new AtEscape same items s = subst (λ collected. Holds collected []) (sym same) s
+by_clone limit Escape old new AtEscape same items s = subst (λ collected. HoldsIntermediates collected []) (sym same) s
 by_clone limit EscapeIntermediate old new (InEscape bytes) same items s =
-    subst (λ collected. Holds collected bytes) (sym same) s
+    subst (λ collected. HoldsIntermediates collected bytes) (sym same) s
 by_clone limit (ControlSequence part) old new (InControlSequence head) same items s =
     subst (λ collected. StandsInHead collected part head) (sym same) s
 by_clone limit (DeviceControl part) old new (InDeviceControl head) same items s =

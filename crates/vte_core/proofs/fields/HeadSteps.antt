@@ -1,13 +1,14 @@
 -- What one byte makes of the head that is held: by the part of the head that was reached and the byte's class.
-use Rattle.vte_core.proofs.Common.{◌≡◌, ℕ, ◌⊎◌, inl, inr, Bool, true, false, ◌||◌, List, [], ◌∷◌, ◌++◌, length, refl, ap, ◌∙◌, append_assoc, arith, length-append, append-nil, Class, Intermediate, Marker, class_of, is_head, is_intermediate, is_marker, is_parameter_text, Collected, HeadPart, Entry, Parameters, Intermediates, Malformed, Event, head_of, is_well_shaped, dispatched, Holds, Counts, Settles, HoldsHead}
+use Rattle.vte_core.proofs.Common.{◌≡◌, ℕ, ◌⊎◌, inl, inr, Bool, true, false, ◌||◌, List, [], ◌∷◌, ◌++◌, length, refl, ap, ◌∙◌, append_assoc, arith, length-append, append-nil, Class, Intermediate, Marker, class_of, is_head, is_intermediate, is_marker, is_parameter_text, Collected, HeadPart, Entry, Parameters, Intermediates, Malformed, Event, head_of, is_well_shaped, sequence_event, HoldsIntermediates, CountsNumbers, HoldsNumbers, HoldsHead}
 use Rattle.vte_core.proofs.Common.{KeepsNumbers, KeepsIntermediates, StandsInHead, StaysMalformed}
 use Rattle.vte_core.specs.machine.Ready.{IsReady}
 use Rattle.vte_core.proofs.shapes.HeadLemmas.{begins-intermediates, head_of-parts, held-parts, held-well_shaped, list_all-not}
 use Rattle.vte_core.proofs.bytes.PieceLemmas.{AreOf-append}
 
 -- the numbers that are held are those of the same text
-pub Counts-kept : (old new : Collected) (text : List ℕ) → KeepsNumbers old new → Counts old text → Counts new text
-Counts-kept old new text k c = record {
+pub CountsNumbers-kept : (old new : Collected) (text : List ℕ) → KeepsNumbers old new → CountsNumbers old text
+    → CountsNumbers new text
+CountsNumbers-kept old new text k c = record {
   front = c.front;
   digits = c.digits;
   goes_on = rw k.joined c.goes_on;
@@ -15,7 +16,8 @@ Counts-kept old new text k c = record {
   number = k.number ∙ c.number;
 }
 
-Holds-kept : (old new : Collected) (ints : List ℕ) → KeepsIntermediates old new → Holds old ints → Holds new ints
+Holds-kept : (old new : Collected) (ints : List ℕ) → KeepsIntermediates old new → HoldsIntermediates old ints
+    → HoldsIntermediates new ints
 Holds-kept old new ints k h = record { kept = cc; too_many = k.too_many ∙ h.too_many }
 
 shape_more : (head marker parameters intermediates more : List ℕ) → head ≡ marker ++ (parameters ++ intermediates)
@@ -25,7 +27,7 @@ shape_more head marker parameters intermediates more e = rw e (simp append_assoc
 -- an intermediate, wherever the head has come
 pub holds-intermediate : (old new : Collected) (part : HeadPart) (head : List ℕ) (b : ℕ) → HoldsHead old part head
     → class_of b ≡ Intermediate
-    → KeepsNumbers old new → ((ints : List ℕ) → Holds old ints → Holds new (ints ++ b ∷ []))
+    → KeepsNumbers old new → ((ints : List ℕ) → HoldsIntermediates old ints → HoldsIntermediates new (ints ++ b ∷ []))
     → HoldsHead new Intermediates (head ++ b ∷ [])
 holds-intermediate old new part head b h e k more = record {
   marker = h.marker;
@@ -37,16 +39,17 @@ holds-intermediate old new part head b h e k more = record {
   are_intermediates = AreOf-append is_intermediate h.intermediates (b ∷ []) h.are_intermediates (rw e refl, tt);
   reaches = omega (arith, length-append {A = ℕ});
   holds = rw append_assoc at (more (h.marker ++ h.intermediates) h.holds);
-  counts = Counts-kept old new h.parameters k h.counts;
+  counts = CountsNumbers-kept old new h.parameters k h.counts;
 }
 
 -- a marker, where nothing has come
 pub holds-marker : (old new : Collected) (head : List ℕ) (b : ℕ) → HoldsHead old Entry head → class_of b ≡ Marker
     → KeepsNumbers old new
-    → ((ints : List ℕ) → Holds old ints → Holds new (ints ++ b ∷ [])) → HoldsHead new Parameters (head ++ b ∷ [])
+    → ((ints : List ℕ) → HoldsIntermediates old ints → HoldsIntermediates new (ints ++ b ∷ []))
+    → HoldsHead new Parameters (head ++ b ∷ [])
 holds-marker old new head b h e k more =
     let nothing : head ≡ [] = h.shape ∙ rw (h.reaches.0, h.reaches.1, h.reaches.2) refl in
-    let none : Holds old [] = rw (h.reaches.0, h.reaches.2) at h.holds in
+    let none : HoldsIntermediates old [] = rw (h.reaches.0, h.reaches.2) at h.holds in
     record {
       marker = b ∷ [];
       parameters = h.parameters;
@@ -57,16 +60,17 @@ holds-marker old new head b h e k more =
       are_intermediates = tt;
       reaches = (omega arith, refl);
       holds = more [] none;
-      counts = Counts-kept old new h.parameters k h.counts;
+      counts = CountsNumbers-kept old new h.parameters k h.counts;
     }
 
 -- a byte of the parameters, after nothing, a marker or a parameter
 holds_parameter : (old new : Collected) (part : HeadPart) (head : List ℕ) (b : ℕ) (h : HoldsHead old part head)
     → h.intermediates ≡ []
     → is_parameter_text (class_of b) ≡ true → KeepsIntermediates old new
-    → ((text : List ℕ) → Counts old text → Counts new (text ++ b ∷ [])) → HoldsHead new Parameters (head ++ b ∷ [])
+    → ((text : List ℕ) → CountsNumbers old text → CountsNumbers new (text ++ b ∷ []))
+    → HoldsHead new Parameters (head ++ b ∷ [])
 holds_parameter old new part head b h none is k more =
-    let kept : Holds old (h.marker ++ []) = rw none at h.holds in
+    let kept : HoldsIntermediates old (h.marker ++ []) = rw none at h.holds in
     record {
       marker = h.marker;
       parameters = h.parameters ++ b ∷ [];
@@ -83,7 +87,8 @@ holds_parameter old new part head b h none is k more =
 pub holds-parameter : (old new : Collected) (part : HeadPart) (head : List ℕ) (b : ℕ)
     → (part ≡ Entry) ⊎ (part ≡ Parameters) → StandsInHead old part head
     → is_parameter_text (class_of b) ≡ true → KeepsIntermediates old new
-    → ((text : List ℕ) → Counts old text → Counts new (text ++ b ∷ [])) → HoldsHead new Parameters (head ++ b ∷ [])
+    → ((text : List ℕ) → CountsNumbers old text → CountsNumbers new (text ++ b ∷ []))
+    → HoldsHead new Parameters (head ++ b ∷ [])
 holds-parameter old new part head b (inl e) s is k more =
     let h : HoldsHead old Entry head = rw e at s in holds_parameter old new Entry head b h h.reaches.2 is k more
 holds-parameter old new part head b (inr e) s is k more =
@@ -129,7 +134,7 @@ malformed-now head s = rw append-nil at (s.stays [])
 
 -- at the end of a head that is well shaped
 pub ready : (old new : Collected) (more ignored : Bool) (part : HeadPart) (head : List ℕ)
-    → ((text : List ℕ) → Counts old text → Settles new more text)
+    → ((text : List ℕ) → CountsNumbers old text → HoldsNumbers new more text)
     → KeepsIntermediates old new → HoldsHead old part head → ignored ≡ (new.too_many || more) → IsReady new ignored head
 ready old new more ignored part head settles k h is =
     let parts = held-parts h.marker h.parameters h.intermediates h.is_marker h.are_parameters h.are_intermediates in
@@ -144,7 +149,7 @@ ready old new more ignored part head settles k h is =
       ignore = is ∙ rw (h.shape, parts, holds.too_many, s.more) refl;
     }
 
-pub holds-nothing : (new : Collected) → Holds new [] → Counts new [] → HoldsHead new Entry []
+pub holds-nothing : (new : Collected) → HoldsIntermediates new [] → CountsNumbers new [] → HoldsHead new Entry []
 holds-nothing new holds counts = record {
   marker = [];
   parameters = [];
@@ -179,8 +184,8 @@ malformed-late old Malformed head b s h i p n = malformed-more head b s
 pub dispatched-ready : (call : List (List ℕ) → List ℕ → Bool → ℕ → Event) (held : Collected) (ignored : Bool)
     (head : List ℕ) (final : ℕ)
     → IsReady held ignored head
-    → call held.params held.intermediates.items ignored final ≡ dispatched call (head_of head) final
-unfolding dispatched
+    → call held.params held.intermediates.items ignored final ≡ sequence_event call (head_of head) final
+unfolding sequence_event
 dispatched-ready call held ignored head final f = rw (f.groups, f.intermediates, f.ignore) refl
 
 pub head-holds : (held : Collected) (part : HeadPart) (head : List ℕ) → (part ≡ Malformed → ⊥)

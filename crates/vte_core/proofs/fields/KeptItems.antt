@@ -1,6 +1,6 @@
 -- What is kept of the items of a command, and the pieces of what is kept. By induction over the items, with the piece
 -- that is open carried along.
-use Rattle.vte_core.proofs.Common.{◌≡◌, ℕ, ◌+◌, ◌<◌, ◌≤◌, zero, suc, Bool, true, false, List, [], ◌∷◌, ◌++◌, length, take, Option, Some, None, refl, sym, arith, append_assoc, length-append, take_at, length-take, All, filter, slice_split, onto_first, concat, ltb-true, All-push, FitsStore, semicolon, cut_at, ends_after, is_data_byte, kept_after, kept_items, most_pieces, pieces_of, ap, inl, inr, cases_Bool}
+use Rattle.vte_core.proofs.Common.{◌≡◌, ℕ, ◌+◌, ◌<◌, ◌≤◌, zero, suc, Bool, true, false, List, [], ◌∷◌, ◌++◌, length, take, Option, Some, None, refl, sym, arith, append_assoc, length-append, take_at, length-take, All, filter, slice_split, onto_first, concat, ltb-true, All-push, FitsStore, semicolon, cut_data, ends_after, is_data_byte, kept_after, kept_items, most_pieces, pieces_of, ap, inl, inr, cases_Bool}
 use Rattle.vte_core.proofs.Common.{common_steps, eqb, take-nil, drop, take-append-drop, ◌∙◌}
 use Rattle.std.proofs.Common.{append-nil, drop_at, ◌==◌}
 use Rattle.std.proofs.lemmas.List.Folds.{concat-append}
@@ -10,7 +10,7 @@ use Rattle.std.proofs.lemmas.List.Splits.{length-slice_split, slice_split_at, sl
 
 -- `front` is the beginning of the piece that the text continues
 cut_onto : (earlier front text : List ℕ) → All (λ b. (b == semicolon) ≡ false) front →
-    cut_at (length earlier) (earlier ++ (front ++ filter is_data_byte text))
+    cut_data (length earlier) (earlier ++ (front ++ filter is_data_byte text))
     (ends_after (length earlier + length front) text)
     ≡ slice_split (λ b. b == semicolon) (front ++ text)
 cut_onto earlier front [] none =
@@ -21,10 +21,10 @@ cut_onto earlier front (item ∷ text) none =
   where
     by_test : (is_end : Bool) → (item == semicolon) ≡ is_end
         → ((earlier front : List ℕ) → All (λ b. (b == semicolon) ≡ false) front →
-        cut_at (length earlier) (earlier ++ (front ++ filter is_data_byte text))
+        cut_data (length earlier) (earlier ++ (front ++ filter is_data_byte text))
         (ends_after (length earlier + length front) text)
         ≡ slice_split (λ b. b == semicolon) (front ++ text))
-        → cut_at (length earlier) (earlier ++ (front ++ filter is_data_byte (item ∷ text)))
+        → cut_data (length earlier) (earlier ++ (front ++ filter is_data_byte (item ∷ text)))
         (ends_after (length earlier + length front) (item ∷ text))
         ≡ slice_split (λ b. b == semicolon) (front ++ item ∷ text)
     by_test true e rests =
@@ -44,14 +44,14 @@ cut_onto earlier front (item ∷ text) none =
         grind (arith, more, counted, joined, same)
 
 pub cut_at_ends : (text : List ℕ)
-    → slice_split (λ b. b == semicolon) text ≡ cut_at 0 (filter is_data_byte text) (ends_after 0 text)
+    → slice_split (λ b. b == semicolon) text ≡ cut_data 0 (filter is_data_byte text) (ends_after 0 text)
 cut_at_ends text = sym (cut_onto [] [] text (λ k d lt. absurd (omega arith)))
 
 -- ---- how many there are
 
-pub length_cut_at : (start : ℕ) (bytes ends : List ℕ) → length (cut_at start bytes ends) ≡ length ends + 1
-length_cut_at start bytes [] = refl
-length_cut_at start bytes (end ∷ ends) = omega (arith, length_cut_at end bytes ends)
+pub length_cut_data : (start : ℕ) (bytes ends : List ℕ) → length (cut_data start bytes ends) ≡ length ends + 1
+length_cut_data start bytes [] = refl
+length_cut_data start bytes (end ∷ ends) = omega (arith, length_cut_data end bytes ends)
 
 length_onto_first : (item : ℕ) (pieces : List (List ℕ))
     → length (concat (onto_first item pieces)) ≡ length (concat pieces) + 1

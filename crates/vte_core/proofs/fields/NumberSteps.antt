@@ -1,24 +1,25 @@
 -- What one byte makes of the numbers that are held: the numbers of the text read so far, of which the last is open.
-use Rattle.vte_core.proofs.Common.{◌≡◌, ℕ, ◌+◌, ◌<◌, ◌≤◌, ◌*◌, ◌-◌, min, Bool, true, false, List, [], ◌∷◌, ◌++◌, length, take, refl, ap, sym, ◌∙◌, arith, length-append, take_all, take-append-le, nat_tests, Collected, numbers, grouped, groups_of, has_too_many_numbers, with_number, count_of, most_numbers, is_separator, is_colon, greatest_number, Counts, Settles, append_assoc, append-nil}
+use Rattle.vte_core.proofs.Common.{◌≡◌, ℕ, ◌+◌, ◌<◌, ◌≤◌, ◌*◌, ◌-◌, min, Bool, true, false, List, [], ◌∷◌, ◌++◌, length, take, refl, ap, sym, ◌∙◌, arith, length-append, take_all, take-append-le, nat_tests, Collected, numbers, grouped, groups_of, has_too_many_numbers, with_number, count_of, most_numbers, is_separator, is_colon, greatest_number, CountsNumbers, HoldsNumbers, append_assoc, append-nil}
 use Rattle.std.proofs.lemmas.List.{length-take}
 use Rattle.vte_core.proofs.fields.Groups.{numbered}
 use Rattle.vte_core.proofs.fields.Parameters.{count_of-grouped, grouped-push, is_digit_no_separator, number_of-push, numbers_are}
 
 -- the numbers of the text, of which the last is being read
-counted : (collected : Collected) (text : List ℕ) (k : Counts collected text)
+counted : (collected : Collected) (text : List ℕ) (k : CountsNumbers collected text)
     → numbers text ≡ k.front ++ numbered collected.joined collected.number ∷ []
 counted collected text k =
     sym (ap numbers (append-nil text)) ∙ k.goes_on []
     ∙ ap (λ n. k.front ++ numbered collected.joined n ∷ []) (sym k.number)
 
-held_count : (collected : Collected) (text : List ℕ) (k : Counts collected text)
+held_count : (collected : Collected) (text : List ℕ) (k : CountsNumbers collected text)
     → count_of collected.params ≡ min 32 (length k.front)
 held_count collected text k =
     ap count_of k.params ∙ count_of-grouped (take most_numbers k.front) ∙ length-take most_numbers k.front
 
 -- where there is no room for the last number
-pub settles-full : (collected : Collected) (text : List ℕ) → Counts collected text → 32 ≤ count_of collected.params
-    → Settles collected true text
+pub settles-full : (collected : Collected) (text : List ℕ) → CountsNumbers collected text
+    → 32 ≤ count_of collected.params
+    → HoldsNumbers collected true text
 unfolding groups_of has_too_many_numbers
 settles-full collected text k full =
     let c = held_count collected text k in
@@ -33,8 +34,8 @@ settles-full collected text k full =
     }
 
 -- where there is room for it
-pub settles-push : (old new : Collected) (text : List ℕ) → Counts old text → count_of old.params < 32
-    → new.params ≡ with_number old.params (numbered old.joined old.number) → Settles new false text
+pub settles-push : (old new : Collected) (text : List ℕ) → CountsNumbers old text → count_of old.params < 32
+    → new.params ≡ with_number old.params (numbered old.joined old.number) → HoldsNumbers new false text
 unfolding groups_of has_too_many_numbers
 settles-push old new text k room pushed =
     let c = held_count old text k in
@@ -51,9 +52,9 @@ settles-push old new text k room pushed =
     }
 
 -- after a separator
-pub counts-separator : (old settled new : Collected) (more : Bool) (text : List ℕ) (b : ℕ) → Counts old text
-    → Settles settled more text → is_separator b ≡ true
-    → new.params ≡ settled.params → new.joined ≡ is_colon b → new.number ≡ 0 → Counts new (text ++ b ∷ [])
+pub counts-separator : (old settled new : Collected) (more : Bool) (text : List ℕ) (b : ℕ) → CountsNumbers old text
+    → HoldsNumbers settled more text → is_separator b ≡ true
+    → new.params ≡ settled.params → new.joined ≡ is_colon b → new.number ≡ 0 → CountsNumbers new (text ++ b ∷ [])
 unfolding groups_of
 counts-separator old settled new more text b k s is params joined number = record {
   front = k.front ++ numbered old.joined old.number ∷ [];
@@ -66,10 +67,10 @@ counts-separator old settled new more text b k s is params joined number = recor
 }
 
 -- after a digit
-pub counts-digit : (old new : Collected) (text : List ℕ) (d : ℕ) → Counts old text → 48 ≤ d → d < 58
+pub counts-digit : (old new : Collected) (text : List ℕ) (d : ℕ) → CountsNumbers old text → 48 ≤ d → d < 58
     → new.params ≡ old.params
     → new.joined ≡ old.joined → new.number ≡ min greatest_number (10 * old.number + (d - 48))
-    → Counts new (text ++ d ∷ [])
+    → CountsNumbers new (text ++ d ∷ [])
 counts-digit old new text d k low high params joined number = record {
   front = k.front;
   digits = k.digits ++ d ∷ [];
@@ -80,7 +81,7 @@ counts-digit old new text d k low high params joined number = record {
   number = number ∙ rw k.number (sym (number_of-push k.digits d low high));
 }
 
-pub counts-nothing : (new : Collected) → new.params ≡ [] → new.joined ≡ false → new.number ≡ 0 → Counts new []
+pub counts-nothing : (new : Collected) → new.params ≡ [] → new.joined ≡ false → new.number ≡ 0 → CountsNumbers new []
 counts-nothing new params joined number =
     record {
       front = [];

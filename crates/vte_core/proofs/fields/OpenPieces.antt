@@ -1,6 +1,6 @@
 -- The pieces of an open command, before and after one more data byte: with fewer than 16 `;` the byte joins the last
 -- piece, and the others stay.
-use Rattle.vte_core.proofs.Common.{◌≡◌, ◌≢◌, ℕ, ◌<◌, suc, zero, None, List, [], ◌∷◌, ◌++◌, length, take, drop, refl, ap, ◌∙◌, arith, length-append, slice_range, ◌+◌, All-cons, All-nil, append-nil, concat, drop-append-le, drops_data, nat_tests, take_all, Stored, Keeps, PiecesEnd, cut_at, semicolon, most_pieces, pieces_of}
+use Rattle.vte_core.proofs.Common.{◌≡◌, ◌≢◌, ℕ, ◌<◌, suc, zero, None, List, [], ◌∷◌, ◌++◌, length, take, drop, refl, ap, ◌∙◌, arith, length-append, slice_range, ◌+◌, All-cons, All-nil, append-nil, concat, drop-append-le, drops_data, nat_tests, take_all, Stored, Keeps, PiecesEnd, cut_data, semicolon, most_pieces, pieces_of}
 use Rattle.std.proofs.lemmas.List.Folds.{concat-append}
 use Rattle.vte_core.proofs.fields.StoreLemmas.{after_byte, after_nothing, count-run, ends-within, pieces_held, slice_within}
 
@@ -9,8 +9,8 @@ record GoesOn (start : ℕ) (bytes ends : List ℕ) (byte : ℕ) : Type 0 where
   pieces : List (List ℕ)
   last : List ℕ
   ended : length pieces ≡ length ends
-  before : cut_at start bytes ends ≡ pieces ++ last ∷ []
-  later : cut_at start (bytes ++ byte ∷ []) ends ≡ pieces ++ (last ++ byte ∷ []) ∷ []
+  before : cut_data start bytes ends ≡ pieces ++ last ∷ []
+  later : cut_data start (bytes ++ byte ∷ []) ends ≡ pieces ++ (last ++ byte ∷ []) ∷ []
 
 goes_on : (left start : ℕ) (bytes ends : List ℕ) (byte : ℕ) → PiecesEnd left start ends (length bytes)
     → GoesOn start bytes ends byte

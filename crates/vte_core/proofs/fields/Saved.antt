@@ -1,5 +1,5 @@
 -- A machine that is made of what was saved of another is at the place where that one was: by cases of the state.
-use Rattle.vte_core.proofs.Common.{◌≡◌, ℕ, Option, Some, List, take, arith, refl, subst, ◌∙◌, Machine, State, Text, Escape, EscapeIntermediate, ControlSequence, DeviceControl, DeviceData, SystemCommand, IgnoredString, Holds, HasReadUnder, StandsBy, StandsInHead, Place, InText, AtEscape, InEscape, InControlSequence, InDeviceControl, InData, InSystemCommand, InIgnoredString, SameItems}
+use Rattle.vte_core.proofs.Common.{◌≡◌, ℕ, Option, Some, List, take, arith, refl, subst, ◌∙◌, Machine, State, Text, Escape, EscapeIntermediate, ControlSequence, DeviceControl, DeviceData, SystemCommand, IgnoredString, HoldsIntermediates, HasReadUnder, StandsBy, StandsInHead, Place, InText, AtEscape, InEscape, InControlSequence, InDeviceControl, InData, InSystemCommand, InIgnoredString, SameItems}
 use Rattle.vte_core.specs.declared.parser.saved.Saved.{Saved}
 use Rattle.vte_core.specs.machine.Saved.{IsInHead, IsRestored, flag_of, state_bytes}
 use Rattle.vte_core.specs.machine.Groups.{AreParts}
@@ -26,7 +26,7 @@ pub record HasSaved {B : Type 0} (saved : Saved) (machine : Machine B) : Type 0 
 
 holds-saved : {B C : Type 0} {saved : Saved} {old : Machine B} {new : Machine C} {ints : List ℕ} → HasSaved saved old
     → IsRestored saved new
-    → Holds old.collected ints → Holds new.collected ints
+    → HoldsIntermediates old.collected ints → HoldsIntermediates new.collected ints
 holds-saved h r holds =
     record {
       kept = r.intermediates ∙ (h.intermediates ∙ holds.kept);

@@ -1,7 +1,7 @@
 -- What a store holds: how many bytes, and which pieces. The invariant `Keeps` says what more items give, and each byte
 -- either joins the last piece, ends it, or is dropped.
 use Rattle.vte_core.proofs.Common.{◌≡◌, ◌≢◌, ℕ, ◌+◌, ◌-◌, ◌≤◌, ◌<◌, zero, suc, true, false, List, [], ◌∷◌, ◌++◌, length, take, drop, Option, Some, None, refl, sym, ap, ◌∙◌, arith, append_assoc, length-append, length-drop, length-take, inl, inr, All, concat, filter, slice_range, drop-append-le, take-append-le, All-head, All-tail, take-nil, cases_Bool, ltb-false, ltb-true, ne_eqb, semicolon, Stored, Keeps, PiecesEnd}
-use Rattle.vte_core.proofs.Common.{cut_at, cut_pieces, ends_after, fitting, pieces_from, Bool, drops_data, has_room, is_data_byte, nat_tests, kept_after, kept_items, most_pieces, pieces_of}
+use Rattle.vte_core.proofs.Common.{cut_data, cut_pieces, ends_after, fitting, pieces_from, Bool, drops_data, has_room, is_data_byte, nat_tests, kept_after, kept_items, most_pieces, pieces_of}
 use Rattle.std.proofs.Common.{append-nil}
 use Rattle.std.specs.Prelude.{◌||◌, nat_lt}
 use Rattle.std.proofs.lemmas.List.Elements.{filter-append}
@@ -98,7 +98,7 @@ ends-within (suc left) start (end ∷ ends) count are = omega (arith, are.0, end
 
 -- all bytes are in the pieces
 pub ends-stored : (left start : ℕ) (bytes ends : List ℕ) → PiecesEnd left start ends (length bytes)
-    → start + length (concat (take left (cut_at start bytes ends))) ≡ length bytes
+    → start + length (concat (take left (cut_data start bytes ends))) ≡ length bytes
 ends-stored zero start bytes [] are = omega (arith, are)
 ends-stored zero start bytes (end ∷ ends) are = absurd are
 ends-stored (suc left) start bytes [] are =
@@ -107,7 +107,7 @@ ends-stored (suc left) start bytes [] are =
 ends-stored (suc left) start bytes (end ∷ ends) are =
     let within = ends-within left end ends (length bytes) are.1 in
     let rest = ends-stored left end bytes ends are.1 in
-    let counted = length-append (slice_range bytes start end) (concat (take left (cut_at end bytes ends))) in
+    let counted = length-append (slice_range bytes start end) (concat (take left (cut_data end bytes ends))) in
     omega (arith, are.0, within, rest, counted, length-take (end - start) (drop start bytes), length-drop start bytes)
 
 pub slice_within : (start end : ℕ) (bytes more : List ℕ) → start ≤ end → end ≤ length bytes
@@ -119,7 +119,7 @@ slice_within start end bytes more order within =
 
 -- after the last of them further bytes and ends make no difference
 ends-complete : (start : ℕ) (bytes ends more later : List ℕ) → PiecesEnd (length ends) start ends (length bytes) →
-    take (length ends) (cut_at start (bytes ++ more) (ends ++ later)) ≡ take (length ends) (cut_at start bytes ends)
+    take (length ends) (cut_data start (bytes ++ more) (ends ++ later)) ≡ take (length ends) (cut_data start bytes ends)
 ends-complete start bytes [] more later are = refl
 ends-complete start bytes (end ∷ ends) more later are =
     let slice = slice_within start end bytes more are.0 (ends-within (length ends) end ends (length bytes) are.1) in

@@ -1,6 +1,6 @@
 -- The events of one byte are small: a character, a control, or a dispatch whose intermediates and final byte have
 -- bounds. By the kind of event.
-use Rattle.vte_core.proofs.Common.{IsOther, ◌≡◌, ℕ, ◌<◌, ◌≤◌, Bool, true, false, cond, Option, List, [], ◌∷◌, ◌++◌, length, refl, arith, nat_tests, IsBounded, IsBrief, IsExecuted, IsPrintable, IsShort, IsTiny, first_two, Event, Print, Execute, Hook, CsiDispatch, replacement, Head, dispatched, collected, character_event, malformed_event, is_control_character, is_well_formed, scalar_of}
+use Rattle.vte_core.proofs.Common.{IsOther, ◌≡◌, ℕ, ◌<◌, ◌≤◌, Bool, true, false, cond, Option, List, [], ◌∷◌, ◌++◌, length, refl, arith, nat_tests, IsBounded, IsBrief, IsExecuted, IsPrintable, IsShort, IsTiny, first_two, Event, Print, Execute, Hook, CsiDispatch, replacement, Head, sequence_event, reported_intermediates, character_event, malformed_event, is_control_character, is_well_formed, scalar_of}
 use Rattle.std.proofs.lemmas.List.{length-take}
 use Rattle.vte_core.proofs.fields.Parameters.{AreGroups-groups_of, some_group}
 use Rattle.vte_core.proofs.bytes.Scalars.{well_formed_is_scalar}
@@ -12,16 +12,26 @@ pub two_at_most : (bytes : List ℕ) → length (first_two bytes) ≤ 2
 two_at_most bytes = omega (arith, length-take 2 bytes)
 
 pub bounded-csi : (limit : Option ℕ) (head : Head) (final : ℕ) → (0x40 ≤ final) × (final < 0x7f)
-    → IsBounded limit (dispatched CsiDispatch head final)
-unfolding dispatched
-bounded-csi limit head final is =
-    (AreGroups-groups_of head.parameters, two_at_most (collected head), is.1, is.0, some_group head.parameters)
+    → IsBounded limit (sequence_event CsiDispatch head final)
+unfolding sequence_event
+bounded-csi limit head final is = (
+  AreGroups-groups_of head.parameters,
+  two_at_most (reported_intermediates head),
+  is.1,
+  is.0,
+  some_group head.parameters,
+)
 
 pub bounded-hook : (limit : Option ℕ) (head : Head) (final : ℕ) → (0x40 ≤ final) × (final < 0x7f)
-    → IsBounded limit (dispatched Hook head final)
-unfolding dispatched
-bounded-hook limit head final is =
-    (AreGroups-groups_of head.parameters, two_at_most (collected head), is.1, is.0, some_group head.parameters)
+    → IsBounded limit (sequence_event Hook head final)
+unfolding sequence_event
+bounded-hook limit head final is = (
+  AreGroups-groups_of head.parameters,
+  two_at_most (reported_intermediates head),
+  is.1,
+  is.0,
+  some_group head.parameters,
+)
 
 short-chosen : (t : Bool) (b c : ℕ) → (t ≡ true → IsExecuted b) → (t ≡ false → IsPrintable c)
     → IsShort (cond t (Execute b) (Print c))
@@ -56,10 +66,10 @@ tiny-both limit (e ∷ []) (f ∷ []) t s = (short_bounded limit e t, s)
 tiny-both limit (e ∷ []) (f ∷ g ∷ rest) t s = absurd s
 tiny-both limit (e ∷ f ∷ front) rest t s = absurd t
 
-pub other-csi : (head : Head) (final : ℕ) → IsOther (dispatched CsiDispatch head final)
-unfolding dispatched
+pub other-csi : (head : Head) (final : ℕ) → IsOther (sequence_event CsiDispatch head final)
+unfolding sequence_event
 other-csi head final = tt
 
-pub other-hook : (head : Head) (final : ℕ) → IsOther (dispatched Hook head final)
-unfolding dispatched
+pub other-hook : (head : Head) (final : ℕ) → IsOther (sequence_event Hook head final)
+unfolding sequence_event
 other-hook head final = tt

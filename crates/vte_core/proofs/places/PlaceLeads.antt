@@ -1,7 +1,7 @@
 -- What one byte reports after each place, and where it leads: one lemma for each kind of place and of byte, by the
 -- definition of that shape alone.
 use Rattle.vte_core.proofs.Common.{◌≡◌, ℕ, ◌≤◌, true, false, eqb, Option, List, [], ◌∷◌, ◌++◌, ap, sym, append_assoc, append-nil, arith, nat_tests, Class, Control, Intermediate, Delete, Digit, Colon, Semicolon, Marker, Final, High, dispatches_escape, class_of, is_cancel, is_data, is_head, Dispatch, key_of, body_outcome, control_sequence_end, control_sequence_outcome, data_outcome, device_control_end, ends_command}
-use Rattle.vte_core.proofs.Common.{ends_data, device_control_outcome, escape_outcome, executed, first_two, are_too_many, Execute, Hook, Put, Unhook, OscDispatch, CsiDispatch, EscDispatch, head_of, is_well_shaped, dispatched, Leads, InText, AtEscape, InEscape, InControlSequence, InDeviceControl, InData, InSystemCommand, InIgnoredString, pieces_of, bell, system_command_outcome, text_outcome, character_event, Bool}
+use Rattle.vte_core.proofs.Common.{ends_data, device_control_outcome, escape_outcome, executed_events, first_two, are_too_many, Execute, Hook, Put, Unhook, OscDispatch, CsiDispatch, EscDispatch, head_of, is_well_shaped, sequence_event, Leads, InText, AtEscape, InEscape, InControlSequence, InDeviceControl, InData, InSystemCommand, InIgnoredString, pieces_of, bell, system_command_outcome, text_outcome, character_event, Bool}
 use Rattle.vte_core.proofs.Common.{Place, refl, malformed_event, is_truncated, is_well_formed, scalar_of, nat_le}
 use Rattle.vte_core.specs.IgnoredString.{ignored_string_outcome}
 use Rattle.vte_core.specs.Key.{ControlSequence, DeviceControl, SystemCommand, IgnoredString}
@@ -22,7 +22,7 @@ drops _ = true
 
 pub byte-dropped : (limit : Option ℕ) (place : Place) (b : ℕ) (k : Class) → drops place ≡ true → class_of b ≡ k
     → is_dropped k ≡ true → Leads limit place b [] place
-unfolding body_outcome escape_from control_sequence_from device_control_from ignored_string_outcome executed
+unfolding body_outcome escape_from control_sequence_from device_control_from ignored_string_outcome executed_events
 byte-dropped limit (InText u) b k at e h = cc
 byte-dropped limit InData b k at e h = cc
 byte-dropped limit (InSystemCommand items) b k at e h = cc
@@ -34,52 +34,52 @@ byte-dropped limit _ b _ at e h = cc
 
 pub escape-control : (limit : Option ℕ) (b : ℕ) → class_of b ≡ Control
     → Leads limit AtEscape b (Execute b ∷ []) AtEscape
-unfolding body_outcome executed
+unfolding body_outcome executed_events
 escape-control limit b e = record { leads = λ rest. simp e }
 
 pub escape-intermediate : (limit : Option ℕ) (b : ℕ) → class_of b ≡ Intermediate
     → Leads limit AtEscape b [] (InEscape (b ∷ []))
-unfolding body_outcome executed escape_outcome escape_from
+unfolding body_outcome executed_events escape_outcome escape_from
 escape-intermediate limit b e =
     let s : Spans Intermediate b =
     spans b Intermediate e in record { leads = λ rest. simp (e, below_finals b (omega arith)) }
 
 pub escape-control_sequence : (limit : Option ℕ) (b : ℕ) → class_of b ≡ Final → key_of b ≡ ControlSequence
     → Leads limit AtEscape b [] (InControlSequence [])
-unfolding body_outcome executed control_sequence_outcome control_sequence_from
+unfolding body_outcome executed_events control_sequence_outcome control_sequence_from
 escape-control_sequence limit b e k = record { leads = λ rest. simp (e, k) }
 
 pub escape-device_control : (limit : Option ℕ) (b : ℕ) → class_of b ≡ Final → key_of b ≡ DeviceControl
     → Leads limit AtEscape b [] (InDeviceControl [])
-unfolding body_outcome executed device_control_outcome device_control_from
+unfolding body_outcome executed_events device_control_outcome device_control_from
 escape-device_control limit b e k = record { leads = λ rest. simp (e, k) }
 
 pub escape-system_command : (limit : Option ℕ) (b : ℕ) → class_of b ≡ Final → key_of b ≡ SystemCommand
     → Leads limit AtEscape b [] (InSystemCommand [])
-unfolding body_outcome executed system_command_outcome system_command_from
+unfolding body_outcome executed_events system_command_outcome system_command_from
 escape-system_command limit b e k = record { leads = λ rest. simp (e, k) }
 
 pub escape-ignored_string : (limit : Option ℕ) (b : ℕ) → class_of b ≡ Final → key_of b ≡ IgnoredString
     → Leads limit AtEscape b [] InIgnoredString
-unfolding body_outcome executed
+unfolding body_outcome executed_events
 escape-ignored_string limit b e k = record { leads = λ rest. simp (e, k) }
 
 -- ---- after ESC and intermediates
 
 pub intermediate-control : (limit : Option ℕ) (ints : List ℕ) (b : ℕ) → class_of b ≡ Control
     → Leads limit (InEscape ints) b (Execute b ∷ []) (InEscape ints)
-unfolding escape_from executed
+unfolding escape_from executed_events
 intermediate-control limit ints b e = record { leads = λ rest. simp e }
 
 pub intermediate-more : (limit : Option ℕ) (ints : List ℕ) (b : ℕ) → class_of b ≡ Intermediate
     → Leads limit (InEscape ints) b [] (InEscape (ints ++ b ∷ []))
-unfolding escape_from executed
+unfolding escape_from executed_events
 intermediate-more limit ints b e = record { leads = λ rest. simp (e, append_assoc) }
 
 pub intermediate-end : (limit : Option ℕ) (ints : List ℕ) (b : ℕ) (k : Class) → class_of b ≡ k
     → dispatches_escape k ≡ true
     → Leads limit (InEscape ints) b (EscDispatch (first_two ints) (are_too_many ints) b ∷ []) (InText [])
-unfolding escape_from executed
+unfolding escape_from executed_events
 intermediate-end limit ints b Digit e h = record { leads = λ rest. simp (e, append-nil) }
 intermediate-end limit ints b Colon e h = record { leads = λ rest. simp (e, append-nil) }
 intermediate-end limit ints b Semicolon e h = record { leads = λ rest. simp (e, append-nil) }
@@ -91,7 +91,7 @@ intermediate-end limit ints b _ e h = cc
 pub escape-end : (limit : Option ℕ) (b : ℕ) (k : Class) → class_of b ≡ k → dispatches_escape k ≡ true
     → key_of b ≡ Dispatch
     → Leads limit AtEscape b (EscDispatch [] false b ∷ []) (InText [])
-unfolding body_outcome executed escape_outcome
+unfolding body_outcome executed_events escape_outcome
 escape-end limit b Digit e h key = record { leads = λ rest. simp (e, key) }
 escape-end limit b Colon e h key = record { leads = λ rest. simp (e, key) }
 escape-end limit b Semicolon e h key = record { leads = λ rest. simp (e, key) }
@@ -103,12 +103,12 @@ escape-end limit b _ e h key = cc
 
 pub control-control : (limit : Option ℕ) (head : List ℕ) (b : ℕ) → class_of b ≡ Control
     → Leads limit (InControlSequence head) b (Execute b ∷ []) (InControlSequence head)
-unfolding control_sequence_from executed
+unfolding control_sequence_from executed_events
 control-control limit head b e = record { leads = λ rest. simp e }
 
 pub control-head : (limit : Option ℕ) (head : List ℕ) (b : ℕ) → is_head (class_of b) ≡ true
     → Leads limit (InControlSequence head) b [] (InControlSequence (head ++ b ∷ []))
-unfolding control_sequence_from executed
+unfolding control_sequence_from executed_events
 control-head limit head b is =
     record {
       leads = λ rest.
@@ -117,13 +117,13 @@ control-head limit head b is =
 
 pub control-dispatched : (limit : Option ℕ) (head : List ℕ) (b : ℕ) → class_of b ≡ Final
     → is_well_shaped (head_of head) ≡ true
-    → Leads limit (InControlSequence head) b (dispatched CsiDispatch (head_of head) b ∷ []) (InText [])
-unfolding control_sequence_from control_sequence_end executed
+    → Leads limit (InControlSequence head) b (sequence_event CsiDispatch (head_of head) b ∷ []) (InText [])
+unfolding control_sequence_from control_sequence_end executed_events
 control-dispatched limit head b e well = record { leads = λ rest. simp (e, append-nil, well) }
 
 pub control-silent : (limit : Option ℕ) (head : List ℕ) (b : ℕ) → class_of b ≡ Final
     → is_well_shaped (head_of head) ≡ false → Leads limit (InControlSequence head) b [] (InText [])
-unfolding control_sequence_from control_sequence_end executed
+unfolding control_sequence_from control_sequence_end executed_events
 control-silent limit head b e ill = record { leads = λ rest. simp (e, append-nil, ill) }
 
 -- ---- in the head of a device control string
@@ -141,7 +141,7 @@ device-head limit head b is = record { leads = λ rest. simp (is, head_is_no_end
 
 pub device-well_shaped : (limit : Option ℕ) (head : List ℕ) (b : ℕ) → class_of b ≡ Final
     → is_well_shaped (head_of head) ≡ true
-    → Leads limit (InDeviceControl head) b (dispatched Hook (head_of head) b ∷ []) InData
+    → Leads limit (InDeviceControl head) b (sequence_event Hook (head_of head) b ∷ []) InData
 unfolding device_control_from device_control_end
 device-well_shaped limit head b e well = record { leads = λ rest. simp (e, append-nil, well) }
 

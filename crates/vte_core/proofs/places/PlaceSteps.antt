@@ -1,6 +1,6 @@
 -- After every place every byte reports at most two small events and leads to a place (`steps`): by cases of the place
 -- and of the byte's class, each by a lemma of `PlaceLeads`.
-use Rattle.vte_core.proofs.Common.{◌≡◌, ℕ, inl, inr, false, eqb, Option, List, refl, arith, cases_Bool, nat_tests, Class, Control, Cancel, Intermediate, Final, Delete, High, class_of, ends_all, Key, Dispatch, key_of, IsBrief, Event, head_of, is_well_shaped, Leads, Place, InText, AtEscape, InEscape, InControlSequence, InDeviceControl, InData, InSystemCommand, InIgnoredString, closing_at, escape, bell, pieces_of}
+use Rattle.vte_core.proofs.Common.{◌≡◌, ℕ, inl, inr, false, eqb, Option, List, refl, arith, cases_Bool, nat_tests, Class, Control, Cancel, Intermediate, Final, Delete, High, class_of, ends_all, Key, Dispatch, key_of, IsBrief, Event, head_of, is_well_shaped, Leads, Place, InText, AtEscape, InEscape, InControlSequence, InDeviceControl, InData, InSystemCommand, InIgnoredString, closing_events_at, escape, bell, pieces_of}
 use Rattle.vte_core.proofs.Common.{kept_items, data_left, left_at, breaks, open_at, sym, false≢true, ◌∙◌, [], ◌∷◌, ◌++◌, Execute, is_data, true}
 use Rattle.vte_core.proofs.bytes.FirstBytes.{Tests, ascii_breaks}
 use Rattle.vte_core.proofs.stops.Told.{breaks-broken}
@@ -184,21 +184,22 @@ step-ordinary limit InIgnoredString b k is e o =
 
 -- ESC breaks a character
 escape_little : (limit : Option ℕ) (place : Place) → IsPlace place → IsText place
-    → breaks (open_at place) (escape ∷ []) ≡ false → IsLittle AtEscape (closing_at limit place)
+    → breaks (open_at place) (escape ∷ []) ≡ false → IsLittle AtEscape (closing_events_at limit place)
 escape_little limit (InText []) is text unbroken = inl refl
 escape_little limit (InText (a ∷ u)) is text unbroken =
     let tests : Tests (a ∷ u ++ escape ∷ []) false false = ascii_breaks (a ∷ u) escape is (omega arith) in
     absurd (false≢true (sym unbroken ∙ breaks-broken (a ∷ u) escape is tests.is_whole tests.is_open))
 escape_little limit _ is text unbroken = absurd text
 
-closing_others : (limit : Option ℕ) (place : Place) (b : ℕ) → IsQuiet place b → AreOthers (closing_at limit place)
+closing_others : (limit : Option ℕ) (place : Place) (b : ℕ) → IsQuiet place b
+    → AreOthers (closing_events_at limit place)
 closing_others limit (InText u) b quiet = absurd quiet
 closing_others limit InData b quiet = tt
 closing_others limit (InSystemCommand items) b quiet = tt
 closing_others limit _ b quiet = tt
 
 cancel_others : (limit : Option ℕ) (place : Place) (b : ℕ) → IsQuiet place b
-    → AreOthers (closing_at limit place ++ Execute b ∷ [])
+    → AreOthers (closing_events_at limit place ++ Execute b ∷ [])
 cancel_others limit (InText u) b quiet = absurd quiet
 cancel_others limit InData b quiet = (tt, tt)
 cancel_others limit (InSystemCommand items) b quiet = (tt, tt)
@@ -208,7 +209,7 @@ by_class : (limit : Option ℕ) (place : Place) (b : ℕ) (k : Class) → IsPlac
 by_class limit place b Escape is e =
     let same : Spans Escape b = spans b Escape e in
     rw same (record {
-      told = closing_at limit place;
+      told = closing_events_at limit place;
       next = AtEscape;
       is_place = tt;
       reads = reads-escape limit place is;

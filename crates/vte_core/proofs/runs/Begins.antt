@@ -1,10 +1,10 @@
 -- What a first byte begins: nothing, or a character with these ranges to come, as the rows of UTF-8 say.
-use Rattle.vte_core.proofs.Common.{List, [], arith, inl, inr, nat_le, refl, subst, sym, true, ℕ, ◌∙◌, ◌∷◌, ◌≡◌, ◌≢◌, ◌≤◌, and_parts, cases_Bool, cases_eq, cases_lt, false≢true, leb-true, nat_tests, Range, is_in, to, rows_after, utf8_rows, second_range, IsPrinted, AreRun, is_layout}
+use Rattle.vte_core.proofs.Common.{List, [], arith, inl, inr, nat_le, refl, subst, sym, true, ℕ, ◌∙◌, ◌∷◌, ◌≡◌, ◌≢◌, ◌≤◌, and_parts, cases_Bool, cases_eq, cases_lt, false≢true, leb-true, nat_tests, Range, is_in, from_to, rows_after_byte, utf8_rows, second_range, IsPrinted, AreRun, is_layout}
 use Rattle.vte_core.proofs.bytes.Between.{each-one}
 use Rattle.vte_core.proofs.bytes.FirstBytes.{fits, tests_row, tests_two}
 use Rattle.vte_core.proofs.bytes.Printable.{run-ascii, run-layout}
 use Rattle.vte_core.proofs.dividing.PrintableCharacters.{printable}
-use Rattle.vte_core.specs.machine.Automaton.{AutomatonState, Between, One, Two, Three, AfterE0, AfterED, AfterF0, AfterF4, AfterC2, Failed, begun}
+use Rattle.vte_core.specs.machine.Automaton.{AutomatonState, Between, One, Two, Three, AfterE0, AfterED, AfterF0, AfterF4, AfterC2, Failed, next_between}
 use Rattle.vte_core.proofs.runs.Steps.{still}
 
 -- Bytes in these ranges end the character.
@@ -12,7 +12,7 @@ abbrev pub Completes : ℕ → List Range → Type 0
 Completes b ranges = (u : List ℕ) → fits ranges u ≡ true → AreRun true (b ∷ u)
 
 -- the row of Unicode's table that the byte has
-row : (b : ℕ) (ranges : List Range) → 0xc3 ≤ b → rows_after b utf8_rows ≡ ranges ∷ [] → Completes b ranges
+row : (b : ℕ) (ranges : List Range) → 0xc3 ≤ b → rows_after_byte b utf8_rows ≡ ranges ∷ [] → Completes b ranges
 row b ranges low same u fit =
     printable b u (omega (arith, low)) (λ e. absurd (omega (arith, e, low)))
     ((tests_row b ranges same u).is_whole ∙ fit)
@@ -20,20 +20,21 @@ row b ranges low same u fit =
 -- ---- the first bytes
 
 pub data Begins (b : ℕ) : Type 0 where
-  prints : AreRun true (b ∷ []) → begun b ≡ Between → Begins b
-  fails : begun b ≡ Failed → Begins b
-  opens : (t : AutomatonState) → begun b ≡ t → t ≢ Between → t ≢ Failed → 0xc0 ≤ b → Completes b (still t) → Begins b
+  prints : AreRun true (b ∷ []) → next_between b ≡ Between → Begins b
+  fails : next_between b ≡ Failed → Begins b
+  opens : (t : AutomatonState) → next_between b ≡ t → t ≢ Between → t ≢ Failed → 0xc0 ≤ b → Completes b (still t)
+      → Begins b
 
-opened : (b : ℕ) (t : AutomatonState) → begun b ≡ t → t ≢ Between → t ≢ Failed → 0xc3 ≤ b
-    → rows_after b utf8_rows ≡ still t ∷ [] → Begins b
+opened : (b : ℕ) (t : AutomatonState) → next_between b ≡ t → t ≢ Between → t ≢ Failed → 0xc3 ≤ b
+    → rows_after_byte b utf8_rows ≡ still t ∷ [] → Begins b
 opened b t is not fine low same = opens t is not fine (omega (arith, low)) (row b (still t) low same)
 
 -- after C2 the table also has controls
-after_c2 : Completes 0xc2 (to 0xa0 0xbf ∷ [])
+after_c2 : Completes 0xc2 (from_to 0xa0 0xbf ∷ [])
 unfolding second_range
 after_c2 [] fit = absurd (false≢true fit)
 after_c2 (c ∷ u) fit =
-    let parts = and_parts (is_in (to 0xa0 0xbf) c) (fits [] u) fit in
+    let parts = and_parts (is_in (from_to 0xa0 0xbf) c) (fits [] u) fit in
     let high : 0xa0 ≤ c = leb-true 0xa0 c (and_parts (nat_le 0xa0 c) (nat_le c 0xbf) parts.0).0 in
     printable 0xc2 (c ∷ u) (omega arith) (λ _. high)
     ((tests_two 0xc2 (omega arith) (omega arith) (c ∷ u)).is_whole ∙ rw parts.1 (grind (arith, nat_tests)))

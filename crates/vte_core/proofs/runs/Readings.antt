@@ -3,14 +3,14 @@ use Rattle.vte_core.proofs.Common.{Bool, List, [], ap, arith, drop, false, get_o
 use Rattle.std.proofs.lemmas.List.{get_or-take, get_or-append-add}
 use Rattle.std.proofs.lemmas.Str.{encode_ascii, encodes-chars}
 use Rattle.vte_core.specs.machine.Between.{Each}
-use Rattle.vte_core.specs.machine.Automaton.{AutomatonState, Between, Failed, code, state_after, HasScanned, LastEnd}
+use Rattle.vte_core.specs.machine.Automaton.{AutomatonState, Between, Failed, state_code, state_after, HasScanned, LastEnd}
 use Rattle.vte_core.proofs.runs.Standing.{IsBegun, Standing, standing}
 use Rattle.vte_core.proofs.runs.Steps.{still, state_after-append, between, gone, waiting, turn}
 
 -- ---- codes
 
 -- the code of the state between two characters is its alone
-pub is_between : (s : AutomatonState) → code s ≡ 0 → s ≡ Between
+pub is_between : (s : AutomatonState) → state_code s ≡ 0 → s ≡ Between
 is_between Between e = refl
 is_between _ e = absurd (omega (arith, e))
 
@@ -18,15 +18,16 @@ is_between _ e = absurd (omega (arith, e))
 
 pub has_read-more : (text more : List ℕ) (at n state after : ℕ) → HasScanned text at state → at + n ≤ length text
     → more ≡ take n (drop at text)
-    → ((s : AutomatonState) → state ≡ code s → after ≡ code (state_after s more)) → after ≢ 54
+    → ((s : AutomatonState) → state ≡ state_code s → after ≡ state_code (state_after s more)) → after ≢ 54
     → HasScanned text (at + n) after
 has_read-more text more at n state after read within is steps fine =
     let here : AutomatonState = state_after Between (take at text) in
     let joined : state_after Between (take (at + n) text) ≡ state_after here more =
     ap (state_after Between) (take-add at n text ∙ ap (λ x. take at text ++ x) (sym is))
     ∙ state_after-append Between (take at text) more in
-    let same : after ≡ code (state_after Between (take (at + n) text)) = steps here read.is ∙ ap code (sym joined) in
-    record { within = within; is = same; going = λ e. fine (same ∙ ap code e) }
+    let same : after ≡ state_code (state_after Between (take (at + n) text)) =
+    steps here read.is ∙ ap state_code (sym joined) in
+    record { within = within; is = same; going = λ e. fine (same ∙ ap state_code e) }
 
 -- ---- the last end
 
@@ -50,7 +51,7 @@ still-some s not going = elim (turn s) [
 -- a character that has not ended
 pub unended : (text : List ℕ) (at state : ℕ) → HasScanned text at state → state ≢ 0
     → (s : Standing text at (state_after Between (take at text))) → IsBegun text s.end at
-unended text at state read inside s = s.begun (λ e. inside (read.is ∙ ap code e))
+unended text at state read inside s = s.begun (λ e. inside (read.is ∙ ap state_code e))
 
 -- the place of its first byte is the last end
 pub last_end-first : (text : List ℕ) (at state end : ℕ) → HasScanned text at state → state ≢ 0
@@ -64,7 +65,7 @@ last_end-first text at state end read inside s from before high =
     ] in
     record {
       before = omega (arith, before);
-      near = omega (arith, s.short, still-some _ (λ e. inside (read.is ∙ ap code e)) read.going, same);
+      near = omega (arith, s.short, still-some _ (λ e. inside (read.is ∙ ap state_code e)) read.going, same);
       run = subst (λ n. AreRun true (take n text)) same s.printable;
     }
 

@@ -5,7 +5,7 @@ use Rattle.vte_core.specs.machine.Between.{Each}
 use Rattle.vte_core.proofs.bytes.Between.{each-next}
 use Rattle.vte_core.proofs.bytes.FirstBytes.{fits}
 use Rattle.vte_core.proofs.bytes.Printable.{printable-nil, printable-append}
-use Rattle.vte_core.specs.machine.Automaton.{AutomatonState, Between, Failed, begun, over, next, state_after}
+use Rattle.vte_core.specs.machine.Automaton.{AutomatonState, Between, Failed, next_between, next_if_in, next_state, state_after}
 use Rattle.vte_core.proofs.runs.Steps.{still, state_after-append, failed, between, gone, waiting, turn}
 use Rattle.vte_core.proofs.runs.Begins.{prints, fails, opens, begins}
 
@@ -95,10 +95,10 @@ module _ (text : List ℕ) (at : ℕ) (within : at < length text) (s : Automaton
   }
 
   -- the first byte of a character
-  first : s ≡ Between → next s b ≢ Failed → Standing text (at + 1) (next s b)
-  unfolding next
+  first : s ≡ Between → next_state s b ≢ Failed → Standing text (at + 1) (next_state s b)
+  unfolding next_state
   first same ok =
-      let e : next s b ≡ begun b = ap (λ v. next v b) same in
+      let e : next_state s b ≡ next_between b = ap (λ v. next_state v b) same in
       let here : old.end ≡ at = old.settled same in
       let none : taken ≡ [] = none-taken text at old.end here in
       elim (begins b) [
@@ -119,11 +119,11 @@ module _ (text : List ℕ) (at : ℕ) (within : at < length text) (s : Automaton
 
   -- a further one
   later : (t : AutomatonState) (range : Range) → s ≢ Between → range.last ≤ 0xbf → still s ≡ range ∷ still t
-      → next s b ≡ over range t b → next s b ≢ Failed → Standing text (at + 1) (next s b)
+      → next_state s b ≡ next_if_in range t b → next_state s b ≢ Failed → Standing text (at + 1) (next_state s b)
   later t range not last is steps ok = elim (cases_Bool (is_in range b)) [
     | inr misfits ↦ absurd (ok (steps ∙ ap (λ v. cond v t Failed) misfits))
     | inl fit ↦
-        let e : next s b ≡ t = steps ∙ ap (λ v. cond v t Failed) fit in
+        let e : next_state s b ≡ t = steps ∙ ap (λ v. cond v t Failed) fit in
         let k = old.begun not in
         let completes : (u : List ℕ) → fits (still t) u ≡ true → AreRun true ((taken ++ b ∷ []) ++ u) =
         λ u more. subst (AreRun true) (sym (append_assoc taken (b ∷ []) u)) (old.completes (b ∷ u)
@@ -145,16 +145,16 @@ module _ (text : List ℕ) (at : ℕ) (within : at < length text) (s : Automaton
         ])
   ]
 
-  one_more : next s b ≢ Failed → Standing text (at + 1) (next s b)
-  unfolding next
+  one_more : next_state s b ≢ Failed → Standing text (at + 1) (next_state s b)
+  unfolding next_state
   one_more ok = elim (turn s) [
     | between same ↦ first same ok
-    | gone same ↦ absurd (ok (ap (λ v. next v b) same))
+    | gone same ↦ absurd (ok (ap (λ v. next_state v b) same))
     | waiting t range not last is steps ↦ later t range not last is (steps b) ok
   ]
 
 stepped : (text : List ℕ) (at : ℕ) → at < length text
-    → state_after Between (take (at + 1) text) ≡ next (state_after Between (take at text)) (slice_index text at)
+    → state_after Between (take (at + 1) text) ≡ next_state (state_after Between (take at text)) (slice_index text at)
 stepped text at within =
     ap (state_after Between) (take_more text at 0 within)
     ∙ state_after-append Between (take at text) (slice_index text at ∷ [])
@@ -174,5 +174,6 @@ standing text (suc at) within ok =
     let old =
     standing text at (omega arith)
     (λ e.
-    fine (stepped text at (omega arith) ∙ ap (λ s. next s (slice_index text at)) e ∙ failed (slice_index text at))) in
+    fine (stepped text at (omega arith) ∙ ap (λ s. next_state s (slice_index text at)) e
+    ∙ failed (slice_index text at))) in
     rw add-one at (further text at (omega arith) old fine)

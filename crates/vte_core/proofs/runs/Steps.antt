@@ -1,10 +1,10 @@
 -- The automaton over bytes one after another: a state is the list of ranges that the open character still wants
 -- (`still`), and a byte in the first of them takes it off.
-use Rattle.vte_core.proofs.Common.{List, [], ap, arith, get_or, length, refl, suc, ℕ, ◌++◌, ◌<◌, ◌∙◌, ◌∷◌, ◌≡◌, ◌≢◌, ◌≤◌, Range, to}
-use Rattle.vte_core.specs.machine.Automaton.{AutomatonState, Between, One, Two, Three, AfterE0, AfterED, AfterF0, AfterF4, AfterC2, Failed, over, begun, next, state_after}
+use Rattle.vte_core.proofs.Common.{List, [], ap, arith, get_or, length, refl, suc, ℕ, ◌++◌, ◌<◌, ◌∙◌, ◌∷◌, ◌≡◌, ◌≢◌, ◌≤◌, Range, from_to}
+use Rattle.vte_core.specs.machine.Automaton.{AutomatonState, Between, One, Two, Three, AfterE0, AfterED, AfterF0, AfterF4, AfterC2, Failed, next_if_in, next_between, next_state, state_after}
 
 abbrev pub further : Range
-further = to 0x80 0xbf
+further = from_to 0x80 0xbf
 
 -- The ranges of the bytes that end the character.
 abbrev pub still : AutomatonState → List Range
@@ -12,26 +12,26 @@ still Between = []
 still One = further ∷ []
 still Two = further ∷ further ∷ []
 still Three = further ∷ further ∷ further ∷ []
-still AfterE0 = to 0xa0 0xbf ∷ further ∷ []
-still AfterED = to 0x80 0x9f ∷ further ∷ []
-still AfterF0 = to 0x90 0xbf ∷ further ∷ further ∷ []
-still AfterF4 = to 0x80 0x8f ∷ further ∷ further ∷ []
-still AfterC2 = to 0xa0 0xbf ∷ []
+still AfterE0 = from_to 0xa0 0xbf ∷ further ∷ []
+still AfterED = from_to 0x80 0x9f ∷ further ∷ []
+still AfterF0 = from_to 0x90 0xbf ∷ further ∷ further ∷ []
+still AfterF4 = from_to 0x80 0x8f ∷ further ∷ further ∷ []
+still AfterC2 = from_to 0xa0 0xbf ∷ []
 still Failed = []
 
 pub state_after-append : (s : AutomatonState) (xs ys : List ℕ)
     → state_after s (xs ++ ys) ≡ state_after (state_after s xs) ys
 state_after-append s [] ys = refl
-state_after-append s (b ∷ xs) ys = state_after-append (next s b) xs ys
+state_after-append s (b ∷ xs) ys = state_after-append (next_state s b) xs ys
 
-pub failed : (b : ℕ) → next Failed b ≡ Failed
-unfolding next
+pub failed : (b : ℕ) → next_state Failed b ≡ Failed
+unfolding next_state
 failed b = refl
 
 -- Bytes that may each stand between two characters lead back there.
-pub stays_between : (bytes : List ℕ) → ((k : ℕ) → k < length bytes → begun (get_or bytes k 0) ≡ Between)
+pub stays_between : (bytes : List ℕ) → ((k : ℕ) → k < length bytes → next_between (get_or bytes k 0) ≡ Between)
     → state_after Between bytes ≡ Between
-unfolding next
+unfolding next_state
 stays_between [] all = refl
 stays_between (b ∷ bytes) all =
     ap (λ s. state_after s bytes) (all 0 (omega arith))
@@ -43,17 +43,17 @@ pub data Turn (s : AutomatonState) : Type 0 where
   between : s ≡ Between → Turn s
   gone : s ≡ Failed → Turn s
   waiting : (t : AutomatonState) (range : Range) → s ≢ Between → range.last ≤ 0xbf → still s ≡ range ∷ still t
-      → ((b : ℕ) → next s b ≡ over range t b) → Turn s
+      → ((b : ℕ) → next_state s b ≡ next_if_in range t b) → Turn s
 
 pub turn : (s : AutomatonState) → Turn s
-unfolding next
+unfolding next_state
 turn Between = between refl
 turn One = waiting Between further (λ e. cc) (omega arith) refl (λ b. refl)
 turn Two = waiting One further (λ e. cc) (omega arith) refl (λ b. refl)
 turn Three = waiting Two further (λ e. cc) (omega arith) refl (λ b. refl)
-turn AfterE0 = waiting One (to 0xa0 0xbf) (λ e. cc) (omega arith) refl (λ b. refl)
-turn AfterED = waiting One (to 0x80 0x9f) (λ e. cc) (omega arith) refl (λ b. refl)
-turn AfterF0 = waiting Two (to 0x90 0xbf) (λ e. cc) (omega arith) refl (λ b. refl)
-turn AfterF4 = waiting Two (to 0x80 0x8f) (λ e. cc) (omega arith) refl (λ b. refl)
-turn AfterC2 = waiting Between (to 0xa0 0xbf) (λ e. cc) (omega arith) refl (λ b. refl)
+turn AfterE0 = waiting One (from_to 0xa0 0xbf) (λ e. cc) (omega arith) refl (λ b. refl)
+turn AfterED = waiting One (from_to 0x80 0x9f) (λ e. cc) (omega arith) refl (λ b. refl)
+turn AfterF0 = waiting Two (from_to 0x90 0xbf) (λ e. cc) (omega arith) refl (λ b. refl)
+turn AfterF4 = waiting Two (from_to 0x80 0x8f) (λ e. cc) (omega arith) refl (λ b. refl)
+turn AfterC2 = waiting Between (from_to 0xa0 0xbf) (λ e. cc) (omega arith) refl (λ b. refl)
 turn Failed = gone refl

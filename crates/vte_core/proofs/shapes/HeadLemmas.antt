@@ -1,6 +1,6 @@
 -- The head of a control sequence and of a device control string, byte by byte: its parts are cut off its front, so a
 -- byte more changes only the last part that was reached.
-use Rattle.vte_core.proofs.Common.{◌≡◌, ℕ, true, false, List, [], ◌∷◌, ◌++◌, refl, arith, nat_tests, list_all, Class, Intermediate, Marker, class_of, Bool, ap, append-nil, is_intermediate, is_marker, is_parameter_text, AreOf, head_of, head_after, is_well_shaped, IsMarker}
+use Rattle.vte_core.proofs.Common.{◌≡◌, ℕ, true, false, List, [], ◌∷◌, ◌++◌, refl, arith, nat_tests, list_all, Class, Intermediate, Marker, class_of, Bool, ap, append-nil, is_intermediate, is_marker, is_parameter_text, AreInClass, head_of, head_after, is_well_shaped, IsMarker}
 use Rattle.vte_core.proofs.bytes.ClassCases.{intermediate}
 
 -- the bytes don't begin with one of these classes
@@ -12,7 +12,7 @@ parameter_is_no_marker : (k : Class) → is_parameter_text k ≡ true → is_mar
 parameter_is_no_marker Marker h = cc
 parameter_is_no_marker _ h = refl
 
-head_after-parts : (marker parameters rest : List ℕ) → AreOf is_parameter_text parameters
+head_after-parts : (marker parameters rest : List ℕ) → AreInClass is_parameter_text parameters
     → BeginsWithout is_parameter_text rest
     → head_after marker (parameters ++ rest)
     ≡ record { marker = marker; parameters = parameters; intermediates = rest }
@@ -28,7 +28,7 @@ head_after-parts marker (p ∷ parameters) rest are none =
     }) more)
 
 -- the parts of a head
-pub head_of-parts : (marker parameters rest : List ℕ) → IsMarker marker → AreOf is_parameter_text parameters
+pub head_of-parts : (marker parameters rest : List ℕ) → IsMarker marker → AreInClass is_parameter_text parameters
     → BeginsWithout is_parameter_text rest
     → (marker ++ parameters ≡ [] → BeginsWithout is_marker rest)
     → head_of (marker ++ (parameters ++ rest))
@@ -42,12 +42,12 @@ head_of-parts (m ∷ []) parameters rest is are none _ = rw is.0 (head_after-par
 head_of-parts (m ∷ n ∷ marker) parameters rest is are none _ = absurd is
 
 pub begins-intermediates : (has : Class → Bool) → has Intermediate ≡ false → (intermediates more : List ℕ)
-    → AreOf is_intermediate intermediates
+    → AreInClass is_intermediate intermediates
     → (intermediates ≡ [] → BeginsWithout has more) → BeginsWithout has (intermediates ++ more)
 begins-intermediates has h [] more are none = none refl
 begins-intermediates has h (b ∷ bytes) more are none = rw (intermediate (class_of b) are.0) h
 
-list_all-AreOf : (bytes : List ℕ) → AreOf is_intermediate bytes
+list_all-AreOf : (bytes : List ℕ) → AreInClass is_intermediate bytes
     → list_all (λ b. is_intermediate (class_of b)) bytes ≡ true
 list_all-AreOf [] are = refl
 list_all-AreOf (b ∷ bytes) are = rw are.0 (list_all-AreOf bytes are.1)
@@ -58,8 +58,8 @@ list_all-not [] b more h = rw h refl
 list_all-not (a ∷ bytes) b more h = grind (arith, nat_tests, list_all-not bytes b more h)
 
 -- the parts of a head that is well shaped so far
-pub held-parts : (marker parameters intermediates : List ℕ) → IsMarker marker → AreOf is_parameter_text parameters
-    → AreOf is_intermediate intermediates
+pub held-parts : (marker parameters intermediates : List ℕ) → IsMarker marker → AreInClass is_parameter_text parameters
+    → AreInClass is_intermediate intermediates
     → head_of (marker ++ (parameters ++ intermediates))
     ≡ record { marker = marker; parameters = parameters; intermediates = intermediates }
 held-parts marker parameters intermediates is are these =
@@ -67,8 +67,10 @@ held-parts marker parameters intermediates is are these =
     let no_marker = begins-intermediates is_marker refl intermediates [] these (λ _. tt) in
     head_of-parts marker parameters intermediates is are (rw append-nil at none) (λ _. rw append-nil at no_marker)
 
-pub held-well_shaped : (marker parameters intermediates : List ℕ) → IsMarker marker → AreOf is_parameter_text parameters
-    → AreOf is_intermediate intermediates → is_well_shaped (head_of (marker ++ (parameters ++ intermediates))) ≡ true
+pub held-well_shaped : (marker parameters intermediates : List ℕ) → IsMarker marker
+    → AreInClass is_parameter_text parameters
+    → AreInClass is_intermediate intermediates
+    → is_well_shaped (head_of (marker ++ (parameters ++ intermediates))) ≡ true
 unfolding is_well_shaped
 held-well_shaped marker parameters intermediates is are these =
     rw (held-parts marker parameters intermediates is are these) (list_all-AreOf intermediates these)

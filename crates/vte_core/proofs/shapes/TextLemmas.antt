@@ -1,9 +1,9 @@
 -- The division of a text, and what it gives, from the front: a well-formed sequence, a maximal subpart or a byte comes
 -- off, and the rest is divided as a text of its own.
-use Rattle.vte_core.proofs.Common.{◌≡◌, ℕ, ◌≤◌, true, false, List, [], ◌∷◌, ◌++◌, length, refl, sym, ap, subst, ◌∙◌, arith, take-append_seam, false≢true, nat_tests, Event, Print, replacement, NothingOpen, OpenCharacter, leaves, tell, utf8_rows, rows_after, wanted, is_well_formed, is_truncated, further, segments_after, segments, scalar_of, is_control_character, character_event, malformed_event, segment_event}
-use Rattle.vte_core.proofs.Common.{pieces_outcome, text_outcome}
+use Rattle.vte_core.proofs.Common.{◌≡◌, ℕ, ◌≤◌, true, false, List, [], ◌∷◌, ◌++◌, length, refl, sym, ap, subst, ◌∙◌, arith, take-append_seam, false≢true, nat_tests, Event, Print, replacement, NothingOpen, OpenCharacter, leaves, tell, utf8_rows, rows_after_byte, rows_after_bytes, is_well_formed, is_truncated, trailing_count, segments_after, segments, scalar_of, is_control_character, character_event, malformed_event, segment_event}
+use Rattle.vte_core.proofs.Common.{segments_outcome, text_outcome}
 use Rattle.std.proofs.Common.{append-nil}
-use Rattle.vte_core.proofs.bytes.Utf8Lemmas.{AtMostOne-first, AtMostOne-wanted, wanted-append, whole_not_open, open_not_whole, neither_whole_nor_open, allowed_none, allowed_whole, allowed_broken, allowed_end}
+use Rattle.vte_core.proofs.bytes.Utf8Lemmas.{AtMostOne-first, AtMostOne-rows_after_bytes, rows_after_bytes-append, whole_not_open, open_not_whole, neither_whole_nor_open, allowed_length_none, allowed_length_whole, allowed_length_broken, allowed_length_end}
 use Rattle.vte_core.proofs.bytes.FirstBytes.{truncated_first}
 
 -- ---- the two tests of a sequence
@@ -12,36 +12,39 @@ pub well_formed_not_truncated : (u : List ℕ) → is_well_formed u ≡ true →
 unfolding is_well_formed is_truncated
 well_formed_not_truncated [] whole = refl
 well_formed_not_truncated (a ∷ u) whole =
-    whole_not_open (wanted u (rows_after a utf8_rows)) (AtMostOne-wanted u _ (AtMostOne-first a)) whole
+    whole_not_open (rows_after_bytes u (rows_after_byte a utf8_rows))
+    (AtMostOne-rows_after_bytes u _ (AtMostOne-first a)) whole
 
 pub truncated_not_well_formed : (u : List ℕ) → is_truncated u ≡ true → is_well_formed u ≡ false
 unfolding is_well_formed is_truncated
 truncated_not_well_formed [] more = cc
 truncated_not_well_formed (a ∷ u) more =
-    open_not_whole (wanted u (rows_after a utf8_rows)) (AtMostOne-wanted u _ (AtMostOne-first a)) more
+    open_not_whole (rows_after_bytes u (rows_after_byte a utf8_rows))
+    (AtMostOne-rows_after_bytes u _ (AtMostOne-first a)) more
 
 -- ---- how far a piece goes
 
-pub further_whole : (a : ℕ) (u x : List ℕ) → is_well_formed (a ∷ u) ≡ true → further a (u ++ x) ≡ length u
-unfolding is_well_formed further
-further_whole a u x whole = allowed_whole (rows_after a utf8_rows) u x (AtMostOne-first a) whole
+pub trailing_count_whole : (a : ℕ) (u x : List ℕ) → is_well_formed (a ∷ u) ≡ true → trailing_count a (u ++ x) ≡ length u
+unfolding is_well_formed trailing_count
+trailing_count_whole a u x whole = allowed_length_whole (rows_after_byte a utf8_rows) u x (AtMostOne-first a) whole
 
-pub further_broken : (a : ℕ) (u : List ℕ) (b : ℕ) (x : List ℕ) → is_truncated (a ∷ u) ≡ true
+pub trailing_count_broken : (a : ℕ) (u : List ℕ) (b : ℕ) (x : List ℕ) → is_truncated (a ∷ u) ≡ true
     → is_well_formed (a ∷ u ++ b ∷ []) ≡ false → is_truncated (a ∷ u ++ b ∷ []) ≡ false
-    → further a (u ++ b ∷ x) ≡ length u
-unfolding is_well_formed is_truncated further
-further_broken a u b x more whole more_after =
-    allowed_broken (rows_after a utf8_rows) u b x more
-    (sym (wanted-append u (b ∷ []) (rows_after a utf8_rows)) ∙ neither_whole_nor_open _ whole more_after)
+    → trailing_count a (u ++ b ∷ x) ≡ length u
+unfolding is_well_formed is_truncated trailing_count
+trailing_count_broken a u b x more whole more_after =
+    allowed_length_broken (rows_after_byte a utf8_rows) u b x more
+    (sym (rows_after_bytes-append u (b ∷ []) (rows_after_byte a utf8_rows)) ∙ neither_whole_nor_open _ whole more_after)
 
-pub further_end : (a : ℕ) (u : List ℕ) → is_truncated (a ∷ u) ≡ true → further a u ≡ length u
-unfolding is_truncated further
-further_end a u more = allowed_end (rows_after a utf8_rows) u more
+pub trailing_count_end : (a : ℕ) (u : List ℕ) → is_truncated (a ∷ u) ≡ true → trailing_count a u ≡ length u
+unfolding is_truncated trailing_count
+trailing_count_end a u more = allowed_length_end (rows_after_byte a utf8_rows) u more
 
-pub further_lone : (b : ℕ) (x : List ℕ) → is_well_formed (b ∷ []) ≡ false → is_truncated (b ∷ []) ≡ false
-    → further b x ≡ 0
-unfolding is_well_formed is_truncated further
-further_lone b x whole more = rw (neither_whole_nor_open (rows_after b utf8_rows) whole more) (allowed_none x)
+pub trailing_count_lone : (b : ℕ) (x : List ℕ) → is_well_formed (b ∷ []) ≡ false → is_truncated (b ∷ []) ≡ false
+    → trailing_count b x ≡ 0
+unfolding is_well_formed is_truncated trailing_count
+trailing_count_lone b x whole more =
+    rw (neither_whole_nor_open (rows_after_byte b utf8_rows) whole more) (allowed_length_none x)
 
 -- ---- the first piece of a text
 
@@ -49,7 +52,7 @@ segments_after-length : (u x : List ℕ) → segments_after (length u) (u ++ x) 
 segments_after-length [] x = refl
 segments_after-length (a ∷ u) x = segments_after-length u x
 
-pub segments_first : (a : ℕ) (u x : List ℕ) → further a (u ++ x) ≡ length u
+pub segments_first : (a : ℕ) (u x : List ℕ) → trailing_count a (u ++ x) ≡ length u
     → segments (a ∷ u ++ x) ≡ (a ∷ u) ∷ segments x
 segments_first a u x far = rw (far, take-append_seam u x, segments_after-length u x) refl
 
@@ -57,7 +60,7 @@ segments_first a u x far = rw (far, take-append_seam u x, segments_after-length 
 
 -- a whole piece comes first
 pieces_outcome-first : (piece : List ℕ) (pieces : List (List ℕ)) → is_truncated piece ≡ false
-    → pieces_outcome (piece ∷ pieces) ≡ tell (segment_event piece ∷ []) (pieces_outcome pieces)
+    → segments_outcome (piece ∷ pieces) ≡ tell (segment_event piece ∷ []) (segments_outcome pieces)
 pieces_outcome-first piece [] whole = rw whole refl
 pieces_outcome-first piece (next ∷ pieces) whole = refl
 
@@ -76,11 +79,11 @@ segment_event-truncated u more = rw (truncated_not_well_formed u more) (malforme
 
 -- ---- what a text gives, from the front
 
-text_outcome-first : (a : ℕ) (u x : List ℕ) → further a (u ++ x) ≡ length u → is_truncated (a ∷ u) ≡ false
+text_outcome-first : (a : ℕ) (u x : List ℕ) → trailing_count a (u ++ x) ≡ length u → is_truncated (a ∷ u) ≡ false
     → text_outcome (a ∷ u ++ x) ≡ tell (segment_event (a ∷ u) ∷ []) (text_outcome x)
 unfolding text_outcome
 text_outcome-first a u x far whole =
-    ap (λ pieces. pieces_outcome pieces) (segments_first a u x far) ∙ pieces_outcome-first (a ∷ u) (segments x) whole
+    ap (λ pieces. segments_outcome pieces) (segments_first a u x far) ∙ pieces_outcome-first (a ∷ u) (segments x) whole
 
 pub not_well_formed-nothing : is_well_formed [] ≡ false
 unfolding is_well_formed utf8_rows
@@ -91,7 +94,7 @@ pub text_outcome-well_formed : (p x : List ℕ) → is_well_formed p ≡ true
 unfolding segment_event
 text_outcome-well_formed [] x whole = absurd (false≢true (sym not_well_formed-nothing ∙ whole))
 text_outcome-well_formed (a ∷ u) x whole =
-    text_outcome-first a u x (further_whole a u x whole) (well_formed_not_truncated (a ∷ u) whole)
+    text_outcome-first a u x (trailing_count_whole a u x whole) (well_formed_not_truncated (a ∷ u) whole)
     ∙ rw whole refl
 
 -- the byte that breaks a character begins anew
@@ -101,13 +104,14 @@ pub text_broken : (u : List ℕ) (b : ℕ) → is_truncated u ≡ true → is_we
 unfolding text_outcome is_truncated
 text_broken [] b more _ _ x = cc
 text_broken (a ∷ u) b more whole more_after x =
-    ap (λ pieces. pieces_outcome pieces) (segments_first a u (b ∷ x) (further_broken a u b x more whole more_after))
+    ap (λ pieces. segments_outcome pieces)
+    (segments_first a u (b ∷ x) (trailing_count_broken a u b x more whole more_after))
     ∙ ap (λ (event : Event). tell (event ∷ []) (text_outcome (b ∷ x))) (segment_event-truncated (a ∷ u) more)
 
 pub text_lone : (x : List ℕ) (b : ℕ) → is_well_formed (b ∷ []) ≡ false → is_truncated (b ∷ []) ≡ false
     → text_outcome (b ∷ x) ≡ tell (malformed_event (b ∷ []) ∷ []) (text_outcome x)
 unfolding segment_event
-text_lone x b whole more = text_outcome-first b [] x (further_lone b x whole more) more ∙ rw whole refl
+text_lone x b whole more = text_outcome-first b [] x (trailing_count_lone b x whole more) more ∙ rw whole refl
 
 -- open bytes alone wait
 pub text_end : (u : List ℕ) → is_truncated u ≡ true
@@ -115,13 +119,13 @@ pub text_end : (u : List ℕ) → is_truncated u ≡ true
 unfolding text_outcome is_truncated
 text_end [] more = cc
 text_end (a ∷ u) more =
-    ap (λ pieces. pieces_outcome pieces) one_piece ∙ rw more refl
+    ap (λ pieces. segments_outcome pieces) one_piece ∙ rw more refl
   where
     one_piece : segments (a ∷ u) ≡ (a ∷ u) ∷ []
     one_piece =
         let same : u ++ [] ≡ u = append-nil u in
         subst (λ (v : List ℕ). segments (a ∷ v) ≡ (a ∷ u) ∷ []) same
-        (segments_first a u [] (ap (further a) same ∙ further_end a u more))
+        (segments_first a u [] (ap (trailing_count a) same ∙ trailing_count_end a u more))
 
 pub text_nothing : text_outcome [] ≡ leaves NothingOpen
 unfolding text_outcome

@@ -1,6 +1,6 @@
 -- Groups sent in a control sequence come back: its head leads byte by byte to its final byte, and the head is read as
 -- the groups that it shows (`ShownGroups`).
-use Rattle.vte_core.proofs.Common.{◌≡◌, ℕ, true, Option, List, [], ◌∷◌, ◌++◌, refl, ◌∙◌, append_assoc, append-nil, class_of, is_parameter_text, AreOf, CsiDispatch, dispatched, head_of, is_well_shaped, key_of, AreParameters, DispatchesShown, shown, Reads, AtEscape, InControlSequence, InText, escape}
+use Rattle.vte_core.proofs.Common.{◌≡◌, ℕ, true, Option, List, [], ◌∷◌, ◌++◌, refl, ◌∙◌, append_assoc, append-nil, class_of, is_parameter_text, AreInClass, CsiDispatch, sequence_event, head_of, is_well_shaped, key_of, AreParameters, DispatchesShown, shown, Reads, AtEscape, InControlSequence, InText, escape}
 use Rattle.vte_core.proofs.bytes.ClassCases.{head_ends_nothing}
 use Rattle.vte_core.proofs.bytes.PieceLemmas.{parameter_is_head}
 use Rattle.vte_core.proofs.places.PlaceLeads.{control-dispatched, control-head, escape-control_sequence}
@@ -9,7 +9,7 @@ use Rattle.vte_core.proofs.showing.ShownGroups.{groups_of-shown, has_too_many_nu
 use Rattle.vte_core.proofs.streams.StreamLemmas.{no_escape, reads-append, reads-byte, reads-escape, reads-nothing}
 use Rattle.vte_core.proofs.streams.StreamSteps.{told_by_stream}
 
-reads-head : (limit : Option ℕ) (head bytes : List ℕ) → AreOf is_parameter_text bytes
+reads-head : (limit : Option ℕ) (head bytes : List ℕ) → AreInClass is_parameter_text bytes
     → Reads limit (InControlSequence head) bytes [] (InControlSequence (head ++ bytes))
 reads-head limit head [] are = rw append-nil (reads-nothing limit (InControlSequence head))
 reads-head limit head (b ∷ bytes) are =
@@ -21,9 +21,9 @@ reads-head limit head (b ∷ bytes) are =
     rw append_assoc at (reads-append limit (InControlSequence head) _ _ (b ∷ []) bytes [] [] one rest)
 
 -- ESC, `[`, the bytes and `m`
-reads-shown : (limit : Option ℕ) (bytes : List ℕ) → AreOf is_parameter_text bytes
+reads-shown : (limit : Option ℕ) (bytes : List ℕ) → AreInClass is_parameter_text bytes
     → Reads limit (InText []) (0x1b ∷ 0x5b ∷ (bytes ++ 0x6d ∷ []))
-    (dispatched CsiDispatch (head_of bytes) 0x6d ∷ []) (InText [])
+    (sequence_event CsiDispatch (head_of bytes) 0x6d ∷ []) (InText [])
 unfolding class_of key_of
 reads-shown limit bytes are =
     let well_shaped : is_well_shaped (head_of bytes) ≡ true =
@@ -41,7 +41,7 @@ reads-shown limit bytes are =
     [] _ begun rest
 
 pub shown_dispatched : (limit : Option ℕ) (groups : List (List ℕ)) → AreParameters groups → DispatchesShown limit groups
-unfolding dispatched
+unfolding sequence_event
 shown_dispatched limit groups ok =
     let are = parameters-shown groups ok in
     let parts = rw append-nil at (held-parts [] (shown groups) [] tt are tt) in

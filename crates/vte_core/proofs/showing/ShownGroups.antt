@@ -1,5 +1,5 @@
 -- The text of groups, read back: digits give their number back, `:` joins and `;` parts, so the groups are the same.
-use Rattle.vte_core.proofs.Common.{◌≡◌, ℕ, ◌<◌, ◌≤◌, Bool, true, false, if◌then◌else◌, List, [], ◌∷◌, ◌++◌, length, take, drop, subst, map, refl, sym, ap, ◌∙◌, arith, decimal, All, flat_map, fold, nat_tests, flat_map-append, append-nil, take_all, All-nil, All-cons, All-head, All-tail, All-append, All-map, All-weaker, fold-append, class_of, is_parameter_text, AreOf, AreParameters, Number, numbers_from, colon}
+use Rattle.vte_core.proofs.Common.{◌≡◌, ℕ, ◌<◌, ◌≤◌, Bool, true, false, if◌then◌else◌, List, [], ◌∷◌, ◌++◌, length, take, drop, subst, map, refl, sym, ap, ◌∙◌, arith, decimal, All, flat_map, fold, nat_tests, flat_map-append, append-nil, take_all, All-nil, All-cons, All-head, All-tail, All-append, All-map, All-weaker, fold-append, class_of, is_parameter_text, AreInClass, AreParameters, Number, numbers_from, colon}
 use Rattle.vte_core.proofs.Common.{semicolon, numbers, number_of, is_colon, is_separator, greatest_number, most_numbers, grouped, groups_of, has_too_many_numbers, with_number, count_of, shown}
 use Rattle.std.specs.Str.Parse.{AllDigits, digits_value}
 use Rattle.std.proofs.lemmas.Fmt.{decimal_is_IsNumeral}
@@ -191,13 +191,13 @@ separator_is_parameter n =
       | false ↦ refl
     ]
 
-parameters-digits : (ds more : List ℕ) → All IsDigit ds → AreOf is_parameter_text more
-    → AreOf is_parameter_text (ds ++ more)
+parameters-digits : (ds more : List ℕ) → All IsDigit ds → AreInClass is_parameter_text more
+    → AreInClass is_parameter_text (ds ++ more)
 parameters-digits [] more digits are = are
 parameters-digits (d ∷ ds) more digits are =
     (digit_is_parameter d (All-head IsDigit d ds digits), parameters-digits ds more (All-tail IsDigit d ds digits) are)
 
-parameters-spelled : (ns : List Number) → All IsSmall ns → AreOf is_parameter_text (flat_map spelled ns)
+parameters-spelled : (ns : List Number) → All IsSmall ns → AreInClass is_parameter_text (flat_map spelled ns)
 parameters-spelled [] all = tt
 parameters-spelled (n ∷ ns) all =
     let rest =
@@ -205,7 +205,7 @@ parameters-spelled (n ∷ ns) all =
     (parameters-spelled ns (All-tail IsSmall n ns all)) in
     (separator_is_parameter n, rest)
 
-pub parameters-shown : (groups : List (List ℕ)) → AreParameters groups → AreOf is_parameter_text (shown groups)
+pub parameters-shown : (groups : List (List ℕ)) → AreParameters groups → AreInClass is_parameter_text (shown groups)
 parameters-shown groups ok =
-    (subst (AreOf is_parameter_text) (sym (shown-spelled groups ok))
+    (subst (AreInClass is_parameter_text) (sym (shown-spelled groups ok))
     (parameters-spelled (flat_map in_group groups) (IsSmall-groups groups ok.groups_are.small))).1

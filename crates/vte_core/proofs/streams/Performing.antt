@@ -1,5 +1,5 @@
--- From a byte to bytes, and from a place to what a parser has read: `Takes` of a byte is `Performs` of one.
-use Rattle.vte_core.proofs.Common.{◌≡◌, ℕ, ◌⊎◌, inl, inr, cases_Bool, true, false, eqb, Option, List, [], ◌∷◌, ◌++◌, refl, ap, sym, ◌∙◌, arith, Machine, Event, Print, replacement, tell, after, Place, InText, AtEscape, closing_at, outcome_from, events, escape, Takes, Performs, is_open, is_truncated, is_well_formed}
+-- From a byte to bytes, and from a place to what a parser has read: `TakesByte` of a byte is `TakesBytes` of one.
+use Rattle.vte_core.proofs.Common.{◌≡◌, ℕ, ◌⊎◌, inl, inr, cases_Bool, true, false, eqb, Option, List, [], ◌∷◌, ◌++◌, refl, ap, sym, ◌∙◌, arith, Machine, Event, Print, replacement, tell, after, Place, InText, AtEscape, closing_events_at, outcome_from, events, escape, TakesByte, TakesBytes, is_open, is_truncated, is_well_formed}
 use Rattle.std.proofs.Common.{eqb-true}
 use Rattle.vte_core.proofs.bytes.FirstBytes.{Tests, ascii_breaks}
 use Rattle.vte_core.proofs.shapes.TextLemmas.{text_broken}
@@ -14,7 +14,7 @@ after-append step value (x ∷ xs) ys = after-append step (step value x) xs ys
 -- one byte that is no ESC
 pub takes-performs : {V B : Type 0} (step : V → Event → V) (old new : V) (limit : Option ℕ) (place : Place) (byte : ℕ)
     (parser : Machine B) → eqb byte escape ≡ false
-    → Takes step old new limit place byte parser → Performs step old new limit place (byte ∷ []) parser
+    → TakesByte step old new limit place byte parser → TakesBytes step old new limit place (byte ∷ []) parser
 takes-performs step old new limit place byte parser e t = record {
   told = t.told;
   next = t.next;
@@ -41,7 +41,7 @@ open_truncated [] o n = absurd (n refl)
 open_truncated (a ∷ u) o n = o
 
 closing-unfinished : (limit : Option ℕ) (u : List ℕ) → is_truncated u ≡ true
-    → closing_at limit (InText u) ≡ Print replacement ∷ []
+    → closing_events_at limit (InText u) ≡ Print replacement ∷ []
 unfolding is_truncated
 closing-unfinished limit [] more = cc
 closing-unfinished limit (a ∷ u) more = refl

@@ -13,7 +13,7 @@ use Rattle.vte_core.specs.machine.Progress.{IsRefusedAt, IsSettled, MayGoOn}
 pub record Moves (rate seen : ℕ) {B : Type 0} (bytes : List ℕ) (i j : ℕ) (parser next : Machine B)
     (before after : Looks B) : Type 0 where
   pub low : i ≤ j
-  pub further : i < length bytes → i < j
+  pub progress : i < length bytes → i < j
   pub high : j ≤ length bytes
   pub count : looked after + rate * i + seen ≤ looked before + rate * j
   pub least : looked before + j ≤ looked after + i + seen
@@ -30,7 +30,7 @@ pub record Spends (rate seen ahead : ℕ) {B : Type 0} (bytes : List ℕ) (i j :
 
 -- .. of one that handles a byte which was looked at: no character is open then, and it counts so
 -- many at most
-pub record Handles (most : ℕ) {V B : Type 0} (step : V → Event → V) (old new : V)
+pub record HandlesByte (most : ℕ) {V B : Type 0} (step : V → Event → V) (old new : V)
     (parser next : Machine B) (before after : Looks B) : Type 0 where
   pub settled : IsSettled next.state
   pub count : looked after ≤ looked before + most

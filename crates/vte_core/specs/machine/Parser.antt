@@ -6,7 +6,7 @@ use Rattle.vte_core.specs.declared.head.HeadPart.TheVariants.{Entry, Parameters,
 use Rattle.vte_core.specs.declared.parser.machine.Machine.{Machine}
 use Rattle.vte_core.specs.declared.parser.State.{State}
 use Rattle.vte_core.specs.declared.parser.State.TheVariants.{Text, Escape, EscapeIntermediate, ControlSequence, DeviceControl, DeviceData, SystemCommand, IgnoredString}
-use Rattle.vte_core.specs.Class.{is_intermediate, is_marker, is_parameter_text, AreOf}
+use Rattle.vte_core.specs.Class.{is_intermediate, is_marker, is_parameter_text, AreInClass}
 use Rattle.vte_core.specs.Intermediates.{first_two, are_too_many}
 use Rattle.vte_core.specs.Head.{head_of, is_well_shaped}
 use Rattle.vte_core.specs.Parameters.{Number, is_colon, is_separator, number_of, numbers, grouped, groups_of, has_too_many_numbers, most_numbers}
@@ -15,7 +15,7 @@ use Rattle.vte_core.specs.machine.Store.{Keeps}
 use Rattle.vte_core.specs.machine.Unfinished.{bytes_of, is_open}
 
 -- The first two intermediates are held, and whether there are more.
-pub record Holds (collected : Collected) (intermediates : List ℕ) : Type 0 where
+pub record HoldsIntermediates (collected : Collected) (intermediates : List ℕ) : Type 0 where
   pub kept : collected.intermediates.items ≡ first_two intermediates
   pub too_many : collected.too_many ≡ are_too_many intermediates
 
@@ -29,7 +29,7 @@ numbers_from joined digits (b ∷ text) =
     else numbers_from joined (digits ++ b ∷ []) text
 
 -- The last number of the text is being read; of those before it the first 32 are held.
-pub record Counts (collected : Collected) (text : List ℕ) : Type 0 where
+pub record CountsNumbers (collected : Collected) (text : List ℕ) : Type 0 where
   pub front : List Number
   pub digits : List ℕ
   pub goes_on : (more : List ℕ)
@@ -38,7 +38,7 @@ pub record Counts (collected : Collected) (text : List ℕ) : Type 0 where
   pub number : collected.number ≡ number_of digits
 
 -- The first 32 numbers of the text are held.
-pub record Settles (collected : Collected) (has_more : Bool) (text : List ℕ) : Type 0 where
+pub record HoldsNumbers (collected : Collected) (has_more : Bool) (text : List ℕ) : Type 0 where
   pub groups : collected.params ≡ groups_of text
   pub more : has_more ≡ has_too_many_numbers text
 
@@ -56,7 +56,7 @@ pub record KeepsIntermediates (old new : Collected) : Type 0 where
 -- One private marker, or none.
 abbrev pub IsMarker : List ℕ → Type 0
 IsMarker [] = Unit {0}
-IsMarker (b ∷ []) = AreOf is_marker (b ∷ [])
+IsMarker (b ∷ []) = AreInClass is_marker (b ∷ [])
 IsMarker _ = ⊥
 
 -- How far a head with these parts has come.
@@ -75,11 +75,11 @@ pub record HoldsHead (collected : Collected) (part : HeadPart) (head : List ℕ)
   pub intermediates : List ℕ
   pub shape : head ≡ marker ++ (parameters ++ intermediates)
   pub is_marker : IsMarker marker
-  pub are_parameters : AreOf is_parameter_text parameters
-  pub are_intermediates : AreOf is_intermediate intermediates
+  pub are_parameters : AreInClass is_parameter_text parameters
+  pub are_intermediates : AreInClass is_intermediate intermediates
   pub reaches : Reaches part marker parameters intermediates
-  pub holds : Holds collected (marker ++ intermediates)
-  pub counts : Counts collected parameters
+  pub holds : HoldsIntermediates collected (marker ++ intermediates)
+  pub counts : CountsNumbers collected parameters
 
 -- No further bytes make the head well shaped.
 pub record StaysMalformed (head : List ℕ) : Type 0 where
@@ -93,9 +93,9 @@ StandsInHead collected part head = HoldsHead collected part head
 abbrev pub StandsBy : {B : Type 0} → Option ℕ → State → Machine B → Place → Type 0
 StandsBy limit (Text unfinished) parser (InText bytes) =
     (bytes_of unfinished ≡ bytes) × (is_open bytes ≡ true)
-StandsBy limit Escape parser AtEscape = Holds parser.collected []
+StandsBy limit Escape parser AtEscape = HoldsIntermediates parser.collected []
 StandsBy limit EscapeIntermediate parser (InEscape intermediates) =
-    Holds parser.collected intermediates
+    HoldsIntermediates parser.collected intermediates
 StandsBy limit (ControlSequence part) parser (InControlSequence head) =
     StandsInHead parser.collected part head
 StandsBy limit (DeviceControl part) parser (InDeviceControl head) =

@@ -32,7 +32,8 @@ HasCapacity (Some limit) capacity count more = Unit {0}
 
 -- The answer of what takes memory for more bytes after `count` of them, if there had been so much
 -- memory, and now is.
-pub record Reserves (limit : Option ℕ) (count more had has : ℕ) (answer : Bool) : Type 0 where
+pub record ReservesCapacity (limit : Option ℕ) (count more had has : ℕ)
+    (answer : Bool) : Type 0 where
   pub grows : had ≤ has
   pub suffices : answer ≡ true → HasCapacity limit has count more
   pub unlimited : answer ≡ false → limit ≡ None
@@ -40,12 +41,12 @@ pub record Reserves (limit : Option ℕ) (count more had has : ℕ) (answer : Bo
   pub lacks : answer ≡ false → has < count + more
 
 -- The data, cut at the ends; the first piece begins at `start`.
-abbrev pub cut_at : ℕ → List ℕ → List ℕ → List (List ℕ)
-cut_at start bytes [] = drop start bytes ∷ []
-cut_at start bytes (end ∷ ends) = slice_range bytes start end ∷ cut_at end bytes ends
+abbrev pub cut_data : ℕ → List ℕ → List ℕ → List (List ℕ)
+cut_data start bytes [] = drop start bytes ∷ []
+cut_data start bytes (end ∷ ends) = slice_range bytes start end ∷ cut_data end bytes ends
 
 abbrev pub cut_pieces : List ℕ → List ℕ → List (List ℕ)
-cut_pieces bytes ends = take most_pieces (cut_at 0 bytes ends)
+cut_pieces bytes ends = take most_pieces (cut_data 0 bytes ends)
 
 -- The pieces of what is held and of the items that follow.
 abbrev pub pieces_from : Option ℕ → List ℕ → List ℕ → List ℕ → List (List ℕ)

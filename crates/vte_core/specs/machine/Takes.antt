@@ -14,7 +14,7 @@ use Rattle.vte_core.specs.Perform.{after}
 
 -- The performer received the events of the byte, and the parser stands at the place to which it
 -- leads.
-pub record Takes {V B : Type 0} (step : V → Event → V) (old new : V) (limit : Option ℕ)
+pub record TakesByte {V B : Type 0} (step : V → Event → V) (old new : V) (limit : Option ℕ)
     (place : Place) (byte : ℕ) (parser : Machine B) : Type 0 where
   pub told : List Event
   pub next : Place
@@ -31,7 +31,7 @@ pub record Dispatches {V B : Type 0} (step : V → Event → V) (old new : V) (e
   pub memory : parser.command.capacity ≤ next.command.capacity
 
 -- The performer received the events of the bytes, which may include ESC.
-pub record Performs {V B : Type 0} (step : V → Event → V) (old new : V) (limit : Option ℕ)
+pub record TakesBytes {V B : Type 0} (step : V → Event → V) (old new : V) (limit : Option ℕ)
     (place : Place) (bytes : List ℕ) (parser : Machine B) : Type 0 where
   pub told : List Event
   pub next : Place

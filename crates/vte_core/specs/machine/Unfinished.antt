@@ -4,7 +4,7 @@ use Rattle.vte_core.specs.declared.utf8.Unfinished.{Unfinished}
 use Rattle.vte_core.specs.declared.utf8.Unfinished.TheVariants.{Nothing, One, Two, Three}
 use Rattle.vte_core.specs.declared.utf8.Carried.{Carried}
 use Rattle.vte_core.specs.declared.utf8.Carried.TheVariants.{Unfinished as StillUnfinished, Whole, Broken}
-use Rattle.vte_core.specs.Utf8.{Range, to, is_truncated, is_well_formed, scalar_of}
+use Rattle.vte_core.specs.Utf8.{Range, from_to, is_truncated, is_well_formed, scalar_of}
 
 abbrev pub bytes_of : Unfinished → List ℕ
 bytes_of Nothing = []
@@ -41,8 +41,8 @@ pub record BeginsFour (b : ℕ) : Type 0 where
 -- The second bytes that table 3-7 allows after a first byte of two or more.
 unfoldable pub second_range : ℕ → Range
 second_range a =
-    if a == 0xe0 then to 0xa0 0xbf
-    else if a == 0xed then to 0x80 0x9f
-    else if a == 0xf0 then to 0x90 0xbf
-    else if a == 0xf4 then to 0x80 0x8f
-    else to 0x80 0xbf
+    if a == 0xe0 then from_to 0xa0 0xbf
+    else if a == 0xed then from_to 0x80 0x9f
+    else if a == 0xf0 then from_to 0x90 0xbf
+    else if a == 0xf4 then from_to 0x80 0x8f
+    else from_to 0x80 0xbf

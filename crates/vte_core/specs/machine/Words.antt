@@ -14,7 +14,7 @@ unfoldable pub use Rattle.vte_core.specs.Stream.{outcome}
 unfoldable pub use Rattle.vte_core.specs.SystemCommand.{drops_data}
 pub use Rattle.vte_core.specs.SystemCommand.{IsCommandData, has_room, most_pieces}
 pub use Rattle.vte_core.specs.Text.{character_event, is_control_character, is_layout, malformed_event, run_event}
-pub use Rattle.vte_core.specs.Utf8.{is_in, is_truncated, scalar_of, to}
+pub use Rattle.vte_core.specs.Utf8.{is_in, is_truncated, scalar_of, from_to}
 pub use Rattle.vte_core.specs.declared.scan.taken.RunKind.TheVariants.{Empty}
 pub use Rattle.vte_core.specs.declared.parser.State.TheVariants.{DeviceData, Escape, EscapeIntermediate, IgnoredString, SystemCommand, Text}
 pub use Rattle.vte_core.specs.declared.utf8.Unfinished.TheVariants.{Nothing, One}
@@ -22,16 +22,16 @@ pub use Rattle.vte_core.specs.machine.Between.{Each}
 pub use Rattle.vte_core.specs.machine.Completes.{Completes}
 pub use Rattle.vte_core.specs.machine.Data.{AreIgnored, ArePut}
 pub use Rattle.vte_core.specs.machine.MayRead.{MayRead, MayReadAt, MayReadByte}
-pub use Rattle.vte_core.specs.machine.Moves.{Costs, Handles, Moves, Refuses, Spends}
-pub use Rattle.vte_core.specs.machine.Parser.{Counts, Holds, HoldsHead, HasReadUnder, KeepsIntermediates, KeepsNumbers, Settles, Stands, StandsInHead}
-pub use Rattle.vte_core.specs.machine.Place.{AtEscape, InControlSequence, InDeviceControl, IsBetween, Place, closing_at}
+pub use Rattle.vte_core.specs.machine.Moves.{Costs, HandlesByte, Moves, Refuses, Spends}
+pub use Rattle.vte_core.specs.machine.Parser.{CountsNumbers, HoldsIntermediates, HoldsHead, HasReadUnder, KeepsIntermediates, KeepsNumbers, HoldsNumbers, Stands, StandsInHead}
+pub use Rattle.vte_core.specs.machine.Place.{AtEscape, InControlSequence, InDeviceControl, IsBetween, Place, closing_events_at}
 pub use Rattle.vte_core.specs.machine.Progress.{Advances, IsSettled, ReadsUpTo, RefusesAt, StandsAt}
 pub use Rattle.vte_core.specs.machine.Reading.{ReadsHeadUpTo, with_open_number}
 pub use Rattle.vte_core.specs.machine.Ready.{IsReady}
 pub use Rattle.vte_core.specs.machine.TextRun.{ArePrinted, EndsRun, IsPrinted, IsRun, IsTextRun, PrintsRun}
 pub use Rattle.vte_core.specs.machine.Scans.{FindsEnd, IsRange, Scans, TakesFew}
-pub use Rattle.vte_core.specs.machine.Store.{ArePieceEnds, HasCapacity, Stored, Keeps, Reserves, SameItems, cut_pieces, fitting}
-pub use Rattle.vte_core.specs.machine.Takes.{Dispatches, Performs, Takes}
+pub use Rattle.vte_core.specs.machine.Store.{ArePieceEnds, HasCapacity, Stored, Keeps, ReservesCapacity, SameItems, cut_pieces, fitting}
+pub use Rattle.vte_core.specs.machine.Takes.{Dispatches, TakesBytes, TakesByte}
 pub use Rattle.vte_core.specs.machine.Tells.{Tells, TellsAll}
 pub use Rattle.vte_core.specs.machine.ToRun.{AreOfKind, ComesToRun, IsOutside, IsQuietIn, IsTaken, place_count, start_count}
 pub use Rattle.vte_core.specs.machine.Unfinished.{BeginsFour, BeginsThree, BeginsTwo, Carries, bytes_of, second_range}

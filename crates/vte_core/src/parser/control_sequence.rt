@@ -1,6 +1,6 @@
 //! Control sequences.
 ghost use Rattle.std.specs.Prelude.{◌≡◌, ◌+◌, ◌<◌, ℕ, true, List};
-ghost use Rattle.vte_core.specs.machine.Words.{Advances, CsiDispatch, Dispatches, Handles, InControlSequence, MayRead, Moves, StandsInHead, Takes, class_of, is_final};
+ghost use Rattle.vte_core.specs.machine.Words.{Advances, CsiDispatch, Dispatches, HandlesByte, InControlSequence, MayRead, Moves, StandsInHead, TakesByte, class_of, is_final};
 
 use crate::buffer::Buffer;
 use crate::class::{ends_all, is_control, is_final};
@@ -99,9 +99,9 @@ impl<B: Buffer> Machine<B> {
         requires room { position < 18446744073709551615 }
         ensures next { result ≡ position + 1 }
         ensures takes { (head : List ℕ) → StandsInHead self.old.collected part head
-            → Takes P.step (P.value_of performer.old) (P.value_of performer.new) B.limit
+            → TakesByte P.step (P.value_of performer.old) (P.value_of performer.new) B.limit
             (InControlSequence head) byte self.new }
-        ensures handles { Handles 1 P.step (P.value_of performer.old)
+        ensures handles { HandlesByte 1 P.step (P.value_of performer.old)
             (P.value_of performer.new) self.old self.new looks.old looks.new }
     {
         if let HeadPart::Malformed = part {

@@ -1,6 +1,6 @@
 //! Device control strings.
 ghost use Rattle.std.specs.Prelude.{◌≡◌, ℕ, true, false, List};
-ghost use Rattle.vte_core.specs.machine.Words.{Advances, DeviceData, Handles, InDeviceControl, MayRead, MayReadByte, Moves, StandsInHead, Takes, class_of, is_data, is_final};
+ghost use Rattle.vte_core.specs.machine.Words.{Advances, DeviceData, HandlesByte, InDeviceControl, MayRead, MayReadByte, Moves, StandsInHead, TakesByte, class_of, is_data, is_final};
 
 use crate::buffer::Buffer;
 use crate::class::{ends_all, is_data, is_final};
@@ -54,9 +54,9 @@ impl<B: Buffer> Machine<B> {
     )
         requires { is_final (class_of byte) ≡ true }
         ensures takes { (head : List ℕ) → StandsInHead self.old.collected part head
-            → Takes P.step (P.value_of performer.old) (P.value_of performer.new) B.limit
+            → TakesByte P.step (P.value_of performer.old) (P.value_of performer.new) B.limit
             (InDeviceControl head) byte self.new }
-        ensures handles { Handles 1 P.step (P.value_of performer.old)
+        ensures handles { HandlesByte 1 P.step (P.value_of performer.old)
             (P.value_of performer.new) self.old self.new looks.old looks.new }
     {
         if let HeadPart::Malformed = part {

@@ -1,6 +1,6 @@
 //! ESC, CAN and SUB, which end whatever is open, in all states alike.
 ghost use Rattle.std.specs.Prelude.{◌≡◌, true, [], ◌∷◌};
-ghost use Rattle.vte_core.specs.machine.Words.{Advances, Escape, Handles, IsBetween, IsQuietIn, MayReadByte, Moves, Performs, Place, Stands, TakesFew, after, class_of, closing_at, ends_all};
+ghost use Rattle.vte_core.specs.machine.Words.{Advances, Escape, HandlesByte, IsBetween, IsQuietIn, MayReadByte, Moves, TakesBytes, Place, Stands, TakesFew, after, class_of, closing_events_at, ends_all};
 
 use crate::buffer::Buffer;
 use crate::class::ESCAPE;
@@ -18,10 +18,10 @@ impl<B: Buffer> Machine<B> {
     )
         requires { ends_all (class_of byte) ≡ true }
         ensures performs { (place : Place) → Stands B.limit self.old place → IsBetween place
-            → Performs P.step (P.value_of performer.old)
+            → TakesBytes P.step (P.value_of performer.old)
             (P.value_of performer.new) B.limit place (byte ∷ []) self.new }
         ensures escape { byte ≡ 0x1b → self.new.state ≡ Escape }
-        ensures handles { Handles 2 P.step (P.value_of performer.old)
+        ensures handles { HandlesByte 2 P.step (P.value_of performer.old)
             (P.value_of performer.new) self.old self.new looks.old looks.new }
     {
         self.report_end(looks, performer);
@@ -64,7 +64,7 @@ impl<B: Buffer> Machine<B> {
     fn report_end<P: CountedPerform<B, G>, G: Grain>(&self, looks: &mut Looks<B>, performer: &mut P)
         ensures told { (place : Place) → Stands B.limit self.now place → IsBetween place
             → P.value_of performer.new
-            ≡ after P.step (P.value_of performer.old) (closing_at B.limit place) }
+            ≡ after P.step (P.value_of performer.old) (closing_events_at B.limit place) }
         ensures few { TakesFew 1 looks.old looks.new }
     {
         match self.state {

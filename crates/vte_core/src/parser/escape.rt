@@ -1,7 +1,7 @@
 //! Escape sequences, and what ESC begins.
 ghost use Rattle.std.specs.Prelude.{◌≡◌, ◌≢◌, ◌+◌, ◌*◌, ◌<◌, ◌≤◌, true, [], ◌∷◌, slice_index};
-ghost use Rattle.vte_core.specs.machine.Words.{Advances, AtEscape, Dispatches, EscDispatch, Escape, EscapeIntermediate, Handles, IsBetween, MayRead, MayReadAt, Moves, Nothing, Performs, Place};
-ghost use Rattle.vte_core.specs.machine.Words.{Stands, Takes, Text, class_of, is_final, looked};
+ghost use Rattle.vte_core.specs.machine.Words.{Advances, AtEscape, Dispatches, EscDispatch, Escape, EscapeIntermediate, HandlesByte, IsBetween, MayRead, MayReadAt, Moves, Nothing, TakesBytes, Place};
+ghost use Rattle.vte_core.specs.machine.Words.{Stands, TakesByte, Text, class_of, is_final, looked};
 
 use crate::buffer::Buffer;
 use crate::class::{
@@ -104,10 +104,10 @@ impl<B: Buffer> Machine<B> {
         requires begun { self.old.state ≡ Escape }
         requires other { byte ≢ 0x5b }
         ensures performs { (place : Place) → Stands B.limit self.old place → IsBetween place
-            → Performs P.step
+            → TakesBytes P.step
             (P.value_of performer.old) (P.value_of performer.new) B.limit place
             (byte ∷ []) self.new }
-        ensures handles { Handles 2 P.step (P.value_of performer.old)
+        ensures handles { HandlesByte 2 P.step (P.value_of performer.old)
             (P.value_of performer.new) self.old self.new looks.old looks.new }
     {
         if is_final(byte) {
@@ -137,9 +137,9 @@ impl<B: Buffer> Machine<B> {
         requires ends { is_final (class_of byte) ≡ true }
         requires other { byte ≢ 0x5b }
         ensures takes { Stands B.limit self.old AtEscape
-            → Takes P.step (P.value_of performer.old) (P.value_of performer.new)
+            → TakesByte P.step (P.value_of performer.old) (P.value_of performer.new)
             B.limit AtEscape byte self.new }
-        ensures handles { Handles 1 P.step (P.value_of performer.old)
+        ensures handles { HandlesByte 1 P.step (P.value_of performer.old)
             (P.value_of performer.new) self.old self.new looks.old looks.new }
     {
         if byte == b'P' {

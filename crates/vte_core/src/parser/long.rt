@@ -1,7 +1,7 @@
 //! The parser that keeps operating system commands of any length.
 ghost use Rattle.std.specs.Prelude.{◌≡◌, ◌+◌, ◌<◌, ◌≤◌, ℕ, true, false, List, [], None, length};
 ghost use Rattle.vte_core.specs.LongAdvance.{ReadsBytesLong, ReadsToRunLong, ReadsUntilTerminatedLong};
-ghost use Rattle.vte_core.specs.LongParser.{HasReadLong, IsCopyOfLong, LacksRoom, lost_data_long, memory_of};
+ghost use Rattle.vte_core.specs.LongParser.{HasReadLong, IsCopyOfLong, LacksMemoryForMore, lost_data_long, memory_of};
 ghost use Rattle.vte_core.specs.LongParser.{open_size};
 ghost use Rattle.vte_core.specs.Looks.{looks_long};
 ghost use Rattle.vte_core.specs.Outcome.{IsLoss};
@@ -99,7 +99,7 @@ impl<A: Allocator> LongParser<A> {
         ensures room { result ≡ true → (stream : List ℕ) → HasReadLong self.new stream
             → open_size stream + more ≤ memory_of self.new }
         ensures memory { memory_of self.old ≤ memory_of self.new }
-        ensures lacks { result ≡ false → LacksRoom self.new more }
+        ensures lacks { result ≡ false → LacksMemoryForMore self.new more }
         // It is refused only where they don't fit: of a command that has ended nothing counts.
         ensures lacks_open { result ≡ false → (stream : List ℕ) → HasReadLong self.new stream
             → memory_of self.new < open_size stream + more }

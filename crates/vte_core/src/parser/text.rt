@@ -37,7 +37,7 @@ fn print_ascii<B, P: CountedPerform<B, G>, G: Grain>(
     ensures next { IfSome result.next (λ byte. (result.end < length input.entry.bytes.now)
         × (byte ≡ slice_index input.entry.bytes.now result.end)) }
     ensures other { IfSome result.next (λ byte. IsPrinted byte → ⊥) }
-    ensures further { from < result.end }
+    ensures progress { from < result.end }
     ensures high { result.end ≤ length input.entry.bytes.now }
     ensures count { looked looks.new + 5 * from + 1 ≤ looked looks.old + 5 * result.end }
     ensures least { looked looks.old + result.end ≤ looked looks.new + from }

@@ -67,7 +67,7 @@ impl<B> Looks<B> {
     ) -> usize
         requires in_order { from < at }
         requires within { at < length input.bytes.now }
-        ensures further { at < result }
+        ensures progress { at < result }
         ensures high { result ≤ length input.entry.bytes.now }
         ensures first { (k : ℕ) → at ≤ k → k + 1 < result
             → slice_index input.entry.bytes.now k ≢ 0x1b }

@@ -1,4 +1,4 @@
-use Rattle.vte_c.proofs.Common.{Event, HasTold, List, [], append_assoc, arith, drop, drop-append-le, length, length-take, read_count, rules, sym, take, take-append-drop}
+use Rattle.vte_c.proofs.Common.{Event, HasTold, List, [], append_assoc, arith, drop, drop-append-le, length, length-take, fed_count, rules, sym, take, take-append-drop}
 use Rattle.vte_c.proofs.Common.{take-take, ℕ, ◌++◌, ◌<◌, ◌∙◌, ◌≡◌, ◌≤◌}
 use Rattle.vte_c.proofs.Found.{counts_are}
 use Rattle.vte_c.proofs.Joining.{counted}
@@ -14,7 +14,7 @@ returns c =
     let stops = c.new-room.ensures.stops in
     let whole : take m bytes ++ drop m bytes ≡ bytes = take-append-drop m bytes in
     let within : read.result ≤ length (take m bytes) = read.ensures.within in
-    let count : read_count read.result ≡ read.result =
+    let count : fed_count read.result ≡ read.result =
     counted read.result (omega (arith, within, length-take m bytes, c.min-end.ensures)) in
     let feeds =
     λ (told : List Event) (stream rest : List ℕ)
@@ -46,10 +46,10 @@ returns c =
       few = λ few. record { says = search rules; events = search rules; bytes = search rules; same = search rules };
       little =
           λ little. record { says = search rules; events = search rules; bytes = search rules; same = search rules };
-      further = λ told stream rest h most size others some.
+      progress = λ told stream rest h most size others some.
           let a = are told stream rest h in
           let there : 0 < length (take m bytes) = omega (arith, c.min-end.ensures, length-take m bytes, some) in
-          (feeds told stream rest h).further (rw (stops, ← a.same_count, ← a.same_records) others) there;
+          (feeds told stream rest h).progress (rw (stops, ← a.same_count, ← a.same_records) others) there;
       first = λ told stream rest h.
           let a = are told stream rest h in
           rw (a.same_count, a.same_records, ← stops) (feeds told stream rest h).first;

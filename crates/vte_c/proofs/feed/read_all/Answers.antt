@@ -26,8 +26,8 @@ returns-then-read-eq0-clause-goes c = λ since reads.
     omega (arith, c.if-read-eq0.true) in
     rw place at (gone-then a (sym c.is_full.ensures ∙ c.if-not-is_full.true) r.within (r.goes a.next a.reads))
 
-pub returns-then-read-eq0-clause-further : goal.returns-then-read-eq0-clause-further
-returns-then-read-eq0-clause-further c = λ since reads others some.
+pub returns-then-read-eq0-clause-progress : goal.returns-then-read-eq0-clause-progress
+returns-then-read-eq0-clause-progress c = λ since reads others some.
     let v = c.loop-position.invariant in
     let a = v.goes since reads in
     elim (cases_lt 0 c.loop-position.position) [
@@ -35,7 +35,7 @@ returns-then-read-eq0-clause-further c = λ since reads others some.
       | inr none ↦
           let same : room_of c.loop-position.room ≡ room_of c.args.room.now = v.first (omega (arith, none)) in
           let further : 0 < c.read_more-read.result =
-          c.read_more-read.ensures.further a.next a.reads (rw same c.requires.starts)
+          c.read_more-read.ensures.progress a.next a.reads (rw same c.requires.starts)
           (rw (← ap (λ (r : Room). r.stops) same) at others) in
           absurd (omega (arith, further, c.if-read-eq0.true))
     ]

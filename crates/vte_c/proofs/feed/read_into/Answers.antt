@@ -10,4 +10,4 @@ pub returns-clause-feeds : goal.returns-clause-feeds
 returns-clause-feeds c = λ before stream rest h.
     let reads = c.restored-parser.ensures h.since h.reads in
     fed c.requires.starts h (c.read_all-read.ensures.goes h.since reads) c.save.ensures
-    (c.read_all-read.ensures.further h.since reads)
+    (c.read_all-read.ensures.progress h.since reads)

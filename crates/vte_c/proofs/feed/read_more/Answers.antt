@@ -31,7 +31,7 @@ returns c =
             (room_of c.add_run.new.self) since bytes c.args.from run laws
             c.requires.roomy begins returned reads c.add_run.ensures.utf8 written;
       };
-      further =
+      progress =
           λ since reads starts others. further (room_of c.args.room.now) (room_of call.new.performer)
           (room_of c.add_run.new.self) since bytes c.args.from run laws
           c.requires.roomy begins returned reads starts c.requires.within written others;

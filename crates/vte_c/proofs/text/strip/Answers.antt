@@ -1,15 +1,15 @@
-use Rattle.vte_c.proofs.Common.{ap, arith, length, length-take, read_count, rules, sym, ℕ, ◌≡◌, ◌≤◌}
+use Rattle.vte_c.proofs.Common.{ap, arith, length, length-take, fed_count, rules, sym, ℕ, ◌≡◌, ◌≤◌}
 use Rattle.vte_c.proofs.Joining.{counted}
 use Rattle.vte_c.proofs.text.strip.Goals as goal
 
 pub returns : goal.returns
 returns c =
     let read = c.read_into-read in
-    let count : read_count read.result ≡ read.result = counted read.result (omega arith) in
+    let count : fed_count read.result ≡ read.result = counted read.result (omega arith) in
     record {
       enough = λ size. sym count;
       within = omega (arith, count, read.ensures.within);
-      further = search rules;
+      progress = search rules;
       exact = λ text stream rest h.
           let strips = read.ensures.strips text stream rest h in
           let used : ℕ = read.new.room.used in

@@ -6,14 +6,14 @@ use Rattle.vte_core.proofs.streams.StreamSteps.{events_grow}
 use Rattle.vte_core.proofs.laws.replay.Goals as goal
 
 abbrev now_of : Bor (List ℕ) → List ℕ
-now_of piece = piece.now
+now_of chunk = chunk.now
 
 pub new_with_size-parser-requires : goal.new_with_size-parser-requires
 new_with_size-parser-requires g c = omega arith
 
 -- No piece is read, and no event is given.
-pub loop-piece-init : goal.loop-piece-init
-loop-piece-init g c = record {
+pub loop-chunk-init : goal.loop-chunk-init
+loop-chunk-init g c = record {
   performed =
       ap (after g.P.Perform.step (g.P.Perform.value_of c.args.performer.now))
       (sym (events-empty (Some g.row.OSC_RAW_BUF_SIZE)));
@@ -21,23 +21,23 @@ loop-piece-init g c = record {
 }
 
 -- A piece more: its events are added to those of the pieces before.
-pub loop-piece-preserved : goal.loop-piece-preserved
-loop-piece-preserved g c =
+pub loop-chunk-preserved : goal.loop-chunk-preserved
+loop-chunk-preserved g c =
     let limit = Some g.row.OSC_RAW_BUF_SIZE in
-    let pieces = c.args.pieces.now in
-    let i = c.loop-piece.piece-index in
-    let before = c.loop-piece.invariant in
-    let stream = flat_map now_of (take i pieces) in
-    let piece = get_or pieces i (record { ref_ptr = (0, 0); now = [] }) in
+    let chunks = c.args.chunks.now in
+    let i = c.loop-chunk.chunk-index in
+    let before = c.loop-chunk.invariant in
+    let stream = flat_map now_of (take i chunks) in
+    let chunk = get_or chunks i (record { ref_ptr = (0, 0); now = [] }) in
     rw (
-      take_more pieces i (record { ref_ptr = (0, 0); now = [] }) c.loop-piece-test.true,
+      take_more chunks i (record { ref_ptr = (0, 0); now = [] }) c.loop-chunk-test.true,
       flat_map-append now_of
-          (take i pieces) (piece ∷ []),
-      append-nil piece.now,
+          (take i chunks) (chunk ∷ []),
+      append-nil chunk.now,
     ) (record {
       performed =
           rw (
-            events_grow limit stream piece.now,
+            events_grow limit stream chunk.now,
             after-append g.P.Perform.step
                 (g.P.Perform.value_of c.args.performer.now) (events limit stream),
             ← before.performed,
@@ -49,4 +49,4 @@ loop-piece-preserved g c =
 -- All pieces are read.
 pub returns : goal.returns
 returns g c =
-    rw (take_all c.loop-piece.piece-index c.args.pieces.now c.loop-piece-test.false) at c.loop-piece.invariant.performed
+    rw (take_all c.loop-chunk.chunk-index c.args.chunks.now c.loop-chunk-test.false) at c.loop-chunk.invariant.performed

@@ -3,9 +3,9 @@ use Rattle.vte_core.proofs.Common.{◌≡◌, Some, take, flat_map, after, event
 use Rattle.vte_core.specs.Parser.{HasRead}
 use Rattle.vte_core.proofs.laws.replay.Given as goal
 
-abbrev pub invariant-loop-piece : goal.invariant-loop-piece
-invariant-loop-piece g l =
-    let stream = flat_map (λ piece. piece.now) (take l.piece-index l.pieces) in
+abbrev pub invariant-loop-chunk : goal.invariant-loop-chunk
+invariant-loop-chunk g l =
+    let stream = flat_map (λ chunk. chunk.now) (take l.chunk-index l.chunks) in
     let limit = Some g.row.OSC_RAW_BUF_SIZE in
     record {
       performed : g.P.Perform.value_of l.performer

@@ -1,4 +1,4 @@
-use Rattle.event_log.proofs.Common.{◌≡◌, codes, ◌++◌, ◌<◌, ℕ, List, [], ◌∷◌, Bor, get_or, length, map, All, flat_map, after_semicolon, group_text, Extends}
+use Rattle.event_log.proofs.Common.{◌≡◌, codes, ◌++◌, ◌<◌, ℕ, List, [], ◌∷◌, Bor, get_or, length, map, All, flat_map, after_semicolon, group_text, ExtendsLine}
 use Rattle.event_log.proofs.lines.Lines.push_groups.Given as goal
 
 abbrev pub invariant-loop-group : goal.invariant-loop-group
@@ -8,5 +8,5 @@ invariant-loop-group l =
     record {
       along : l.fn.params ≡ first ∷ passed ++ l.group-iterator;
       filled : All (λ group. 0 < length group) l.group-iterator;
-      pushed : Extends l.fn.self (codes " [" ++ (group_text first ++ flat_map after_semicolon passed)) l.self;
+      pushed : ExtendsLine l.fn.self (codes " [" ++ (group_text first ++ flat_map after_semicolon passed)) l.self;
     }

@@ -1,5 +1,5 @@
-use Rattle.event_log.proofs.Common.{◌++◌, take, flat_map, blank, hex_byte, Extends}
+use Rattle.event_log.proofs.Common.{◌++◌, take, flat_map, blank, hex_byte, ExtendsLine}
 use Rattle.event_log.proofs.lines.Lines.push_hex_field.Given as goal
 
 abbrev pub invariant-loop-byte : goal.invariant-loop-byte
-invariant-loop-byte l = Extends l.fn.self (blank ++ flat_map hex_byte (take l.byte-index l.bytes)) l.self
+invariant-loop-byte l = ExtendsLine l.fn.self (blank ++ flat_map hex_byte (take l.byte-index l.bytes)) l.self

@@ -1,7 +1,7 @@
-use Rattle.event_log.proofs.Common.{◌++◌, ◌-◌, length, get_or, drop, take, decimal, flat_map, after_colon, Extends}
+use Rattle.event_log.proofs.Common.{◌++◌, ◌-◌, length, get_or, drop, take, decimal, flat_map, after_colon, ExtendsLine}
 use Rattle.event_log.proofs.lines.Lines.push_numbers.Given as goal
 
 abbrev pub invariant-loop-number : goal.invariant-loop-number
 invariant-loop-number l =
     let rest = take (length l.group - 1) (drop 1 l.group) in
-    Extends l.fn.self (decimal (get_or l.group 0 0) ++ flat_map after_colon (take l.number-index rest)) l.self
+    ExtendsLine l.fn.self (decimal (get_or l.group 0 0) ++ flat_map after_colon (take l.number-index rest)) l.self

@@ -1,7 +1,7 @@
-use Rattle.event_log.proofs.Common.{◌++◌, length, take, decimal, flat_map, blank, hex_field, Extends}
+use Rattle.event_log.proofs.Common.{◌++◌, length, take, decimal, flat_map, blank, hex_field, ExtendsLine}
 use Rattle.event_log.proofs.lines.Lines.push_pieces_fields.Given as goal
 
 abbrev pub invariant-loop-piece : goal.invariant-loop-piece
 invariant-loop-piece l =
     let fields = flat_map (λ piece. hex_field piece.now) (take l.piece-index l.pieces) in
-    Extends l.fn.self (blank ++ decimal (length l.pieces) ++ fields) l.self
+    ExtendsLine l.fn.self (blank ++ decimal (length l.pieces) ++ fields) l.self

@@ -3,8 +3,8 @@ use Rattle.event_log.proofs.Collected.{cut_from}
 use Rattle.event_log.proofs.RecordedLines.{kept_lines, reads_some}
 use Rattle.event_log.proofs.recorder.RecorderCollector.collect.Goals as goal
 
-pub returns-clause-further : goal.returns-clause-further
-returns-clause-further c = λ some.
+pub returns-clause-progress : goal.returns-clause-progress
+returns-clause-progress c = λ some.
     let h = c.requires.parsed in
     let further = reads_some c.requires.empty (c.advance_until_terminated-read.ensures.stops h.since h.parsed) some in
     simp (cut_from, length-drop) (omega arith)

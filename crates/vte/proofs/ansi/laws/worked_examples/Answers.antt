@@ -5,18 +5,19 @@ use Rattle.vte_core.specs.Body.{body_outcome}
 use Rattle.vte_core.specs.Class.{class_of}
 use Rattle.vte_core.specs.ControlSequence.{control_sequence_outcome, control_sequence_end}
 use Rattle.vte_core.specs.Escape.{escape_outcome}
-use Rattle.vte_core.specs.Head.{head_of, is_well_shaped, dispatched}
+use Rattle.vte_core.specs.Head.{head_of, is_well_shaped, sequence_event}
 use Rattle.vte_core.specs.Key.{key_of}
 use Rattle.vte_core.specs.Parameters.{numbers, groups_of, has_too_many_numbers}
 use Rattle.vte_core.specs.SystemCommand.{system_command_outcome, pieces_of, kept_items}
-use Rattle.vte_core.specs.Text.{text_outcome, segment_event, character_event, malformed_event, executed}
-use Rattle.vte_core.specs.Utf8.{utf8_rows, is_well_formed, is_truncated, further}
+use Rattle.vte_core.specs.Text.{text_outcome, segment_event, character_event, malformed_event, executed_events}
+use Rattle.vte_core.specs.Utf8.{utf8_rows, is_well_formed, is_truncated, trailing_count}
 use Rattle.vte.proofs.ansi.laws.worked_examples.Goals as goal
 
 pub returns : goal.returns
 unfolding events outcome text_outcome segment_event character_event malformed_event utf8_rows is_well_formed
-    is_truncated further body_outcome key_of
-    class_of executed escape_outcome control_sequence_outcome control_sequence_end head_of is_well_shaped dispatched
+    is_truncated trailing_count body_outcome key_of
+    class_of executed_events escape_outcome control_sequence_outcome control_sequence_end head_of is_well_shaped
+    sequence_event
     numbers groups_of has_too_many_numbers
     system_command_outcome pieces_of kept_items digits chars is_utf8 trim_start trim_end encode_utf8 all_reset
 returns c = record {

@@ -13,7 +13,7 @@ loop-position-preserved-then-may_have_parameters g c =
     let v = c.loop-position.invariant in
     let numbers = c.read_numbers-numbers.ensures in
     let further =
-    numbers.further refl (omega arith)
+    numbers.progress refl (omega arith)
     (rw (← c.at-byte.ensures.value) (sym c.is_parameter_text.ensures ∙ c.if-is_parameter_text.true)) in
     let more = further.0 in
     record {

@@ -44,10 +44,10 @@ loop-end-preserved g c =
     let other = c.in-Some.ensures in
     record {
       scans = scans-run v.scans (record {
-        low = omega (arith, other.further);
+        low = omega (arith, other.progress);
         high = other.high;
         are = other.run;
         least = omega (arith, other.count, c.at-byte.ensures.count);
       });
-      count = omega (arith, v.count, other.count, other.further, c.at-byte.ensures.count);
+      count = omega (arith, v.count, other.count, other.progress, c.at-byte.ensures.count);
     }

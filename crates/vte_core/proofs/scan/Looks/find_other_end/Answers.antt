@@ -1,7 +1,7 @@
 -- At a byte that is not printed ASCII, a run goes on by a kept control or by one character, of two, three or four bytes
 -- (`run-*`), or it ends. It ends (`ends-*`) if the byte is single, the bytes end too soon, or a byte does not fit: each
 -- test that fails excludes the character that would stand there.
-use Rattle.vte_core.proofs.Common.{◌≡◌, true, refl, sym, ap, ◌∙◌, arith, false≢true, slice_index, is_in, is_layout, second_range, to}
+use Rattle.vte_core.proofs.Common.{◌≡◌, true, refl, sym, ap, ◌∙◌, arith, false≢true, slice_index, is_in, is_layout, second_range, from_to}
 use Rattle.vte_core.proofs.bytes.Ends.{ends-single, ends-long, ends-two, ends-three, ends-four}
 use Rattle.vte_core.proofs.bytes.Printable.{run-layout}
 use Rattle.vte_core.proofs.bytes.Scalars.{in_range-bounds}
@@ -22,7 +22,7 @@ pub returns-then-is_printed_pair-clause-run : goal.returns-then-is_printed_pair-
 returns-then-is_printed_pair-clause-run g c =
     let second = c.in_ok-second.ensures in
     let pair = c.if-is_printed_pair.ensures in
-    let lead = in_range-bounds (to 0xc2 0xf4) c.args.first (sym c.is_lead.ensures ∙ c.if-not-is_lead.false) in
+    let lead = in_range-bounds (from_to 0xc2 0xf4) c.args.first (sym c.is_lead.ensures ∙ c.if-not-is_lead.false) in
     run-two c.args.input.bytes.now c.args.from c.args.first c.in_ok-second.second
     (omega (arith, second.0)) c.requires.is second.1 lead.0 c.if-first-lt224.true
     (pair.0 refl).0 (pair.0 refl).1
@@ -41,7 +41,7 @@ pub returns-then-is_continuation-3-clause-run : goal.returns-then-is_continuatio
 returns-then-is_continuation-3-clause-run g c =
     let third = c.in_ok-get-2.ensures in
     let fourth = c.in_ok-get-3.ensures in
-    let lead = in_range-bounds (to 0xc2 0xf4) c.args.first (sym c.is_lead.ensures ∙ c.if-not-is_lead.false) in
+    let lead = in_range-bounds (from_to 0xc2 0xf4) c.args.first (sym c.is_lead.ensures ∙ c.if-not-is_lead.false) in
     run-four c.args.input.bytes.now c.args.from c.args.first _ _ _
     (omega (arith, fourth.0)) c.requires.is c.in_ok-second.ensures.1 third.1 fourth.1
     c.if-first-lt240.false (omega (arith, lead.1))
@@ -83,14 +83,14 @@ returns-in_err-get-3-clause-ended g c none =
 -- A second byte that does not continue the first one, or gives a control of C1.
 pub returns-else-is_printed_pair-clause-ended : goal.returns-else-is_printed_pair-clause-ended
 returns-else-is_printed_pair-clause-ended g c none =
-    let lead = in_range-bounds (to 0xc2 0xf4) c.args.first (sym c.is_lead.ensures ∙ c.if-not-is_lead.false) in
+    let lead = in_range-bounds (from_to 0xc2 0xf4) c.args.first (sym c.is_lead.ensures ∙ c.if-not-is_lead.false) in
     let second = c.in_ok-second.ensures.1 in
     ends-two c.args.keeps _ c.args.from c.args.first c.requires.within c.requires.is lead.0 c.if-first-lt224.true
     (λ more continues plain.
     false≢true
     (sym c.if-is_printed_pair.false
     ∙ c.is_printed_pair.ensures.1
-    (ap (is_in (to 0x80 0xbf)) second ∙ continues, λ first. omega (arith, second, plain first))))
+    (ap (is_in (from_to 0x80 0xbf)) second ∙ continues, λ first. omega (arith, second, plain first))))
 
 -- Of three bytes, the third does not continue or the second does not fit the first.
 pub returns-else-may_begin_three-clause-ended : goal.returns-else-may_begin_three-clause-ended
@@ -101,7 +101,7 @@ returns-else-may_begin_three-clause-ended g c none =
       | else-may_begin_three-via-then-may_begin_three+in_ok-get+else-is_continuation w ↦
           false≢true
           (sym (sym w.is_continuation.ensures ∙ w.if-is_continuation.false)
-          ∙ ap (is_in (to 0x80 0xbf)) w.in_ok-get.ensures.1 ∙ third)
+          ∙ ap (is_in (from_to 0x80 0xbf)) w.in_ok-get.ensures.1 ∙ third)
       -- The second.
       | else-may_begin_three-via-else-may_begin_three w ↦
           false≢true
@@ -118,12 +118,12 @@ returns-else-may_begin_four-clause-ended g c none =
       | else-may_begin_four-via-then-may_begin_four+in_ok-get-2+then-is_continuation-2+in_ok-get-3+else-is_continuation-3 w ↦
           false≢true
           (sym (sym w.is_continuation-then-is_continuation-2.ensures ∙ w.if-is_continuation-3.false)
-          ∙ ap (is_in (to 0x80 0xbf)) w.in_ok-get-3.ensures.1 ∙ fourth)
+          ∙ ap (is_in (from_to 0x80 0xbf)) w.in_ok-get-3.ensures.1 ∙ fourth)
       -- The third.
       | else-may_begin_four-via-then-may_begin_four+in_ok-get-2+else-is_continuation-2 w ↦
           false≢true
           (sym (sym w.is_continuation-then-may_begin_four.ensures ∙ w.if-is_continuation-2.false)
-          ∙ ap (is_in (to 0x80 0xbf)) w.in_ok-get-2.ensures.1 ∙ third)
+          ∙ ap (is_in (from_to 0x80 0xbf)) w.in_ok-get-2.ensures.1 ∙ third)
       -- The second.
       | else-may_begin_four-via-else-may_begin_four w ↦
           false≢true

@@ -1,5 +1,5 @@
 -- The pieces cut so far and those still to cut are all that the ends cut.
-use Rattle.vte_core.proofs.Common.{◌≡◌, ◌≤◌, ◌<◌, ℕ, ◌++◌, length, take, drop, get_or, cut_at, most_pieces}
+use Rattle.vte_core.proofs.Common.{◌≡◌, ◌≤◌, ◌<◌, ℕ, ◌++◌, length, take, drop, get_or, cut_data, most_pieces}
 use Rattle.vte_core.proofs.fields.PieceSlices.{contents}
 use Rattle.vte_core.proofs.store.Store.dispatch.Given as goal
 
@@ -8,6 +8,6 @@ invariant-loop-index g l = record {
   all : length l.pieces ≡ most_pieces;
   held : l.start ≤ length l.bytes;
   ordered : (k : ℕ) → l.index ≤ k → k < length l.ends → l.start ≤ get_or l.ends k 0;
-  pieces : contents (take l.index l.pieces) ++ cut_at l.start l.bytes (drop l.index l.ends)
-      ≡ cut_at 0 l.bytes l.ends;
+  pieces : contents (take l.index l.pieces) ++ cut_data l.start l.bytes (drop l.index l.ends)
+      ≡ cut_data 0 l.bytes l.ends;
 }

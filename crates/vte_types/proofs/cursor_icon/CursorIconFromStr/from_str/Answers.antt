@@ -3,4 +3,4 @@ use Rattle.std.specs.Option.{ok_or}
 use Rattle.vte_types.proofs.cursor_icon.CursorIconFromStr.from_str.Goals as goal
 
 pub returns : goal.returns
-returns c = c.ok_or.ensures.value ∙ ap (λ icon. ok_or icon tt) c.icon_beside.ensures
+returns c = c.ok_or.ensures.value ∙ ap (λ icon. ok_or icon tt) c.find_icon.ensures

@@ -1,7 +1,7 @@
 -- By the timeout's answer: the bytes are held while an update is pending and there is room. Otherwise it is stopped if
 -- it is pending or bytes are held, and the turn is an open one.
 use Rattle.vte.proofs.Common.{◌≡◌, ◌<◌, ◌++◌, length, length-append, refl, sym, ◌∙◌, arith, nat_tests, nat_le, most_held, true, false, and-false, is_held}
-use Rattle.vte.proofs.Common.{is_stopped, meaning, of_turns, AreNextAt, opened}
+use Rattle.vte.proofs.Common.{is_stopped, meaning, of_turns, AreNextAt, stop_if_due}
 use Rattle.vte.proofs.turns.Slices.{halted_nothing}
 use Rattle.vte.proofs.turns.Turns.{after-next, ends_turn, kept-next, next-at, stops-next, turned_hold}
 use Rattle.vte.proofs.ansi.turns.Turns.turn.Goals as goal
@@ -24,7 +24,7 @@ returns-clause-turned g c = λ s at.
     let m = meaning g.P.EventParser.limit g.H.Handler.step g.T.Timeout.set g.T.Timeout.clear g.T.Timeout.allows in
     let w = of_turns g.P.EventParser.limit g.P.EventParser.reading g.J.TextBuffer.room g.T.Timeout.value_of in
     let here : AreNextAt w c.args.self.now c.if-pending-2.self (g.H.Handler.value_of c.if-pending-2.handler)
-    (opened m pending s) = elim c.if-pending-2.branch [
+    (stop_if_due m pending s) = elim c.if-pending-2.branch [
       -- Stopped first.
       | then-pending-2 w ↦
           let stopped : is_stopped pending s ≡ true = elim w.then-pending-2.branch [

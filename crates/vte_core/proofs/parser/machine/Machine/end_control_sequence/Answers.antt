@@ -1,5 +1,5 @@
 -- A malformed head tells nothing. Any other is whole once the last number is settled, and is dispatched.
-use Rattle.vte_core.proofs.Common.{[], ◌∷◌, refl, ap, ◌∙◌, arith, CsiDispatch, head_of, dispatched, InText}
+use Rattle.vte_core.proofs.Common.{[], ◌∷◌, refl, ap, ◌∙◌, arith, CsiDispatch, head_of, sequence_event, InText}
 use Rattle.vte_core.proofs.bytes.ClassCases.{final}
 use Rattle.vte_core.proofs.calls.Runs.{settled-by}
 use Rattle.vte_core.proofs.fields.HeadSteps.{dispatched-ready, head-holds, malformed-now}
@@ -25,7 +25,7 @@ returns-clause-takes g c = λ head s.
     let ready = c.end_head-ignore.ensures c.args.part head (head-holds _ _ head c.in_default.not-Malformed s) in
     let d = c.dispatch_control_sequence.ensures.dispatches in
     record {
-      told = dispatched CsiDispatch (head_of head) c.args.byte ∷ [];
+      told = sequence_event CsiDispatch (head_of head) c.args.byte ∷ [];
       next = InText [];
       performed = d.tells.value
           ∙ ap (g.P.CountedPerform.step (g.P.CountedPerform.value_of c.args.performer.now))

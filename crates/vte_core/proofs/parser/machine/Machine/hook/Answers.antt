@@ -1,5 +1,5 @@
 -- A malformed head leads to an ignored string. Any other is whole once the last number is settled, and hooks.
-use Rattle.vte_core.proofs.Common.{[], ◌∷◌, refl, ap, ◌∙◌, rules, Hook, head_of, dispatched, InData, InIgnoredString}
+use Rattle.vte_core.proofs.Common.{[], ◌∷◌, refl, ap, ◌∙◌, rules, Hook, head_of, sequence_event, InData, InIgnoredString}
 use Rattle.vte_core.proofs.bytes.ClassCases.{final}
 use Rattle.vte_core.proofs.fields.HeadSteps.{dispatched-ready, head-holds, malformed-now}
 use Rattle.vte_core.proofs.places.PlaceLeads.{device-well_shaped, device-malformed}
@@ -22,7 +22,7 @@ pub returns-clause-takes : goal.returns-clause-takes
 returns-clause-takes g c = λ head s.
     let f = c.end_head-ignore.ensures c.args.part head (head-holds _ _ head c.in_default.not-Malformed s) in
     record {
-      told = dispatched Hook (head_of head) c.args.byte ∷ [];
+      told = sequence_event Hook (head_of head) c.args.byte ∷ [];
       next = InData;
       performed =
           c.hook.ensures.value

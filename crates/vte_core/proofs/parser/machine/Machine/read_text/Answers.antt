@@ -27,7 +27,7 @@ reached g c =
           rw (w.performer-is, w.position-is) (advances-then v.advances
           (advances-text
           (c.requires.no_stop (sym c.IN_RUNS-in-loop-position-2.ensures ∙ w.if-IN_RUNS-2.true)) v.may_go_on within
-          (v.between within) run.further run.high run.prints))
+          (v.between within) run.progress run.high run.prints))
       -- None did.
       | else-IN_RUNS-2 w ↦ rw (w.performer-is, w.position-is) v.advances
     ]
@@ -73,13 +73,13 @@ loop-position-2-preserved-in-None g c =
       advances =
           advances-then v.advances
           (advances-text (c.requires.no_stop runs) v.may_go_on within
-          (v.between within) run.further run.high run.prints);
+          (v.between within) run.progress run.high run.prints);
       may_go_on = may_go_on-text (c.requires.no_stop runs) v.may_go_on run.prints;
       between = λ _. v.between within;
       low = search rules;
       high = search rules;
       moves = search rules;
-      further = search rules;
+      progress = search rules;
       count = λ singly. absurd (false≢true (sym singly ∙ runs));
       escape = λ singly. absurd (false≢true (sym singly ∙ runs));
       near = search rules;
@@ -122,7 +122,7 @@ read g c here = elim c.if-is_printed_ascii-2.branch [
   | else-is_printed_ascii-2+then-IN_RUNS-3+then-byte-ge160+then-is_lead w ↦
       let read = w.read_longer-next.ensures in
       rw (w.self-is, w.performer-is, w.position-is)
-      (advances-moved (omega (arith, read.moves.further here.within)) (advances-part read.advances))
+      (advances-moved (omega (arith, read.moves.progress here.within)) (advances-part read.advances))
   | else-is_printed_ascii-2+then-IN_RUNS-3+then-byte-ge160+else-is_lead w ↦
       let told = w.tell_single.ensures in
       rw (w.self-is, w.performer-is, w.position-is) (advances-part (advances-byte here.within here.is here.may_go_on
@@ -132,7 +132,7 @@ read g c here = elim c.if-is_printed_ascii-2.branch [
   | else-is_printed_ascii-2+else-IN_RUNS-3+then-is_lead-2+else-this-ne0 w ↦
       let read = w.read_longer-next-then-is_lead-2.ensures in
       rw (w.self-is, w.performer-is, w.position-is)
-      (advances-moved (omega (arith, read.moves.further here.within)) (advances-part read.advances))
+      (advances-moved (omega (arith, read.moves.progress here.within)) (advances-part read.advances))
   | else-is_printed_ascii-2+else-IN_RUNS-3+else-is_lead-2+else-byte-eq-ESCAPE w ↦
       let told = w.tell_single-else-byte-eq-ESCAPE.ensures in
       rw (w.self-is, w.performer-is, w.position-is) (advances-part (advances-byte here.within here.is here.may_go_on
@@ -172,7 +172,7 @@ loop-position-2-preserved-then-not-IN_RUNS g c =
       low = search rules;
       high = search rules;
       moves = search rules;
-      further = search rules;
+      progress = search rules;
       count = search rules;
       escape = search rules;
       near = search rules;
@@ -194,20 +194,20 @@ loop-position-2-preserved g c =
             rw (w.self-is, w.position-is)
             (λ inside.
             w.read_longer-next.ensures.text
-            (omega (arith, inside, w.read_longer-next.ensures.moves.further here.within)))
+            (omega (arith, inside, w.read_longer-next.ensures.moves.progress here.within)))
         | else-is_printed_ascii-2+then-IN_RUNS-3+then-byte-ge160+else-is_lead w ↦ rw w.self-is (λ _. here.begun)
         | else-is_printed_ascii-2+else-IN_RUNS-3+then-is_lead-2+else-this-ne0 w ↦
             rw (w.self-is, w.position-is)
             (λ inside.
             w.read_longer-next-then-is_lead-2.ensures.text
-            (omega (arith, inside, w.read_longer-next-then-is_lead-2.ensures.moves.further here.within)))
+            (omega (arith, inside, w.read_longer-next-then-is_lead-2.ensures.moves.progress here.within)))
         | else-is_printed_ascii-2+else-IN_RUNS-3+else-is_lead-2+else-byte-eq-ESCAPE w ↦
             rw w.self-is (λ _. here.begun)
       ];
       low = search rules;
       high = search rules;
       moves = search rules;
-      further = search rules;
+      progress = search rules;
       count = search rules;
       escape = search rules;
       near = search rules;

@@ -14,7 +14,7 @@ invariant-loop-position-2 g l = record {
   low : l.from ≤ l.position;
   high : l.position ≤ length l.input.bytes.now;
   moves : l.initial.position ≤ l.position;
-  further : l.initial.position ≡ l.position → l.position < length l.front.bytes.now;
+  progress : l.initial.position ≡ l.position → l.position < length l.front.bytes.now;
   count : g.G.Grain.IN_RUNS ≡ false
       → looked l.looks + 4 * l.from ≤ looked l.fn.looks + 3 * l.position + length l.front.bytes.now;
   escape : g.G.Grain.IN_RUNS ≡ false → (k : ℕ) → l.position ≤ k → k < length l.front.bytes.now
@@ -43,7 +43,7 @@ invariant-loop-position g l = record {
   all : g.G.Grain.IN_RUNS ≡ true → length l.front.bytes.now ≡ length l.input.bytes.now;
   same : (k : ℕ) → k < length l.front.bytes.now → slice_index l.front.bytes.now k ≡ slice_index l.input.bytes.now k;
   before : l.position < length l.input.bytes.now → l.position < length l.front.bytes.now;
-  further : l.from ≡ l.position → l.position < length l.input.bytes.now;
+  progress : l.from ≡ l.position → l.position < length l.input.bytes.now;
   count : g.G.Grain.IN_RUNS ≡ false
       → looked l.looks + 4 * l.from ≤ looked l.fn.looks + 3 * l.position + length l.front.bytes.now;
   escape : g.G.Grain.IN_RUNS ≡ false → (k : ℕ) → l.position ≤ k → k < length l.front.bytes.now

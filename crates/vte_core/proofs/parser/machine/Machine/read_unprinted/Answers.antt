@@ -73,7 +73,7 @@ returns-clause-moves g c =
     let m = c.read_sequence.ensures.moves in
     record {
       low = omega (arith, v.spends.low, m.low);
-      further = λ _. omega (arith, v.spends.low, m.further v.may_read.within);
+      progress = λ _. omega (arith, v.spends.low, m.progress v.may_read.within);
       high = m.high;
       count = omega (arith, v.spends.count, c.read_sequence.ensures.count);
       least = omega (arith, v.seen, m.least);

@@ -1,5 +1,5 @@
 -- Only an open command tells something at its end: the pieces of the store are those of its items.
-use Rattle.vte_core.proofs.Common.{sym, ap, ◌∙◌, after, closing_at}
+use Rattle.vte_core.proofs.Common.{sym, ap, ◌∙◌, after, closing_events_at}
 use Rattle.vte_core.proofs.fields.Standing.{in_command}
 use Rattle.vte_core.proofs.fields.StoreLemmas.{pieces_held}
 use Rattle.vte_core.proofs.parser.machine.Machine.report_end.Goals as goal
@@ -10,4 +10,4 @@ returns-in-SystemCommand-clause-told g c = λ place s b.
     rw (pieces_held _ _ k.items k.keeps) c.dispatch.ensures.value
     ∙ ap
     (λ place. after g.P.CountedPerform.step (g.P.CountedPerform.value_of c.args.performer.now)
-    (closing_at g.B.Buffer.limit place)) (sym k.same)
+    (closing_events_at g.B.Buffer.limit place)) (sym k.same)

@@ -1,6 +1,6 @@
 use Rattle.std.proofs.Common.{◌∙◌, sym}
 use Rattle.vte_types.proofs.Words.{from_row}
-use Rattle.vte_types.proofs.cursor_icon.icon_beside.Goals as goal
+use Rattle.vte_types.proofs.cursor_icon.find_icon.Goals as goal
 
 pub loop-keyword-preserved : goal.loop-keyword-preserved
 loop-keyword-preserved c =

@@ -2,9 +2,9 @@
 use Rattle.std.specs.Prelude.{ℕ, Bool, List, [], ◌∷◌, if◌then◌else◌}
 
 -- The bytes before it, or all bytes if none passes.
-abbrev pub before : (ℕ → Bool) → List ℕ → List ℕ
-before passes [] = []
-before passes (b ∷ bytes) = if passes b then [] else b ∷ before passes bytes
+abbrev pub before_first : (ℕ → Bool) → List ℕ → List ℕ
+before_first passes [] = []
+before_first passes (b ∷ bytes) = if passes b then [] else b ∷ before_first passes bytes
 
 -- That byte and all that follow, or none.
 abbrev pub from_first : (ℕ → Bool) → List ℕ → List ℕ

@@ -131,8 +131,8 @@ def compare_checksums(name, sides, place):
 
 
 def rows(race, course, given):
-    """Measures each side, for the given streams: the nanoseconds per byte, for each
-    round a number per placement."""
+    """Measures each side over the given streams: nanoseconds per byte, a number for each round and
+    placement."""
     racers = course.racers(race)
     for name, piece in asked_for(given, RACES[race]):
         commands = {side: of_side for side, of_side in racers.items()

@@ -201,6 +201,13 @@ def test_what_is_freed_keeps_its_cuts():
         assert classes.freed([b"\xc3", b"\xa9a"], {rule}, house.DEFAULT) == freed
 
 
+@pytest.mark.parametrize("rule, stream", [
+    ("pieces=17", b"\x1b]" + b";" * 16 + b"\x07"), ("numbers=33", b"\x1b[" + b";" * 32 + b"m"),
+    ("limit=1025", b"\x1b]" + b"a" * 1025 + b"\x07")], ids=["pieces", "numbers", "limit"])
+def test_a_house_that_keeps_more_is_freed_of_what_others_drop(rule, stream):
+    assert classes.freed([stream], {rule.partition("=")[0]}, house.house_of([rule])) == [b""]
+
+
 @pytest.mark.parametrize("stream, cuts, found", [
     (b"ab", [1], [None]), (b"\xc3\xa9", [1], [0]), (b"\xc3\xa9a", [1, 2], [0, None]),
     # what is malformed is found to be so after its end

@@ -1,8 +1,7 @@
 """Generated streams by name, and the recorded ones.
 
 A name and a size always give the same bytes, and a shorter stream is the front of a longer one. A
-stream is cut at its size, so it may end inside a character or a sequence. What comes by chance
-repeats after 2 MB."""
+stream is cut at its size, so it may end inside a character or a sequence. It repeats after 2 MB."""
 import itertools
 import json
 import random
@@ -31,15 +30,14 @@ EMOJI = characters(range(0x1F300, 0x1F650), range(0x1F680, 0x1F6D0), range(0x1F9
 JOINED = ["\U0001F468\u200D\U0001F469\u200D\U0001F467", "\U0001F44D\U0001F3FD", "\u2764\uFE0F",
           "\U0001F1E9\U0001F1EA", "e\u0301", "a\u0308\u0323", "1\uFE0F\u20E3"]
 LATIN = list("abcdefghijklmnopqrstuvwxyz      " * 3 + "äöüßéèàñ")
-# name: (what it is, a function from a random.Random to parts without end, whether the parts come by
-# chance)
+# name: (what it is, a function from a random.Random to parts without end)
 STREAMS = {}
 
 
 def stream(name, what):
     """Registers a function that makes the next part."""
     def register(part):
-        STREAMS[name] = (what, lambda chance: iter(partial(part, chance), None), True)
+        STREAMS[name] = (what, lambda chance: iter(partial(part, chance), None))
         return part
     return register
 
@@ -119,7 +117,7 @@ def dense_cells(_chance):
 
 
 STREAMS["dense_cells"] = ("each cell with two colours of 256, bold, italic and underlined",
-                          dense_cells, True)
+                          dense_cells)
 
 
 @stream("cursor", "motions and erasures of all kinds, as full-screen programs write")
@@ -180,7 +178,7 @@ PARTS = {
 for name, (what, part) in PARTS.items():
     stream(name, what)(part)
 
-# ---- one part again and again, behind a beginning
+# ---- one part again and again, after a beginning
 
 REPEATED = {
     "bad_ff": ("FF alone", b"", b"\xff"),
@@ -198,23 +196,15 @@ def repeated(start, unit, _chance):
 
 
 for name, (what, start, unit) in REPEATED.items():
-    STREAMS[name] = (what, partial(repeated, start, unit), False)
-
-
-def front(parts, size):
-    """So many bytes of the parts."""
-    taken = bytearray()
-    while len(taken) < size:
-        taken += next(parts)
-    return bytes(taken[:size])
+    STREAMS[name] = (what, partial(repeated, start, unit))
 
 
 def generate(name, size):
-    _, parts, is_by_chance = STREAMS[name]
-    parts = parts(random.Random(name))
-    if not is_by_chance or size <= PERIOD:
-        return front(parts, size)
-    return front(itertools.repeat(front(parts, PERIOD)), size)
+    _, parts = STREAMS[name]
+    parts, made = parts(random.Random(name)), bytearray()
+    while len(made) < min(size, PERIOD):
+        made += next(parts)
+    return bytes(made[:PERIOD] * (size // PERIOD + 1))[:size]
 
 
 def recorded():

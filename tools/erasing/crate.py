@@ -6,7 +6,7 @@ from erasing.imports import rename_paths, settle_imports, words_of_code
 from erasing.patterns import rewrite
 from erasing.rules import GENERAL, OLDER, apply
 from erasing.source import Source
-from rattle_text.tokens import Refused
+from erasing.tokens import Refused
 
 MARK = "// Written by tools/erase from {origin}: edit that one.\n"
 
@@ -44,7 +44,7 @@ def write_crate(plan, read_files):
             files[target(name)] = MARK.format(origin=f"crates/{crate}/src/{place}") + erased
             tests |= its_tests
     if unknown := _named(plan) - names:
-        raise Failure(f"plan.py names files that don't exist: {', '.join(sorted(unknown))}")
+        raise Failure(f"the plan names files that don't exist: {', '.join(sorted(unknown))}")
     return files
 
 
@@ -114,5 +114,5 @@ def _leave_out(source, name, plan):
 def _apply_rules(source, crate, name, plan):
     for rule in plan.rules.get(name, ()):
         if not rewrite(source, *rule):
-            source.refuse(f"tools/erasing/plan.py has a rule that nothing here needs: {rule[0]}")
+            source.refuse(f"the plan has a rule that nothing here needs: {rule[0]}")
     apply(source, GENERAL + plan.rules.get("", []) + plan.rules.get(crate, []) + OLDER)

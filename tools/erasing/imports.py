@@ -3,7 +3,7 @@ import re
 from collections import Counter
 
 from erasing.passes import add_above
-from rattle_text.tokens import WORD
+from erasing.tokens import WORD
 
 # Modules of std that Rust's `core` has with the same meaning.
 OF_CORE = {"cmp", "fmt", "iter", "marker", "mem", "ops", "str", "time"}

@@ -1,7 +1,6 @@
 """Tests of the judge on functions of this process: which classes it finds."""
 import random
 import re
-from itertools import count
 
 import pytest
 from judging import (candidate, cases, classes, definition, house, judgement, kinds, report,

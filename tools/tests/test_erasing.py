@@ -1,24 +1,17 @@
-#!/usr/bin/env python3
-"""Tests of tools/erase: python3 tools/erasing/test_erasing.py"""
+"""Tests of tools/erase."""
 import os
 import re
 import subprocess
-import sys
-import tempfile
-import unittest
 from dataclasses import fields, replace
-from pathlib import Path
 
-TOOLS = Path(__file__).resolve().parent.parent
-sys.path.insert(0, str(TOOLS))
-
-from building import rust_builds  # noqa: E402
-from erasing import wording  # noqa: E402
-from erasing.crate import Failure, erase, write_crate  # noqa: E402
-from erasing.patterns import rewrite  # noqa: E402
-from erasing.plan import Plan  # noqa: E402
-from erasing.source import Source  # noqa: E402
-from rattle_text.tokens import Refused, split  # noqa: E402
+import building
+import pytest
+from erasing import wording
+from erasing.crate import Failure, erase, write_crate
+from erasing.patterns import rewrite
+from erasing.plan import Plan
+from erasing.source import Source
+from erasing.tokens import Refused, split
 
 
 def plan(**given):
@@ -160,101 +153,104 @@ TEXTS = [
 ]
 
 
-class Erasing(unittest.TestCase):
-    def test_tokens_are_the_file(self):
-        self.assertEqual("".join(token.text for token in split(TRAPS)), TRAPS)
-
-    def test_traps(self):
-        before, after = told(TRAPS)
-        text, tests = erase(before, "a", "a/x", plan())
-        self.assertEqual(words(text), words(after))
-        self.assertEqual(tests, {"a/x/cases", "a/x/tests"})
-
-    def test_texts(self):
-        for given, marked in TEXTS:
-            before, after = told(marked)
-            with self.subTest(text=before):
-                self.assertEqual(words(erased(before, plan(**given))), words(after))
-
-    def test_comments_are_reworded(self):
-        long = "long-" * 30
-        self.assertEqual(wording.reword("    // One. Two\n    // goes. Three.\n    f();\n", {
-            "Two goes.": f"Too.\n\n{long}"}),
-            f"    // One. Too.\n    //\n    // {long}\n    // Three.\n    f();\n")
-        for text in "/// One.\nfn f() {}\n", "/// Two.\nfn f() {}\n/// Two.\nfn g() {}\n":
-            with self.assertRaisesRegex(Refused, "Two"):
-                wording.reword(text, {"Two": "Three"})
-
-    def test_what_is_refused(self):
-        for text, line, given in [
-            ("\n#[test]\nfn f() {}\n", 2, {}),
-            ("fn f() {}\n#[derive(Clone, Ghostly)]\nstruct S;\n", 2, {}),
-            ("fn f() {}\nuse std::thread;\n", 2, {}),
-            ("\n/// ```\n/// f();\n/// ```\nfn f() {}\n", 2, {}),
-            ("\n/* a */\n", 2, {}),
-            ("\nfn f() { std::mem::g() }\n", 2, {}),
-            ("\nfn f()\n    ensures { { }\n{}\n", 3, {}),
-            ("ghost use A\n", 1, {}),
-            ("\nfn f() { \"x }\n", 2, {}),
-            ("fn f() { (\n", 1, {}),
-            ("fn f() {}\n", 1, dict(lines={"a/x": {"#[x]": ["fn g"]}})),
-            ("fn f() {}\n", 1, dict(rules={"a/x": [("g()", "")]})),
-            ("const M: u8 = 1;\n", 1, dict(dropped={"a/x": ("const N",)})),
-            ("mod z;\n", 1, dict(left_out={"a/x/y"})),
-            ("", 1, dict(dropped={"a/x": ("fn f",)})),
-            ("\nfn f()\n", 2, {}),
-            ("fn f() {}\nfn f() {}\n", 1, dict(lines={"a/x": {"#[x]": ["fn f"]}})),
-            ("\n/// ```\nfn f() {}\n", 2, dict(examples={"a/x": ("f();",)})),
-        ]:
-            with self.subTest(text=text), self.assertRaises(Refused) as caught:
-                erased(text, plan(**given))
-            self.assertEqual(caught.exception.line or 1, line, caught.exception)
-
-    def test_which_files_are_written(self):
-        made = {"a": {"y/tests.rt": "#[x]", "x.rt": "#[x]", "y.rt": "#[cfg(test)] mod tests;",
-                      "lib.rt": "#[cfg(test)] mod x; mod y; mod z; mod left;", "z/lib.rt": "",
-                      "z/laws/b.rt": "#[x]",
-                      "left.rt": "#[x]", "left/over.rt": "#[x]", "leftover.rt": ""},
-                "b": {"main.rt": "#[cfg(test)] mod x;", "x.rt": "#[x]", "old.rt": "fn f() {}"}}
-        given = plan(left_out={"a/left"}, conditions={"b": "x"}, allowed=("y", "z"))
-        files = write_crate(given, lambda crate: dict(sorted(made[crate].items(), reverse=True)))
-        self.assertEqual(sorted(files), ["a/leftover.rs", "a/mod.rs", "a/y.rs", "a/z/lib.rs",
-                                         "b/mod.rs", "b/old.rs", "mod.rs"])
-        self.assertEqual(files["b/old.rs"], "// Written by tools/erase from crates/b/src/old.rt: "
-                                            "edit that one.\nfn f() {}\n")
-        self.assertIn("#![allow(y, z)]\n", files["mod.rs"])
-        self.assertEqual(files["mod.rs"].splitlines()[-3:], [
-            "pub(crate) mod a;", "#[cfg(x)]", "pub(crate) mod b;"])
-
-    @unittest.skipUnless(os.environ.get("HAS_CRATES") == "yes", "without the crates of rust/vte")
-    def test_what_the_benchmark_shares_compiles(self):
-        if "2024" not in subprocess.check_output(["rustc", "--help"], text=True):
-            self.skipTest("with an older Rust")
-        with tempfile.TemporaryDirectory() as folder:
-            rust_builds.placed_peers(True, folder, "checked", 1)
-
-    def test_failures_name_file_and_line(self):
-        with self.assertRaisesRegex(Failure, r"^crates/a/src/x\.rt:2: unknown attribute: test$"):
-            write_crate(plan(), lambda _crate: {"x.rt": "\n#[test]\nfn f() {}\n"})
-        with self.assertRaisesRegex(Failure, r"^crates/a/src/x\.rt:1: wording.json expects one"):
-            write_crate(plan(comments={"a/x": {"One": ""}}), lambda _crate: {"x.rt": "fn f() {}"})
-
-    def test_each_table_names_files_that_exist(self):
-        tables = {it.name: {"a/gone": {}} for it in fields(Plan) if it.default_factory is dict}
-        tables.update(left_out={"a/gone"}, handler=("a/gone", ()))
-        for name, table in tables.items():
-            given = replace(plan(), **{name: table})
-            with self.subTest(name), self.assertRaisesRegex(Failure, "don't exist: a/gone"):
-                write_crate(given, lambda _crate: {"x.rt": ""})
-
-    def test_a_match_with_a_comment_stays(self):
-        for text, pattern, stays in (
-                ("f(// why\nalloc)\n", "(alloc)", True), ("f(alloc)\n", "(alloc)", False),
-                ("f(a; b)\n", "($$x)", True), ("f(a; b)\n", "($$$x)", False)):
-            source = Source(text, "a/x")
-            rewrite(source, pattern, "()")
-            self.assertEqual(source.written() == text, stays)
+def test_tokens_are_the_file():
+    assert "".join(token.text for token in split(TRAPS)) == TRAPS
 
 
-if __name__ == "__main__":
-    unittest.main(verbosity=0)
+def test_traps():
+    before, after = told(TRAPS)
+    text, tests = erase(before, "a", "a/x", plan())
+    assert words(text) == words(after)
+    assert tests == {"a/x/cases", "a/x/tests"}
+
+
+@pytest.mark.parametrize("given, marked", TEXTS)
+def test_texts(given, marked):
+    before, after = told(marked)
+    assert words(erased(before, plan(**given))) == words(after)
+
+
+def test_comments_are_reworded():
+    long = "long-" * 30
+    text = "    // One. Two\n    // goes. Three.\n    f();\n"
+    assert wording.reword(text, {"Two goes.": f"Too.\n\n{long}"}) == (
+        f"    // One. Too.\n    //\n    // {long}\n    // Three.\n    f();\n")
+    for text in "/// One.\nfn f() {}\n", "/// Two.\nfn f() {}\n/// Two.\nfn g() {}\n":
+        with pytest.raises(Refused, match="Two"):
+            wording.reword(text, {"Two": "Three"})
+
+
+@pytest.mark.parametrize("text, line, given", [
+    ("\n#[test]\nfn f() {}\n", 2, {}),
+    ("fn f() {}\n#[derive(Clone, Ghostly)]\nstruct S;\n", 2, {}),
+    ("fn f() {}\nuse std::thread;\n", 2, {}),
+    ("\n/// ```\n/// f();\n/// ```\nfn f() {}\n", 2, {}),
+    ("\n/* a */\n", 2, {}),
+    ("\nfn f() { std::mem::g() }\n", 2, {}),
+    ("\nfn f()\n    ensures { { }\n{}\n", 3, {}),
+    ("ghost use A\n", 1, {}),
+    ("\nfn f() { \"x }\n", 2, {}),
+    ("fn f() { (\n", 1, {}),
+    ("fn f() {}\n", 1, dict(lines={"a/x": {"#[x]": ["fn g"]}})),
+    ("fn f() {}\n", 1, dict(rules={"a/x": [("g()", "")]})),
+    ("const M: u8 = 1;\n", 1, dict(dropped={"a/x": ("const N",)})),
+    ("mod z;\n", 1, dict(left_out={"a/x/y"})),
+    ("", 1, dict(dropped={"a/x": ("fn f",)})),
+    ("\nfn f()\n", 2, {}),
+    ("fn f() {}\nfn f() {}\n", 1, dict(lines={"a/x": {"#[x]": ["fn f"]}})),
+    ("\n/// ```\nfn f() {}\n", 2, dict(examples={"a/x": ("f();",)})),
+])
+def test_what_is_refused(text, line, given):
+    with pytest.raises(Refused) as caught:
+        erased(text, plan(**given))
+    assert (caught.value.line or 1) == line, caught.value
+
+
+def test_which_files_are_written():
+    made = {"a": {"y/tests.rt": "#[x]", "x.rt": "#[x]", "y.rt": "#[cfg(test)] mod tests;",
+                  "lib.rt": "#[cfg(test)] mod x; mod y; mod z; mod left;", "z/lib.rt": "",
+                  "z/laws/b.rt": "#[x]",
+                  "left.rt": "#[x]", "left/over.rt": "#[x]", "leftover.rt": ""},
+            "b": {"main.rt": "#[cfg(test)] mod x;", "x.rt": "#[x]", "old.rt": "fn f() {}"}}
+    given = plan(left_out={"a/left"}, conditions={"b": "x"}, allowed=("y", "z"))
+    files = write_crate(given, lambda crate: dict(sorted(made[crate].items(), reverse=True)))
+    assert sorted(files) == ["a/leftover.rs", "a/mod.rs", "a/y.rs", "a/z/lib.rs",
+                             "b/mod.rs", "b/old.rs", "mod.rs"]
+    assert files["b/old.rs"] == ("// Written by tools/erase from crates/b/src/old.rt: "
+                                 "edit that one.\nfn f() {}\n")
+    assert "#![allow(y, z)]\n" in files["mod.rs"]
+    assert files["mod.rs"].splitlines()[-3:] == [
+        "pub(crate) mod a;", "#[cfg(x)]", "pub(crate) mod b;"]
+
+
+@pytest.mark.skipif(os.environ.get("HAS_CRATES") != "yes", reason="without the crates of rust/vte")
+def test_what_the_benchmark_shares_compiles(tmp_path):
+    if "2024" not in subprocess.check_output(["rustc", "--help"], text=True):
+        pytest.skip("with an older Rust")
+    building.placed_peers(True, tmp_path, "checked", 1)
+
+
+def test_failures_name_file_and_line():
+    with pytest.raises(Failure, match=r"^crates/a/src/x\.rt:2: unknown attribute: test$"):
+        write_crate(plan(), lambda _crate: {"x.rt": "\n#[test]\nfn f() {}\n"})
+    with pytest.raises(Failure, match=r"^crates/a/src/x\.rt:1: wording.json expects one"):
+        write_crate(plan(comments={"a/x": {"One": ""}}), lambda _crate: {"x.rt": "fn f() {}"})
+
+
+TABLES = {it.name: {"a/gone": {}} for it in fields(Plan) if it.default_factory is dict}
+
+
+@pytest.mark.parametrize("name, table", [
+    *TABLES.items(), ("left_out", {"a/gone"}), ("handler", ("a/gone", ()))])
+def test_each_table_names_files_that_exist(name, table):
+    with pytest.raises(Failure, match="don't exist: a/gone"):
+        write_crate(replace(plan(), **{name: table}), lambda _crate: {"x.rt": ""})
+
+
+@pytest.mark.parametrize("text, pattern, stays", [
+    ("f(// why\nalloc)\n", "(alloc)", True), ("f(alloc)\n", "(alloc)", False),
+    ("f(a; b)\n", "($$x)", True), ("f(a; b)\n", "($$$x)", False)])
+def test_a_match_with_a_comment_stays(text, pattern, stays):
+    source = Source(text, "a/x")
+    rewrite(source, pattern, "()")
+    assert (source.written() == text) == stays

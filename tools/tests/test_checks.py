@@ -1,4 +1,4 @@
-"""Tests that tools/erase and the checks beside it refuse what they say: pytest, of this file."""
+"""Tests that tools/erase, tools/mutate, tools/test and the checks refuse what they say."""
 import contextlib
 import io
 import os
@@ -12,7 +12,7 @@ from types import SimpleNamespace
 import pytest
 from erasing.plan import Plan
 
-TOOLS = Path(__file__).resolve().parent
+TOOLS = Path(__file__).resolve().parents[1]
 
 
 @pytest.fixture(autouse=True)

@@ -24,6 +24,13 @@ class Failure(Exception):
     """Text that can't be erased, with its file and line."""
 
 
+def read_files(top, crate):
+    """The files of a Rattle crate, by their places below its `src`."""
+    folder = top / "crates" / crate / "src"
+    return {str(file.relative_to(folder)): file.read_text()
+            for file in sorted(folder.rglob("*.rt"))}
+
+
 def write_crate(plan, read_files):
     """The files of a crate, by path below its folder. `read_files` answers those of a Rattle crate,
     by their places below its `src`."""

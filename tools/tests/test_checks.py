@@ -34,7 +34,7 @@ class Tool:
     """A tool of tools/ over the files of a test's folder."""
 
     def __init__(self, name, **given):
-        self.main = run_path(str(TOOLS / name))["main"]
+        self.name, self.main = name, run_path(str(TOOLS / name))["main"]
         self.parts = self.main.__globals__
         self.parts.update(TOP=Path.cwd(), **given)
 
@@ -42,7 +42,7 @@ class Tool:
         """The status or the message of its end, and what it printed."""
         said = io.StringIO()
         with pytest.MonkeyPatch.context() as patch, contextlib.redirect_stdout(said):
-            patch.setattr(sys, "argv", ["tool", *words])
+            patch.setattr(sys, "argv", [self.name, *words])
             try:
                 status = self.main()
             except SystemExit as ended:
@@ -301,12 +301,12 @@ def test_what_is_out_of_date_is_told_and_then_written(folder):
     write("crates/c/src/d/e.rt", "fn f() { laws::x(); }\n")
     write("w/left/over", "")
     write("w/mod.rs", "as it was")
-    outdated = ("tools/erase: these files aren't up to date; run tools/erase:\n"
+    outdated = ("these files aren't up to date; run tools/erase:\n"
                 "  v/c/d/e.rs\n  v/mod.rs\n  w/c/d/e.rs\n  w/left/over\n  w/mod.rs")
     assert erase("--check") == (outdated, "")
-    assert erase() == (None, "tools/erase: wrote 5 files\n")
+    assert erase() == (None, "5 files are written\n")
     assert erase("--check") == (None, "")
-    assert erase() == (None, "tools/erase: wrote 0 files\n")
+    assert erase() == (None, "0 files are written\n")
     assert not (folder / "w/left/over").exists()
     assert (folder / "w/c/d/e.rs").read_text().splitlines()[1:] == ["fn f() { }"]
 

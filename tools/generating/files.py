@@ -1,5 +1,4 @@
-"""What programs do that make files of this repository: write them, or check that they are up to date.
-"""
+"""Writes files of this repository that are made from others, or checks that they are up to date."""
 import argparse
 import re
 import sys

@@ -3,7 +3,7 @@ from functools import cache
 
 import building
 import pytest
-from testing.missing import miss
+from tests.missing import miss
 
 from c_library.library import Library
 

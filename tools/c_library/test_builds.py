@@ -3,7 +3,7 @@ import re
 import shutil
 
 import pytest
-from testing.missing import miss
+from tests.missing import miss
 
 from c_library.library import (
     BESIDE, CRATE, EXAMPLES, HERE, INCLUDES, OLD_CALLS, OLD_PROGRAM, SANITIZERS, TOOLS,

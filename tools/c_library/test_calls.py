@@ -6,7 +6,7 @@ from typing import List, NamedTuple
 
 import pytest
 from generating.rows import all_rows, bytes_of, lines_of
-from testing.missing import miss
+from tests.missing import miss
 
 from c_library.library import BESIDE, HERE, SANITIZERS, output_of
 from c_library.test_numbers import of_rust

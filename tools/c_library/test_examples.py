@@ -5,7 +5,7 @@ import shutil
 import subprocess
 
 import pytest
-from testing.missing import miss
+from tests.missing import miss
 
 from c_library.library import CRATE, EXAMPLES, SANITIZERS, TOOLS, output_of
 

@@ -6,7 +6,7 @@ import subprocess
 from pathlib import Path
 
 import pytest
-from testing.missing import miss
+from tests.missing import miss
 
 from c_library.library import EXAMPLES, HERE, OLD_CALLS, OLD_PROGRAM, TOOLS, output_of
 from c_library.test_examples import STREAM, TEXT

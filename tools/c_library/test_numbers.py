@@ -4,7 +4,7 @@ import shutil
 from functools import cache
 
 import pytest
-from testing.missing import miss
+from tests.missing import miss
 
 from c_library.library import BESIDE, HERE, TOOLS, output_of
 

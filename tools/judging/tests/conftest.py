@@ -1,7 +1,7 @@
 import pytest
 from judging.reference import NoReference, find_vtlog
 from support import TOOLS, run_python
-from testing.missing import miss
+from tests.missing import miss
 
 
 @pytest.fixture(scope="session")

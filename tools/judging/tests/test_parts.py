@@ -13,7 +13,7 @@ from judging.classes import Difference
 from judging.judgement import Finding, Judgement
 from judging.rules import ALONE, CUT, RULES
 from support import TOOLS, program_in
-from testing.missing import miss
+from tests.missing import miss
 
 
 # streams, house rules, and the events under them

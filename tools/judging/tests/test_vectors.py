@@ -11,7 +11,7 @@ from generating.rows import bytes_of, lines_of
 from judging import definition
 from judging.house import House
 from support import EVENTS, FILES, TOOLS, TOY, VECTORS, run, run_python
-from testing.missing import miss
+from tests.missing import miss
 
 
 def test_files_are_up_to_date():

@@ -41,7 +41,7 @@ def write_crate(plan, read_files):
             name = f"{crate}/{PurePosixPath(place).with_suffix('')}"
             names.add(name)
             folders = {str(it) for it in PurePosixPath(name, "_").parents}
-            if "laws" in name.split("/") or folders & (tests | plan.left_out):
+            if "laws" in name.split("/") or folders & (tests | plan.dropped_files):
                 continue
             try:
                 erased, its_tests = erase(text, crate, name, plan)
@@ -62,7 +62,7 @@ def _depth(file):
 def _named(plan):
     """The files that a plan names: whatever has such keys is by file."""
     keys = {name for table in vars(plan).values() if isinstance(table, dict) for name in table}
-    return {name for name in {*keys, *plan.left_out, plan.handler[0]} if "/" in name}
+    return {name for name in {*keys, *plan.dropped_files, plan.handler[0]} if "/" in name}
 
 
 def target(name):
@@ -72,10 +72,11 @@ def target(name):
 
 
 def _root(plan):
-    lines = [ROOT.format(allowed=STYLE.format(", ".join(plan.allowed)) if plan.allowed else "")]
+    style = STYLE.format(", ".join(plan.allowed_lints)) if plan.allowed_lints else ""
+    lines = [ROOT.format(allowed=style)]
     for name in plan.modules:
-        if name in plan.conditions:
-            lines.append(f"#[cfg({plan.conditions[name]})]\n")
+        if name in plan.crate_conditions:
+            lines.append(f"#[cfg({plan.crate_conditions[name]})]\n")
         lines.append(f"pub(crate) mod {name};\n")
     return "".join(lines)
 
@@ -86,31 +87,31 @@ def erase(text, crate, name, plan):
     passes.drop_ghosts(source)
     tests = passes.sort_attributes(source)
     before = words_of_code(source)
-    passes.drop_items(source, plan.dropped.get(name, ()))
-    _leave_out(source, name, plan)
+    passes.drop_items(source, plan.dropped_items.get(name, ()))
+    _drop_modules(source, name, plan)
     _apply_rules(source, crate, name, plan)
     passes.give_bodies(source, plan.default_bodies)
     if name in plan.inlined:
         passes.inline(source, plan.inlined[name])
-    passes.add_lines(source, plan.lines.get(name, {}))
+    passes.add_attributes(source, plan.attributes.get(name, {}))
     passes.document_members(source, plan.members.get(name, {}))
     passes.complete_examples(source, plan.examples.get(name, ()))
     rename_paths(source, crate, plan)
     settle_imports(source, crate, plan, before)
     passes.set_conditions(source, plan.conditions_of)
-    if name in plan.added:
-        passes.add_above(source, plan.added[name])
+    if name in plan.first_lines:
+        passes.add_above(source, plan.first_lines[name])
     if name == plan.handler[0]:
         passes.wrap_handler(source, plan.handler[1])
     folder = name.removesuffix("/lib").removesuffix("/main")
     return source.written(), {f"{folder}/{module}" for module in tests}
 
 
-def _leave_out(source, name, plan):
-    """Laws do nothing; other modules are left out. Their declarations and their exports go."""
+def _drop_modules(source, name, plan):
+    """Laws do nothing; other files are dropped. Their declarations and their exports go."""
     modules = [module for module in ("laws",) if source.places("mod laws")]
-    for left_out in plan.left_out:
-        inside, _, module = left_out.rpartition("/")
+    for file in plan.dropped_files:
+        inside, _, module = file.rpartition("/")
         if inside == name.removesuffix("/lib"):
             modules.append(module)
     for module in modules:

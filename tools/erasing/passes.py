@@ -84,9 +84,9 @@ def give_bodies(source, traits):
             source.insert(at, "#[allow(unused_variables)]\n")
 
 
-def add_lines(source, lines):
+def add_attributes(source, attributes):
     """Puts attributes above what begins with the given words. A derive joins another."""
-    for line, front in ((line, front) for line, fronts in lines.items() for front in fronts):
+    for line, front in ((it, front) for it, fronts in attributes.items() for front in fronts):
         at = source.place(front)
         derive = next((place for place in range(source.attached(at), at)
                        if source.words(place, 3) == ["#", "[", "derive"]), None)

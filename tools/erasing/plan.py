@@ -14,32 +14,43 @@ def table():
 class Plan:
     """A Rust crate. What is by file, or by crate, has the name first."""
 
-    out: str  # the folder that is written, and nothing else stands there
+    folder: str  # what is written; nothing else stands there
     modules: dict  # the Rattle crates: the path of each, seen from anywhere in the Rust crate
-    outside: dict = table()  # crates that aren't part of this one
+    allowed_lints: tuple = ()  # those that the text needn't pass
+
+    # where names come from
+    other_crates: dict = table()  # those that aren't part of this one
     of_std: dict = table()  # modules of std that Rust's `core` hasn't, or has otherwise
     homes: dict = table()  # modules with names for wherever these are used, by crate or for all
-    allowed: tuple = ()  # lints that the text needn't pass
-    conditions: dict = table()  # conditions of the crates' modules
-    under: dict = table()  # conditions of items with one of some words; for a file None is none
-    left_out: frozenset = frozenset()  # files that go
-    dropped: dict = table()  # items and functions that go, by their first words
-    added: dict = table()  # lines above the first item
     imports: dict = table()  # imports that lead elsewhere, or nowhere, where names begin so
+
+    # under which conditions something is there
+    crate_conditions: dict = table()  # of the crates' modules
+    item_conditions: dict = table()  # of items with one of some words; for a file None is none
+
+    # what goes
+    dropped_files: frozenset = frozenset()
+    dropped_items: dict = table()  # items and functions, by their first words
+
+    # what changes, and what comes
     rules: dict = table()  # patterns and what stands in their place, by file, by crate or for all
-    lines: dict = table()  # attributes, and the first words of what each belongs to
-    members: dict = table()  # docs of members that have none, by the first words of their type
+    first_lines: dict = table()  # lines above the first item
+    attributes: dict = table()  # with the first words of what each belongs to
     inlined: dict = table()  # impls whose functions are inlined
-    comments: dict = table()  # words of comments, and what stands in their place
-    examples: dict = table()  # hidden lines before examples, and after "..", or None to drop these
     default_bodies: frozenset = frozenset()  # traits whose methods do nothing by default
     handler: tuple = ("", ())  # the file of the trait `Handler`, and rules for copied arguments
 
+    # comments
+    comments: dict = table()  # words of comments, and what stands in their place
+    members: dict = table()  # docs of members that have none, by the first words of their type
+    examples: dict = table()  # hidden lines before examples, and after "..", or None to drop these
+
     def conditions_of(self, name, words):
         """The conditions of an item with these words."""
-        if self.under.get(name, {}) is None:
+        of_file = self.item_conditions.get(name, {})
+        if of_file is None:
             return ()
-        found = {**self.under.get(name.partition("/")[0], {}), **self.under.get(name, {})}
+        found = {**self.item_conditions.get(name.partition("/")[0], {}), **of_file}
         return tuple(condition for condition, wanted in found.items() if wanted & words)
 
     def imported_from(self, name, path):

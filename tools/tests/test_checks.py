@@ -194,7 +194,7 @@ def differences(source, written, place="c/mod.rs", **given):
     """What differs in a file, in whose place something else is written."""
     write("crates/c/src/lib.rt", source)
     rules = {"c/lib": [("one()", "two()")]}
-    plan = Plan(out="w", modules={"c": "crate::c"}, rules=rules, **given)
+    plan = Plan(folder="w", modules={"c": "crate::c"}, rules=rules, **given)
     made = {"mod.rs": "", place: written}
     status, said = Tool("check_erased", PLANS=(plan,), write_crate=lambda *_: made).run()
     *found, last = said.splitlines()
@@ -232,12 +232,12 @@ def test_all_files_are_compared():
     for place in "a/b", "laws/a", "tests":
         write(f"crates/c/src/{place}.rt", "fn f() {}")
     assert differences("", "") == ["c/a/b fn f: it isn't written"]
-    assert differences("", "", "c/d.rs", left_out={"c/a"}) == ["w/c/d.rs: it has no source"]
+    assert differences("", "", "c/d.rs", dropped_files={"c/a"}) == ["w/c/d.rs: it has no source"]
 
 
 def test_what_the_plan_drops_may_be_left_out():
     source = "fn f() {} #[cfg(test)] mod t { fn g() {} }"
-    assert differences(source, "", dropped={"c/lib": ("fn f",)}) == []
+    assert differences(source, "", dropped_items={"c/lib": ("fn f",)}) == []
 
 
 # ---- mutate
@@ -293,7 +293,7 @@ def test_verdicts(crate, tmp_path_factory, said, status, line):
 # ---- erase
 
 def erase(*words):
-    plans = [Plan(out=out, modules={"c": "crate::c"}) for out in ("v", "w")]
+    plans = [Plan(folder=folder, modules={"c": "crate::c"}) for folder in ("v", "w")]
     return Tool("erase", PLANS=plans, formatted=lambda files: files).run(*words)
 
 
@@ -314,7 +314,7 @@ def test_what_is_out_of_date_is_told_and_then_written(folder):
 def test_each_folder_is_written():
     top = TOOLS.parent
     folders = {str(place.relative_to(top)) for place in top.glob("rust/*/src/proved")}
-    assert {plan.out for plan in Tool("erase").parts["PLANS"]} == folders
+    assert {plan.folder for plan in Tool("erase").parts["PLANS"]} == folders
 
 
 @pytest.mark.skipif(not shutil.which("rustfmt"), reason="without rustfmt")

@@ -15,7 +15,7 @@ from erasing.tokens import Refused, split
 
 
 def plan(**given):
-    return Plan(out="o", modules={"a": "crate::a", "b": "crate::b"},
+    return Plan(folder="o", modules={"a": "crate::a", "b": "crate::b"},
                 of_std={"alloc": "crate::prelude"}, **given)
 
 
@@ -94,7 +94,7 @@ def words(text):
     return [text for text in texts if text not in ("", "\n", ",")]
 
 
-DROPPED = dict(dropped={"a/x": ("fn f",)})
+DROPPED = dict(dropped_items={"a/x": ("fn f",)})
 # what is told of a file, and a text with marks, as crates/ have no such case
 TEXTS = [
     ({}, "use c::Kept; use c::Gone; fn f(k: u8) {} ‹#[cfg(test)] mod tests { fn g() { Gone } }›"),
@@ -103,8 +103,8 @@ TEXTS = [
     (DROPPED, "‹// goes\n#[inline]pub fn f() {}\n›const A: u8 = 1; // one\n‹fn f() {}› fn ff() {}"),
     (DROPPED, "//! File.\n// A group.\n\n‹// goes\n#[inline]\n// goes\nfn f() {}\n\n›fn g() {}"),
     # each up to its end, and not more
-    (dict(dropped={"a/x": ("const fn g", "static S", "struct U", "const C", "type X", "use c",
-                           "impl V")}),
+    (dict(dropped_items={"a/x": ("const fn g", "static S", "struct U", "const C", "type X", "use c",
+                                 "impl V")}),
      "‹pub const fn g(a: [u8; 2]) { a; } pub static S: T = T { a: [0; 2] }; struct U([u8; 2]); "
      "const C: u8 = { 1 }; type X = V<{ 1 }>; pub(crate) use c::{d, e}; "
      "impl V<[u8; 2]> for U where U: W { const Y: u8 = 1; }› fn last() {}"),
@@ -126,11 +126,11 @@ TEXTS = [
      "impl H for K { fn f(&self) -> bool { a; b } }"),
     (dict(inlined={"a/x": "impl V"}), "fn f() {} impl V { «#[inline]» pub(crate) fn f() {} "
      "fn g<T>() {} #[inline(never)]\n/// H.\nfn h() {} } fn i() {}"),
-    (dict(lines={"a/x": {"#[derive(Eq)]": ["pub struct S", "pub struct T"],
-                         "#[x]": ["pub struct S"]}}),
+    (dict(attributes={"a/x": {"#[derive(Eq)]": ["pub struct S", "pub struct T"],
+                              "#[x]": ["pub struct S"]}}),
      "/// S.\n#[derive(Clone«, Eq»)] #[repr(C)] «#[x]» pub struct S; «#[derive(Eq)]» "
      "pub struct T; fn f() {}"),
-    (dict(under={"a": {"m": {"K"}}, "a/x": {"n": {"L"}}}),
+    (dict(item_conditions={"a": {"m": {"K"}}, "a/x": {"n": {"L"}}}),
      "«#[cfg(n)]» pub use c::L; «#[cfg(m)] use c::K;» use c::‹{K, M}›«M»; "
      "«#[cfg(m)]» fn f(k: K) { \"L\" } «#[cfg(m)] #[cfg(n)]» fn g() { L(K) } fn h() {}"),
     (dict(examples={"a/x": ("a;", "b;", "..", "c;")}),
@@ -140,8 +140,9 @@ TEXTS = [
      "/// F.\n‹///\n/// ```\n/// f();\n/// ```\n›/// G.\nfn f() {}"),
     (dict(handler=("a/x", [("t: &str", "t: &str as String")])), "//! A.\n\n"
      "«handlers! {\n»/// H.\npub trait Handler‹ {›«;»\n/// F.\nfn f(t: &str« as String») {} }"),
-    (dict(added={"a/x": "use d::D;"}), "//! A.\n\n«use d::D;\n\n»// f\nfn f() {}\nfn g() {}"),
-    *((dict(added={"a/x": "use d::D;"}), f"«use d::D;\n»pub {word} e;") for word in ("mod", "use")),
+    (dict(first_lines={"a/x": "use d::D;"}), "//! A.\n\n«use d::D;\n\n»// f\nfn f() {}\nfn g() {}"),
+    *((dict(first_lines={"a/x": "use d::D;"}), f"«use d::D;\n»pub {word} e;")
+      for word in ("mod", "use")),
     (dict(rules={"a/x": [("$x.b", "k($x)")]}), "fn f() { ‹g\n.b›«k(g)»; }"),
     ({}, "fn f() { ‹let A(x) = g(1) else {\n// why\nreturn };›"
      "«let x = match g(1) { A(x) => x, _ => {\n// why\nreturn } };»"
@@ -191,13 +192,13 @@ def test_comments_are_reworded():
     ("ghost use A\n", 1, {}),
     ("\nfn f() { \"x }\n", 2, {}),
     ("fn f() { (\n", 1, {}),
-    ("fn f() {}\n", 1, dict(lines={"a/x": {"#[x]": ["fn g"]}})),
+    ("fn f() {}\n", 1, dict(attributes={"a/x": {"#[x]": ["fn g"]}})),
     ("fn f() {}\n", 1, dict(rules={"a/x": [("g()", "")]})),
-    ("const M: u8 = 1;\n", 1, dict(dropped={"a/x": ("const N",)})),
-    ("mod z;\n", 1, dict(left_out={"a/x/y"})),
-    ("", 1, dict(dropped={"a/x": ("fn f",)})),
+    ("const M: u8 = 1;\n", 1, dict(dropped_items={"a/x": ("const N",)})),
+    ("mod z;\n", 1, dict(dropped_files={"a/x/y"})),
+    ("", 1, dict(dropped_items={"a/x": ("fn f",)})),
     ("\nfn f()\n", 2, {}),
-    ("fn f() {}\nfn f() {}\n", 1, dict(lines={"a/x": {"#[x]": ["fn f"]}})),
+    ("fn f() {}\nfn f() {}\n", 1, dict(attributes={"a/x": {"#[x]": ["fn f"]}})),
     ("\n/// ```\nfn f() {}\n", 2, dict(examples={"a/x": ("f();",)})),
 ])
 def test_what_is_refused(text, line, given):
@@ -212,7 +213,7 @@ def test_which_files_are_written():
                   "z/laws/b.rt": "#[x]",
                   "left.rt": "#[x]", "left/over.rt": "#[x]", "leftover.rt": ""},
             "b": {"main.rt": "#[cfg(test)] mod x;", "x.rt": "#[x]", "old.rt": "fn f() {}"}}
-    given = plan(left_out={"a/left"}, conditions={"b": "x"}, allowed=("y", "z"))
+    given = plan(dropped_files={"a/left"}, crate_conditions={"b": "x"}, allowed_lints=("y", "z"))
     files = write_crate(given, lambda crate: dict(sorted(made[crate].items(), reverse=True)))
     assert sorted(files) == ["a/leftover.rs", "a/mod.rs", "a/y.rs", "a/z/lib.rs",
                              "b/mod.rs", "b/old.rs", "mod.rs"]
@@ -241,7 +242,7 @@ TABLES = {it.name: {"a/gone": {}} for it in fields(Plan) if it.default_factory i
 
 
 @pytest.mark.parametrize("name, table", [
-    *TABLES.items(), ("left_out", {"a/gone"}), ("handler", ("a/gone", ()))])
+    *TABLES.items(), ("dropped_files", {"a/gone"}), ("handler", ("a/gone", ()))])
 def test_each_table_names_files_that_exist(name, table):
     with pytest.raises(Failure, match="don't exist: a/gone"):
         write_crate(replace(plan(), **{name: table}), lambda _crate: {"x.rt": ""})

@@ -4,13 +4,13 @@
 from erasing.plan import Plan
 
 PEER = Plan(
-    out="",
+    folder="",
     modules=dict.fromkeys(("test_lines", "examples", "race", "vte_handler"), "crate"),
-    outside={"vte_core": "vte", "vte_types": "vte::ansi"},
-    under={"examples/performer": {"runs": {"PerformText"}},
-           "vte_handler/by_call": {"runs": {"HandlerText"}}},
+    other_crates={"vte_core": "vte", "vte_types": "vte::ansi"},
+    item_conditions={"examples/performer": {"runs": {"PerformText"}},
+                     "vte_handler/by_call": {"runs": {"HandlerText"}}},
     # the parser and the processor are those of tools/peer
-    dropped={
+    dropped_items={
         "race/screens": [
             f"{front}{racer}" for racer in ("ScreenRacer", "TerminalRacer") for front in (
             "struct ", "impl<const IN_RUNS: bool> ", "impl<const IN_RUNS: bool> Racer for ")],
@@ -48,7 +48,7 @@ PEER = Plan(
              "SetHyperlink(link.as_ref().map(|link| "
              "Hyperlink { id: link.id.as_deref(), uri: &link.uri }))")],
     },
-    lines={"race/checksum": {"#[derive(Default)]": ["pub(crate) struct Checksum"]},
-           "race/until_cleared": {"#[derive(Default)]": ["pub(crate) struct UntilCleared"]}},
+    attributes={"race/checksum": {"#[derive(Default)]": ["pub(crate) struct Checksum"]},
+                "race/until_cleared": {"#[derive(Default)]": ["pub(crate) struct UntilCleared"]}},
     examples={"vte_handler/by_call": None},
 )

@@ -35,9 +35,9 @@ def private(*names):
 CLONE = "#[derive(Clone)]"
 
 VTE = Plan(
-    out="rust/vte/src/proved",
+    folder="rust/vte/src/proved",
     # bytes are read by their places
-    allowed=("clippy::manual_range_contains", "clippy::needless_range_loop"),
+    allowed_lints=("clippy::manual_range_contains", "clippy::needless_range_loop"),
     modules={name: f"crate::proved::{name}"
              for name in ("vte_core", "vte_types", "vte_handler", "vte")},
     of_std={"alloc": "crate::prelude"},
@@ -55,8 +55,8 @@ VTE = Plan(
                 "find_data_end find_put_end find_string_end search_text",
         },
     },
-    conditions={name: 'feature = "ansi"' for name in ("vte_types", "vte_handler", "vte")},
-    under={
+    crate_conditions={name: 'feature = "ansi"' for name in ("vte_types", "vte_handler", "vte")},
+    item_conditions={
         "vte_core": {WITH_MEMORY: {"Vec", "long"}},
         "vte_core/lib": {WITH_MEMORY: {"LongParser", "Refused"}, OWN: {"Saved"},
                          'feature = "ansi"': {"InRuns", "Singly"}},
@@ -70,7 +70,7 @@ VTE = Plan(
         "vte/ansi/titles": {WITH_LIMIT: {"TEXT_ROOM"}},
         "vte_types": {'feature = "serde"': {"serde"}},
     },
-    left_out=frozenset({
+    dropped_files=frozenset({
         # it only counts
         "vte_core/scan/counted_perform",
         # the crate's own timeout is over `std::time::Instant`
@@ -78,7 +78,7 @@ VTE = Plan(
         # the crate `cursor-icon`
         "vte_types/cursor_icon",
     }),
-    dropped={
+    dropped_items={
         "vte_core/scan": (
             "enum Trail", "struct Looks", "struct Input", "impl<B> Clone for Input",
             "impl<B> Copy for Input", "impl<const N: usize> Looks",
@@ -114,7 +114,7 @@ VTE = Plan(
         "vte/lib": ("use vte_core",),
         "vte/ansi": ("use vte_handler", "use vte_types"),
     },
-    added={
+    first_lines={
         "vte_types/keyboard": "pub use crate::adapter::keyboard::KeyboardModes;",
         "vte_types/lib": "pub use ::cursor_icon;",
         "vte_handler/lib": "pub(crate) use handler::owned;",
@@ -174,7 +174,7 @@ VTE = Plan(
              "for (code, text) in (first..).zip(texts) { $body }")],
         "vte_handler/timeout": [("trait Timeout", "trait Timeout: Default")],
     },
-    lines={
+    attributes={
         "vte_core/parser/machine": {CLONE: ["pub(crate) struct Machine"]},
         "vte_core/parser": {
             CLONE: ["pub struct Parser"],

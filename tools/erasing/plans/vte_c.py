@@ -2,13 +2,13 @@
 from erasing.plan import Plan
 
 VTE_C = Plan(
-    out="rust/vte_c/src/proved",
+    folder="rust/vte_c/src/proved",
     modules={"vte_c": "crate::proved::vte_c"},
-    outside={"vte_core": "vte"},
+    other_crates={"vte_core": "vte"},
     # what is by hand names these
-    dropped={"vte_c/lib": ("use event", "use feed", "mod event")},
-    added={"vte_c/lib": "pub(crate) mod event;\npub(crate) use event::VteEvent;\n"
-                        "pub(crate) use events::Events;\n"
-                        "pub(crate) use feed::{VteCounts, LEAST_EVENTS, NO_ROOM};"},
+    dropped_items={"vte_c/lib": ("use event", "use feed", "mod event")},
+    first_lines={"vte_c/lib": "pub(crate) mod event;\npub(crate) use event::VteEvent;\n"
+                              "pub(crate) use events::Events;\n"
+                              "pub(crate) use feed::{VteCounts, LEAST_EVENTS, NO_ROOM};"},
     rules={"vte_c/lib": [('extern "C" fn', "fn")]},
 )

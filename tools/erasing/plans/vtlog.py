@@ -3,14 +3,14 @@ from erasing import wording
 from erasing.plan import Plan
 
 VTLOG = Plan(
-    out="rust/vtlog/src/proved",
+    folder="rust/vtlog/src/proved",
     modules={"event_log": "crate::proved::event_log", "vtlog": "crate::proved::vtlog"},
-    outside={"vte_core": "vte"},
+    other_crates={"vte_core": "vte"},
     of_std={"env": "crate::prelude::env", "io": "std::io", "process": "std::process"},
     homes={"": {"crate::prelude": "HostRuntime Vec eprintln"}},
-    allowed=("clippy::redundant_closure",),
+    allowed_lints=("clippy::redundant_closure",),
     imports={"event_log": {"arrayvec::ArrayVec": "crate::array_vec::ArrayVec"}},
-    dropped={
+    dropped_items={
         # what only other programs and tests name
         "event_log/lib": ("use lines", "use plain", "use recorder"),
         "event_log/lines": ("fn len", "fn lost"),

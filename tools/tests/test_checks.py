@@ -12,22 +12,9 @@ from types import SimpleNamespace
 import pytest
 from erasing.plan import Plan
 
+from tests.support import write
+
 TOOLS = Path(__file__).resolve().parents[1]
-
-
-@pytest.fixture(autouse=True)
-def folder(tmp_path, monkeypatch):
-    """Each test stands in a folder of its own."""
-    monkeypatch.chdir(tmp_path)
-    return tmp_path
-
-
-def write(place, text, mode=0o644):
-    file = Path(place).absolute()
-    file.parent.mkdir(parents=True, exist_ok=True)
-    file.write_text(text)
-    file.chmod(mode)
-    return file
 
 
 class Tool:

@@ -12,7 +12,6 @@ MARK = "// Written by tools/erase from {origin}: edit that one.\n"
 
 ROOT = """// Written by tools/erase from crates/: edit those.
 //! The proved text.
-{allowed}
 """
 
 STYLE = """// The code has the form that is proved.
@@ -72,8 +71,8 @@ def target(name):
 
 
 def _root(plan):
-    style = STYLE.format(", ".join(plan.allowed_lints)) if plan.allowed_lints else ""
-    lines = [ROOT.format(allowed=style)]
+    style = [STYLE.format(", ".join(plan.allowed_lints))] * bool(plan.allowed_lints)
+    lines = [ROOT, *style, "\n"]
     for name in plan.modules:
         if name in plan.crate_conditions:
             lines.append(f"#[cfg({plan.crate_conditions[name]})]\n")

@@ -9,7 +9,7 @@ TOP = Path(__file__).resolve().parents[2]
 
 def write_or_check(about, make, top=TOP):
     """Writes the files that aren't up to date, or with --check ends the program with their names.
-    `make` yields the path of each below `top`, and its text, or None if it isn't to be there."""
+    `make` yields the path of each below `top`, and its text, or None for one that is to go."""
     parser = argparse.ArgumentParser(description=about,
                                      formatter_class=argparse.RawDescriptionHelpFormatter)
     parser.add_argument("--check", action="store_true", help="only check that files are up to date")
@@ -30,11 +30,8 @@ def write_or_check(about, make, top=TOP):
 
 
 def is_current(place, text):
-    if not place.exists() or text is None:
-        return not place.exists() and text is None
-    return compared(place, place.read_text()) == compared(place, text)
-
-
-def compared(place, text):
-    """What is compared of a file: the layout of Rattle is that of `rt fmt`."""
-    return re.sub(r"[\s,]", "", text) if place.suffix == ".rt" else text
+    """Whether a file has a text, but for the layout of Rattle, which is that of `rt fmt`."""
+    if text is None or not place.exists():
+        return False
+    layout = r"[\s,]" if place.suffix == ".rt" else ""
+    return re.sub(layout, "", place.read_text()) == re.sub(layout, "", text)

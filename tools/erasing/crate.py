@@ -61,7 +61,7 @@ def _depth(file):
 def _named(plan):
     """The files that a plan names: whatever has such keys is by file."""
     keys = {name for table in vars(plan).values() if isinstance(table, dict) for name in table}
-    return {name for name in {*keys, *plan.dropped_files, plan.handler[0]} if "/" in name}
+    return {name for name in keys | plan.dropped_files if "/" in name}
 
 
 def target(name):
@@ -100,19 +100,17 @@ def erase(text, crate, name, plan):
     passes.set_conditions(source, plan.conditions_of)
     if name in plan.first_lines:
         passes.add_above(source, plan.first_lines[name])
-    if name == plan.handler[0]:
-        passes.wrap_handler(source, plan.handler[1])
+    if name in plan.handler:
+        passes.wrap_handler(source, plan.handler[name])
     folder = name.removesuffix("/lib").removesuffix("/main")
     return source.written(), {f"{folder}/{module}" for module in tests}
 
 
 def _drop_modules(source, name, plan):
     """Laws do nothing; other files are dropped. Their declarations and their exports go."""
-    modules = [module for module in ("laws",) if source.places("mod laws")]
-    for file in plan.dropped_files:
-        inside, _, module = file.rpartition("/")
-        if inside == name.removesuffix("/lib"):
-            modules.append(module)
+    modules = ["laws"] * bool(source.places("mod laws"))
+    modules += [file.name for file in map(PurePosixPath, plan.dropped_files)
+                if str(file.parent) == name.removesuffix("/lib")]
     for module in modules:
         exports = [f"use {module}"] * bool(source.places(f"use {module}"))
         passes.drop_items(source, [f"mod {module}", *exports])

@@ -38,7 +38,7 @@ class Plan:
     attributes: dict = table()  # with the first words of what each belongs to
     inlined: dict = table()  # impls whose functions are inlined
     default_bodies: frozenset = frozenset()  # traits whose methods do nothing by default
-    handler: tuple = ("", ())  # the file of the trait `Handler`, and rules for copied arguments
+    handler: dict = table()  # by the file of the trait `Handler`, rules for arguments it copies
 
     # comments
     comments: dict = table()  # words of comments, and what stands in their place

@@ -138,7 +138,7 @@ TEXTS = [
      "/// ```\n«/// # a;\n/// # b;\n»/// f();\n«/// # c;\n»/// ```\n/// F.\nfn f() {}"),
     (dict(examples={"a/x": None}), "‹//! ```\n//! f();\n//! ```\n\n›"
      "/// F.\n‹///\n/// ```\n/// f();\n/// ```\n›/// G.\nfn f() {}"),
-    (dict(handler=("a/x", [("t: &str", "t: &str as String")])), "//! A.\n\n"
+    (dict(handler={"a/x": [("t: &str", "t: &str as String")]}), "//! A.\n\n"
      "«handlers! {\n»/// H.\npub trait Handler‹ {›«;»\n/// F.\nfn f(t: &str« as String») {} }"),
     (dict(first_lines={"a/x": "use d::D;"}), "//! A.\n\n«use d::D;\n\n»// f\nfn f() {}\nfn g() {}"),
     *((dict(first_lines={"a/x": "use d::D;"}), f"«use d::D;\n»pub {word} e;")
@@ -241,8 +241,7 @@ def test_failures_name_file_and_line():
 TABLES = {it.name: {"a/gone": {}} for it in fields(Plan) if it.default_factory is dict}
 
 
-@pytest.mark.parametrize("name, table", [
-    *TABLES.items(), ("dropped_files", {"a/gone"}), ("handler", ("a/gone", ()))])
+@pytest.mark.parametrize("name, table", [*TABLES.items(), ("dropped_files", {"a/gone"})])
 def test_each_table_names_files_that_exist(name, table):
     with pytest.raises(Failure, match="don't exist: a/gone"):
         write_crate(replace(plan(), **{name: table}), lambda _crate: {"x.rt": ""})

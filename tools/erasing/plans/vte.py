@@ -315,10 +315,10 @@ VTE = Plan(
         "vte/ansi/numbers": "impl NumberIterator for ParamsIter",
     },
     default_bodies=frozenset({"Perform", "Handler"}),
-    handler=("vte_handler/handler", (
+    handler={"vte_handler/handler": (
         ("title: Option<&str>", "title: Option<&str> as Option<String> = title.map(Into::into)"),
         ("prefix: &str", "prefix: &str as String = prefix.into()"),
         ("link: Option<Hyperlink<'_>>",
          "link: Option<Hyperlink<'_>> as Option<Hyperlink> = link.map(|link| link.owned())"),
-    )),
+    )},
 )

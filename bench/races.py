@@ -9,7 +9,7 @@ from concurrent.futures import ThreadPoolExecutor
 from pathlib import Path
 
 sys.path.insert(0, str(Path(__file__).resolve().parent.parent / "tools"))
-from building import rattle_builds, rust_builds
+import building
 from generating import streams
 
 # The sides: ours as rt proves and builds it, the same text in the crates of rust/, and the crate,
@@ -44,7 +44,7 @@ BEYOND_THE_LIMIT = ["osc_clipboard"]
 CHECKED = 50_000
 
 
-class Course:
+class Programs:
     """The programs, those in Rust in so many placements of their code, and a folder for streams."""
 
     def __init__(self, folder, placements=1):
@@ -55,29 +55,28 @@ class Course:
     def peers(self, side):
         """The program of a side of IN_RUST, once for each placement of its code. It has the default
         features of the crate, and so of rust/vte: commands have no limit."""
-        return rust_builds.placed_peers(side in OURS_IN_RUST, self.folder / side, IN_RUST[side],
-                                        self.placements)
+        return building.placed_peers(side in OURS_IN_RUST, self.folder / side, IN_RUST[side],
+                                     self.placements)
 
     @functools.cached_property
-    def race(self):
-        return rattle_builds.program("race", ["parser", "1", "1"])
+    def proved(self):
+        return building.proved_program("race", ["parser", "1", "1"])
 
-    def racers(self, kind):
+    def commands(self, kind):
         """The commands of each side: one for each placement of its code. Rattle's build has one."""
         if kind == "strip":
             return {side: [[program, name] for program in self.peers("rust")]
                     for side, name in STRIPPERS.items()}
-        programs = {"ours": [self.race] * self.placements,
-                    **{side: self.peers(side) for side in IN_RUST}}
-        return {side: [[program, kind] for program in of_side]
-                for side, of_side in programs.items()}
+        sides = {"ours": [self.proved] * self.placements,
+                 **{side: self.peers(side) for side in IN_RUST}}
+        return {side: [[program, kind] for program in of_side] for side, of_side in sides.items()}
 
     def build(self, kinds):
         """Builds every program that these kinds run, before one is measured."""
         sides = ["rust"]
         if set(kinds) - {"strip"}:
             sides = IN_RUST
-            _ = self.race
+            _ = self.proved
         with ThreadPoolExecutor() as pool:
             list(pool.map(self.peers, sides))
 
@@ -94,7 +93,7 @@ def run(words, place):
     with open(place, "rb") as stream:
         done = subprocess.run(words, stdin=stream, capture_output=True, text=True)
     if done.returncode != 0:
-        rust_builds.stop(f"{' '.join(map(str, words))}: status {done.returncode}: {done.stderr}")
+        building.stop(f"{' '.join(map(str, words))}: status {done.returncode}: {done.stderr}")
     return done.stdout, done.stderr
 
 
@@ -127,18 +126,18 @@ def compare_checksums(name, sides, place):
     size = str(place.stat().st_size)
     told = {side: run([*commands[0], size, "1"], place)[0] for side, commands in sides.items()}
     if len(set(told.values())) > 1:
-        rust_builds.stop(f"the checksums of {name} differ: {told}")
+        building.stop(f"the checksums of {name} differ: {told}")
 
 
-def rows(race, course, given):
-    """Measures each side, for the given streams: the nanoseconds per byte, for each
-    round a number per placement."""
-    racers = course.racers(race)
+def rows(race, programs, given):
+    """Measures each side over the given streams: nanoseconds per byte, a number for each round and
+    placement."""
+    sides = programs.commands(race)
     for name, piece in asked_for(given, RACES[race]):
-        commands = {side: of_side for side, of_side in racers.items()
+        commands = {side: of_side for side, of_side in sides.items()
                     if side != "ours" or name not in BEYOND_THE_LIMIT}
-        compare_checksums(name, commands, course.stream(name, CHECKED))
-        place = course.stream(name, given.bytes)
+        compare_checksums(name, commands, programs.stream(name, CHECKED))
+        place = programs.stream(name, given.bytes)
         times = in_rounds(given.rounds, {side: [in_passes(words, place, piece) for words in of_side]
                                          for side, of_side in commands.items()})
         found = {side: [[its / given.bytes * 1e9 for its in seconds] for seconds in of_side]

@@ -1,10 +1,11 @@
 import shutil
 from functools import cache
 
+import building
 import pytest
-from building import rattle_builds
+from tests.missing import miss
 
-from c_library.library import Library, miss
+from c_library.library import Library
 
 
 def pytest_addoption(parser):
@@ -13,13 +14,6 @@ def pytest_addoption(parser):
     parser.addoption("--streams", type=int,
                      help="how many random streams (default: 20,000, with --short 400)")
     parser.addoption("--seed", type=int, default=1, help="of random streams")
-
-
-def pytest_terminal_summary(terminalreporter):
-    """What tools/test lists as not tested."""
-    for report in terminalreporter.stats.get("skipped", []):
-        why = report.longrepr[2].replace("Skipped: ", "")
-        terminalreporter.write_line(f"missing: tools/test_c_library: {why}")
 
 
 def pytest_generate_tests(metafunc):
@@ -55,4 +49,4 @@ def whole(built):
 @pytest.fixture(scope="session")
 def vtlog(request):
     """The proved program, or None with --short."""
-    return None if request.config.option.short else rattle_builds.program("vtlog")
+    return None if request.config.option.short else building.proved_program("vtlog")

@@ -5,8 +5,6 @@ from concurrent.futures import ThreadPoolExecutor
 from functools import cached_property
 from pathlib import Path
 
-import pytest
-
 TOOLS = Path(__file__).resolve().parent.parent
 HERE = TOOLS / "c_library"
 CRATE = TOOLS.parent / "crates/vte_c"
@@ -19,13 +17,6 @@ SANITIZERS = ["-g", "-fsanitize=address,undefined", "-fno-sanitize-recover=all"]
 # a program over an earlier table of functions, and the calls of that
 OLD_PROGRAM = HERE / "old_program.c"
 OLD_CALLS = b"input a\nbell\nbackspace\ninput b\ninput c\n"
-
-
-def miss(what):
-    """Fails for something that isn't there, or says so and skips what needs it."""
-    if os.environ.get("NAQSHUVE_ALLOW_MISSING") != "1":
-        pytest.fail(f"{what}. NAQSHUVE_ALLOW_MISSING=1 lets it pass")
-    pytest.skip(what)
 
 
 def output_of(words, stream=b"", **environment):

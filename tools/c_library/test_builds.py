@@ -3,10 +3,11 @@ import re
 import shutil
 
 import pytest
+from tests.missing import miss
 
 from c_library.library import (
-    BESIDE, CRATE, EXAMPLES, HERE, INCLUDES, OLD_CALLS, OLD_PROGRAM, SANITIZERS, TOOLS, compiles,
-    miss, output_of)
+    BESIDE, CRATE, EXAMPLES, HERE, INCLUDES, OLD_CALLS, OLD_PROGRAM, SANITIZERS, TOOLS,
+    compiles, output_of)
 
 # the only functions that the library of each build may need
 NEEDED = {"rt": {"memcpy", "memmove", "memset"},

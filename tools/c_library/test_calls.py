@@ -6,8 +6,9 @@ from typing import List, NamedTuple
 
 import pytest
 from generating.rows import all_rows, bytes_of, lines_of
+from tests.missing import miss
 
-from c_library.library import BESIDE, HERE, SANITIZERS, miss, output_of
+from c_library.library import BESIDE, HERE, SANITIZERS, output_of
 from c_library.test_numbers import of_rust
 
 # a timeout that is set, which calls.c writes, and one that is cleared

@@ -5,8 +5,9 @@ import shutil
 import subprocess
 
 import pytest
+from tests.missing import miss
 
-from c_library.library import CRATE, EXAMPLES, SANITIZERS, TOOLS, miss, output_of
+from c_library.library import CRATE, EXAMPLES, SANITIZERS, TOOLS, output_of
 
 # before glibc 2.34 pseudo-terminals were in a library of their own
 OF_PTY = "-lutil"

@@ -6,8 +6,9 @@ import subprocess
 from pathlib import Path
 
 import pytest
+from tests.missing import miss
 
-from c_library.library import EXAMPLES, HERE, OLD_CALLS, OLD_PROGRAM, TOOLS, miss, output_of
+from c_library.library import EXAMPLES, HERE, OLD_CALLS, OLD_PROGRAM, TOOLS, output_of
 from c_library.test_examples import STREAM, TEXT
 
 # the files of an installed library

@@ -4,8 +4,9 @@ import shutil
 from functools import cache
 
 import pytest
+from tests.missing import miss
 
-from c_library.library import BESIDE, HERE, TOOLS, miss, output_of
+from c_library.library import BESIDE, HERE, TOOLS, output_of
 
 TYPES = TOOLS.parent / "rust/vte/src/proved/vte_types"
 # Rust's type, and how the names of C begin, but for those that C names otherwise, which handler.cpp

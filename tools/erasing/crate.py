@@ -6,13 +6,12 @@ from erasing.imports import rename_paths, settle_imports, words_of_code
 from erasing.patterns import rewrite
 from erasing.rules import GENERAL, OLDER, apply
 from erasing.source import Source
-from rattle_text.tokens import Refused
+from erasing.tokens import Refused
 
 MARK = "// Written by tools/erase from {origin}: edit that one.\n"
 
 ROOT = """// Written by tools/erase from crates/: edit those.
 //! The proved text.
-{allowed}
 """
 
 STYLE = """// The code has the form that is proved.
@@ -22,6 +21,13 @@ STYLE = """// The code has the form that is proved.
 
 class Failure(Exception):
     """Text that can't be erased, with its file and line."""
+
+
+def read_files(top, crate):
+    """The files of a Rattle crate, by their places below its `src`."""
+    folder = top / "crates" / crate / "src"
+    return {str(file.relative_to(folder)): file.read_text()
+            for file in sorted(folder.rglob("*.rt"))}
 
 
 def write_crate(plan, read_files):
@@ -34,7 +40,7 @@ def write_crate(plan, read_files):
             name = f"{crate}/{PurePosixPath(place).with_suffix('')}"
             names.add(name)
             folders = {str(it) for it in PurePosixPath(name, "_").parents}
-            if "laws" in name.split("/") or folders & (tests | plan.left_out):
+            if "laws" in name.split("/") or folders & (tests | plan.dropped_files):
                 continue
             try:
                 erased, its_tests = erase(text, crate, name, plan)
@@ -44,7 +50,7 @@ def write_crate(plan, read_files):
             files[target(name)] = MARK.format(origin=f"crates/{crate}/src/{place}") + erased
             tests |= its_tests
     if unknown := _named(plan) - names:
-        raise Failure(f"plan.py names files that don't exist: {', '.join(sorted(unknown))}")
+        raise Failure(f"the plan names files that don't exist: {', '.join(sorted(unknown))}")
     return files
 
 
@@ -55,7 +61,7 @@ def _depth(file):
 def _named(plan):
     """The files that a plan names: whatever has such keys is by file."""
     keys = {name for table in vars(plan).values() if isinstance(table, dict) for name in table}
-    return {name for name in {*keys, *plan.left_out, plan.handler[0]} if "/" in name}
+    return {name for name in keys | plan.dropped_files if "/" in name}
 
 
 def target(name):
@@ -65,10 +71,11 @@ def target(name):
 
 
 def _root(plan):
-    lines = [ROOT.format(allowed=STYLE.format(", ".join(plan.allowed)) if plan.allowed else "")]
+    style = [STYLE.format(", ".join(plan.allowed_lints))] * bool(plan.allowed_lints)
+    lines = [ROOT, *style, "\n"]
     for name in plan.modules:
-        if name in plan.conditions:
-            lines.append(f"#[cfg({plan.conditions[name]})]\n")
+        if name in plan.crate_conditions:
+            lines.append(f"#[cfg({plan.crate_conditions[name]})]\n")
         lines.append(f"pub(crate) mod {name};\n")
     return "".join(lines)
 
@@ -79,33 +86,31 @@ def erase(text, crate, name, plan):
     passes.drop_ghosts(source)
     tests = passes.sort_attributes(source)
     before = words_of_code(source)
-    passes.drop_items(source, plan.dropped.get(name, ()))
-    _leave_out(source, name, plan)
+    passes.drop_items(source, plan.dropped_items.get(name, ()))
+    _drop_modules(source, name, plan)
     _apply_rules(source, crate, name, plan)
     passes.give_bodies(source, plan.default_bodies)
     if name in plan.inlined:
         passes.inline(source, plan.inlined[name])
-    passes.add_lines(source, plan.lines.get(name, {}))
+    passes.add_attributes(source, plan.attributes.get(name, {}))
     passes.document_members(source, plan.members.get(name, {}))
     passes.complete_examples(source, plan.examples.get(name, ()))
     rename_paths(source, crate, plan)
     settle_imports(source, crate, plan, before)
     passes.set_conditions(source, plan.conditions_of)
-    if name in plan.added:
-        passes.add_above(source, plan.added[name])
-    if name == plan.handler[0]:
-        passes.wrap_handler(source, plan.handler[1])
+    if name in plan.first_lines:
+        passes.add_above(source, plan.first_lines[name])
+    if name in plan.handler:
+        passes.wrap_handler(source, plan.handler[name])
     folder = name.removesuffix("/lib").removesuffix("/main")
     return source.written(), {f"{folder}/{module}" for module in tests}
 
 
-def _leave_out(source, name, plan):
-    """Laws do nothing; other modules are left out. Their declarations and their exports go."""
-    modules = [module for module in ("laws",) if source.places("mod laws")]
-    for left_out in plan.left_out:
-        inside, _, module = left_out.rpartition("/")
-        if inside == name.removesuffix("/lib"):
-            modules.append(module)
+def _drop_modules(source, name, plan):
+    """Laws do nothing; other files are dropped. Their declarations and their exports go."""
+    modules = ["laws"] * bool(source.places("mod laws"))
+    modules += [file.name for file in map(PurePosixPath, plan.dropped_files)
+                if str(file.parent) == name.removesuffix("/lib")]
     for module in modules:
         exports = [f"use {module}"] * bool(source.places(f"use {module}"))
         passes.drop_items(source, [f"mod {module}", *exports])
@@ -114,5 +119,5 @@ def _leave_out(source, name, plan):
 def _apply_rules(source, crate, name, plan):
     for rule in plan.rules.get(name, ()):
         if not rewrite(source, *rule):
-            source.refuse(f"tools/erasing/plan.py has a rule that nothing here needs: {rule[0]}")
+            source.refuse(f"the plan has a rule that nothing here needs: {rule[0]}")
     apply(source, GENERAL + plan.rules.get("", []) + plan.rules.get(crate, []) + OLDER)

@@ -3,7 +3,7 @@ import re
 from collections import Counter
 
 from erasing.passes import add_above
-from rattle_text.tokens import WORD
+from erasing.tokens import WORD
 
 # Modules of std that Rust's `core` has with the same meaning.
 OF_CORE = {"cmp", "fmt", "iter", "marker", "mem", "ops", "str", "time"}
@@ -24,7 +24,7 @@ def renamed(source, at, path, crate, plan):
             source.refuse(f"unknown module of std: {module}", at)
         root = f"core::{module}" if module in OF_CORE else plan.of_std[module]
     else:
-        roots = {**plan.modules, **plan.outside, "crate": plan.modules[crate]}
+        roots = {**plan.modules, **plan.other_crates, "crate": plan.modules[crate]}
         root = roots.get(root, root)
     return f"{root}::{rest}" if rest else root
 

@@ -2,7 +2,7 @@
 import re
 
 from erasing.rules import apply
-from rattle_text.tokens import CLAUSE, COMMENT, GHOST, SPACE, WORD
+from erasing.tokens import CLAUSE, COMMENT, GHOST, SPACE, WORD
 
 # The derives that Rust knows by the same name. `Drop` isn't one: it says that values may be let go.
 DERIVES = {"Clone", "Copy", "Debug", "Default", "Eq", "Hash", "Ord", "PartialEq", "PartialOrd"}
@@ -66,7 +66,7 @@ def drop_items(source, fronts):
     """Items and functions go that begin with these words, wherever they stand."""
     for front in fronts:
         if not (places := source.places(front)):
-            source.refuse(f"tools/erasing/plan.py names an item that isn't here: {front}")
+            source.refuse(f"the plan names an item that isn't here: {front}")
         for at in places:
             start = source.with_visibility(at)
             source.cut(source.attached(start), source.item_end(start))
@@ -84,9 +84,9 @@ def give_bodies(source, traits):
             source.insert(at, "#[allow(unused_variables)]\n")
 
 
-def add_lines(source, lines):
+def add_attributes(source, attributes):
     """Puts attributes above what begins with the given words. A derive joins another."""
-    for line, front in ((line, front) for line, fronts in lines.items() for front in fronts):
+    for line, front in ((it, front) for it, fronts in attributes.items() for front in fronts):
         at = source.place(front)
         derive = next((place for place in range(source.attached(at), at)
                        if source.words(place, 3) == ["#", "[", "derive"]), None)
@@ -140,7 +140,7 @@ def complete_examples(source, lines):
     others after it. If the lines are None the examples go, with the empty line before them."""
     fences = [at for at, token in enumerate(source.tokens) if token.text[3:].strip() == "```"]
     if len(fences) % 2 or fences and lines == ():
-        source.refuse("an example that isn't closed, or has no lines in plan.py", fences[0])
+        source.refuse("an example that isn't closed, or has no lines in the plan", fences[0])
     shown = lines.index("..") if lines and ".." in lines else len(lines or ())
     for opened, closed in reversed([*zip(fences[::2], fences[1::2])]):
         front = source.text(opened)[:3]

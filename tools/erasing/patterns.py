@@ -7,7 +7,7 @@ don't count.
 from functools import lru_cache
 
 from erasing.source import CLOSING
-from rattle_text.tokens import COMMENT, split
+from erasing.tokens import COMMENT, split
 
 
 @lru_cache(maxsize=None)

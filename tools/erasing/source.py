@@ -1,5 +1,5 @@
 """The tokens of one file, with the ways to find items and to change them."""
-from rattle_text.tokens import COMMENT, MARK, SPACE, Refused, Token, split
+from erasing.tokens import COMMENT, MARK, SPACE, Refused, Token, split
 
 OPENING, CLOSING = "([{", ")]}"
 

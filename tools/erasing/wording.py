@@ -4,7 +4,7 @@ import re
 import textwrap
 from pathlib import Path
 
-from rattle_text.tokens import Refused
+from erasing.tokens import Refused
 
 WIDTH = 96
 # lines of a comment that follow each other

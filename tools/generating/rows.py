@@ -1,12 +1,8 @@
 """The rows of tools/rows: streams with their events or calls, worked out by hand. docs/TESTING.md
 says how one is added."""
-import argparse
 import json
-import re
-import sys
-from pathlib import Path
 
-TOP = Path(__file__).resolve().parents[2]
+from generating.files import TOP
 
 
 def all_rows():
@@ -55,22 +51,3 @@ def split_repeated(text):
         if 2 * best[2] * len(best[1]) > len(text):
             break
     return best
-
-
-def compared(name, text):
-    """What is compared of a file: the layout of Rattle is that of `rt fmt`."""
-    return re.sub(r"[\s,]", "", text) if name.endswith(".rt") else text
-
-
-def write_or_check(about, make):
-    """What a tool does that makes files. `make` yields the path and the text of each."""
-    parser = argparse.ArgumentParser(description=about,
-                                     formatter_class=argparse.RawDescriptionHelpFormatter)
-    parser.add_argument("--check", action="store_true", help="only check that files are up to date")
-    is_check = parser.parse_args().check
-    for name, text in make():
-        place = TOP / name
-        if not is_check:
-            place.write_text(text)
-        elif compared(name, place.read_text()) != compared(name, text):
-            sys.exit(f"{parser.prog}: {name} isn't up to date; run tools/{parser.prog}")

@@ -1,8 +1,7 @@
 """Generated streams by name, and the recorded ones.
 
 A name and a size always give the same bytes, and a shorter stream is the front of a longer one. A
-stream is cut at its size, so it may end inside a character or a sequence. What comes by chance
-repeats after 2 MB."""
+stream is cut at its size, so it may end inside a character or a sequence. It repeats after 2 MB."""
 import itertools
 import json
 import random
@@ -31,17 +30,6 @@ EMOJI = characters(range(0x1F300, 0x1F650), range(0x1F680, 0x1F6D0), range(0x1F9
 JOINED = ["\U0001F468\u200D\U0001F469\u200D\U0001F467", "\U0001F44D\U0001F3FD", "\u2764\uFE0F",
           "\U0001F1E9\U0001F1EA", "e\u0301", "a\u0308\u0323", "1\uFE0F\u20E3"]
 LATIN = list("abcdefghijklmnopqrstuvwxyz      " * 3 + "äöüßéèàñ")
-# name: (what it is, a function from a random.Random to parts without end, whether the parts come by
-# chance)
-STREAMS = {}
-
-
-def stream(name, what):
-    """Registers a function that makes the next part."""
-    def register(part):
-        STREAMS[name] = (what, lambda chance: iter(partial(part, chance), None), True)
-        return part
-    return register
 
 
 # ---- helpers: each makes one part
@@ -74,8 +62,8 @@ def western(letters, encoding):
     return line
 
 
-@stream("unicode", "lines of CJK, kana, Hangul, Cyrillic, emoji, joined characters, and ASCII")
 def unicode_lines(chance):
+    """Lines of CJK, kana, Hangul, Cyrillic, emoji, joined characters, and ASCII."""
     scripts, weights = [CJK, KANA, HANGUL, CYRILLIC, EMOJI, JOINED], [8, 2, 2, 3, 3, 2]
     text = pick(chance, chance.choices(scripts, weights)[0], chance.randint(5, 40))
     return text.encode() + b" " + words(chance, 3, 20) + b"\r\n"
@@ -83,8 +71,8 @@ def unicode_lines(chance):
 
 # ---- colours and the cursor
 
-@stream("ls_color", "as `ls -lR --color` writes")
 def ls_color(chance):
+    """As `ls -lR --color` writes."""
     kinds = [("01;34", ""), ("01;32", ""), ("01;36", " -> \x1b[0m\x1b[01;34mtarget\x1b[0m"),
              ("01;31", ".gz"), ("01;35", ".png"), (None, ".txt"), (None, ".c")]
     path = "/".join(chance.choice(WORDS) for _ in range(chance.randint(1, 5)))
@@ -100,15 +88,16 @@ def ls_color(chance):
     return "".join(lines).encode()
 
 
-@stream("coloured", "text with a colour or an attribute at each second word")
 def coloured(chance):
+    """Text with a colour or an attribute at each second word."""
     attributes = [0, 1, 3, 4, 7, 22, 24, 27, 31, 32, 33, 34, 35, 36, 39, 42, 49, 91, 97]
     line = [b"\x1b[%dm" % chance.choice(attributes) * (chance.random() < 0.5)
             + chance.choice(WORDS).encode() + b" " for _ in range(12)]
     return b"".join(line) + b"\r\n"
 
 
-def dense_cells(_chance):
+def dense_cells():
+    """Cells, each with two colours of 256, bold, italic and underlined."""
     for shift in itertools.count():
         for letter in range(0x41, 0x5B):
             colours = ((line + column + shift) % 156 for line in range(ROWS)
@@ -118,12 +107,8 @@ def dense_cells(_chance):
                 for colour in colours)
 
 
-STREAMS["dense_cells"] = ("each cell with two colours of 256, bold, italic and underlined",
-                          dense_cells, True)
-
-
-@stream("cursor", "motions and erasures of all kinds, as full-screen programs write")
 def cursor(chance):
+    """Motions and erasures of all kinds, as full-screen programs write."""
     others = [b"\x1b7", b"\x1b8", b"\x1bM", b"\x1b(0", b"\x1b(B", b"\x0e", b"\x0f", b"\x08", b"\t",
               b"\r\n", b"\x1b[?25l", b"\x1b[?25h", b"\x1b[?7l", b"\x1b[?1049h"]
     kind = chance.random()
@@ -136,14 +121,14 @@ def cursor(chance):
 
 # ---- strings
 
-@stream("osc_title", "window titles, ended by BEL or ST, and a little text between them")
 def osc_title(chance):
+    """Window titles, ended by BEL or ST, and a little text between them."""
     end = chance.choice([b"\x07", b"\x1b\\"])
     return b"\x1b]%d;%s%s" % (chance.randrange(3), words(chance, 5, 60), end) + words(chance, 1, 30)
 
 
-@stream("sixel", "sixel images of some 30 kB")
 def sixel(chance):
+    """Sixel images of some 30 kB."""
     def band():
         runs = [b"!%d%c" % (chance.randint(2, 90), chance.randrange(63, 127))
                 if chance.random() < 0.5
@@ -157,64 +142,56 @@ def sixel(chance):
     return b'\x1bP0;1;8q"1;1;400;240' + b"".join([*colours, *lines]) + b"\x1b\\\r\n"
 
 
-# what each part of a stream is
+# ---- streams by name
+
+# what makes a part, over and over
 PARTS = {
-    "ascii": ("lines of 20 to 120 ASCII characters",
-              lambda chance: words(chance, 20, 120) + b"\r\n"),
-    "prose": ("western text in UTF-8, one letter in thirteen above ASCII, with typographic quotes "
-              "and dashes", western([*LATIN, "\u2019", "\u2013"], "utf-8")),
-    "latin1": ("western text in Latin-1: one byte in thirteen is malformed UTF-8",
-               western(LATIN, "latin-1")),
-    "cjk": ("characters of three bytes almost alone", script(CJK, "")),
-    "cyrillic": ("characters of two bytes, and blanks", script(CYRILLIC, " ")),
-    "emoji": ("characters of four bytes almost alone", script(EMOJI, "")),
-    "updates": ("frames of coloured text inside synchronized updates",
-                lambda chance: b"\x1b[?2026h\x1b[H%b\x1b[?2026l" % b"".join(
-                    coloured(chance) for _ in range(ROWS))),
-    "osc_clipboard": ("64 kB for the clipboard each, past the store",
-                      lambda chance: b"\x1b]52;c;%b\x07text\r\n" % base64(chance, 65536)),
-    "ignored": ("strings of 4 kB that mean nothing, as Kitty's images",
-                lambda chance: b"\x1b_Gm=1;%b\x1b\\" % base64(chance, 4096)),
-    "random": ("random bytes", lambda chance: chance.randbytes(4096)),
+    "ascii": lambda chance: words(chance, 20, 120) + b"\r\n",
+    # one letter in thirteen is above ASCII, with typographic quotes and dashes
+    "prose": western([*LATIN, "\u2019", "\u2013"], "utf-8"),
+    # one byte in thirteen is malformed UTF-8
+    "latin1": western(LATIN, "latin-1"),
+    "cjk": script(CJK, ""), "cyrillic": script(CYRILLIC, " "), "emoji": script(EMOJI, ""),
+    "unicode": unicode_lines, "ls_color": ls_color, "coloured": coloured, "cursor": cursor,
+    "updates": lambda chance: b"\x1b[?2026h\x1b[H%b\x1b[?2026l" % b"".join(
+        coloured(chance) for _ in range(ROWS)),
+    "osc_title": osc_title,
+    # more than a parser with a limit keeps
+    "osc_clipboard": lambda chance: b"\x1b]52;c;%b\x07text\r\n" % base64(chance, 65536),
+    "sixel": sixel,
+    # strings that mean nothing, as Kitty's images
+    "ignored": lambda chance: b"\x1b_Gm=1;%b\x1b\\" % base64(chance, 4096),
+    "random": lambda chance: chance.randbytes(4096),
 }
-for name, (what, part) in PARTS.items():
-    stream(name, what)(part)
-
-# ---- one part again and again, after a beginning
-
+# a beginning, and what follows over and over
 REPEATED = {
-    "bad_ff": ("FF alone", b"", b"\xff"),
-    "bad_trunc4": ("four-byte characters without their last byte", b"", b"\xf0\x9f\x98"),
-    "bad_alternate": ("a letter and FF in turn", b"", b"a\xff"),
-    "lead_esc": ("a lead byte before each control sequence", b"", b"\xe2\x1b[m"),
-    "esc_flood": ("ESC alone", b"", b"\x1b"),
-    "sos_open": ("a string that means nothing, without end", b"\x1bX", b"text "),
-    "update_open": ("an update that never ends", b"\x1b[?2026h", b"text \x1b[31m"),
+    "bad_ff": (b"", b"\xff"),
+    "bad_trunc4": (b"", b"\xf0\x9f\x98"),
+    "bad_alternate": (b"", b"a\xff"),
+    "lead_esc": (b"", b"\xe2\x1b[m"),
+    "esc_flood": (b"", b"\x1b"),
+    # a string that means nothing, and an update, without end
+    "sos_open": (b"\x1bX", b"text "),
+    "update_open": (b"\x1b[?2026h", b"text \x1b[31m"),
 }
+STREAMS = [*PARTS, "dense_cells", *REPEATED]
 
 
-def repeated(start, unit, _chance):
+def parts_of(name):
+    """The parts of a stream, without end."""
+    if name in PARTS:
+        return iter(partial(PARTS[name], random.Random(name)), None)
+    if name == "dense_cells":
+        return dense_cells()
+    start, unit = REPEATED[name]
     return itertools.chain([start], itertools.repeat(unit * (8192 // len(unit) + 1)))
 
 
-for name, (what, start, unit) in REPEATED.items():
-    STREAMS[name] = (what, partial(repeated, start, unit), False)
-
-
-def front(parts, size):
-    """So many bytes of the parts."""
-    taken = bytearray()
-    while len(taken) < size:
-        taken += next(parts)
-    return bytes(taken[:size])
-
-
 def generate(name, size):
-    _, parts, is_by_chance = STREAMS[name]
-    parts = parts(random.Random(name))
-    if not is_by_chance or size <= PERIOD:
-        return front(parts, size)
-    return front(itertools.repeat(front(parts, PERIOD)), size)
+    parts, made = parts_of(name), bytearray()
+    while len(made) < min(size, PERIOD):
+        made += next(parts)
+    return bytes(made[:PERIOD] * (size // PERIOD + 1))[:size]
 
 
 def recorded():

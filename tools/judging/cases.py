@@ -10,7 +10,7 @@ from generating.random_text import cut_at_random
 from generating.rows import bytes_of
 from generating.streams import recorded
 
-KINDS = ("vectors", "random", "recorded")
+SOURCES = ("vectors", "random", "recorded")
 VECTORS = Path(__file__).resolve().parents[2] / "vectors"
 
 
@@ -58,11 +58,11 @@ def from_generators(seed, count):
             yield Case(f"stream {number} of seed {seed}", hostile_stream(seed, number))
 
 
-def all_cases(kinds, seed, count):
-    """The cases of these kinds, the short ones first."""
-    if "vectors" in kinds:
+def all_cases(sources, seed, count):
+    """The cases of these sources, the short ones first."""
+    if "vectors" in sources:
         yield from from_vectors()
-    if "random" in kinds:
+    if "random" in sources:
         yield from from_generators(seed, count)
-    if "recorded" in kinds:
+    if "recorded" in sources:
         yield from from_recordings(seed)

@@ -4,7 +4,6 @@ The class of a difference is the name of a rule, `/`, and the kind of the differ
 `cut:` before it if the parser answers rightly as soon as the stream comes whole: then it is the
 rule of what a cut divides.
 """
-import re
 from bisect import bisect_left, bisect_right
 from itertools import accumulate
 from typing import NamedTuple

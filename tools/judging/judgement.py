@@ -234,8 +234,7 @@ class Judge:
             self.count(f"{rule}/{kind}") or self.count(next(of_rule, None))
 
     def find(self, case, left, excluded, kind=None):
-        """Shrinks a difference without some rules, and reports its class if it is new. The name of
-        the class, or None."""
+        """Shrinks a difference without some rules, and reports its class if it is new."""
         tries, most = count(), MOST_CASES // (4 if kind else 1)
 
         def asked(streams):
@@ -251,14 +250,13 @@ class Judge:
         is_mixed = difference and kind and len(kinds_of(difference)) > 1
         if not difference or is_mixed or not self.steady(
                 case, difference, 1 if self.is_over else MORE_TRIES):
-            return None
+            return
         name = self.named(difference)
         name = self.same_as(name, difference) or name
         if self.count(name):
             self.again += 1
         else:
             self.add(name, difference, case, not self.is_over and next(tries) < most)
-        return name
 
     def named(self, difference):
         """The class of a difference that is shrunk."""

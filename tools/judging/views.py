@@ -1,8 +1,8 @@
 """What a parser's interface doesn't report: such fields and lines are left out on both sides."""
 import re
 
-KINDS = {"print": ("print",), "execute": ("execute",), "csi": ("csi",), "esc": ("esc",),
-         "osc": ("osc",), "dcs": ("hook", "put", "unhook")}
+EVENTS = {"print": ("print",), "execute": ("execute",), "csi": ("csi",), "esc": ("esc",),
+          "osc": ("osc",), "dcs": ("hook", "put", "unhook")}
 # the fields ignore and bell_terminated, how the data of a command are divided into pieces, and
 # which numbers `:` joins in a group
 FIELDS = {
@@ -18,12 +18,12 @@ class View:
 
     def __init__(self, untold=()):
         untold = list(untold)
-        unknown = [name for name in untold if name not in KINDS and name not in FIELDS]
+        unknown = [name for name in untold if name not in EVENTS and name not in FIELDS]
         if unknown:
-            choices = ", ".join([*KINDS, *FIELDS])
+            choices = ", ".join([*EVENTS, *FIELDS])
             raise ValueError(f"unknown word {unknown[0]!r}; choose from {choices}")
         self.changes = [FIELDS[name] for name in untold if name in FIELDS]
-        self.hidden = {method for name in untold for method in KINDS.get(name, ())}
+        self.hidden = {method for name in untold for method in EVENTS.get(name, ())}
 
     def of(self, lines):
         """The lines with what both sides report."""

@@ -2,7 +2,7 @@
 //! each row to a `Processor`, and writes the name of each row that made other calls than it says,
 //! and finally the number of rows.
 //!
-//! `row` describes the form of the rows. `tools/make_rows.py` writes them.
+//! `row` describes the form of the rows. `tools/make_rows` writes them.
 #![tactic(auto)]
 
 mod held;

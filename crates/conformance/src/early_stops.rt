@@ -1,4 +1,4 @@
-//! Early stops: rows worked out by hand. `tools/make_tables.py` writes the table.
+//! Early stops: rows worked out by hand. `tools/make_tables` writes the table.
 
 mod rows;
 

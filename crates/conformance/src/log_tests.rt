@@ -1,5 +1,5 @@
 //! `run`, `run_text` and their performers: the rows, and streams with their plain text.
-//! tools/make_tables.py writes the table `plain`.
+//! tools/make_tables writes the table `plain`.
 
 mod faults;
 mod flushes;

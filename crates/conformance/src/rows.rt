@@ -1,4 +1,4 @@
-//! Rows: streams with the lines of their events, worked out by hand. `tools/make_tables.py` writes
+//! Rows: streams with the lines of their events, worked out by hand. `tools/make_tables` writes
 //! the tables.
 
 mod characters;

@@ -1,13 +1,7 @@
 import pytest
 from judging.reference import NoReference, find_vtlog
-from support import TOOLS, miss, run_python
-
-
-def pytest_terminal_summary(terminalreporter):
-    """What tools/test lists as not tested."""
-    for report in terminalreporter.stats.get("skipped", []):
-        why = report.longrepr[2].replace("Skipped: ", "")
-        terminalreporter.write_line(f"missing: tools/test_judge: {why}")
+from support import TOOLS, run_python
+from tests.missing import miss
 
 
 @pytest.fixture(scope="session")

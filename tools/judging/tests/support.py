@@ -1,24 +1,14 @@
 """What the tests of the judge and of the vectors share."""
 import json
-import os
 import subprocess
 import sys
 from pathlib import Path
-
-import pytest
 
 TOOLS = Path(__file__).resolve().parents[2]
 VECTORS = TOOLS.parent / "vectors"
 TOY = Path(__file__).with_name("toy.py")
 FILES = [json.loads((VECTORS / name).read_text()) for name in ("events.json", "calls.json")]
 EVENTS = FILES[0]["vectors"] + FILES[0]["long"]
-
-
-def miss(what):
-    """Fails for something that isn't there, or says so and skips what needs it."""
-    if os.environ.get("NAQSHUVE_ALLOW_MISSING") != "1":
-        pytest.fail(f"{what}. NAQSHUVE_ALLOW_MISSING=1 lets it pass")
-    pytest.skip(what)
 
 
 def run(*words, **how):

@@ -1,7 +1,6 @@
 """Tests of the judge on functions of this process: which classes it finds."""
 import random
 import re
-from itertools import count
 
 import pytest
 from judging import (candidate, cases, classes, definition, house, judgement, kinds, report,
@@ -199,6 +198,13 @@ def test_what_is_freed_keeps_its_cuts():
         assert classes.freed([b"a\x7f", b"b", b"\x7f", b"c"], {rule}, house.DEFAULT) == freed
     for rule, freed in (("cut:text", [b"\xc3\xa9a"]), ("cut:unfinished", [b"\xc3", b"\xa9a"])):
         assert classes.freed([b"\xc3", b"\xa9a"], {rule}, house.DEFAULT) == freed
+
+
+@pytest.mark.parametrize("rule, stream", [
+    ("pieces=17", b"\x1b]" + b";" * 16 + b"\x07"), ("numbers=33", b"\x1b[" + b";" * 32 + b"m"),
+    ("limit=1025", b"\x1b]" + b"a" * 1025 + b"\x07")], ids=["pieces", "numbers", "limit"])
+def test_a_house_that_keeps_more_is_freed_of_what_others_drop(rule, stream):
+    assert classes.freed([stream], {rule.partition("=")[0]}, house.house_of([rule])) == [b""]
 
 
 @pytest.mark.parametrize("stream, cuts, found", [

@@ -3,6 +3,7 @@ import json
 import mmap
 import os
 import re
+from runpy import run_path
 from types import SimpleNamespace
 
 import pytest
@@ -11,7 +12,8 @@ from judging.cases import Case
 from judging.classes import Difference
 from judging.judgement import Finding, Judgement
 from judging.rules import ALONE, CUT, RULES
-from support import TOOLS, miss, program_in, run
+from support import TOOLS, program_in
+from tests.missing import miss
 
 
 # streams, house rules, and the events under them
@@ -74,10 +76,12 @@ def test_each_house_rule_is_tested_and_on_the_page():
 
 
 def test_headings_of_rules_are_there():
-    text = (TOOLS.parent / "docs" / "EVENTS.md").read_text()
-    headings = [it.lower().replace(" ", "-") for it in re.findall(r"^#+ (.*)", text, re.M)]
-    for name, rule in {**RULES, **ALONE, "cut:": CUT}.items():
-        assert rule.heading in headings, name
+    Page = run_path(str(TOOLS / "check_docs"))["Page"]
+    links = [f"docs/EVENTS.md#{it.heading}" for it in [*RULES.values(), *ALONE.values(), CUT]]
+    own = json.loads((TOOLS / "rows/vectors/rules.json").read_text())
+    links += [it["page"] for it in own["rules"].values()]
+    for page, _, heading in (link.partition("#") for link in links):
+        assert heading in Page(TOOLS.parent / page).headings(), heading
 
 
 @pytest.mark.parametrize("pieces, differs, smallest", [

@@ -10,11 +10,12 @@ import pytest
 from generating.rows import bytes_of, lines_of
 from judging import definition
 from judging.house import House
-from support import EVENTS, FILES, TOOLS, TOY, VECTORS, miss, run, run_python
+from support import EVENTS, FILES, TOOLS, TOY, VECTORS, run, run_python
+from tests.missing import miss
 
 
 def test_files_are_up_to_date():
-    assert run_python(TOOLS / "make_vectors.py", "--check") == (0, "")
+    assert run_python(TOOLS / "make_vectors", "--check") == (0, "")
 
 
 @pytest.mark.parametrize("file", FILES, ids=["events", "calls"])

@@ -20,11 +20,6 @@ impl Text {
     pub fn clear(&mut self) {
         self.0.clear();
     }
-
-    #[inline]
-    pub fn put(&mut self, text: &[u8]) {
-        self.0.extend_from_slice(text);
-    }
 }
 
 impl Perform for Text {
@@ -50,7 +45,7 @@ impl vte::PerformText for Text {
 
     #[inline]
     fn print_text(&mut self, text: &str) {
-        self.put(text.as_bytes());
+        self.0.extend_from_slice(text.as_bytes());
     }
 }
 
@@ -70,6 +65,6 @@ impl TakeCall for Text {
 impl TakeText for Text {
     #[inline]
     fn take_text(&mut self, text: &str) {
-        self.put(text.as_bytes());
+        self.0.extend_from_slice(text.as_bytes());
     }
 }

@@ -1,5 +1,5 @@
 //! Early stops.
-// Written by tools/make_tables.py.
+// Written by tools/make_tables.
 
 use super::{Call, Step, UntilRow};
 use test_lines::Stop;

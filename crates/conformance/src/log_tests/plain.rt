@@ -1,5 +1,5 @@
 //! Streams: plain text.
-// Written by tools/make_tables.py.
+// Written by tools/make_tables.
 
 use super::PlainRow;
 

@@ -1,5 +1,5 @@
 //! Streams: UTF-8 in any pieces.
-// Written by tools/make_tables.py.
+// Written by tools/make_tables.
 
 use super::LinesRow;
 

@@ -1,5 +1,5 @@
 //! Streams: every cut, front and fault.
-// Written by tools/make_tables.py.
+// Written by tools/make_tables.
 
 use super::LinesRow;
 

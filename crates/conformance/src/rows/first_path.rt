@@ -1,5 +1,5 @@
 //! Streams: first path.
-// Written by tools/make_tables.py.
+// Written by tools/make_tables.
 
 use super::LinesRow;
 

@@ -1,5 +1,5 @@
 //! Long streams.
-// Written by tools/make_tables.py.
+// Written by tools/make_tables.
 
 use super::{LongRow, RepeatedBytes, RepeatedText};
 

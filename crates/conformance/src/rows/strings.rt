@@ -1,5 +1,5 @@
 //! Streams: DCS, OSC and strings.
-// Written by tools/make_tables.py.
+// Written by tools/make_tables.
 
 use super::LinesRow;
 

@@ -1,6 +1,6 @@
 //! Rows worked out by hand: streams with their events and their handler calls.
 //!
-//! `events.txt` is written by tools/make_rows.py; the rows of calls are those of
+//! `events.txt` is written by tools/make_rows; the rows of calls are those of
 //! crates/call_rows/stdin.
 
 mod block;

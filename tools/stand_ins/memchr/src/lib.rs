@@ -14,19 +14,15 @@ extern "C" {
 /// Returns where a byte first stands.
 pub fn memchr(byte: u8, bytes: &[u8]) -> Option<usize> {
     // SAFETY: the bytes are a slice's
-    place(
-        unsafe { first(bytes.as_ptr().cast(), i32::from(byte), bytes.len()) },
-        bytes,
-    )
+    let found = unsafe { first(bytes.as_ptr().cast(), i32::from(byte), bytes.len()) };
+    place(found, bytes)
 }
 
 /// Returns where a byte last stands.
 pub fn memrchr(byte: u8, bytes: &[u8]) -> Option<usize> {
     // SAFETY: the bytes are a slice's
-    place(
-        unsafe { last(bytes.as_ptr().cast(), i32::from(byte), bytes.len()) },
-        bytes,
-    )
+    let found = unsafe { last(bytes.as_ptr().cast(), i32::from(byte), bytes.len()) };
+    place(found, bytes)
 }
 
 fn place(found: *const c_void, bytes: &[u8]) -> Option<usize> {

@@ -1,4 +1,4 @@
-"""Tests that tools/erase and the checks beside it refuse what they say: pytest, of this file."""
+"""Tests that tools/erase, tools/mutate, tools/test and the checks refuse what they say."""
 import contextlib
 import io
 import os
@@ -12,29 +12,16 @@ from types import SimpleNamespace
 import pytest
 from erasing.plan import Plan
 
-TOOLS = Path(__file__).resolve().parent
+from tests.support import write
 
-
-@pytest.fixture(autouse=True)
-def folder(tmp_path, monkeypatch):
-    """Each test stands in a folder of its own."""
-    monkeypatch.chdir(tmp_path)
-    return tmp_path
-
-
-def write(place, text, mode=0o644):
-    file = Path(place).absolute()
-    file.parent.mkdir(parents=True, exist_ok=True)
-    file.write_text(text)
-    file.chmod(mode)
-    return file
+TOOLS = Path(__file__).resolve().parents[1]
 
 
 class Tool:
     """A tool of tools/ over the files of a test's folder."""
 
     def __init__(self, name, **given):
-        self.main = run_path(str(TOOLS / name))["main"]
+        self.name, self.main = name, run_path(str(TOOLS / name))["main"]
         self.parts = self.main.__globals__
         self.parts.update(TOP=Path.cwd(), **given)
 
@@ -42,7 +29,7 @@ class Tool:
         """The status or the message of its end, and what it printed."""
         said = io.StringIO()
         with pytest.MonkeyPatch.context() as patch, contextlib.redirect_stdout(said):
-            patch.setattr(sys, "argv", ["tool", *words])
+            patch.setattr(sys, "argv", [self.name, *words])
             try:
                 status = self.main()
             except SystemExit as ended:
@@ -194,7 +181,7 @@ def differences(source, written, place="c/mod.rs", **given):
     """What differs in a file, in whose place something else is written."""
     write("crates/c/src/lib.rt", source)
     rules = {"c/lib": [("one()", "two()")]}
-    plan = Plan(out="w", modules={"c": "crate::c"}, rules=rules, **given)
+    plan = Plan(folder="w", modules={"c": "crate::c"}, rules=rules, **given)
     made = {"mod.rs": "", place: written}
     status, said = Tool("check_erased", PLANS=(plan,), write_crate=lambda *_: made).run()
     *found, last = said.splitlines()
@@ -232,12 +219,12 @@ def test_all_files_are_compared():
     for place in "a/b", "laws/a", "tests":
         write(f"crates/c/src/{place}.rt", "fn f() {}")
     assert differences("", "") == ["c/a/b fn f: it isn't written"]
-    assert differences("", "", "c/d.rs", left_out={"c/a"}) == ["w/c/d.rs: it has no source"]
+    assert differences("", "", "c/d.rs", dropped_files={"c/a"}) == ["w/c/d.rs: it has no source"]
 
 
 def test_what_the_plan_drops_may_be_left_out():
     source = "fn f() {} #[cfg(test)] mod t { fn g() {} }"
-    assert differences(source, "", dropped={"c/lib": ("fn f",)}) == []
+    assert differences(source, "", dropped_items={"c/lib": ("fn f",)}) == []
 
 
 # ---- mutate
@@ -293,7 +280,7 @@ def test_verdicts(crate, tmp_path_factory, said, status, line):
 # ---- erase
 
 def erase(*words):
-    plans = [Plan(out=out, modules={"c": "crate::c"}) for out in ("v", "w")]
+    plans = [Plan(folder=folder, modules={"c": "crate::c"}) for folder in ("v", "w")]
     return Tool("erase", PLANS=plans, formatted=lambda files: files).run(*words)
 
 
@@ -301,12 +288,12 @@ def test_what_is_out_of_date_is_told_and_then_written(folder):
     write("crates/c/src/d/e.rt", "fn f() { laws::x(); }\n")
     write("w/left/over", "")
     write("w/mod.rs", "as it was")
-    outdated = ("tools/erase: these files aren't up to date; run tools/erase:\n"
+    outdated = ("these files aren't up to date; run tools/erase:\n"
                 "  v/c/d/e.rs\n  v/mod.rs\n  w/c/d/e.rs\n  w/left/over\n  w/mod.rs")
     assert erase("--check") == (outdated, "")
-    assert erase() == (None, "tools/erase: wrote 5 files\n")
+    assert erase() == (None, "5 files are written\n")
     assert erase("--check") == (None, "")
-    assert erase() == (None, "tools/erase: wrote 0 files\n")
+    assert erase() == (None, "0 files are written\n")
     assert not (folder / "w/left/over").exists()
     assert (folder / "w/c/d/e.rs").read_text().splitlines()[1:] == ["fn f() { }"]
 
@@ -314,7 +301,7 @@ def test_what_is_out_of_date_is_told_and_then_written(folder):
 def test_each_folder_is_written():
     top = TOOLS.parent
     folders = {str(place.relative_to(top)) for place in top.glob("rust/*/src/proved")}
-    assert {plan.out for plan in Tool("erase").parts["PLANS"]} == folders
+    assert {plan.folder for plan in Tool("erase").parts["PLANS"]} == folders
 
 
 @pytest.mark.skipif(not shutil.which("rustfmt"), reason="without rustfmt")

@@ -1,0 +1,18 @@
+"""What tests need that may not be there: they fail without it, or are skipped, which tools/test
+lists. tools/run_pytest has this as a plugin."""
+import os
+
+import pytest
+
+
+def miss(what):
+    """Fails for something that isn't there, or says so and skips what needs it."""
+    if os.environ.get("NAQSHUVE_ALLOW_MISSING") != "1":
+        pytest.fail(f"{what}. NAQSHUVE_ALLOW_MISSING=1 lets it pass")
+    pytest.skip(what)
+
+
+def pytest_terminal_summary(terminalreporter):
+    for report in terminalreporter.stats.get("skipped", []):
+        why = report.longrepr[2].replace("Skipped: ", "")
+        terminalreporter.write_line(f"missing: {report.nodeid.partition('::')[0]}: {why}")

@@ -1,0 +1,256 @@
+"""Tests of tools/erase."""
+import os
+import re
+import subprocess
+from dataclasses import fields, replace
+
+import building
+import pytest
+from erasing import wording
+from erasing.crate import Failure, erase, write_crate
+from erasing.patterns import rewrite
+from erasing.plan import Plan
+from erasing.source import Source
+from erasing.tokens import Refused, split
+
+
+def plan(**given):
+    return Plan(folder="o", modules={"a": "crate::a", "b": "crate::b"},
+                of_std={"alloc": "crate::prelude"}, **given)
+
+
+# what is in ‹ › goes, and what is in « » comes
+TRAPS = '''//! Head.
+‹#![tactic(auto)]
+ghost use A.{◌≡◌, ◌∷◌};
+›
+// ensures { this comment stays }
+#[inline]
+‹#[tactic(auto, using(crate::x))]
+#[tactic(auto)]
+›pub fn f<'a>(s: &'a str, c: char) -> bool‹
+    ghost top: { ℕ }
+    requires named { c ≢ "}" → "\\"{" ≡ s }
+    // goes
+    ensures* { { 1 } ≡ { 1 } -- and { here
+    }›
+{
+    let open = ['{', '\\'', '"', '\\u{7b}', '\\x7b', b'{' as char, '}'];
+    let text = "ghost use x; ensures { \\"} }";
+    let raw = r#"requires { " } ghost"#;
+    let bytes = b"\\x1b]{ ensures";
+    ‹// goes
+    laws::nothing();
+    ›'outer: loop { break 'outer; }
+    1..2; 1.5e3; x.0.1; s == text && open.len() == raw.len() + bytes.len()
+}
+
+#[derive(Clone, Copy, Debug, Default, ‹Drop, ›Eq, Hash, Ord, PartialEq, PartialOrd‹, Serialize,
+    Deserialize›)]«
+#[cfg_attr(feature = "serde", derive(Serialize, Deserialize))]»
+pub struct P<T‹: Drop›> {
+    pub a: T,‹
+    /// goes too
+    pub(crate) ghost in_range: { a ≤ 100 },›
+}
+
+‹#[derive(Drop)]
+›struct Q;
+
+‹impl Model for Q {
+    ghost Value = { ℕ };
+}
+
+›trait R<T: A‹ + Drop›, U: B> {‹
+    // goes with it
+    ghost x: { Self → ℕ } = { λ _. 0 };›
+
+    fn drop_it(&self)‹
+        ensures { ⊤ }›;
+}
+
+‹#[cfg(test)]
+pub(crate) fn helper(r#in: [u8; 2]) { r#in; }
+#[cfg(test)]
+pub(crate) mod cases;
+#[cfg(test)]
+mod tests { fn g() { 1; } }
+›const R: u8 = r#in;
+'''
+
+
+def told(marked):
+    """A text with marks, as it is before and after."""
+    return re.sub("[‹›]|«[^»]*»", "", marked), re.sub("[«»]|‹[^›]*›", "", marked)
+
+
+def erased(text, given):
+    return erase(text, "a", "a/x", given)[0]
+
+
+def words(text):
+    """The words, comments and blank lines of a text: the rest of its layout is rustfmt's."""
+    texts = [token.text.strip(" ") for token in split(text)]
+    return [text for text in texts if text not in ("", "\n", ",")]
+
+
+DROPPED = dict(dropped_items={"a/x": ("fn f",)})
+# what is told of a file, and a text with marks, as crates/ have no such case
+TEXTS = [
+    ({}, "use c::Kept; use c::Gone; fn f(k: u8) {} ‹#[cfg(test)] mod tests { fn g() { Gone } }›"),
+    ({}, "‹use b::laws; pub use laws::Step; mod laws;› use ‹std›«core»::cmp::Ordering; mod c;"),
+    ({}, "fn f() { match a { ‹1..0x10›«1..=0xf» => 2, ‹20..30›«20..=29» => 3, A..B => 4 } }"),
+    (DROPPED, "‹// goes\n#[inline]pub fn f() {}\n›const A: u8 = 1; // one\n‹fn f() {}› fn ff() {}"),
+    (DROPPED, "//! File.\n// A group.\n\n‹// goes\n#[inline]\n// goes\nfn f() {}\n\n›fn g() {}"),
+    # each up to its end, and not more
+    (dict(dropped_items={"a/x": ("const fn g", "static S", "struct U", "const C", "type X", "use c",
+                                 "impl V")}),
+     "‹pub const fn g(a: [u8; 2]) { a; } pub static S: T = T { a: [0; 2] }; struct U([u8; 2]); "
+     "const C: u8 = { 1 }; type X = V<{ 1 }>; pub(crate) use c::{d, e}; "
+     "impl V<[u8; 2]> for U where U: W { const Y: u8 = 1; }› fn last() {}"),
+    (dict(homes={"a": {"q": "find g"}}), "«use q::find;\n»// why\nuse c::D; fn g() { find(x) }"),
+    (dict(homes={"a": {"q": "find"}}), "«use q::find;\n»pub use q::l; fn f() { find() }"),
+    (dict(homes={"a": {"q": "find Big g h D"}}), "use q::‹k›«{Big, find, k}»; pub use q::l; "
+     "use c::D; fn f(d: D) { find::<u8>(k); Big; a.g(); g } fn h() { h() }"),
+    (dict(imports={"a": {"c::D": "e::D", "f::": ""}}),
+     "use ‹c::D›«e::D»; use c::{I as J, K};\n‹// why\nuse f::{G, H};›"),
+    (DROPPED, "‹use c::d;› pub use c::d::E; ‹fn f() { d(E) }›"),
+    (dict(members={"a/x": {"enum E {": {"*": "{words} {snake} {name}.", "Four": "4."}}}),
+     "enum E {\n«/// One one One.\n»#[default] One,\n«/// Two words two_words TwoWords.\n»"
+     "TwoWords(u8),\n/// Said.\nThree,\n«/// 4.\n»Four { a: u8 } }"),
+    (dict(members={"a/x": {"struct S {": {"b": "B.", "c": "C."}}}), "struct S { a: [b; 2],\n"
+     "«/// B.\n»pub(crate) b: c::D<(b, c)>,\n/// Said.\n#[default] c: u8 } fn f(b: c) {}"),
+    ({}, "fn f(k: «crate::»b::K) { «crate::»b::g(«crate::»b::h::<«crate::»b::I>(), c::b::J) }"),
+    (dict(default_bodies={"H"}), "«#[allow(unused_variables)]» pub(crate) trait H { "
+     "fn f(&self) -> bool‹;›« { false }» fn g(&self, k: u8)‹;›« {}» } trait I { fn h(); } "
+     "impl H for K { fn f(&self) -> bool { a; b } }"),
+    (dict(inlined={"a/x": "impl V"}), "fn f() {} impl V { «#[inline]» pub(crate) fn f() {} "
+     "fn g<T>() {} #[inline(never)]\n/// H.\nfn h() {} } fn i() {}"),
+    (dict(attributes={"a/x": {"#[derive(Eq)]": ["pub struct S", "pub struct T"],
+                              "#[x]": ["pub struct S"]}}),
+     "/// S.\n#[derive(Clone«, Eq»)] #[repr(C)] «#[x]» pub struct S; «#[derive(Eq)]» "
+     "pub struct T; fn f() {}"),
+    (dict(item_conditions={"a": {"m": {"K"}}, "a/x": {"n": {"L"}}}),
+     "«#[cfg(n)]» pub use c::L; «#[cfg(m)] use c::K;» use c::‹{K, M}›«M»; "
+     "«#[cfg(m)]» fn f(k: K) { \"L\" } «#[cfg(m)] #[cfg(n)]» fn g() { L(K) } fn h() {}"),
+    (dict(examples={"a/x": ("a;", "b;", "..", "c;")}),
+     "//! ```\n«//! # a;\n//! # b;\n»//! f(‹alloc›);\n«//! # c;\n»//! ```\n\n"
+     "/// ```\n«/// # a;\n/// # b;\n»/// f();\n«/// # c;\n»/// ```\n/// F.\nfn f() {}"),
+    (dict(examples={"a/x": None}), "‹//! ```\n//! f();\n//! ```\n\n›"
+     "/// F.\n‹///\n/// ```\n/// f();\n/// ```\n›/// G.\nfn f() {}"),
+    (dict(handler={"a/x": [("t: &str", "t: &str as String")]}), "//! A.\n\n"
+     "«handlers! {\n»/// H.\npub trait Handler‹ {›«;»\n/// F.\nfn f(t: &str« as String») {} }"),
+    (dict(first_lines={"a/x": "use d::D;"}), "//! A.\n\n«use d::D;\n\n»// f\nfn f() {}\nfn g() {}"),
+    *((dict(first_lines={"a/x": "use d::D;"}), f"«use d::D;\n»pub {word} e;")
+      for word in ("mod", "use")),
+    (dict(rules={"a/x": [("$x.b", "k($x)")]}), "fn f() { ‹g\n.b›«k(g)»; }"),
+    ({}, "fn f() { ‹let A(x) = g(1) else {\n// why\nreturn };›"
+     "«let x = match g(1) { A(x) => x, _ => {\n// why\nreturn } };»"
+     "‹let B(y) = h else { break; };›«let y = match h { B(y) => y, _ => break, };» }"),
+    # bodies that stay as they are
+    *(({}, text) for text in (
+        "fn f() -> Option<u8> { let x = *g(); h()?; Some(x) }", "fn f() { !x >= 1 && x <= 5 }",
+        "fn f() { (a % 32) as u32 + match g(b) { Ok(c) => c, Err(_) => return 1, } }")),
+]
+
+
+def test_tokens_are_the_file():
+    assert "".join(token.text for token in split(TRAPS)) == TRAPS
+
+
+def test_traps():
+    before, after = told(TRAPS)
+    text, tests = erase(before, "a", "a/x", plan())
+    assert words(text) == words(after)
+    assert tests == {"a/x/cases", "a/x/tests"}
+
+
+@pytest.mark.parametrize("given, marked", TEXTS)
+def test_texts(given, marked):
+    before, after = told(marked)
+    assert words(erased(before, plan(**given))) == words(after)
+
+
+def test_comments_are_reworded():
+    long = "long-" * 30
+    text = "    // One. Two\n    // goes. Three.\n    f();\n"
+    assert wording.reword(text, {"Two goes.": f"Too.\n\n{long}"}) == (
+        f"    // One. Too.\n    //\n    // {long}\n    // Three.\n    f();\n")
+    for text in "/// One.\nfn f() {}\n", "/// Two.\nfn f() {}\n/// Two.\nfn g() {}\n":
+        with pytest.raises(Refused, match="Two"):
+            wording.reword(text, {"Two": "Three"})
+
+
+@pytest.mark.parametrize("text, line, given", [
+    ("\n#[test]\nfn f() {}\n", 2, {}),
+    ("fn f() {}\n#[derive(Clone, Ghostly)]\nstruct S;\n", 2, {}),
+    ("fn f() {}\nuse std::thread;\n", 2, {}),
+    ("\n/// ```\n/// f();\n/// ```\nfn f() {}\n", 2, {}),
+    ("\n/* a */\n", 2, {}),
+    ("\nfn f() { std::mem::g() }\n", 2, {}),
+    ("\nfn f()\n    ensures { { }\n{}\n", 3, {}),
+    ("ghost use A\n", 1, {}),
+    ("\nfn f() { \"x }\n", 2, {}),
+    ("fn f() { (\n", 1, {}),
+    ("fn f() {}\n", 1, dict(attributes={"a/x": {"#[x]": ["fn g"]}})),
+    ("fn f() {}\n", 1, dict(rules={"a/x": [("g()", "")]})),
+    ("const M: u8 = 1;\n", 1, dict(dropped_items={"a/x": ("const N",)})),
+    ("mod z;\n", 1, dict(dropped_files={"a/x/y"})),
+    ("", 1, dict(dropped_items={"a/x": ("fn f",)})),
+    ("\nfn f()\n", 2, {}),
+    ("fn f() {}\nfn f() {}\n", 1, dict(attributes={"a/x": {"#[x]": ["fn f"]}})),
+    ("\n/// ```\nfn f() {}\n", 2, dict(examples={"a/x": ("f();",)})),
+])
+def test_what_is_refused(text, line, given):
+    with pytest.raises(Refused) as caught:
+        erased(text, plan(**given))
+    assert (caught.value.line or 1) == line, caught.value
+
+
+def test_which_files_are_written():
+    made = {"a": {"y/tests.rt": "#[x]", "x.rt": "#[x]", "y.rt": "#[cfg(test)] mod tests;",
+                  "lib.rt": "#[cfg(test)] mod x; mod y; mod z; mod left;", "z/lib.rt": "",
+                  "z/laws/b.rt": "#[x]",
+                  "left.rt": "#[x]", "left/over.rt": "#[x]", "leftover.rt": ""},
+            "b": {"main.rt": "#[cfg(test)] mod x;", "x.rt": "#[x]", "old.rt": "fn f() {}"}}
+    given = plan(dropped_files={"a/left"}, crate_conditions={"b": "x"}, allowed_lints=("y", "z"))
+    files = write_crate(given, lambda crate: dict(sorted(made[crate].items(), reverse=True)))
+    assert sorted(files) == ["a/leftover.rs", "a/mod.rs", "a/y.rs", "a/z/lib.rs",
+                             "b/mod.rs", "b/old.rs", "mod.rs"]
+    assert files["b/old.rs"] == ("// Written by tools/erase from crates/b/src/old.rt: "
+                                 "edit that one.\nfn f() {}\n")
+    assert "#![allow(y, z)]\n" in files["mod.rs"]
+    assert files["mod.rs"].splitlines()[-3:] == [
+        "pub(crate) mod a;", "#[cfg(x)]", "pub(crate) mod b;"]
+
+
+@pytest.mark.skipif(os.environ.get("HAS_CRATES") != "yes", reason="without the crates of rust/vte")
+def test_what_the_benchmark_shares_compiles(tmp_path):
+    if "2024" not in subprocess.check_output(["rustc", "--help"], text=True):
+        pytest.skip("with an older Rust")
+    building.placed_peers(True, tmp_path, "checked", 1)
+
+
+def test_failures_name_file_and_line():
+    with pytest.raises(Failure, match=r"^crates/a/src/x\.rt:2: unknown attribute: test$"):
+        write_crate(plan(), lambda _crate: {"x.rt": "\n#[test]\nfn f() {}\n"})
+    with pytest.raises(Failure, match=r"^crates/a/src/x\.rt:1: wording.json expects one"):
+        write_crate(plan(comments={"a/x": {"One": ""}}), lambda _crate: {"x.rt": "fn f() {}"})
+
+
+TABLES = {it.name: {"a/gone": {}} for it in fields(Plan) if it.default_factory is dict}
+
+
+@pytest.mark.parametrize("name, table", [*TABLES.items(), ("dropped_files", {"a/gone"})])
+def test_each_table_names_files_that_exist(name, table):
+    with pytest.raises(Failure, match="don't exist: a/gone"):
+        write_crate(replace(plan(), **{name: table}), lambda _crate: {"x.rt": ""})
+
+
+@pytest.mark.parametrize("text, pattern, stays", [
+    ("f(// why\nalloc)\n", "(alloc)", True), ("f(alloc)\n", "(alloc)", False),
+    ("f(a; b)\n", "($$x)", True), ("f(a; b)\n", "($$$x)", False)])
+def test_a_match_with_a_comment_stays(text, pattern, stays):
+    source = Source(text, "a/x")
+    rewrite(source, pattern, "()")
+    assert (source.written() == text) == stays

@@ -1,0 +1,189 @@
+"""Tests of the launcher `vtlog`, with an `rt` and a `cargo` that only say what they are asked."""
+import os
+import re
+import shutil
+import signal
+import subprocess
+import time
+from pathlib import Path
+
+import pytest
+
+from tests.support import write
+
+TOP = Path(__file__).resolve().parents[2]
+# what the launcher may use
+USED = ("bash cat chmod dirname env find grep iconv mkdir mktemp readlink rm sed sh sleep tail "
+        "touch").split()
+BEGINS = "vtlog: proving and building the program, at first in 4 to 7 minutes on 4 quiet cores\n"
+BUILT = f"{BEGINS}vtlog: built in N s\n"
+FAILED = "vtlog: the program could not be built; above are the last lines of the log\n"
+UNPROVED = "vtlog: there is no rt of a Rattle kit; cargo builds the same text, unproved\n"
+ALL = "vte_core lib\nevent_log lib\nvtlog run\n"
+
+# They note their folder, their words and what they read, and make a program that prints its own.
+# Files beside the launcher say what else happens to a build: `fails`, `idles` and `unstamped` let
+# it fail, make nothing, and no stamp; it waits while `hangs` is there. It prints `log`.
+RT = r"""#!/bin/sh
+echo "${PWD##*/} $*" >>"$TOP/asked"
+cat >>"$TOP/asked"
+[ -e "$TOP/fails" ] && { cat "$TOP/log"; echo "no proof"; exit 1; }
+[ "$1" = run ] && [ ! -e "$TOP/idles" ] || exit 0
+if [ -e "$TOP/hangs" ]; then
+    cat "$TOP/log"
+    echo $$ >"$TOP/hangs"
+    while [ -e "$TOP/hangs" ]; do /bin/sleep 0.01; done
+fi
+[ -e "$TOP/edited" ] && { /bin/sleep 0.02; rm "$TOP/edited"; touch src/edited.rt; /bin/sleep 0.02; }
+mkdir -p out
+printf "#!/bin/sh\necho ran \"\$@\"\nexit 7\n" >out/vtlog
+chmod +x out/vtlog
+[ -e "$TOP/unstamped" ] || touch out/vtlog.stamp
+"""
+CARGO = r"""#!/bin/sh
+echo "cargo $*" >>"$TOP/asked"
+[ ! -e "$TOP/fails" ] || { echo "no crate" >&2; exit 101; }
+mkdir -p "$TOP/rust/vtlog/target/release"
+printf "#!/bin/sh\necho ran \"\$@\"; cat; exit 5\n" >"$TOP/rust/vtlog/target/release/vtlog"
+chmod +x "$TOP/rust/vtlog/target/release/vtlog"
+"""
+
+
+@pytest.fixture(autouse=True)
+def checkout(folder, monkeypatch):
+    """The launcher in a folder, with what it reads, a link to it, and the tools that it may use."""
+    top = folder / "a folder"
+    for place in ("bin", "temporary", "crates/vtlog/src", "crates/vtlog/proofs",
+                  "crates/vte_core/src", "crates/vte_core/specs", "crates/event_log/src"):
+        (top / place).mkdir(parents=True)
+    for place in "vtlog", "crates/vtlog/src/main.rt":
+        shutil.copy(TOP / place, top / place)
+    for tool in USED:
+        (top / "bin" / tool).symlink_to(shutil.which(tool))
+    (top / "bin/linked").symlink_to("../vtlog")
+    monkeypatch.chdir(top)
+    for name, place in ("TOP", ""), ("PATH", "bin"), ("TMPDIR", "temporary"):
+        monkeypatch.setenv(name, str(top / place))
+    write("crates.txt", "vte_core: std\nevent_log: std vte_core\nvtlog: std event_log\n")
+    write("log", "")
+    write("bin/rt", RT, 0o755)
+    yield top
+    # a build that was left ends
+    (top / "hangs").unlink(missing_ok=True)
+
+
+def runs(*words):
+    """Runs the launcher by the link: its status, output and errors, and what was asked for. Its
+    input is for the program alone, and it leaves nothing."""
+    write("asked", "")
+    done = subprocess.run(["bin/linked", *words], input=b"input\n", capture_output=True)
+    assert not any(Path("temporary").iterdir())
+    errors = re.sub(r" \d+ s$", " N s", done.stderr.decode(), flags=re.M)
+    return done.returncode, done.stdout.decode(), errors, Path("asked").read_text()
+
+
+def start():
+    """Starts the launcher, which ignores no signal."""
+    with open("errors", "w") as errors:
+        return subprocess.Popen(["env", "--default-signal", "./vtlog"], stderr=errors,
+                                stdout=subprocess.DEVNULL)
+
+
+def wait_until(is_so):
+    end = time.monotonic() + 300
+    while not is_so() and time.monotonic() < end:
+        time.sleep(0.01)
+    assert is_so()
+
+
+def test_answers():
+    text = Path("crates/vtlog/src/main.rt").read_text()
+    shown = re.search(r'^const HELP:.*\n((?s:.*?))^";', text, re.M)[1]
+    manifest = (TOP / "rust/vtlog/Cargo.toml").read_text()
+    version = f"vtlog {re.search('^version = .(.*).$', manifest, re.M)[1]}\n"
+    for word, answer in ("--help", shown), ("-h", shown), ("--version", version):
+        assert runs(word) == (0, answer, "", "")
+    for words in ["Text"], [""], ["text", "text"]:
+        assert runs(*words) == (2, "", "vtlog: unexpected argument\n", "")
+    assert runs("text", b"\xff") == (3, "", "vtlog: no arguments read\n", "")
+
+
+def test_cargo(checkout):
+    Path("bin/rt").unlink()
+    cargo = write("bin/cargo", CARGO, 0o755)
+    asked = (f"cargo build --quiet --release --manifest-path {checkout}/rust/vtlog/Cargo.toml "
+             f"--target-dir {checkout}/rust/vtlog/target\n")
+    assert runs("text") == (5, "ran text\ninput\n", UNPROVED, asked)
+    assert runs() == (5, "ran\ninput\n", UNPROVED, asked)
+    write("fails", "")
+    said = f"{UNPROVED}no crate\nvtlog: cargo could not build the program, as above\n"
+    assert runs("text") == (70, "", said, asked)
+    cargo.unlink()
+    said = "vtlog: building the program takes cargo, or rt of a Rattle kit\n"
+    assert runs("text") == (70, "", said, "")
+
+
+def replace_sleep(line):
+    Path("bin/sleep").unlink()
+    write("bin/sleep", f"#!/bin/sh\n{line}\n", 0o755)
+
+
+def test_builds():
+    """It is built once after each of these, and not again. However long it takes, no progress is
+    told: `sleep` fails."""
+    replace_sleep("exit 1")
+    for change in ("true", "touch crates/vte_core/src/lib.rt", "touch crates/vte_core/specs/A.antt",
+                   "touch crates/event_log/src/lib.rt", "touch crates/vtlog/proofs/Lib.antt",
+                   "touch crates/vtlog/src/main.rt", "sed -i 's/std$/std memchr/' crates.txt",
+                   *(f"rm crates/vtlog/out/vtlog{end}" for end in ("", ".stamp", ".crates"))):
+        time.sleep(0.02)
+        subprocess.run(["sh", "-c", change], check=True)
+        assert runs("text") == (7, "ran text\n", BUILT, ALL), change
+        assert runs("a  b") == (7, "ran a  b\n", "", ""), change
+    # an edit while it is built
+    Path("crates/vtlog/src/main.rt").touch()
+    write("edited", "")
+    for said, asked in (BUILT, ALL), (BUILT, ALL), ("", ""):
+        assert runs("text") == (7, "ran text\n", said, asked)
+
+
+# of the log its end is shown alone
+@pytest.mark.parametrize("file, said, asked", [
+    ("fails", "line\n" * 19 + "no proof\n", "vte_core lib\n"), ("idles", "", ALL),
+    ("unstamped", "", ALL)])
+def test_failures(file, said, asked):
+    write(file, "")
+    write("log", "line\n" * 30)
+    assert runs("text") == (70, "", f"{BEGINS}{said}{FAILED}", asked)
+
+
+def test_without_a_folder(monkeypatch):
+    monkeypatch.setenv("TMPDIR", "log")
+    said = f"{BEGINS}.*\nvtlog: cannot create a folder for the log of the build\n"
+    assert start().wait() == 70 and re.fullmatch(said, Path("errors").read_text())
+
+
+@pytest.mark.parametrize("name, status", [("HUP", 129), ("INT", 130), ("TERM", 143)])
+def test_signals(name, status):
+    hangs = write("hangs", "")
+    launcher = start()
+    wait_until(hangs.read_text)
+    launcher.send_signal(signal.Signals[f"SIG{name}"])
+    assert launcher.wait() == status and os.listdir("temporary") == []
+    # its process is gone, or ended and not yet taken note of
+    process = Path("/proc", hangs.read_text().strip(), "stat")
+    wait_until(lambda: not process.exists() or ") Z " in process.read_text())
+
+
+def test_progress():
+    """20 seconds are over at once, once the build hangs, or has ended."""
+    hangs = write("hangs", "")
+    write("log", "begun\nso far: 3 of 12 functions\n")
+    replace_sleep('while [ -e "$TOP/hangs" ] && [ ! -s "$TOP/hangs" ]; do /bin/sleep 0.01; done; '
+                  "/bin/sleep 0.1")
+    launcher = start()
+    wait_until(lambda: " s: " in Path("errors").read_text())
+    hangs.unlink()
+    assert launcher.wait() == 7
+    told = re.findall(r"^vtlog: \d+ s: (.*)", Path("errors").read_text(), re.M)
+    assert {*told} == {"so far: 3 of 12 functions"}

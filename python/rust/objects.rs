@@ -9,6 +9,15 @@ use pyo3::pyclass::boolean_struct::False;
 use pyo3::types::{PyBytes, PyList, PyMemoryView, PyString, PyTuple, PyType};
 use pyo3::{ffi, prelude::*, PyClass, PyTypeInfo};
 
+/// Calls a function of Python that returns a new reference, or null with an error. It gets objects,
+/// numbers, the bytes of a slice, or texts that end in NUL.
+macro_rules! new {
+    ($py:expr, $function:ident($($argument:expr),+)) => {
+        // SAFETY: the arguments are as said above, and the lock is held
+        unsafe { PyObject::from_owned_ptr_or_err($py, ffi::$function($($argument),+)) }
+    };
+}
+
 /// From how many bytes on other threads may run meanwhile. Below, a release costs more than it
 /// gives: beside a busy thread it takes up to 5 ms to get the interpreter's lock again.
 pub const LONG: usize = 1 << 17;
@@ -43,8 +52,7 @@ pub fn bytes_of<'py>(data: &Bound<'py, PyAny>) -> PyResult<Bound<'py, PyBytes>> 
         return Ok(bytes.clone());
     }
     let view = PyMemoryView::from_bound(data)?;
-    // SAFETY: a new reference
-    let copied = unsafe { made(data.py(), ffi::PyBytes_FromObject(view.as_ptr()))? };
+    let copied = new!(data.py(), PyBytes_FromObject(view.as_ptr()))?;
     Ok(copied.into_bound(data.py()).downcast_into()?)
 }
 
@@ -56,8 +64,7 @@ pub fn encoded<'py>(
     debug_assert!(errors.ends_with('\0'));
     let (py, text) = (text.py(), text.as_ptr());
     let (utf8, errors) = ("utf-8\0".as_ptr().cast(), errors.as_ptr().cast());
-    // SAFETY: a `str`, texts that end in NUL, and a new reference
-    let encoded = unsafe { made(py, ffi::PyUnicode_AsEncodedString(text, utf8, errors))? };
+    let encoded = new!(py, PyUnicode_AsEncodedString(text, utf8, errors))?;
     Ok(encoded.into_bound(py).downcast_into()?)
 }
 
@@ -66,15 +73,6 @@ pub fn no_memory(py: Python<'_>) -> PyErr {
     // SAFETY: the lock is held
     unsafe { ffi::PyErr_NoMemory() };
     PyErr::fetch(py)
-}
-
-/// The owner of a new object.
-///
-/// # Safety
-///
-/// The pointer is a new reference, or null if Python has set an error.
-unsafe fn made(py: Python<'_>, object: *mut ffi::PyObject) -> PyResult<PyObject> {
-    PyObject::from_owned_ptr_or_err(py, object)
 }
 
 fn size(length: usize) -> ffi::Py_ssize_t {
@@ -91,25 +89,23 @@ pub fn text(py: Python<'_>, utf8: &[u8]) -> PyResult<PyObject> {
 pub fn decoded(py: Python<'_>, utf8: &[u8], errors: &'static str) -> PyResult<PyObject> {
     debug_assert!(errors.ends_with('\0'));
     let (place, length) = (utf8.as_ptr().cast(), size(utf8.len()));
-    let errors = errors.as_ptr().cast();
-    // SAFETY: the bytes are those of a slice, and the text ends in NUL
-    unsafe { made(py, ffi::PyUnicode_DecodeUTF8(place, length, errors)) }
+    new!(
+        py,
+        PyUnicode_DecodeUTF8(place, length, errors.as_ptr().cast())
+    )
 }
 
 pub fn bytes(py: Python<'_>, content: &[u8]) -> PyResult<PyObject> {
     let (place, length) = (content.as_ptr().cast(), size(content.len()));
-    // SAFETY: the bytes are those of a slice
-    unsafe { made(py, ffi::PyBytes_FromStringAndSize(place, length)) }
+    new!(py, PyBytes_FromStringAndSize(place, length))
 }
 
 pub fn integer(py: Python<'_>, value: i64) -> PyResult<PyObject> {
-    // SAFETY: the lock is held
-    unsafe { made(py, ffi::PyLong_FromLongLong(value)) }
+    new!(py, PyLong_FromLongLong(value))
 }
 
 pub fn real(py: Python<'_>, value: f64) -> PyResult<PyObject> {
-    // SAFETY: the lock is held
-    unsafe { made(py, ffi::PyFloat_FromDouble(value)) }
+    new!(py, PyFloat_FromDouble(value))
 }
 
 /// A tuple of as many values.
@@ -118,8 +114,9 @@ pub fn tuple(
     count: usize,
     values: impl Iterator<Item = PyResult<PyObject>>,
 ) -> PyResult<PyObject> {
+    let tuple = new!(py, PyTuple_New(size(count)))?;
     // SAFETY: a new tuple of this size
-    unsafe { filled(made(py, ffi::PyTuple_New(size(count)))?, count, values) }
+    unsafe { filled(tuple, count, values) }
 }
 
 /// Sets the places of a new tuple. Those whose values can't be made stay null, which nothing but
@@ -142,9 +139,16 @@ unsafe fn filled(
 
 /// A new list.
 pub fn list(py: Python<'_>) -> PyResult<Bound<'_, PyList>> {
-    // SAFETY: a new list
-    let made = unsafe { made(py, ffi::PyList_New(0))? };
-    Ok(made.into_bound(py).downcast_into()?)
+    Ok(new!(py, PyList_New(0))?.into_bound(py).downcast_into()?)
+}
+
+/// Appends to a list.
+pub fn append(list: &Bound<'_, PyList>, object: &Bound<'_, PyAny>) -> PyResult<()> {
+    // SAFETY: a list and an object
+    match unsafe { ffi::PyList_Append(list.as_ptr(), object.as_ptr()) } {
+        0 => Ok(()),
+        _ => Err(PyErr::fetch(list.py())),
+    }
 }
 
 /// A class of Python's half of the package.
@@ -184,15 +188,14 @@ impl Class {
         fields: impl Iterator<Item = PyResult<PyObject>>,
     ) -> PyResult<PyObject> {
         let class = self.class.as_ptr();
-        // SAFETY: a class is called with a tuple, or has the layout of a tuple, of which its
-        // allocator makes one of this size; both are new references
+        if !self.is_allocated {
+            let fields = tuple(py, count, fields)?;
+            return new!(py, PyObject_CallObject(class, fields.as_ptr()));
+        }
+        let made = new!(py, PyType_GenericAlloc(class.cast(), size(count)))?;
+        // SAFETY: it has the layout of a tuple of this size. What it holds is in no cycle, so the
+        // collector needn't look at it
         unsafe {
-            if !self.is_allocated {
-                let fields = tuple(py, count, fields)?;
-                return made(py, ffi::PyObject_CallObject(class, fields.as_ptr()));
-            }
-            let made = made(py, ffi::PyType_GenericAlloc(class.cast(), size(count)))?;
-            // what it holds is in no cycle, so the collector needn't look at it
             ffi::PyObject_GC_UnTrack(made.as_ptr().cast());
             filled(made, count, fields)
         }

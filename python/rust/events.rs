@@ -86,17 +86,8 @@ impl Recorder {
 
 fields! {
     &Params: groups => Tuple(groups.iter());
+    &[u16]: group => Tuple(group.iter().copied());
     &[&[u8]]: pieces => Tuple(pieces.iter().copied());
-}
-
-impl Field for &[u16] {
-    #[inline]
-    fn record(self, tape: &mut Tape) {
-        match self {
-            [number] => tape.with(Value::new(Is::Single, i64::from(*number))),
-            numbers => tape.with(Tuple(numbers.iter().copied())),
-        };
-    }
 }
 
 /// At most six bytes.

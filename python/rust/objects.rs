@@ -8,6 +8,7 @@ use pyo3::exceptions::PyRuntimeError;
 use pyo3::pyclass::boolean_struct::False;
 use pyo3::types::{PyBytes, PyList, PyMemoryView, PyString, PyTuple, PyType};
 use pyo3::{ffi, prelude::*, PyClass, PyTypeInfo};
+use std::os::raw::c_char;
 
 /// Calls a function of Python that returns a new reference, or null with an error. It gets objects,
 /// numbers, the bytes of a slice, or texts that end in NUL.
@@ -30,11 +31,16 @@ pub fn run<T: Send>(py: Python<'_>, length: usize, read: impl FnOnce() -> T + Se
     }
 }
 
+/// A text that ends in NUL, as C takes it.
+fn for_c(text: &'static str) -> *const c_char {
+    debug_assert!(text.ends_with('\0'));
+    text.as_ptr().cast()
+}
+
 /// An error with a text that ends in NUL. PyO3's errors take memory in a way that can't fail.
 pub fn error<T: PyTypeInfo>(py: Python<'_>, text: &'static str) -> PyErr {
-    debug_assert!(text.ends_with('\0'));
     // SAFETY: a class of exceptions, and a text that ends in NUL
-    unsafe { ffi::PyErr_SetString(T::type_object_raw(py).cast(), text.as_ptr().cast()) };
+    unsafe { ffi::PyErr_SetString(T::type_object_raw(py).cast(), for_c(text)) };
     PyErr::fetch(py)
 }
 
@@ -61,10 +67,11 @@ pub fn encoded<'py>(
     text: &Bound<'py, PyString>,
     errors: &'static str,
 ) -> PyResult<Bound<'py, PyBytes>> {
-    debug_assert!(errors.ends_with('\0'));
-    let (py, text) = (text.py(), text.as_ptr());
-    let (utf8, errors) = ("utf-8\0".as_ptr().cast(), errors.as_ptr().cast());
-    let encoded = new!(py, PyUnicode_AsEncodedString(text, utf8, errors))?;
+    let (py, text, errors) = (text.py(), text.as_ptr(), for_c(errors));
+    let encoded = new!(
+        py,
+        PyUnicode_AsEncodedString(text, for_c("utf-8\0"), errors)
+    )?;
     Ok(encoded.into_bound(py).downcast_into()?)
 }
 
@@ -87,12 +94,8 @@ pub fn text(py: Python<'_>, utf8: &[u8]) -> PyResult<PyObject> {
 
 /// A `str` of bytes, as `encoded` makes them.
 pub fn decoded(py: Python<'_>, utf8: &[u8], errors: &'static str) -> PyResult<PyObject> {
-    debug_assert!(errors.ends_with('\0'));
     let (place, length) = (utf8.as_ptr().cast(), size(utf8.len()));
-    new!(
-        py,
-        PyUnicode_DecodeUTF8(place, length, errors.as_ptr().cast())
-    )
+    new!(py, PyUnicode_DecodeUTF8(place, length, for_c(errors)))
 }
 
 pub fn bytes(py: Python<'_>, content: &[u8]) -> PyResult<PyObject> {
@@ -142,6 +145,15 @@ pub fn list(py: Python<'_>) -> PyResult<Bound<'_, PyList>> {
     Ok(new!(py, PyList_New(0))?.into_bound(py).downcast_into()?)
 }
 
+/// Lets a list grow unseen by the collector, which would look at all of it again and again.
+pub fn unseen<T>(list: &Bound<'_, PyList>, grow: impl FnOnce() -> T) -> T {
+    // SAFETY: a list, which the collector sees before and after
+    unsafe { ffi::PyObject_GC_UnTrack(list.as_ptr().cast()) };
+    let grown = grow();
+    unsafe { ffi::PyObject_GC_Track(list.as_ptr().cast()) };
+    grown
+}
+
 /// Appends to a list.
 pub fn append(list: &Bound<'_, PyList>, object: &Bound<'_, PyAny>) -> PyResult<()> {
     // SAFETY: a list and an object
@@ -157,17 +169,16 @@ pub struct Class {
     // whether its allocator makes objects whole, as it does tuples. From Python 3.14 on a tuple has
     // its hash too, which is set elsewhere
     is_allocated: bool,
-    /// How many fields an object has.
-    pub fields: usize,
+    // how many fields an object has
+    fields: usize,
 }
 
 impl Class {
     pub fn of(class: Bound<'_, PyAny>) -> PyResult<Self> {
         let is_tuple = class.downcast::<PyType>()?.is_subclass_of::<PyTuple>()?;
-        // what is no named tuple is made of its number
-        let fields = class
-            .getattr("_fields")
-            .map_or(Ok(1), |names| names.len())?;
+        // a member of an enumeration is made of its number
+        let names = class.getattr("_fields");
+        let fields = names.map_or(Ok(1), |names| names.len())?;
         Ok(Class {
             is_allocated: is_tuple && class.py().version_info() < (3, 14),
             fields,
@@ -179,15 +190,14 @@ impl Class {
         self.class.is(other)
     }
 
-    /// Makes an object of as many fields: a named tuple in a quarter of the time of a call.
+    /// Makes an object of its fields.
     #[inline]
     pub fn make(
         &self,
         py: Python<'_>,
-        count: usize,
         fields: impl Iterator<Item = PyResult<PyObject>>,
     ) -> PyResult<PyObject> {
-        let class = self.class.as_ptr();
+        let (class, count) = (self.class.as_ptr(), self.fields);
         if !self.is_allocated {
             let fields = tuple(py, count, fields)?;
             return new!(py, PyObject_CallObject(class, fields.as_ptr()));

@@ -7,7 +7,7 @@ use crate::objects::{append, bytes, integer, text, tuple, Class};
 use pyo3::prelude::*;
 use pyo3::sync::GILOnceCell;
 use pyo3::types::PyList;
-use std::iter::{from_fn, once};
+use std::iter::from_fn;
 use vte::Refused;
 
 /// What an object is made of: a number of 60 bits, and what it is. The content of texts and data is
@@ -29,10 +29,10 @@ impl Value {
     }
 }
 
-const EACH: [Is; 10] = {
-    use Is::{Bytes, Data, Flag, Letter, Nothing, Number, Object, Single, Text, Tuple};
+const EACH: [Is; 9] = {
+    use Is::*;
     [
-        Nothing, Flag, Number, Letter, Bytes, Text, Data, Tuple, Single, Object,
+        Nothing, Flag, Number, Letter, Bytes, Text, Data, Tuple, Object,
     ]
 };
 
@@ -50,8 +50,6 @@ pub enum Is {
     Data,
     /// How many fields follow.
     Tuple,
-    /// The number of a tuple that has no other field.
-    Single,
     /// A class, whose fields follow.
     Object,
 }
@@ -302,11 +300,9 @@ pub fn classes(py: Python<'_>) -> PyResult<&'static [Class]> {
     let classes = CLASSES.get_or_try_init(py, || {
         let events = py.import_bound("vte._events")?;
         let calls = py.import_bound("vte.calls")?;
-        let class = |name: &&str| {
-            let class = events.getattr(*name).or_else(|_| calls.getattr(*name))?;
-            Class::of(class)
-        };
-        NAMES.iter().map(class).collect::<PyResult<_>>()
+        let class = |name| events.getattr(name).or_else(|_| calls.getattr(name));
+        let classes = NAMES.iter().map(|name| Class::of(class(*name)?));
+        classes.collect::<PyResult<_>>()
     });
     classes.map(Vec::as_slice)
 }
@@ -329,10 +325,10 @@ impl Maker<'_, '_> {
             Is::Nothing => Ok(py.None()),
             Is::Flag => Ok((number != 0).into_py(py)),
             Is::Number => integer(py, number),
-            Is::Letter => text(
-                py,
-                char::from(number as u8).encode_utf8(&mut [0; 4]).as_bytes(),
-            ),
+            Is::Letter => {
+                let letter = char::from(number as u8);
+                text(py, letter.encode_utf8(&mut [0; 4]).as_bytes())
+            }
             Is::Bytes => {
                 let [count, all @ ..] = number.to_le_bytes();
                 bytes(py, &all[..usize::from(count)])
@@ -340,11 +336,7 @@ impl Maker<'_, '_> {
             Is::Text => text(py, self.content(count)),
             Is::Data => bytes(py, self.content(count)),
             Is::Tuple => tuple(py, count, from_fn(|| Some(self.next()))),
-            Is::Single => tuple(py, 1, once(integer(py, number))),
-            Is::Object => {
-                let class = &self.classes[count];
-                class.make(py, class.fields, from_fn(|| Some(self.next())))
-            }
+            Is::Object => self.classes[count].make(py, from_fn(|| Some(self.next()))),
         }
     }
 

@@ -60,11 +60,11 @@ impl TakeText for Tape {
 }
 
 fields! {
-    Kind: kind => Value(Is::Object, kind as i64);
+    Kind: kind => Value::new(Is::Object, kind as i64);
     // the letter of a clipboard
     u8: byte => char::from(byte);
-    u16: number => Value(Is::Number, number.into());
-    i32: number => Value(Is::Number, number.into());
+    u16: number => Value::new(Is::Number, number.into());
+    i32: number => Value::new(Is::Number, number.into());
     CharsetIndex: index => index as u16;
     CursorIcon: icon => icon.name();
     Mode: mode => mode.raw();

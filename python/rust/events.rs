@@ -42,6 +42,8 @@ pub struct Recorder {
     pub tape: Tape,
     kinds: Kinds,
     stops: Kinds,
+    // those after which it is terminated
+    pauses: Kinds,
     is_paused: bool,
     pub has_stopped: bool,
     // where it stands whether the last command lost data
@@ -51,6 +53,10 @@ pub struct Recorder {
 impl Recorder {
     pub fn start(&mut self, kinds: Kinds, stops: Kinds) {
         (self.kinds, self.stops, self.has_stopped) = (kinds, stops, false);
+        self.pauses = Kinds(match self.only_commands() {
+            true => Kinds::ALL.0,
+            false => stops.0 | Kinds::COMMANDS.0,
+        });
     }
 
     pub fn go_on(&mut self) {
@@ -72,7 +78,7 @@ impl Recorder {
     #[inline]
     fn begin(&mut self, kind: Kind) -> Option<&mut Tape> {
         self.has_stopped |= self.stops.has(kind);
-        self.is_paused |= self.has_stopped || kind == Kind::Osc || self.only_commands();
+        self.is_paused |= self.pauses.has(kind);
         self.tape.end_run();
         self.kinds.has(kind).then(|| self.tape.begin(kind))
     }
@@ -84,12 +90,13 @@ fields! {
     &[&[u8]]: pieces => Tuple(pieces.iter().copied());
 }
 
-/// At most seven bytes.
+/// At most six bytes.
 fn brief(bytes: &[u8]) -> Value {
-    let mut all = [0; 8];
-    all[0] = bytes.len() as u8;
-    all[1..=bytes.len()].copy_from_slice(bytes);
-    Value(Is::Bytes, i64::from_le_bytes(all))
+    let all = bytes
+        .iter()
+        .rev()
+        .fold(0, |all, byte| all << 8 | i64::from(*byte));
+    Value::new(Is::Bytes, all << 8 | bytes.len() as i64)
 }
 
 /// Records an event with its fields, if it is wanted.

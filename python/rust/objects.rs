@@ -8,6 +8,16 @@ use pyo3::exceptions::PyRuntimeError;
 use pyo3::pyclass::boolean_struct::False;
 use pyo3::types::{PyBytes, PyList, PyMemoryView, PyString, PyTuple, PyType};
 use pyo3::{ffi, prelude::*, PyClass, PyTypeInfo};
+use std::os::raw::c_char;
+
+/// Calls a function of Python that returns a new reference, or null with an error. It gets objects,
+/// numbers, the bytes of a slice, or texts that end in NUL.
+macro_rules! new {
+    ($py:expr, $function:ident($($argument:expr),+)) => {
+        // SAFETY: the arguments are as said above, and the lock is held
+        unsafe { PyObject::from_owned_ptr_or_err($py, ffi::$function($($argument),+)) }
+    };
+}
 
 /// From how many bytes on other threads may run meanwhile. Below, a release costs more than it
 /// gives: beside a busy thread it takes up to 5 ms to get the interpreter's lock again.
@@ -21,11 +31,16 @@ pub fn run<T: Send>(py: Python<'_>, length: usize, read: impl FnOnce() -> T + Se
     }
 }
 
+/// A text that ends in NUL, as C takes it.
+fn for_c(text: &'static str) -> *const c_char {
+    debug_assert!(text.ends_with('\0'));
+    text.as_ptr().cast()
+}
+
 /// An error with a text that ends in NUL. PyO3's errors take memory in a way that can't fail.
 pub fn error<T: PyTypeInfo>(py: Python<'_>, text: &'static str) -> PyErr {
-    debug_assert!(text.ends_with('\0'));
     // SAFETY: a class of exceptions, and a text that ends in NUL
-    unsafe { ffi::PyErr_SetString(T::type_object_raw(py).cast(), text.as_ptr().cast()) };
+    unsafe { ffi::PyErr_SetString(T::type_object_raw(py).cast(), for_c(text)) };
     PyErr::fetch(py)
 }
 
@@ -43,8 +58,7 @@ pub fn bytes_of<'py>(data: &Bound<'py, PyAny>) -> PyResult<Bound<'py, PyBytes>> 
         return Ok(bytes.clone());
     }
     let view = PyMemoryView::from_bound(data)?;
-    // SAFETY: a new reference
-    let copied = unsafe { made(data.py(), ffi::PyBytes_FromObject(view.as_ptr()))? };
+    let copied = new!(data.py(), PyBytes_FromObject(view.as_ptr()))?;
     Ok(copied.into_bound(data.py()).downcast_into()?)
 }
 
@@ -53,11 +67,11 @@ pub fn encoded<'py>(
     text: &Bound<'py, PyString>,
     errors: &'static str,
 ) -> PyResult<Bound<'py, PyBytes>> {
-    debug_assert!(errors.ends_with('\0'));
-    let (py, text) = (text.py(), text.as_ptr());
-    let (utf8, errors) = ("utf-8\0".as_ptr().cast(), errors.as_ptr().cast());
-    // SAFETY: a `str`, texts that end in NUL, and a new reference
-    let encoded = unsafe { made(py, ffi::PyUnicode_AsEncodedString(text, utf8, errors))? };
+    let (py, text, errors) = (text.py(), text.as_ptr(), for_c(errors));
+    let encoded = new!(
+        py,
+        PyUnicode_AsEncodedString(text, for_c("utf-8\0"), errors)
+    )?;
     Ok(encoded.into_bound(py).downcast_into()?)
 }
 
@@ -66,15 +80,6 @@ pub fn no_memory(py: Python<'_>) -> PyErr {
     // SAFETY: the lock is held
     unsafe { ffi::PyErr_NoMemory() };
     PyErr::fetch(py)
-}
-
-/// The owner of a new object.
-///
-/// # Safety
-///
-/// The pointer is a new reference, or null if Python has set an error.
-unsafe fn made(py: Python<'_>, object: *mut ffi::PyObject) -> PyResult<PyObject> {
-    PyObject::from_owned_ptr_or_err(py, object)
 }
 
 fn size(length: usize) -> ffi::Py_ssize_t {
@@ -89,27 +94,21 @@ pub fn text(py: Python<'_>, utf8: &[u8]) -> PyResult<PyObject> {
 
 /// A `str` of bytes, as `encoded` makes them.
 pub fn decoded(py: Python<'_>, utf8: &[u8], errors: &'static str) -> PyResult<PyObject> {
-    debug_assert!(errors.ends_with('\0'));
     let (place, length) = (utf8.as_ptr().cast(), size(utf8.len()));
-    let errors = errors.as_ptr().cast();
-    // SAFETY: the bytes are those of a slice, and the text ends in NUL
-    unsafe { made(py, ffi::PyUnicode_DecodeUTF8(place, length, errors)) }
+    new!(py, PyUnicode_DecodeUTF8(place, length, for_c(errors)))
 }
 
 pub fn bytes(py: Python<'_>, content: &[u8]) -> PyResult<PyObject> {
     let (place, length) = (content.as_ptr().cast(), size(content.len()));
-    // SAFETY: the bytes are those of a slice
-    unsafe { made(py, ffi::PyBytes_FromStringAndSize(place, length)) }
+    new!(py, PyBytes_FromStringAndSize(place, length))
 }
 
 pub fn integer(py: Python<'_>, value: i64) -> PyResult<PyObject> {
-    // SAFETY: the lock is held
-    unsafe { made(py, ffi::PyLong_FromLongLong(value)) }
+    new!(py, PyLong_FromLongLong(value))
 }
 
 pub fn real(py: Python<'_>, value: f64) -> PyResult<PyObject> {
-    // SAFETY: the lock is held
-    unsafe { made(py, ffi::PyFloat_FromDouble(value)) }
+    new!(py, PyFloat_FromDouble(value))
 }
 
 /// A tuple of as many values.
@@ -118,8 +117,9 @@ pub fn tuple(
     count: usize,
     values: impl Iterator<Item = PyResult<PyObject>>,
 ) -> PyResult<PyObject> {
+    let tuple = new!(py, PyTuple_New(size(count)))?;
     // SAFETY: a new tuple of this size
-    unsafe { filled(made(py, ffi::PyTuple_New(size(count)))?, count, values) }
+    unsafe { filled(tuple, count, values) }
 }
 
 /// Sets the places of a new tuple. Those whose values can't be made stay null, which nothing but
@@ -142,9 +142,25 @@ unsafe fn filled(
 
 /// A new list.
 pub fn list(py: Python<'_>) -> PyResult<Bound<'_, PyList>> {
-    // SAFETY: a new list
-    let made = unsafe { made(py, ffi::PyList_New(0))? };
-    Ok(made.into_bound(py).downcast_into()?)
+    Ok(new!(py, PyList_New(0))?.into_bound(py).downcast_into()?)
+}
+
+/// Lets a list grow unseen by the collector, which would look at all of it again and again.
+pub fn unseen<T>(list: &Bound<'_, PyList>, grow: impl FnOnce() -> T) -> T {
+    // SAFETY: a list, which the collector sees before and after
+    unsafe { ffi::PyObject_GC_UnTrack(list.as_ptr().cast()) };
+    let grown = grow();
+    unsafe { ffi::PyObject_GC_Track(list.as_ptr().cast()) };
+    grown
+}
+
+/// Appends to a list.
+pub fn append(list: &Bound<'_, PyList>, object: &Bound<'_, PyAny>) -> PyResult<()> {
+    // SAFETY: a list and an object
+    match unsafe { ffi::PyList_Append(list.as_ptr(), object.as_ptr()) } {
+        0 => Ok(()),
+        _ => Err(PyErr::fetch(list.py())),
+    }
 }
 
 /// A class of Python's half of the package.
@@ -153,17 +169,16 @@ pub struct Class {
     // whether its allocator makes objects whole, as it does tuples. From Python 3.14 on a tuple has
     // its hash too, which is set elsewhere
     is_allocated: bool,
-    /// How many fields an object has.
-    pub fields: usize,
+    // how many fields an object has
+    fields: usize,
 }
 
 impl Class {
     pub fn of(class: Bound<'_, PyAny>) -> PyResult<Self> {
         let is_tuple = class.downcast::<PyType>()?.is_subclass_of::<PyTuple>()?;
-        // what is no named tuple is made of its number
-        let fields = class
-            .getattr("_fields")
-            .map_or(Ok(1), |names| names.len())?;
+        // a member of an enumeration is made of its number
+        let names = class.getattr("_fields");
+        let fields = names.map_or(Ok(1), |names| names.len())?;
         Ok(Class {
             is_allocated: is_tuple && class.py().version_info() < (3, 14),
             fields,
@@ -175,24 +190,22 @@ impl Class {
         self.class.is(other)
     }
 
-    /// Makes an object of as many fields: a named tuple in a quarter of the time of a call.
+    /// Makes an object of its fields.
     #[inline]
     pub fn make(
         &self,
         py: Python<'_>,
-        count: usize,
         fields: impl Iterator<Item = PyResult<PyObject>>,
     ) -> PyResult<PyObject> {
-        let class = self.class.as_ptr();
-        // SAFETY: a class is called with a tuple, or has the layout of a tuple, of which its
-        // allocator makes one of this size; both are new references
+        let (class, count) = (self.class.as_ptr(), self.fields);
+        if !self.is_allocated {
+            let fields = tuple(py, count, fields)?;
+            return new!(py, PyObject_CallObject(class, fields.as_ptr()));
+        }
+        let made = new!(py, PyType_GenericAlloc(class.cast(), size(count)))?;
+        // SAFETY: it has the layout of a tuple of this size. What it holds is in no cycle, so the
+        // collector needn't look at it
         unsafe {
-            if !self.is_allocated {
-                let fields = tuple(py, count, fields)?;
-                return made(py, ffi::PyObject_CallObject(class, fields.as_ptr()));
-            }
-            let made = made(py, ffi::PyType_GenericAlloc(class.cast(), size(count)))?;
-            // what it holds is in no cycle, so the collector needn't look at it
             ffi::PyObject_GC_UnTrack(made.as_ptr().cast());
             filled(made, count, fields)
         }

@@ -1,7 +1,7 @@
 //! How streams are read, and what an error has.
 
 use crate::calls::Kind;
-use crate::objects::{integer, list, no_memory, run, LONG};
+use crate::objects::{integer, list, no_memory, run, unseen, LONG};
 use crate::tape::{classes, Tape};
 use pyo3::exceptions::PyMemoryError;
 use pyo3::prelude::*;
@@ -55,11 +55,7 @@ pub fn read(
 /// Reads until objects are to be made. Returns how much was read, and whether memory was refused.
 fn read_some(reader: &mut impl Reader, source: &[u8]) -> (usize, bool) {
     let mut at = 0;
-    let most = if source.len() < LONG {
-        MOST
-    } else {
-        MOST_OF_LONG
-    };
+    let most = [MOST, MOST_OF_LONG][usize::from(source.len() >= LONG)];
     while at < source.len() && reader.tape().count() < most && !reader.has_stopped() {
         match reader.read(&source[at..]) {
             Ok(read) => at += read,
@@ -81,7 +77,7 @@ pub fn make(
     if tape.has_lost() {
         return Err(no_memory(py));
     }
-    let error = match tape.make(made, ends) {
+    let error = match unseen(made, || tape.make(made, ends)) {
         Ok(()) if is_refused => no_memory(py),
         Ok(()) => return Ok(()),
         Err(error) => error,
@@ -92,7 +88,7 @@ pub fn make(
     let read = integer(py, read as i64);
     let values = [read, Ok(made.as_any().clone().unbind())].into_iter();
     let class = &classes(py)?[Kind::Refused as usize];
-    Err(match class.make(py, 2, values) {
+    Err(match class.make(py, values) {
         Ok(refused) => PyErr::from_value_bound(refused.into_bound(py)),
         Err(_) => no_memory(py),
     })

@@ -3,19 +3,41 @@
 //! still there.
 
 use crate::calls::{Kind, NAMES};
-use crate::objects::{bytes, integer, text, tuple, Class};
+use crate::objects::{append, bytes, integer, text, tuple, Class};
 use pyo3::prelude::*;
 use pyo3::sync::GILOnceCell;
 use pyo3::types::PyList;
 use std::iter::from_fn;
 use vte::Refused;
 
-/// What an object is made of. The content of texts and data is stored beside it, in the same order.
+/// What an object is made of: a number of 60 bits, and what it is. The content of texts and data is
+/// stored beside it, in the same order.
 #[derive(Clone, Copy, PartialEq)]
-pub struct Value(pub Is, pub i64);
+pub struct Value(i64);
+
+impl Value {
+    pub fn new(is: Is, number: i64) -> Self {
+        Value(number << 4 | is as i64)
+    }
+
+    fn plus(self, more: usize) -> Self {
+        Value(self.0 + ((more as i64) << 4))
+    }
+
+    fn parts(self) -> (Is, i64) {
+        (EACH[(self.0 & 15) as usize], self.0 >> 4)
+    }
+}
+
+const EACH: [Is; 9] = {
+    use Is::*;
+    [
+        Nothing, Flag, Number, Letter, Bytes, Text, Data, Tuple, Object,
+    ]
+};
 
 /// What the number of a value is.
-#[derive(Clone, Copy, PartialEq)]
+#[derive(Clone, Copy)]
 pub enum Is {
     Nothing,
     Flag,
@@ -51,12 +73,12 @@ macro_rules! fields {
 pub(crate) use fields;
 
 fields! {
-    bool: flag => Value(Is::Flag, flag.into());
-    char: letter => Value(Is::Letter, u32::from(letter).into());
+    bool: flag => Value::new(Is::Flag, flag.into());
+    char: letter => Value::new(Is::Letter, u32::from(letter).into());
     // what is a number of the stream, or a place in what was sent
-    usize: number => Value(Is::Number, number as i64);
-    &str: text => Content(text.as_bytes()), Value(Is::Text, text.len() as i64);
-    &[u8]: data => Content(data), Value(Is::Data, data.len() as i64);
+    usize: number => Value::new(Is::Number, number as i64);
+    &str: text => Content(text.as_bytes()), Value::new(Is::Text, text.len() as i64);
+    &[u8]: data => Content(data), Value::new(Is::Data, data.len() as i64);
 }
 
 impl Field for Value {
@@ -92,7 +114,7 @@ where
     I::Item: Field,
 {
     fn record(self, tape: &mut Tape) {
-        tape.with(Value(Is::Tuple, self.0.clone().count() as i64));
+        tape.with(Value::new(Is::Tuple, self.0.clone().count() as i64));
         self.0.for_each(|field| field.record(tape));
     }
 }
@@ -101,7 +123,7 @@ impl<T: Field> Field for Option<T> {
     fn record(self, tape: &mut Tape) {
         match self {
             Some(field) => field.record(tape),
-            None => Value(Is::Nothing, 0).record(tape),
+            None => Value::new(Is::Nothing, 0).record(tape),
         }
     }
 }
@@ -174,8 +196,8 @@ impl Tape {
     #[inline]
     pub fn add_run<T: Field + AsRef<[u8]>>(&mut self, kind: Kind, run: T) {
         match self.values.last_mut() {
-            Some(Value(_, length)) if self.is_open => {
-                *length += run.as_ref().len() as i64;
+            Some(length) if self.is_open => {
+                *length = length.plus(run.as_ref().len());
                 self.with(Content(run.as_ref()));
             }
             _ => {
@@ -196,7 +218,7 @@ impl Tape {
     }
 
     pub fn set(&mut self, place: usize, flag: bool) {
-        self.values[place] = Value(Is::Flag, flag.into());
+        self.values[place] = Value::new(Is::Flag, flag.into());
     }
 
     /// Returns whether there was no memory to record something. Then all that is recorded is
@@ -212,18 +234,17 @@ impl Tape {
     /// Makes the objects, and appends them to a list, but not the last if it may go on. If memory
     /// is refused, those that aren't made stay.
     pub fn make(&mut self, list: &Bound<'_, PyList>, ends: bool) -> PyResult<()> {
-        let (py, classes) = (list.py(), classes(list.py())?);
+        let classes = classes(list.py())?;
         let count = self.places.len() - usize::from(self.is_open && !ends);
         let (mut made, mut start, mut done) = (0, (0, 0), Ok(()));
-        while made < count && done.is_ok() {
+        while made < count {
             let all = (self.values.len(), self.content.len());
             let end = self.places.get(made + 1).copied().unwrap_or(all);
-            done = self
-                .object(py, classes, start, end)
-                .and_then(|object| list.append(object.into_bound(py)));
-            if done.is_ok() {
-                (made, start) = (made + 1, end);
+            if let Err(error) = self.append(list, classes, start, end) {
+                done = Err(error);
+                break;
             }
+            (made, start) = (made + 1, end);
         }
         self.places.drain(..made);
         self.values.drain(..start.0);
@@ -235,14 +256,14 @@ impl Tape {
     }
 
     #[inline]
-    fn object(
+    fn append(
         &mut self,
-        py: Python<'_>,
+        list: &Bound<'_, PyList>,
         classes: &[Class],
         start: Place,
         end: Place,
-    ) -> PyResult<PyObject> {
-        let values = &self.values[start.0..end.0];
+    ) -> PyResult<()> {
+        let (py, values) = (list.py(), &self.values[start.0..end.0]);
         let mut maker = Maker {
             py,
             classes,
@@ -250,25 +271,25 @@ impl Tape {
             content: &self.content[start.1..end.1],
         };
         if !maker.content.is_empty() {
-            return maker.next();
+            return append(list, &maker.next()?.into_bound(py));
         }
-        let hash = values.iter().fold(0, |hash: u64, Value(_, number)| {
-            (hash.rotate_left(5) ^ *number as u64).wrapping_mul(0x517C_C1B7_2722_0A95)
+        let hash = values.iter().fold(0, |hash: u64, Value(value)| {
+            (hash.rotate_left(5) ^ *value as u64).wrapping_mul(0x517C_C1B7_2722_0A95)
         });
         if self.known.is_empty() && self.known.try_reserve_exact(1 << KNOWN).is_ok() {
             self.known.resize_with(1 << KNOWN, || None);
         }
         match self.known.get_mut((hash >> (u64::BITS - KNOWN)) as usize) {
-            Some(Some((known, made))) if known == values => Ok(made.clone_ref(py)),
-            Some(place) => {
+            Some(Some((known, made))) if known == values => append(list, made.bind(py)),
+            place => {
                 let (made, mut key) = (maker.next()?, Vec::new());
-                if key.try_reserve_exact(values.len()).is_ok() {
+                append(list, made.bind(py))?;
+                if let (Some(place), Ok(())) = (place, key.try_reserve_exact(values.len())) {
                     key.extend_from_slice(values);
-                    *place = Some((key, made.clone_ref(py)));
+                    *place = Some((key, made));
                 }
-                Ok(made)
+                Ok(())
             }
-            None => maker.next(),
         }
     }
 }
@@ -279,11 +300,9 @@ pub fn classes(py: Python<'_>) -> PyResult<&'static [Class]> {
     let classes = CLASSES.get_or_try_init(py, || {
         let events = py.import_bound("vte._events")?;
         let calls = py.import_bound("vte.calls")?;
-        let class = |name: &&str| {
-            let class = events.getattr(*name).or_else(|_| calls.getattr(*name))?;
-            Class::of(class)
-        };
-        NAMES.iter().map(class).collect::<PyResult<_>>()
+        let class = |name| events.getattr(name).or_else(|_| calls.getattr(name));
+        let classes = NAMES.iter().map(|name| Class::of(class(*name)?));
+        classes.collect::<PyResult<_>>()
     });
     classes.map(Vec::as_slice)
 }
@@ -299,16 +318,17 @@ struct Maker<'a, 'py> {
 impl Maker<'_, '_> {
     fn next(&mut self) -> PyResult<PyObject> {
         let py = self.py;
-        let Value(is, number) = *self.values.next().expect("each field has a value");
+        let value = self.values.next().expect("each field has a value");
+        let (is, number) = value.parts();
         let count = number as usize;
         match is {
             Is::Nothing => Ok(py.None()),
             Is::Flag => Ok((number != 0).into_py(py)),
             Is::Number => integer(py, number),
-            Is::Letter => text(
-                py,
-                char::from(number as u8).encode_utf8(&mut [0; 4]).as_bytes(),
-            ),
+            Is::Letter => {
+                let letter = char::from(number as u8);
+                text(py, letter.encode_utf8(&mut [0; 4]).as_bytes())
+            }
             Is::Bytes => {
                 let [count, all @ ..] = number.to_le_bytes();
                 bytes(py, &all[..usize::from(count)])
@@ -316,10 +336,7 @@ impl Maker<'_, '_> {
             Is::Text => text(py, self.content(count)),
             Is::Data => bytes(py, self.content(count)),
             Is::Tuple => tuple(py, count, from_fn(|| Some(self.next()))),
-            Is::Object => {
-                let class = &self.classes[count];
-                class.make(py, class.fields, from_fn(|| Some(self.next())))
-            }
+            Is::Object => self.classes[count].make(py, from_fn(|| Some(self.next()))),
         }
     }
 

@@ -19,16 +19,10 @@ TITLE = b"\x1b]0;" + b"t" * 1000 + b"\x07"
 MOST = b"a" * 1024
 
 
-class Bytes(bytes):
-    """Bytes of another type."""
-
-
-class OwnParser(vte.Parser):
-    """A parser of another type."""
-
-
-class OwnStripper(vte.Stripper):
-    """A stripper of another type."""
+# classes made from others
+Bytes = type("Bytes", (bytes,), {})
+OwnParser = type("OwnParser", (vte.Parser,), {})
+OwnStripper = type("OwnStripper", (vte.Stripper,), {})
 
 
 @pytest.fixture(params=[None, 1024], ids="limit={}".format)

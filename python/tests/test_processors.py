@@ -5,13 +5,11 @@ import time
 
 import pytest
 from common import EXAMPLES
+from screen import Screen
 
 import vte
 from vte import calls
 from vte.calls import Attribute, Input, Rgb, TerminalAttribute
-
-sys.path.insert(0, str(EXAMPLES))
-from screen import Screen  # noqa: E402
 
 STREAM = (b"h\xc3\xbc\x1b[5;3H\x1b[1;38;2;1;2;3m\x1b]0;t;i\x07\xff\x1b]8;id=abc;y\x1b\\\x1b[3r"
           b"\x1b[23m\x1b]52;c;YQ==\x07\x1b]4;9;?\x07")

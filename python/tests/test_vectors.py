@@ -1,19 +1,15 @@
 """Compares events, texts and calls with the test vectors, which an sdist doesn't have."""
 import json
-import sys
-from pathlib import Path
 
 import pytest
 from call_words import lines_of, name_of, words_of_line
 from common import EXAMPLES, cut, feed
+from events import line
 
 import vte
 from vte import calls
 
-sys.path.insert(0, str(EXAMPLES))
-from events import line  # noqa: E402
-
-FOLDER = Path(__file__).resolve().parent.parent.parent / "vectors"
+FOLDER = EXAMPLES.parent.parent / "vectors"
 
 
 def vectors(file, kind):

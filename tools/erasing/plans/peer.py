@@ -2,6 +2,7 @@
 `vte` or ours. tools/building erases these files when it builds.
 """
 from erasing.plan import Plan
+from erasing.plans.vte import HINTED
 
 PEER = Plan(
     folder="",
@@ -38,7 +39,7 @@ PEER = Plan(
             ("for (place, byte) in bytes.iter().enumerate() { cells[place].show$x; }",
              "for (cell, byte) in cells.iter_mut().zip(bytes) { cell.show$x; }")],
         "race/screens": [("fn shown", "pub(crate) fn shown")],
-        "vte_handler/by_call": [
+        "vte_handler/by_call": HINTED + [
             ("title: Option<&str>", "title: Option<String>"),
             ("SetTitle(title)", "SetTitle(title.as_deref())"),
             ("prefix: &str", "prefix: String"),

@@ -388,7 +388,7 @@ impl<T: TakeCall> Handler for ByCall<T> {
         self.0.take(HandlerCall::ClearTabs(which));
     }
 
-    #[inline(always)]
+    #[inline]
     fn terminal_attribute(&mut self, attribute: Attr) {
         self.0.take(HandlerCall::TerminalAttribute(attribute));
     }

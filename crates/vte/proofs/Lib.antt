@@ -2,7 +2,7 @@
 -- words. docs/PROOFS.md leads from the headline down.
 pub mod Common
 pub mod performing
-pub mod runs
+pub mod replays
 pub mod turns
 pub mod updates
 -- Lemmas of single functions, most of them cited by attributes in the code.

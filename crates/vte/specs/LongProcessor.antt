@@ -6,7 +6,7 @@ use Rattle.vte_core.specs.Stream.{events}
 use Rattle.vte_core.specs.declared.parser.refused.Refused.{Refused}
 use Rattle.vte.specs.Calls.{last_printed}
 use Rattle.vte.specs.Memory.{HasMemory, KeepsMemory, LacksMemoryFor, LacksMemoryOnTheWay}
-use Rattle.vte.specs.Processor.{Meaning, Stage}
+use Rattle.vte.specs.Processor.{Meaning, State}
 use Rattle.vte.specs.ProcessorCalls.{IsAt, ReadsInTurns, StopsSync, held_of}
 use Rattle.vte.specs.Refusal.{HasTaken}
 use Rattle.vte.specs.declared.ansi.long_processor.LongProcessor.{LongProcessor}
@@ -54,7 +54,7 @@ pub record StopsSyncLong {T A V W : Type 0} (timeout_of : T → W) (m : Meaning 
     (old new : LongProcessor T A) (before value : V) : Type 0 where
   pub stops : StopsSync m (HasParsedAndHoldsLong timeout_of old)
       (HasParsedAndHoldsLong timeout_of new) before value
-  pub memory : (s : Stage V W) → IsAt (HasParsedAndHoldsLong timeout_of old) before s
+  pub memory : (s : State V W) → IsAt (HasParsedAndHoldsLong timeout_of old) before s
       → KeepsMemory old new
 
 -- How many bytes a call read.
@@ -70,13 +70,13 @@ pub record AdvancesLong {T A V W : Type 0} (timeout_of : T → W) (m : Meaning V
   pub all : IfOk result (λ all. ReadsInTurns m (HasParsedAndHoldsLong timeout_of old)
       (HasParsedAndHoldsLong timeout_of new) before value bytes)
   -- .. or those that the first turns of such a call read.
-  pub takes : (s : Stage V W) → IsAt (HasParsedAndHoldsLong timeout_of old) before s
+  pub takes : (s : State V W) → IsAt (HasParsedAndHoldsLong timeout_of old) before s
       → HasTaken m s bytes (read_of result bytes)
       (IsAt (HasParsedAndHoldsLong timeout_of new) value)
   pub within : IfErr result (λ refused. refused.read < length bytes)
   pub lacks : IfErr result (λ refused. LacksMemoryOnTheWay new (length bytes - refused.read))
-  pub memory : (s : Stage V W) → IsAt (HasParsedAndHoldsLong timeout_of old) before s
+  pub memory : (s : State V W) → IsAt (HasParsedAndHoldsLong timeout_of old) before s
       → KeepsMemory old new
   -- If there was memory for all bytes, none is refused.
-  pub enough : (s : Stage V W) → IsAt (HasParsedAndHoldsLong timeout_of old) before s
+  pub enough : (s : State V W) → IsAt (HasParsedAndHoldsLong timeout_of old) before s
       → HasMemory old s.parsed (length s.held + length bytes) → IsOk result

@@ -9,8 +9,8 @@ use Rattle.vte_handler.specs.Timeout.{TimeoutMeaning, AllowsAlone, IsKept}
 use Rattle.vte.specs.BeginUpdate.{begin_count}
 use Rattle.vte.specs.Calls.{added_calls}
 use Rattle.vte.specs.Synchronized.{begins_among, kept_of, last_part, update_ended, begin_update, begins_with, after_last_end}
-use Rattle.vte.specs.declared.ansi.laws.runs.Step.{Step}
-use Rattle.vte.specs.declared.ansi.laws.runs.Step.TheVariants.{Advance, StopSync}
+use Rattle.vte.specs.declared.ansi.laws.replays.Step.{Step}
+use Rattle.vte.specs.declared.ansi.laws.replays.Step.TheVariants.{Advance, StopSync}
 
 -- What a processor's parser, handler and timeout mean.
 pub record Meaning (H W : Type 0) : Type 1 where
@@ -43,13 +43,13 @@ calls_added limit stream more = added_calls (events limit stream) (events limit 
 
 -- The state between calls: the bytes parsed so far, those held after them, and the values of the
 -- timeout and the handler.
-pub record Stage (H W : Type 0) : Type 0 where
+pub record State (H W : Type 0) : Type 0 where
   pub parsed : List ℕ
   pub held : List ℕ
   pub timeout : W
   pub handler : H
 
-abbrev pub all_bytes : {H W : Type 0} → Stage H W → List ℕ
+abbrev pub all_bytes : {H W : Type 0} → State H W → List ℕ
 all_bytes s = s.parsed ++ s.held
 
 -- The maximum number of held bytes.
@@ -58,7 +58,7 @@ most_held = 2097150
 
 -- Bytes are parsed: the handler receives the calls that they add, and each update that they begin
 -- sets the timeout.
-abbrev pub parse : {H W : Type 0} → Meaning H W → Stage H W → List ℕ → Stage H W
+abbrev pub parse : {H W : Type 0} → Meaning H W → State H W → List ℕ → State H W
 parse m s bytes = record {
   parsed = s.parsed ++ bytes;
   held = s.held;
@@ -66,13 +66,13 @@ parse m s bytes = record {
   handler = after m.step s.handler (calls_added m.limit s.parsed bytes);
 }
 
-abbrev pub with_held : {H W : Type 0} → Stage H W → List ℕ → Stage H W
+abbrev pub with_held : {H W : Type 0} → State H W → List ℕ → State H W
 with_held s bytes =
     record { parsed = s.parsed; held = bytes; timeout = s.timeout; handler = s.handler }
 
 -- A stop: the whole hold is parsed, the handler receives the call that reports the end of an
 -- update, and the timeout is cleared.
-abbrev pub stop : {H W : Type 0} → Meaning H W → Stage H W → Stage H W
+abbrev pub stop : {H W : Type 0} → Meaning H W → State H W → State H W
 stop m s = let p = parse m s s.held in record {
   parsed = p.parsed;
   held = [];
@@ -82,7 +82,7 @@ stop m s = let p = parse m s s.held in record {
 
 -- The result of a turn: a state, and the unread bytes of the call.
 pub record Turn (H W : Type 0) : Type 0 where
-  pub state : Stage H W
+  pub state : State H W
   pub rest : List ℕ
 
 -- The shortest prefix whose last byte begins an update, or all bytes if there is none.
@@ -93,14 +93,14 @@ begin_front limit parsed (b ∷ rest) =
     else b ∷ begin_front limit (parsed ++ b ∷ []) rest
 
 -- An open turn: bytes are parsed up to the one that begins an update.
-abbrev pub open_turn : {H W : Type 0} → Meaning H W → Stage H W → List ℕ → Turn H W
+abbrev pub open_turn : {H W : Type 0} → Meaning H W → State H W → List ℕ → Turn H W
 open_turn m s bytes =
     let front = begin_front m.limit s.parsed bytes in
     record { state = parse m s front; rest = drop (length front) bytes }
 
 -- The bytes join the hold. Each begin-update that ends among them, and after the last end-update,
 -- sets the timeout.
-abbrev pub extend : {H W : Type 0} → Meaning H W → Stage H W → List ℕ → Stage H W
+abbrev pub extend : {H W : Type 0} → Meaning H W → State H W → List ℕ → State H W
 extend m s bytes = let all = s.held ++ bytes in record {
   parsed = s.parsed;
   held = all;
@@ -109,50 +109,50 @@ extend m s bytes = let all = s.held ++ bytes in record {
 }
 
 -- The held bytes before a place are parsed, and the others stay.
-abbrev pub parse_held : {H W : Type 0} → Meaning H W → Stage H W → ℕ → Stage H W
+abbrev pub parse_held : {H W : Type 0} → Meaning H W → State H W → ℕ → State H W
 parse_held m s place = with_held (parse m s (take place s.held)) (drop place s.held)
 
 -- Bytes at the end of the hold are kept, and those before them parsed. If none are kept, the update
 -- is stopped.
-abbrev pub keep : {H W : Type 0} → Meaning H W → Stage H W → List ℕ → Stage H W
+abbrev pub keep : {H W : Type 0} → Meaning H W → State H W → List ℕ → State H W
 keep m s [] = stop m s
 keep m s (b ∷ kept) = parse_held m s (length s.held - length (b ∷ kept))
 
 -- A hold turn. Without an end-update everything stays held; after the last one, what the next
 -- begin-update begins.
-abbrev pub hold_turn : {H W : Type 0} → Meaning H W → Stage H W → List ℕ → Stage H W
+abbrev pub hold_turn : {H W : Type 0} → Meaning H W → State H W → List ℕ → State H W
 hold_turn m s bytes = keep m (extend m s bytes) (kept_of (s.held ++ bytes))
 
 -- While the timeout is pending, the bytes of a turn are held if there is room.
-abbrev pub is_held : {H W : Type 0} → Bool → Stage H W → List ℕ → Bool
+abbrev pub is_held : {H W : Type 0} → Bool → State H W → List ℕ → Bool
 is_held answer s bytes = answer && nat_le (length (s.held ++ bytes)) most_held
 
 -- Otherwise they are parsed. If the timeout is pending, or bytes are held whose update has expired,
 -- the update is stopped first.
-abbrev pub is_stopped : {H W : Type 0} → Bool → Stage H W → Bool
+abbrev pub is_stopped : {H W : Type 0} → Bool → State H W → Bool
 is_stopped answer s = answer || nat_lt 0 (length s.held)
 
-abbrev pub stop_if_due : {H W : Type 0} → Meaning H W → Bool → Stage H W → Stage H W
+abbrev pub stop_if_due : {H W : Type 0} → Meaning H W → Bool → State H W → State H W
 stop_if_due m answer s = if is_stopped answer s then stop m s else s
 
 -- A turn, by the timeout's answer.
-abbrev pub turn : {H W : Type 0} → Meaning H W → Bool → Stage H W → List ℕ → Turn H W
+abbrev pub turn : {H W : Type 0} → Meaning H W → Bool → State H W → List ℕ → Turn H W
 turn m answer s bytes =
     if is_held answer s bytes then record { state = hold_turn m s bytes; rest = [] }
     else open_turn m (stop_if_due m answer s) bytes
 
 -- Turns of a call that led to a state and left these bytes, each with an answer that the timeout's
 -- value allows.
-pub data TakesTurns {H W : Type 0} (m : Meaning H W) : Stage H W → List ℕ → Stage H W → List ℕ
+pub data TakesTurns {H W : Type 0} (m : Meaning H W) : State H W → List ℕ → State H W → List ℕ
     → Type 0 where
-  done : {s : Stage H W} {bytes : List ℕ} → TakesTurns m s bytes s bytes
-  turns : {s t : Stage H W} {b : ℕ} {rest left : List ℕ} → (answer : Bool)
+  done : {s : State H W} {bytes : List ℕ} → TakesTurns m s bytes s bytes
+  turns : {s t : State H W} {b : ℕ} {rest left : List ℕ} → (answer : Bool)
       → m.timeout.allows s.timeout answer
       → TakesTurns m (turn m answer s (b ∷ rest)).state (turn m answer s (b ∷ rest)).rest t left
       → TakesTurns m s (b ∷ rest) t left
 
 -- A call of `advance`: turns until all bytes are read.
-abbrev pub TakesAllTurns : {H W : Type 0} → Meaning H W → Stage H W → List ℕ → Stage H W → Type 0
+abbrev pub TakesAllTurns : {H W : Type 0} → Meaning H W → State H W → List ℕ → State H W → Type 0
 TakesAllTurns m s bytes t = TakesTurns m s bytes t []
 
 -- The last parsed byte began an update.
@@ -183,15 +183,15 @@ pub record HoldsWell {W : Type 0} (limit : Option ℕ) (m : TimeoutMeaning W) (p
   pub kept : IsKept m → IsOutsideUpdate m held timeout ⊎ IsInsideUpdate limit m parsed held timeout
 
 -- The facts about the hold at a state.
-abbrev pub HoldsWellAt : {H W : Type 0} → Meaning H W → Stage H W → Type 0
+abbrev pub HoldsWellAt : {H W : Type 0} → Meaning H W → State H W → Type 0
 HoldsWellAt m s = HoldsWell m.limit m.timeout s.parsed s.held s.timeout
 
 -- Calls one after another lead from a state to another. `Advance` takes turns until all bytes are
 -- read; `StopSync` is one stop.
-abbrev pub TakesSteps : {H W : Type 0} → Meaning H W → Stage H W → List Step → Stage H W → Type 0
+abbrev pub TakesSteps : {H W : Type 0} → Meaning H W → State H W → List Step → State H W → Type 0
 TakesSteps m s [] t = s ≡ t
 TakesSteps m s (Advance bytes ∷ steps) t =
-    (next : Stage _ _) × (TakesAllTurns m s bytes.now next × TakesSteps m next steps t)
+    (next : State _ _) × (TakesAllTurns m s bytes.now next × TakesSteps m next steps t)
 TakesSteps m s (StopSync ∷ steps) t = TakesSteps m (stop m s) steps t
 
 -- The bytes that the calls pass.
@@ -210,29 +210,29 @@ calls_with_stops limit stream more (place ∷ places) = let count = place - leng
     ++ update_ended ∷ calls_with_stops limit (stream ++ take count more) (drop count more) places
 
 -- A stop parses the whole hold, so this is its place.
-abbrev pub place_of_stop : {H W : Type 0} → Stage H W → ℕ
+abbrev pub place_of_stop : {H W : Type 0} → State H W → ℕ
 place_of_stop s = length (all_bytes s)
 
 -- A hold turn that keeps nothing is one.
-abbrev pub stops_in_hold : {H W : Type 0} → Stage H W → List ℕ → List ℕ → List ℕ
+abbrev pub stops_in_hold : {H W : Type 0} → State H W → List ℕ → List ℕ → List ℕ
 stops_in_hold s bytes [] = length (all_bytes s ++ bytes) ∷ []
 stops_in_hold s bytes (b ∷ kept) = []
 
 -- The stops of a turn, by the timeout's answer: there is at most one.
-abbrev pub stops_of_turn : {H W : Type 0} → Bool → Stage H W → List ℕ → List ℕ
+abbrev pub stops_of_turn : {H W : Type 0} → Bool → State H W → List ℕ → List ℕ
 stops_of_turn answer s bytes =
     if is_held answer s bytes then stops_in_hold s bytes (kept_of (s.held ++ bytes))
     else (if is_stopped answer s then place_of_stop s ∷ [] else [])
 
 -- The stops of a call of `advance`, by the answers of its turns.
-abbrev pub stops_of_advance : {H W : Type 0} (m : Meaning H W) (s t : Stage H W) (bytes : List ℕ)
+abbrev pub stops_of_advance : {H W : Type 0} (m : Meaning H W) (s t : State H W) (bytes : List ℕ)
     → TakesAllTurns m s bytes t → List ℕ
 stops_of_advance m s t [] done = []
 stops_of_advance m s t (b ∷ rest) (turns answer allowed more) =
     stops_of_turn answer s (b ∷ rest) ++ stops_of_advance m _ t _ more
 
 -- The stops of calls one after another. `StopSync` is always one.
-abbrev pub stops_of : {H W : Type 0} (m : Meaning H W) (s t : Stage H W) (steps : List Step)
+abbrev pub stops_of : {H W : Type 0} (m : Meaning H W) (s t : State H W) (steps : List Step)
     → TakesSteps m s steps t → List ℕ
 stops_of m s t [] taken = []
 stops_of m s t (Advance bytes ∷ steps) (next, (advances, taken)) =

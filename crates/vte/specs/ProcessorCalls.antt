@@ -6,15 +6,15 @@ use Rattle.vte_core.specs.Stream.{events}
 use Rattle.vte_handler.specs.Handler.{after}
 use Rattle.vte_handler.specs.Timeout.{IsKept}
 use Rattle.vte.specs.Calls.{last_printed, calls}
-use Rattle.vte.specs.Processor.{HoldsWellAt, Meaning, TakesSteps, Stage, TakesAllTurns, all_bytes, given_bytes, calls_with_stops, most_held, stop, stops_of}
+use Rattle.vte.specs.Processor.{HoldsWellAt, Meaning, TakesSteps, State, TakesAllTurns, all_bytes, given_bytes, calls_with_stops, most_held, stop, stops_of}
 use Rattle.vte.specs.Synchronized.{after_last_end}
-use Rattle.vte.specs.declared.ansi.hold.SyncState.{SyncState}
-use Rattle.vte.specs.declared.ansi.laws.runs.Step.{Step}
-use Rattle.vte.specs.declared.ansi.laws.runs.Step.TheVariants.{Advance, StopSync}
+use Rattle.vte.specs.declared.ansi.hold.Hold.{Hold}
+use Rattle.vte.specs.declared.ansi.laws.replays.Step.{Step}
+use Rattle.vte.specs.declared.ansi.laws.replays.Step.TheVariants.{Advance, StopSync}
 use Rattle.vte.specs.declared.ansi.processor.Processor.{Processor}
 
 -- The held bytes; those before them were released by the last turn.
-abbrev pub held_of : {A : Type 0} → SyncState A → List ℕ
+abbrev pub held_of : {A : Type 0} → Hold A → List ℕ
 held_of hold = drop hold.released hold.bytes.items
 
 abbrev pub held_in : {T A : Type 0} → Processor T A → List ℕ
@@ -37,15 +37,15 @@ abbrev pub Standing : Type 0 → Type 1
 Standing W = List ℕ → List ℕ → W → Type 0
 
 -- A processor that stands so and the handler's value are as the state says.
-pub record IsAt {V W : Type 0} (standing : Standing W) (value : V) (s : Stage V W) : Type 0 where
+pub record IsAt {V W : Type 0} (standing : Standing W) (value : V) (s : State V W) : Type 0 where
   pub stands : standing s.parsed s.held s.timeout
   pub handler_is : value ≡ s.handler
 
--- A call led to a state by turns, and is there. Each given byte is parsed or held, once and in
--- order. The facts about the hold stay true.
-pub record Advanced {V W : Type 0} (m : Meaning V W) (s : Stage V W) (bytes : List ℕ)
-    (there : Stage V W → Type 0) : Type 0 where
-  pub next : Stage V W
+-- A call led to a state by turns, and is there: `there` says so of the processor and the handler's
+-- value. Each given byte is parsed or held, once and in order. The facts about the hold stay true.
+pub record Advanced {V W : Type 0} (m : Meaning V W) (s : State V W) (bytes : List ℕ)
+    (there : State V W → Type 0) : Type 0 where
+  pub next : State V W
   pub advances : TakesAllTurns m s bytes next
   pub each_once : all_bytes next ≡ all_bytes s ++ bytes
   pub holds_well : HoldsWellAt m s → HoldsWellAt m next
@@ -53,21 +53,21 @@ pub record Advanced {V W : Type 0} (m : Meaning V W) (s : Stage V W) (bytes : Li
 
 -- The calls led to a state, and are there. Each given byte is parsed or held, once and in order.
 -- The facts about the hold stay true. If the timeout is kept, they lead to no other state.
-pub record Replayed {V W : Type 0} (m : Meaning V W) (s : Stage V W) (steps : List Step)
-    (there : Stage V W → Type 0) : Type 0 where
-  pub next : Stage V W
+pub record Replayed {V W : Type 0} (m : Meaning V W) (s : State V W) (steps : List Step)
+    (there : State V W → Type 0) : Type 0 where
+  pub next : State V W
   pub takes : TakesSteps m s steps next
   pub each_once : all_bytes next ≡ all_bytes s ++ given_bytes steps
   pub holds_well : HoldsWellAt m s → HoldsWellAt m next
-  pub alone : IsKept m.timeout → HoldsWellAt m s → (other : Stage V W) → TakesSteps m s steps other
+  pub alone : IsKept m.timeout → HoldsWellAt m s → (other : State V W) → TakesSteps m s steps other
       → other ≡ next
   pub is_at : there next
 
 -- The calls led to where the processor and the handler's value are (`replayed`). The bytes held
 -- before and those given are those parsed and held now, each once and in order. The handler has
 -- received the calls of the parsed bytes, and one more at each stop on that way.
-pub record IsTold {V W : Type 0} (m : Meaning V W) (s : Stage V W) (steps : List Step) (value : V)
-    (there : Stage V W → Type 0) : Type 0 where
+pub record IsTold {V W : Type 0} (m : Meaning V W) (s : State V W) (steps : List Step) (value : V)
+    (there : State V W → Type 0) : Type 0 where
   pub replayed : Replayed m s steps there
   pub more : List ℕ
   pub parsed_is : replayed.next.parsed ≡ s.parsed ++ more
@@ -124,19 +124,19 @@ pub record CountsHeld (held : List ℕ) (result : ℕ) : Type 0 where
 -- `stop_sync` and `stop_sync_text`, of a processor and a handler that stood so and stand so now
 pub record StopsSync {V W : Type 0} (m : Meaning V W) (old new : Standing W)
     (before value : V) : Type 0 where
-  pub stops : (s : Stage V W) → IsAt old before s → IsAt new value (stop m s)
-  pub each_once : (s : Stage V W) → all_bytes (stop m s) ≡ all_bytes s
-  pub holds_well : (s : Stage V W) → HoldsWellAt m (stop m s)
+  pub stops : (s : State V W) → IsAt old before s → IsAt new value (stop m s)
+  pub each_once : (s : State V W) → all_bytes (stop m s) ≡ all_bytes s
+  pub holds_well : (s : State V W) → HoldsWellAt m (stop m s)
 
 -- `advance` and `advance_text`, that read all bytes
 pub record ReadsInTurns {V W : Type 0} (m : Meaning V W) (old new : Standing W) (before value : V)
     (bytes : List ℕ) : Type 0 where
-  pub advances : (s : Stage V W) → IsAt old before s → Advanced m s bytes (IsAt new value)
+  pub advances : (s : State V W) → IsAt old before s → Advanced m s bytes (IsAt new value)
   pub plain : ParsesAll m old new before value bytes
 
 -- `replay`
 pub record Replays {V W : Type 0} (m : Meaning V W) (old new : Standing W) (before value : V)
     (steps : List Step) : Type 0 where
-  pub told : (s : Stage V W) → IsAt old before s → IsTold m s steps value (IsAt new value)
+  pub told : (s : State V W) → IsAt old before s → IsTold m s steps value (IsAt new value)
   -- calls of `advance` alone, with all their bytes
   pub plain : AreAdvances steps → ParsesAll m old new before value (given_bytes steps)

@@ -3,16 +3,16 @@
 use Rattle.std.specs.Prelude.{◌≡◌, ℕ, ◌+◌, ◌-◌, ◌<◌, ◌++◌, Bool, false, List, [], ◌∷◌, length, take, drop}
 use Rattle.vte_core.specs.Stream.{added}
 use Rattle.vte.specs.BeginUpdate.{begin_count}
-use Rattle.vte.specs.Processor.{HoldsWellAt, Meaning, Stage, TakesTurns, all_bytes, is_held, stop_if_due, parse}
+use Rattle.vte.specs.Processor.{HoldsWellAt, Meaning, State, TakesTurns, all_bytes, is_held, stop_if_due, parse}
 use Rattle.vte.specs.ProcessorCalls.{Replayed}
-use Rattle.vte.specs.declared.ansi.laws.runs.RefusedStep.{RefusedStep}
-use Rattle.vte.specs.declared.ansi.laws.runs.Step.{Step}
-use Rattle.vte.specs.declared.ansi.laws.runs.Step.TheVariants.{Advance, StopSync}
+use Rattle.vte.specs.declared.ansi.laws.replays.RefusedStep.{RefusedStep}
+use Rattle.vte.specs.declared.ansi.laws.replays.Step.{Step}
+use Rattle.vte.specs.declared.ansi.laws.replays.Step.TheVariants.{Advance, StopSync}
 
 -- An open turn that was refused memory: it has parsed a front of its bytes, in which no update
 -- begins, and left some.
-pub record OpenTurnHalts {H W : Type 0} (m : Meaning H W) (s : Stage H W) (bytes : List ℕ)
-    (t : Stage H W)
+pub record OpenTurnHalts {H W : Type 0} (m : Meaning H W) (s : State H W) (bytes : List ℕ)
+    (t : State H W)
     (left : List ℕ) : Type 0 where
   pub front : List ℕ
   pub bytes_are : front ++ left ≡ bytes
@@ -21,45 +21,45 @@ pub record OpenTurnHalts {H W : Type 0} (m : Meaning H W) (s : Stage H W) (bytes
   pub state_is : t ≡ parse m s front
 
 -- The same of a turn, by the timeout's answer. A turn that holds bytes takes its memory before.
-abbrev pub TurnHalts : {H W : Type 0} → Meaning H W → Bool → Stage H W → List ℕ → Stage H W
+abbrev pub TurnHalts : {H W : Type 0} → Meaning H W → Bool → State H W → List ℕ → State H W
     → List ℕ → Type 0
 TurnHalts m answer s bytes t left =
     (is_held answer s bytes ≡ false) × OpenTurnHalts m (stop_if_due m answer s) bytes t left
 
 -- Turns of a call, after which a further one may have been refused memory on the way.
-pub data TakesSome {H W : Type 0} (m : Meaning H W) (s : Stage H W) (bytes : List ℕ) (t : Stage H W)
+pub data TakesSome {H W : Type 0} (m : Meaning H W) (s : State H W) (bytes : List ℕ) (t : State H W)
     (left : List ℕ) : Type 0 where
   between : TakesTurns m s bytes t left → TakesSome m s bytes t left
-  within : {u : Stage H W} {rest : List ℕ} → TakesTurns m s bytes u rest → (answer : Bool)
+  within : {u : State H W} {rest : List ℕ} → TakesTurns m s bytes u rest → (answer : Bool)
       → m.timeout.allows u.timeout answer
       → TurnHalts m answer u rest t left → TakesSome m s bytes t left
 
 -- A call has read so many of its bytes, by turns, of which the last may have been refused memory on
 -- the way, and is at the state to which they led. Each byte that was read is parsed or held, once
 -- and in order. The facts about the hold stay true.
-pub record HasTaken {V W : Type 0} (m : Meaning V W) (s : Stage V W) (bytes : List ℕ) (read : ℕ)
-    (there : Stage V W → Type 0) : Type 0 where
-  pub next : Stage V W
+pub record HasTaken {V W : Type 0} (m : Meaning V W) (s : State V W) (bytes : List ℕ) (read : ℕ)
+    (there : State V W → Type 0) : Type 0 where
+  pub next : State V W
   pub takes : TakesSome m s bytes next (drop read bytes)
   pub each_once : all_bytes next ≡ all_bytes s ++ take read bytes
   pub holds_well : HoldsWellAt m s → HoldsWellAt m next
   pub is_at : there next
 
 -- A refused `Advance` has read so many bytes, by its first turns. `StopSync` is never refused.
-abbrev pub IsRefused : {V W : Type 0} → Meaning V W → Stage V W → Step → ℕ
-    → (Stage V W → Type 0) → Type 0
+abbrev pub IsRefused : {V W : Type 0} → Meaning V W → State V W → Step → ℕ
+    → (State V W → Type 0) → Type 0
 IsRefused m s (Advance bytes) read there =
     (read < length bytes.now) × HasTaken m s bytes.now read there
 IsRefused m s StopSync read there = ⊥
 
-abbrev pub IsFirstRefused : {V W : Type 0} → Meaning V W → Stage V W → List Step → ℕ
-    → (Stage V W → Type 0) → Type 0
+abbrev pub IsFirstRefused : {V W : Type 0} → Meaning V W → State V W → List Step → ℕ
+    → (State V W → Type 0) → Type 0
 IsFirstRefused m s [] read there = ⊥
 IsFirstRefused m s (step ∷ steps) read there = IsRefused m s step read there
 
 -- The calls before the refused one led to a state, and there it was refused.
-abbrev pub ReplayedUntil : {V W : Type 0} → Meaning V W → Stage V W → List Step → RefusedStep
-    → (Stage V W → Type 0) → Type 0
+abbrev pub ReplayedUntil : {V W : Type 0} → Meaning V W → State V W → List Step → RefusedStep
+    → (State V W → Type 0) → Type 0
 ReplayedUntil m s steps refused there =
     Replayed m s (take refused.index steps)
     (λ next. IsFirstRefused m next (drop refused.index steps) refused.read there)

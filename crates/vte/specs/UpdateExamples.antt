@@ -8,7 +8,7 @@ use Rattle.vte_types.specs.declared.color.Color.TheVariants as color
 use Rattle.vte_types.specs.declared.color.NamedColor.TheVariants.{Red}
 use Rattle.vte_types.specs.declared.mode.NamedPrivateMode.TheVariants.{ShowCursor, SyncUpdate}
 use Rattle.vte_types.specs.declared.mode.PrivateMode.TheVariants.{Named}
-use Rattle.vte.specs.Processor.{Meaning, Stage, stop, turn}
+use Rattle.vte.specs.Processor.{Meaning, State, stop, turn}
 use Rattle.vte.specs.Synchronized.{begin_update, end_update, update_ended}
 
 -- The handler's value is the list of its calls; the timeout is pending from when it is set until it
@@ -26,7 +26,7 @@ plain_meaning = record {
 }
 
 abbrev pub PlainState : Type 0
-PlainState = Stage (List Call) Bool
+PlainState = State (List Call) Bool
 
 abbrev pub start : PlainState
 start = record { parsed = []; held = []; timeout = false; handler = [] }

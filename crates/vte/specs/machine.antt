@@ -1,6 +1,6 @@
 -- What private functions of a processor promise each other. Callers need none of it.
 pub mod Hold
-pub mod Lent
 pub mod Performer
+pub mod Performing
 pub mod Turns
 pub mod TurnsMeaning

@@ -105,7 +105,7 @@ VTE = Plan(
         # rustc derives it, with the same copies of the fields, and as much memory
         "vte_core/parser": ("impl<const OSC_RAW_BUF_SIZE: usize> Clone for Parser",),
         "vte/ansi/growing_text": ("impl<A: Allocator + Clone> Clone for GrowingText",),
-        "vte/ansi/hold": ("impl<A: Allocator + Clone> Clone for SyncState",),
+        "vte/ansi/hold": ("impl<A: Allocator + Clone> Clone for Hold",),
         "vte/ansi/long_processor": (
             "impl<T: Timeout + Clone + Drop, A: Allocator + Clone> Clone for LongProcessor",),
         "vte/ansi/processor": (
@@ -246,7 +246,7 @@ VTE = Plan(
             "#[inline(never)]": ["pub(crate) fn stop<"],
         },
         "vte/ansi/growing_text": {CLONE: ["pub(crate) struct GrowingText"]},
-        "vte/ansi/hold": {CLONE: ["pub(crate) struct SyncState"]},
+        "vte/ansi/hold": {CLONE: ["pub(crate) struct Hold"]},
         "vte/ansi/processor": {CLONE: ["pub struct Processor"]},
         "vte/ansi/long_processor": {
             CLONE: ["pub struct LongProcessor"],
@@ -309,7 +309,7 @@ VTE = Plan(
         "vte_core/buffer": "impl Buffer for Vec",
         "vte_core/store": "impl Store<Vec",
         "vte_core/parser/long": "impl LongParser",
-        "vte/ansi/hold": "impl SyncState",
+        "vte/ansi/hold": "impl Hold",
         "vte/ansi/numbers": "impl NumberIterator for ParamsIter",
     },
     default_bodies=frozenset({"Perform", "Handler"}),

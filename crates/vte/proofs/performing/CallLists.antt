@@ -2,7 +2,7 @@
 -- parts joined. By induction over the events, with the last printed character carried along.
 use Rattle.vte.proofs.Common.{◌≡◌, ℕ, None, List, [], ◌∷◌, ◌++◌, Option, refl, ap, ◌∙◌, append_assoc, drop-append_seam, Event, added, events, added_both, added-nothing}
 use Rattle.vte.proofs.Common.{events_grow, Call, after, calls_added, added_calls, calls, calls_from, last_printed_after, last_printed, last_printed_from, zero, suc, ◌+◌, zero-add, suc-add, Bool, ◌||◌}
-use Rattle.vte.proofs.Common.{nat_lt, arith, nat_tests, TimeoutMeaning, set_times, update_nanos, Lent, first_number, is_update_group, update_groups, with_private_mode, with_private_modes}
+use Rattle.vte.proofs.Common.{nat_lt, arith, nat_tests, TimeoutMeaning, set_times, update_nanos, PerformerValue, first_number, is_update_group, update_groups, with_private_mode, with_private_modes}
 use Rattle.std.specs.Bool.{if◌then◌else◌}
 
 pub after-append : {V : Type 0} (step : V → Call → V) (value : V) (xs ys : List Call)
@@ -66,7 +66,7 @@ begun_more : (b t : Bool) (n : ℕ) → ((b || t) || nat_lt 0 n) ≡ (b || nat_l
 begun_more b t n = grind (arith, nat_tests)
 
 -- one mode more is set
-pub modes_more : {H W : Type 0} (step : H → Call → H) (timeout : TimeoutMeaning W) (lent : Lent H W)
+pub modes_more : {H W : Type 0} (step : H → Call → H) (timeout : TimeoutMeaning W) (lent : PerformerValue H W)
     (group : List ℕ) (groups : List (List ℕ))
     → with_private_modes step timeout (with_private_mode step timeout lent (first_number group)) groups
     ≡ with_private_modes step timeout lent (group ∷ groups)

@@ -2,8 +2,8 @@
 -- calls of their rows and set the timeout once per begin of an update. An early stop is the front up to the begin.
 use Rattle.vte.proofs.Common.{◌≡◌, ℕ, ◌+◌, ◌<◌, inl, inr, Bool, false, ◌||◌, nat_lt, All, List, [], ◌∷◌, ◌++◌, length, take, refl, ap, sym, ◌∙◌, arith, or-false}
 use Rattle.vte.proofs.Common.{cases_lt, false≢true, nat_tests, All-head, All-tail, told, stream_at, StopsExactly, Event, added, events, starts-between, stream_at-between, told-between, events_grow}
-use Rattle.vte.proofs.Common.{after, ProcessorState, begin_count, begins_of, calls_of, calls_from, last_printed_after, last_printed, last_printed_from, lent_of, Meaning, set_times, FitsText, Lent}
-use Rattle.vte.proofs.Common.{with_event, of_turns, IsParsed, IsParsedOn, KeepsRoom, Stage, parse, begin_front, ParserMeaning}
+use Rattle.vte.proofs.Common.{after, ProcessorState, begin_count, begins_of, calls_of, calls_from, last_printed_after, last_printed, last_printed_from, performer_value, Meaning, set_times, FitsText, PerformerValue}
+use Rattle.vte.proofs.Common.{with_event, of_turns, IsParsed, IsParsedOn, KeepsRoom, State, parse, begin_front, ParserMeaning}
 use Rattle.vte_core.specs.Perform.{after as performed}
 use Rattle.vte.specs.declared.ansi.performer.Performer.{Performer}
 use Rattle.vte.proofs.performing.CallLists.{after-append, calls_added-events, last-append, set_times-add}
@@ -15,7 +15,7 @@ or_some : (b : Bool) (m n : ℕ) → ((b || nat_lt 0 m) || nat_lt 0 n) ≡ (b ||
 or_some b m n = grind (arith, nat_tests)
 
 -- what all events together make of a performer's value
-abbrev with_events : {H W : Type 0} → Meaning H W → Lent H W → List Event → Lent H W
+abbrev with_events : {H W : Type 0} → Meaning H W → PerformerValue H W → List Event → PerformerValue H W
 with_events m lent events = record {
   handler = after m.step lent.handler (calls_from lent.last events);
   timeout = set_times m.timeout (begin_count events) lent.timeout;
@@ -26,7 +26,7 @@ with_events m lent events = record {
   handler_name = lent.handler_name;
 }
 
-performed-events : {H W : Type 0} (m : Meaning H W) (lent : Lent H W) (events : List Event)
+performed-events : {H W : Type 0} (m : Meaning H W) (lent : PerformerValue H W) (events : List Event)
     → All (FitsText lent.room) events
     → performed (with_event m.step m.timeout) lent events ≡ with_events m lent events
 performed-events m lent [] fit = rw or-false
@@ -43,13 +43,13 @@ performed-events m lent (event ∷ events) fit =
 -- ---- the performer gives back what it was lent
 
 module _ {H T J G V W : Type 0} (handler_of : H → V) (timeout_of : T → W) (room_of : J → ℕ) (m : Meaning V W)
-    (s : Stage V W) (f : List ℕ)
-    (old : Lent V W) (new : Performer H T J G) {state : ProcessorState T J}
+    (s : State V W) (f : List ℕ)
+    (old : PerformerValue V W) (new : Performer H T J G) {state : ProcessorState T J}
     (fit : All (FitsText old.room) (added m.limit s.parsed f))
-    (made : lent_of handler_of timeout_of room_of new
+    (made : performer_value handler_of timeout_of room_of new
     ≡ performed (with_event m.step m.timeout) old (added m.limit s.parsed f))
     (back_state : old.state_name ≡ new.state.ghost_name → state ≡ new.state.now) where
-  all_made : lent_of handler_of timeout_of room_of new ≡ with_events m old (added m.limit s.parsed f)
+  all_made : performer_value handler_of timeout_of room_of new ≡ with_events m old (added m.limit s.parsed f)
   all_made = made ∙ performed-events m old (added m.limit s.parsed f) fit
 
   is_state : state ≡ new.state.now
@@ -89,7 +89,7 @@ module _ {H T J G V W : Type 0} (handler_of : H → V) (timeout_of : T → W) (r
 
 -- ---- an early stop reads the front
 
-terminated_by : {H W : Type 0} (m : Meaning H W) (lent : Lent H W) (events : List Event)
+terminated_by : {H W : Type 0} (m : Meaning H W) (lent : PerformerValue H W) (events : List Event)
     → (performed (with_event m.step m.timeout) lent events).terminated
     ≡ (lent.terminated || nat_lt 0 (begin_count events))
 terminated_by m lent [] = sym (or-false lent.terminated)
@@ -97,7 +97,7 @@ terminated_by m lent (event ∷ events) =
     terminated_by m (with_event m.step m.timeout lent event) events
     ∙ or_some lent.terminated (begins_of event) (begin_count events)
 
-module _ {V W : Type 0} (m : Meaning V W) {old new : Lent V W} (goes_on : old.terminated ≡ false)
+module _ {V W : Type 0} (m : Meaning V W) {old new : PerformerValue V W} (goes_on : old.terminated ≡ false)
     {p r : List ℕ} {n : ℕ}
     (stop : StopsExactly (with_event m.step m.timeout) (λ lent. lent.terminated) old new m.limit p r n) where
   front : IsFront m.limit p r (length (begin_front m.limit p r))

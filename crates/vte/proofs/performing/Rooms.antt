@@ -2,7 +2,7 @@
 -- was stored and read, nor more separators than 16; so the contracts of both parsers become those of one.
 use Rattle.vte.proofs.Common.{◌≡◌, ℕ, ◌+◌, ◌≤◌, true, All, Option, Some, None, List, [], ◌∷◌, ◌++◌, length, Result, Ok, Err, refl, arith, concat, take-append_seam}
 use Rattle.vte.proofs.Common.{false≢true, nat_tests, All-cons, All-drop, All-head, All-nil, All-tail, All-take, Event, OscDispatch}
-use Rattle.vte.proofs.Common.{added, events, LongParser, Refused, added_both, counts_data, events_are_bounded, ParsesLent, StopsLent, FitsText, Lent, HasRoom, KeepsRoom, fits_room, short_meaning}
+use Rattle.vte.proofs.Common.{added, events, LongParser, Refused, added_both, counts_data, events_are_bounded, PerformsAll, PerformsUntilStop, FitsText, PerformerValue, HasRoom, KeepsRoom, fits_room, short_meaning}
 use Rattle.vte.proofs.Common.{long_meaning}
 use Rattle.vte_core.specs.Brief.{IsBounded}
 use Rattle.vte_core.specs.LongAdvance.{ReadsBytesLong, ReadsUntilTerminatedLong}
@@ -50,10 +50,10 @@ short_fits size stream bytes room =
     (All-drop (IsBounded (Some 1024)) (length (events (Some 1024) stream)) (events (Some 1024) (stream ++ bytes))
     (events_are_bounded (Some 1024) (stream ++ bytes)))
 
-module _ {V W : Type 0} {step : Lent V W → Event → Lent V W} {old new : Lent V W} {bytes : List ℕ}
+module _ {V W : Type 0} {step : PerformerValue V W → Event → PerformerValue V W} {old new : PerformerValue V W} {bytes : List ℕ}
     {parser next : Parser 1024} where
   pub short_parses : ReadsBytes step old new bytes parser next
-      → ParsesLent short_meaning (Some 1024) step parser next old new bytes
+      → PerformsAll short_meaning (Some 1024) step parser next old new bytes
   short_parses r = record {
     parses =
         λ stream n read room. record {
@@ -66,7 +66,7 @@ module _ {V W : Type 0} {step : Lent V W → Event → Lent V W} {old new : Lent
   }
 
   pub short_stops : {read : ℕ} → ReadsUntilTerminated step (λ lent. lent.terminated) old new bytes read parser next
-      → StopsLent short_meaning (Some 1024) step parser next old new bytes read
+      → PerformsUntilStop short_meaning (Some 1024) step parser next old new bytes read
   short_stops r = record {
     within = r.within;
     stops =
@@ -110,10 +110,10 @@ module _ {A : Type 0} {parser : LongParser A} {size : ℕ} (stream bytes : List 
       }
 
 -- a call for which there is memory is refused none
-module _ {A V W : Type 0} {step : Lent V W → Event → Lent V W} {old new : Lent V W} {bytes : List ℕ}
+module _ {A V W : Type 0} {step : PerformerValue V W → Event → PerformerValue V W} {old new : PerformerValue V W} {bytes : List ℕ}
     {parser next : LongParser A} where
   pub long_parses : (result : Result (Unit {0}) Refused) → ReadsBytesLong step old new bytes result parser next
-      → ParsesLent long_meaning None step parser next old new bytes
+      → PerformsAll long_meaning None step parser next old new bytes
   long_parses (Ok _) r = record {
     parses = λ stream n read room. record {
       performs = r.performs stream read;
@@ -130,7 +130,7 @@ module _ {A V W : Type 0} {step : Lent V W → Event → Lent V W} {old new : Le
 
   pub long_stops : (result : Result ℕ Refused)
       → ReadsUntilTerminatedLong step (λ lent. lent.terminated) old new bytes result parser next
-      → StopsLent long_meaning None step parser next old new bytes (read_count result)
+      → PerformsUntilStop long_meaning None step parser next old new bytes (read_count result)
   long_stops (Ok read) r = record {
     within = r.within;
     stops =

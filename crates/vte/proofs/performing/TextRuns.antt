@@ -2,14 +2,15 @@
 -- characters; the last one is found from the end, because no character begins with a byte that continues one.
 use Rattle.vte.proofs.Common.{◌≡◌, ℕ, ◌≤◌, Option, Some, None, List, [], ◌∷◌, ◌++◌, length, get_or, map, refl, ap, sym, ◌∙◌, add-zero, arith, or-false}
 use Rattle.vte.proofs.Common.{drop-append_seam, take-append_seam, nat_tests, append-nil, get_or-append-add, length-append, IsCharBoundary, IsUtf8, chars, Print, Input, after, last_printed_from}
-use Rattle.vte.proofs.Common.{Call, TimeoutMeaning, Lent, with_event, option_or}
+use Rattle.vte.proofs.Common.{Call, TimeoutMeaning, PerformerValue, with_event, option_or}
 use Rattle.std.proofs.Math.Utf8.{encode}
 use Rattle.std.proofs.lemmas.Str.{IsUtf8-drop, IsUtf8-take, chars-append, chars-nil, chars_past_char}
 use Rattle.std.specs.Str.Iter.{chars_rest, chars_steps_back}
 use Rattle.vte_core.specs.Perform.{after as performed}
 
 -- A run calls `input` for each character, and neither sets the timeout nor terminates.
-pub performed_run : {H W : Type 0} (step : H → Call → H) (timeout : TimeoutMeaning W) (lent : Lent H W) (cs : List ℕ)
+pub performed_run : {H W : Type 0} (step : H → Call → H) (timeout : TimeoutMeaning W) (lent : PerformerValue H W)
+    (cs : List ℕ)
     → performed (with_event step timeout) lent (map Print cs)
     ≡ record lent {
       handler = after step lent.handler (map Input cs);

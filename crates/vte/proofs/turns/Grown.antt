@@ -1,14 +1,14 @@
 -- A call adds to what is parsed, and is refused no memory that was there for all its bytes: room for the held and the
 -- given bytes at the start leaves room for what is left, turn by turn.
 use Rattle.vte.proofs.Common.{◌≡◌, ℕ, ◌+◌, ◌-◌, ◌<◌, inl, inr, List, ◌++◌, length, Result, Ok, Err, refl, ap, arith, length-append, Refused, LongParser, counts_data}
-use Rattle.vte.proofs.Common.{AdvancesLong, Bor, Turns, Meaning, AreAt, HasTaken, LacksSome, ReadsSome, HasRoom, Stage, drop, length-drop}
+use Rattle.vte.proofs.Common.{AdvancesLong, Bor, Turns, Meaning, AreAt, HasTaken, LacksSome, ReadsSome, HasRoom, State, drop, length-drop}
 use Rattle.vte.proofs.turns.Standings.{at_same, reads_so, stands_long, takes_so, turns_stand_long, unlimited}
 use Rattle.vte.specs.declared.ansi.growing_text.GrowingText.{GrowingText}
 use Rattle.vte.specs.declared.ansi.long_processor.LongProcessor.{LongProcessor}
 use Rattle.vte.proofs.turns.Slices.{some_grow}
 
 module _ {T A V W : Type 0} {timeout_of : T → W} {m : Meaning V W} {new : Turns (LongParser A) (GrowingText A) T A}
-    {value : V} {s : Stage V W} {bytes : List ℕ} where
+    {value : V} {s : State V W} {bytes : List ℕ} where
   had_memory : (read : ℕ) → read < length bytes → HasTaken m s bytes read (AreAt (unlimited timeout_of) new value)
       → LacksSome (unlimited timeout_of) new (length bytes - read)
       → HasRoom new.parser new.state.text.size s.parsed (length s.held + length bytes) → ⊥

@@ -3,9 +3,9 @@
 use Rattle.vte.proofs.Common.{◌≡◌, ℕ, zero, suc, ◌-◌, ◌<◌, ◌≤◌, inl, inr, Bool, true, false, List, [], ◌∷◌, ◌++◌, length, take, refl, sym}
 use Rattle.vte.proofs.Common.{length-drop, arith, cases_Bool, cases_lt, false≢true, nat_tests, added}
 use Rattle.vte.proofs.Common.{TimeoutMeaning, AllowsAlone, IsKept, begin_count, IsOutsideUpdate, IsInsideUpdate, Meaning, set_times}
-use Rattle.vte.proofs.Common.{update_nanos, HoldsWellAt, begin_update, begins_among, kept_of, last_part, Stage, TakesTurns, stop, is_held, is_stopped, stop_if_due, begin_front, open_turn, keep}
+use Rattle.vte.proofs.Common.{update_nanos, HoldsWellAt, begin_update, begins_among, kept_of, last_part, State, TakesTurns, stop, is_held, is_stopped, stop_if_due, begin_front, open_turn, keep}
 use Rattle.vte.proofs.Common.{extend, hold_turn, turn, done, turns, most_held, drop, ap, append-nil}
-use Rattle.vte.proofs.runs.EachOnce.{stop_if_due_none}
+use Rattle.vte.proofs.replays.EachOnce.{stop_if_due_none}
 use Rattle.vte.proofs.turns.Fronts.{is_front}
 use Rattle.vte.proofs.updates.Sequences.{StaysHeld, begins_with-append, stays_held, stays-is}
 
@@ -23,15 +23,15 @@ module _ {W : Type 0} (m : TimeoutMeaning W) (k : IsKept m) where
 -- ---- a stop
 
 module _ {V W : Type 0} (m : Meaning V W) where
-  stop_outside : (s : Stage V W) → IsKept m.timeout → IsOutsideUpdate m.timeout [] (stop m s).timeout
+  stop_outside : (s : State V W) → IsKept m.timeout → IsOutsideUpdate m.timeout [] (stop m s).timeout
   stop_outside s k = record { not_pending = k.clear _; none_held = refl }
 
-  pub stop_well : (s : Stage V W) → HoldsWellAt m (stop m s)
+  pub stop_well : (s : State V W) → HoldsWellAt m (stop m s)
   stop_well s = record { no_end = refl; fits = omega arith; kept = λ k. inl (stop_outside s k) }
 
   -- ---- an open turn
 
-  open_well : (s : Stage V W) (r : List ℕ) → s.held ≡ []
+  open_well : (s : State V W) (r : List ℕ) → s.held ≡ []
       → (IsKept m.timeout → IsOutsideUpdate m.timeout s.held s.timeout) → HoldsWellAt m (open_turn m s r).state
   open_well s r nothing outside =
       let f = is_front m.limit s.parsed r in
@@ -52,7 +52,7 @@ module _ {V W : Type 0} (m : Meaning V W) where
 
   -- ---- a turn that holds
 
-  keep_well : (t : Stage V W) (kept : List ℕ) → StaysHeld t.held kept → drop (length t.held - length kept) t.held ≡ kept
+  keep_well : (t : State V W) (kept : List ℕ) → StaysHeld t.held kept → drop (length t.held - length kept) t.held ≡ kept
       → length t.held ≤ most_held
       → (IsKept m.timeout → IsInsideUpdate m.limit m.timeout t.parsed t.held t.timeout) → HoldsWellAt m (keep m t kept)
   keep_well t [] is place fits inside = stop_well t
@@ -72,21 +72,21 @@ module _ {V W : Type 0} (m : Meaning V W) where
     });
   }
 
-  inside_of : (s : Stage V W) → HoldsWellAt m s → m.timeout.allows s.timeout true → IsKept m.timeout
+  inside_of : (s : State V W) → HoldsWellAt m s → m.timeout.allows s.timeout true → IsKept m.timeout
       → IsInsideUpdate m.limit m.timeout s.parsed s.held s.timeout
   inside_of s h allowed k = elim (h.kept k) [
     | inl out ↦ absurd (false≢true (sym (out.not_pending.1 true allowed)))
     | inr i ↦ i
   ]
 
-  outside_of : (s : Stage V W) → HoldsWellAt m s → m.timeout.allows s.timeout false → IsKept m.timeout
+  outside_of : (s : State V W) → HoldsWellAt m s → m.timeout.allows s.timeout false → IsKept m.timeout
       → IsOutsideUpdate m.timeout s.held s.timeout
   outside_of s h allowed k = elim (h.kept k) [
     | inl out ↦ out
     | inr i ↦ absurd (false≢true (i.pending.1 false allowed))
   ]
 
-  pub stop_if_due_outside : (answer : Bool) (s : Stage V W) → m.timeout.allows s.timeout answer → HoldsWellAt m s
+  pub stop_if_due_outside : (answer : Bool) (s : State V W) → m.timeout.allows s.timeout answer → HoldsWellAt m s
       → IsKept m.timeout
       → IsOutsideUpdate m.timeout (stop_if_due m answer s).held (stop_if_due m answer s).timeout
   stop_if_due_outside answer s allowed h k = elim (cases_Bool (is_stopped answer s)) [
@@ -94,7 +94,7 @@ module _ {V W : Type 0} (m : Meaning V W) where
     | inr none ↦ let no : answer ≡ false = grind (arith, nat_tests) in rw none (outside_of s h (rw no at allowed) k)
   ]
 
-  hold_well : (s : Stage V W) (r : List ℕ) → HoldsWellAt m s → m.timeout.allows s.timeout true
+  hold_well : (s : State V W) (r : List ℕ) → HoldsWellAt m s → m.timeout.allows s.timeout true
       → length (s.held ++ r) ≤ most_held → HoldsWellAt m (hold_turn m s r)
   hold_well s r h allowed fits =
       keep_well (extend m s r) (kept_of (s.held ++ r)) (stays_held (s.held ++ r)) (stays-is (s.held ++ r)) fits
@@ -105,7 +105,7 @@ module _ {V W : Type 0} (m : Meaning V W) where
 
   -- ---- a turn, and turns of a call
 
-  pub turn_well : (answer : Bool) (s : Stage V W) (r : List ℕ) → m.timeout.allows s.timeout answer → HoldsWellAt m s
+  pub turn_well : (answer : Bool) (s : State V W) (r : List ℕ) → m.timeout.allows s.timeout answer → HoldsWellAt m s
       → HoldsWellAt m (turn m answer s r).state
   turn_well answer s r allowed h = elim (cases_Bool (is_held answer s r)) [
     | inl held ↦ let yes : answer ≡ true =
@@ -116,7 +116,7 @@ module _ {V W : Type 0} (m : Meaning V W) where
         (stop_if_due_outside answer s allowed h))
   ]
 
-  pub taken_well : (s t : Stage V W) (bytes left : List ℕ) → TakesTurns m s bytes t left → HoldsWellAt m s
+  pub taken_well : (s t : State V W) (bytes left : List ℕ) → TakesTurns m s bytes t left → HoldsWellAt m s
       → HoldsWellAt m t
   taken_well s t bytes left done h = h
   taken_well s t (b ∷ bytes) left (turns answer allowed more) h =

@@ -1,20 +1,20 @@
 -- A hold turn by its parts: bytes join the hold, the timeout is set as often as they begin updates, and what the hold
 -- releases is parsed. Parsing a front of the held bytes and keeping the rest is `keep`.
 use Rattle.vte.proofs.Common.{◌≡◌, ℕ, ◌+◌, ◌-◌, ◌<◌, List, [], ◌∷◌, ◌++◌, length, length-append, length-take, take, refl, sym, ◌∙◌, arith, take_all, Turns, IsAdded}
-use Rattle.vte.proofs.Common.{held_of, released_of, kept_of, Meaning, set_times, AreAt, TurnsMeaning, AreNextAt, IsParsed, IsParsedOn, IsParsedWithRoom, Stage, parse_held, extend, hold_turn, keep}
+use Rattle.vte.proofs.Common.{held_of, released_of, kept_of, Meaning, set_times, AreAt, TurnsMeaning, AreNextAt, IsParsed, IsParsedOn, IsParsedWithRoom, State, parse_held, extend, hold_turn, keep}
 use Rattle.vte.proofs.Common.{parse, stop}
 use Rattle.std.proofs.lemmas.List.{nil_from_length}
 use Rattle.vte.proofs.updates.Sequences.{stays_held, stays-is, suffix-length}
-use Rattle.vte.specs.declared.ansi.hold.SyncState.{SyncState}
+use Rattle.vte.specs.declared.ansi.hold.Hold.{Hold}
 
-keeps_some : {V W : Type 0} (m : Meaning V W) (t : Stage V W) (kept : List ℕ) → 0 < length kept
+keeps_some : {V W : Type 0} (m : Meaning V W) (t : State V W) (kept : List ℕ) → 0 < length kept
     → keep m t kept ≡ parse_held m t (length t.held - length kept)
 keeps_some m t [] some = absurd (omega arith)
 keeps_some m t (b ∷ kept) some = refl
 
 -- the hold has the new bytes, and the timeout was set as often as they begin updates
-module _ {P J T A V W : Type 0} {w : TurnsMeaning P J T W} (m : Meaning V W) {s : Stage V W} {more : List ℕ}
-    {old : Turns P J T A} {hold : SyncState A} {timeout : T} {begins : ℕ} {value : V}
+module _ {P J T A V W : Type 0} {w : TurnsMeaning P J T W} (m : Meaning V W) {s : State V W} {more : List ℕ}
+    {old : Turns P J T A} {hold : Hold A} {timeout : T} {begins : ℕ} {value : V}
     (at : AreAt w old value s) (added : IsAdded s.held more hold begins)
     (is_set : w.timeout_of timeout ≡ set_times m.timeout begins (w.timeout_of old.state.timeout))
     (room : w.reading.has_room old.parser (w.room_of old.state.text) s.parsed (length s.held + length more)) where
@@ -33,11 +33,11 @@ module _ {P J T A V W : Type 0} {w : TurnsMeaning P J T W} (m : Meaning V W) {s 
 
   -- the released bytes are parsed, and the others stay held, with memory to parse them
   pub turned_cut : {last : Turns P J T A} {next : V} → 0 < length (held_of hold)
-      → ((t : Stage V W) (n : ℕ) → IsParsed w set.parser set.state value t
+      → ((t : State V W) (n : ℕ) → IsParsed w set.parser set.state value t
       → (0 < length (released_of hold)
       → w.reading.has_room set.parser (w.room_of set.state.text) t.parsed (length (released_of hold) + n))
       → IsParsedOn w set.parser set.state last.parser last.state next (parse m t (released_of hold)))
-      → ((t : Stage V W) (n : ℕ) → IsParsedWithRoom w set.parser set.state value t (length (released_of hold) + n)
+      → ((t : State V W) (n : ℕ) → IsParsedWithRoom w set.parser set.state value t (length (released_of hold) + n)
       → w.reading.has_room last.parser (w.room_of last.state.text) (t.parsed ++ released_of hold) n)
       → last.hold ≡ hold → AreNextAt w old last next (hold_turn m s more)
   turned_cut {last} {next} some parses leaves kept =
@@ -75,7 +75,7 @@ module _ {P J T A V W : Type 0} {w : TurnsMeaning P J T W} (m : Meaning V W) {s 
 
   -- the update is stopped
   pub turned_stop : {last : Turns P J T A} {next : V} → length (held_of hold) ≡ 0
-      → ((t : Stage V W) (n : ℕ) → IsParsed w set.parser set.state value t → released_of hold ≡ t.held
+      → ((t : State V W) (n : ℕ) → IsParsed w set.parser set.state value t → released_of hold ≡ t.held
       → held_of hold ≡ []
       → (0 < length t.held → w.reading.has_room set.parser (w.room_of set.state.text) t.parsed (length t.held + n))
       → AreNextAt w set last next (stop m t))

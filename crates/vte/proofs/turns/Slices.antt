@@ -4,9 +4,9 @@
 use Rattle.vte.proofs.Common.{◌≡◌, ℕ, ◌+◌, ◌-◌, ◌<◌, ◌≤◌, inl, Bool, true, false, nat_lt, List, [], ◌∷◌, ◌++◌, length, take, drop, refl, ap, sym, subst}
 use Rattle.vte.proofs.Common.{◌∙◌, arith, length-append, length-drop, append_assoc, drop-append-add, take-add, nat_tests, append-nil, drop_all, length-take-le}
 use Rattle.vte.proofs.Common.{take-append-drop, take_all, take_at, added, IsKept, begin_count, IsOutsideUpdate, Meaning, HoldsWellAt, Halted, IsAtBegin, IsOpenAt, Opened}
-use Rattle.vte.proofs.Common.{TakesAllTurns, OpenTurnHalts, Stage, TakesSome, TakesTurns, TurnHalts, begin_front, between, done, is_stopped, open_turn, stop_if_due, parse, turn, turns, within}
+use Rattle.vte.proofs.Common.{TakesAllTurns, OpenTurnHalts, State, TakesSome, TakesTurns, TurnHalts, begin_front, between, done, is_stopped, open_turn, stop_if_due, parse, turn, turns, within}
 use Rattle.vte.proofs.performing.CallLists.{after-append, calls_added-append, calls_added-nothing, set_times-add}
-use Rattle.vte.proofs.runs.EachOnce.{Grows, grows_on, stop_if_due_grows, stop_if_due_none, parse_grows, turns_grow}
+use Rattle.vte.proofs.replays.EachOnce.{Grows, grows_on, stop_if_due_grows, stop_if_due_none, parse_grows, turns_grow}
 use Rattle.vte.proofs.turns.Fronts.{begins_in, front_after, front_is_all, front_of_more, front_some, none_begin, none_begin_in}
 use Rattle.vte.proofs.turns.HoldFacts.{stop_if_due_outside, taken_well}
 
@@ -18,10 +18,10 @@ slice_size bytes read count inside few =
     length-take-le (read + count - read) (drop read bytes) (rw length-drop (omega arith)) ∙ omega arith
 
 module _ {V W : Type 0} (m : Meaning V W) where
-  pub parse-nothing : (s : Stage V W) → parse m s [] ≡ s
+  pub parse-nothing : (s : State V W) → parse m s [] ≡ s
   parse-nothing s = rw (none_begin m.limit s.parsed, calls_added-nothing m.limit s.parsed, append-nil) refl
 
-  parse-append : (s : Stage V W) (a b : List ℕ) → parse m (parse m s a) b ≡ parse m s (a ++ b)
+  parse-append : (s : State V W) (a b : List ℕ) → parse m (parse m s a) b ≡ parse m s (a ++ b)
   parse-append s a b =
       rw (
         begins_in m.limit s.parsed a b,
@@ -32,7 +32,7 @@ module _ {V W : Type 0} (m : Meaning V W) where
         append_assoc s.parsed a b,
       ) refl
 
-  open_on : (s t : Stage V W) (bytes left : List ℕ) → OpenTurnHalts m s bytes t left
+  open_on : (s t : State V W) (bytes left : List ℕ) → OpenTurnHalts m s bytes t left
       → open_turn m t left ≡ open_turn m s bytes
   open_on s t bytes left h =
       let front = begin_front m.limit (s.parsed ++ h.front) left in
@@ -46,7 +46,7 @@ module _ {V W : Type 0} (m : Meaning V W) where
       (ap (λ t. record { state = t; rest = drop (length front) left }) (parse-append s h.front front))
 
 -- where no update begins in bytes, they are their own front
-module _ {V W : Type 0} {m : Meaning V W} {s : Stage V W} {bytes : List ℕ} {n : ℕ} {b : Bool} {there : Stage V W
+module _ {V W : Type 0} {m : Meaning V W} {s : State V W} {bytes : List ℕ} {n : ℕ} {b : Bool} {there : State V W
     → Type 0} (at : IsAtBegin m s bytes n b there) (whole : b ≡ false) where
   none_begins : begin_count (added m.limit s.parsed (begin_front m.limit s.parsed bytes)) ≡ 0
   none_begins =
@@ -59,11 +59,11 @@ module _ {V W : Type 0} {m : Meaning V W} {s : Stage V W} {bytes : List ℕ} {n 
   pub begin-whole : n ≡ length bytes
   begin-whole = at.count ∙ ap length front_whole
 
-module _ {V W : Type 0} (m : Meaning V W) (s : Stage V W) (bytes : List ℕ) where
-  pub open-nothing : {there : Stage V W → Type 0} → there s → IsOpenAt m s bytes 0 there
+module _ {V W : Type 0} (m : Meaning V W) (s : State V W) (bytes : List ℕ) where
+  pub open-nothing : {there : State V W → Type 0} → there s → IsOpenAt m s bytes 0 there
   open-nothing at = record { none_begin = none_begin m.limit s.parsed; is_at = rw (parse-nothing m s) at }
 
-  pub open-all : {read : ℕ} {there : Stage V W → Type 0} → IsOpenAt m s bytes read there → length bytes ≤ read
+  pub open-all : {read : ℕ} {there : State V W → Type 0} → IsOpenAt m s bytes read there → length bytes ≤ read
       → Opened m s bytes read there
   open-all {read} o all =
       let whole = take_all read bytes all in
@@ -78,7 +78,7 @@ module _ {V W : Type 0} (m : Meaning V W) (s : Stage V W) (bytes : List ℕ) whe
       }
 
   -- a slice in which no update begins is parsed whole
-  pub open-more : {slice : List ℕ} {read n : ℕ} {b : Bool} {old new : Stage V W → Type 0} (k : ℕ)
+  pub open-more : {slice : List ℕ} {read n : ℕ} {b : Bool} {old new : State V W → Type 0} (k : ℕ)
       → IsOpenAt m s bytes read old → slice ≡ take k (drop read bytes)
       → IsAtBegin m (parse m s (take read bytes)) slice n b new → b ≡ false → IsOpenAt m s bytes (read + n) new
   open-more {slice} {read} {n} k o is at uncut =
@@ -97,7 +97,7 @@ module _ {V W : Type 0} (m : Meaning V W) (s : Stage V W) (bytes : List ℕ) whe
       }
 
   -- an update begins in the slice
-  pub open-ends : {slice : List ℕ} {read n : ℕ} {b : Bool} {old new : Stage V W → Type 0} (k : ℕ)
+  pub open-ends : {slice : List ℕ} {read n : ℕ} {b : Bool} {old new : State V W → Type 0} (k : ℕ)
       → IsOpenAt m s bytes read old → read ≤ length bytes
       → slice ≡ take k (drop read bytes) → IsAtBegin m (parse m s (take read bytes)) slice n b new → b ≡ true
       → Opened m s bytes (read + n) new
@@ -123,7 +123,7 @@ module _ {V W : Type 0} (m : Meaning V W) (s : Stage V W) (bytes : List ℕ) whe
         is_at = rw (all, ← parse-append m s (take read bytes) front) at.is_at;
       }
 
-  pub halts : {read : ℕ} {there : Stage V W → Type 0} → IsOpenAt m s bytes read there → read < length bytes
+  pub halts : {read : ℕ} {there : State V W → Type 0} → IsOpenAt m s bytes read there → read < length bytes
       → OpenTurnHalts m s bytes (parse m s (take read bytes)) (drop read bytes)
   halts {read} o less = record {
     front = take read bytes;
@@ -135,63 +135,63 @@ module _ {V W : Type 0} (m : Meaning V W) (s : Stage V W) (bytes : List ℕ) whe
 
 -- ---- a turn that is refused memory
 
-pub halted_nothing : {V W : Type 0} (m : Meaning V W) {s : Stage V W} {bytes : List ℕ} {there : Stage V W → Type 0}
+pub halted_nothing : {V W : Type 0} (m : Meaning V W) {s : State V W} {bytes : List ℕ} {there : State V W → Type 0}
     → there s → Halted m s bytes 0 there
 halted_nothing m {s} at = record { next = s; takes = between done; is_at = at }
 
 -- ---- turns of a call, with such a turn after them
 
 module _ {V W : Type 0} (m : Meaning V W) where
-  pub one_taken : {s : Stage V W} {bytes : List ℕ} (answer : Bool) → 0 < length bytes
+  pub one_taken : {s : State V W} {bytes : List ℕ} (answer : Bool) → 0 < length bytes
       → m.timeout.allows s.timeout answer
       → TakesTurns m s bytes (turn m answer s bytes).state (turn m answer s bytes).rest
   one_taken {bytes = []} answer some allowed = absurd (omega arith)
   one_taken {bytes = b ∷ bytes} answer some allowed = turns answer allowed done
 
   -- turns go on with those of the rest
-  pub taken_on : (s t u : Stage V W) (bytes left rest : List ℕ) → TakesTurns m s bytes t left
+  pub taken_on : (s t u : State V W) (bytes left rest : List ℕ) → TakesTurns m s bytes t left
       → TakesTurns m t left u rest → TakesTurns m s bytes u rest
   taken_on s t u bytes left rest done more = more
   taken_on s t u (b ∷ bytes) left rest (turns answer allowed first) more =
       turns answer allowed (taken_on _ t u _ left rest first more)
 
-  pub some_on : (s t u : Stage V W) (bytes left rest : List ℕ) → TakesTurns m s bytes t left → TakesSome m t left u rest
+  pub some_on : (s t u : State V W) (bytes left rest : List ℕ) → TakesTurns m s bytes t left → TakesSome m t left u rest
       → TakesSome m s bytes u rest
   some_on s t u bytes left rest first (between more) = between (taken_on s t u bytes left rest first more)
   some_on s t u bytes left rest first (within more answer allowed halts) =
       within (taken_on s t _ bytes left _ first more) answer allowed halts
 
   -- where nothing is left, no turn was refused memory
-  pub all_taken : (s t : Stage V W) (bytes : List ℕ) → TakesSome m s bytes t [] → TakesTurns m s bytes t []
+  pub all_taken : (s t : State V W) (bytes : List ℕ) → TakesSome m s bytes t [] → TakesTurns m s bytes t []
   all_taken s t bytes (between taken) = taken
   all_taken s t bytes (within taken answer allowed halts) = absurd (omega (arith, halts.1.some_left))
 
   -- ---- what is parsed and held then
 
-  turn_halts_grow : (answer : Bool) (s t : Stage V W) (bytes left : List ℕ) → TurnHalts m answer s bytes t left
+  turn_halts_grow : (answer : Bool) (s t : State V W) (bytes left : List ℕ) → TurnHalts m answer s bytes t left
       → Grows s t bytes left
   turn_halts_grow answer s t bytes left (parses, h) =
       rw h.state_is
       (grows_on (stop_if_due_grows m answer s bytes)
       (parse_grows m (stop_if_due m answer s) h.front left bytes (stop_if_due_none m answer s) h.bytes_are))
 
-  pub some_grow : (s t : Stage V W) (bytes left : List ℕ) → TakesSome m s bytes t left → Grows s t bytes left
+  pub some_grow : (s t : State V W) (bytes left : List ℕ) → TakesSome m s bytes t left → Grows s t bytes left
   some_grow s t bytes left (between taken) = turns_grow m s t bytes left taken
   some_grow s t bytes left (within {u} {rest} taken answer allowed halts) =
       grows_on (turns_grow m s u bytes rest taken) (turn_halts_grow answer u t rest left halts)
 
   -- outside an update, and with nothing held
-  turn_halts_outside : (answer : Bool) (s t : Stage V W) (bytes left : List ℕ) → IsKept m.timeout → HoldsWellAt m s
+  turn_halts_outside : (answer : Bool) (s t : State V W) (bytes left : List ℕ) → IsKept m.timeout → HoldsWellAt m s
       → m.timeout.allows s.timeout answer
       → TurnHalts m answer s bytes t left → IsOutsideUpdate m.timeout t.held t.timeout
   turn_halts_outside answer s t bytes left kept well allowed (parses, h) =
       rw (h.state_is, h.none_begin) (stop_if_due_outside m answer s allowed well kept)
 
-  turn_halts_held : (answer : Bool) (s t : Stage V W) (bytes left : List ℕ)
+  turn_halts_held : (answer : Bool) (s t : State V W) (bytes left : List ℕ)
       → TurnHalts m answer s bytes t left → t.held ≡ []
   turn_halts_held answer s t bytes left (parses, h) = ap (λ t. t.held) h.state_is ∙ stop_if_due_none m answer s
 
-  pub some_well : (s t : Stage V W) (bytes left : List ℕ) → TakesSome m s bytes t left → HoldsWellAt m s
+  pub some_well : (s t : State V W) (bytes left : List ℕ) → TakesSome m s bytes t left → HoldsWellAt m s
       → HoldsWellAt m t
   some_well s t bytes left (between taken) well = taken_well m s t bytes left taken well
   some_well s t bytes left (within {u} {rest} taken answer allowed halts) well =
@@ -206,13 +206,13 @@ module _ {V W : Type 0} (m : Meaning V W) where
 
   -- ---- the unread bytes in a further call
 
-  turn_goes_on : (answer : Bool) (s t : Stage V W) (bytes left : List ℕ) → TurnHalts m answer s bytes t left
+  turn_goes_on : (answer : Bool) (s t : State V W) (bytes left : List ℕ) → TurnHalts m answer s bytes t left
       → turn m false t left ≡ turn m answer s bytes
   turn_goes_on answer s t bytes left (parses, h) =
       let none : is_stopped false t ≡ false = rw (turn_halts_held answer s t bytes left (parses, h)) refl in
       rw (none, parses) (open_on m (stop_if_due m answer s) t bytes left h)
 
-  halted_goes_on : (answer : Bool) (s t end : Stage V W) (bytes left : List ℕ) → m.timeout.allows s.timeout answer
+  halted_goes_on : (answer : Bool) (s t end : State V W) (bytes left : List ℕ) → m.timeout.allows s.timeout answer
       → TurnHalts m answer s bytes t left
       → IsOutsideUpdate m.timeout t.held t.timeout → TakesTurns m t left end [] → TakesTurns m s bytes end []
   halted_goes_on answer s t end bytes left allowed h out done = absurd (omega (arith, h.1.some_left))
@@ -224,7 +224,7 @@ module _ {V W : Type 0} (m : Meaning V W) where
       taken_on s _ end bytes _ [] (one_taken answer some allowed)
       (subst (λ x. TakesTurns m x.state x.rest end []) same more)
 
-  pub goes_on : (s t end : Stage V W) (bytes left : List ℕ) → IsKept m.timeout → HoldsWellAt m s
+  pub goes_on : (s t end : State V W) (bytes left : List ℕ) → IsKept m.timeout → HoldsWellAt m s
       → TakesSome m s bytes t left → TakesAllTurns m t left end → TakesAllTurns m s bytes end
   goes_on s t end bytes left kept well (between taken) more = taken_on s t end bytes left [] taken more
   goes_on s t end bytes left kept well (within {u} {rest} taken answer allowed halts) more =

@@ -1,9 +1,9 @@
 -- A processor stands where its turns do: with a limit there is always memory. So what the turns ensure is true of it.
-use Rattle.vte.proofs.Common.{◌<◌, ◌≤◌, ℕ, List, None, Some, length, Bool, Result, Ok, Err, arith, Bor, Refused, LongParser, TurnsMeaning, Meaning, Stage}
+use Rattle.vte.proofs.Common.{◌<◌, ◌≤◌, ℕ, List, None, Some, length, Bool, Result, Ok, Err, arith, Bor, Refused, LongParser, TurnsMeaning, Meaning, State}
 use Rattle.vte.proofs.Common.{Advanced, HasParsedAndHolds, HasParsedAndHoldsLong, HasTaken, HaveTaken, IsAt, ReadsInTurns, ReadsSome, Reserves, ReservesRoom, Standing, StopsSync, StopsSyncLong}
 use Rattle.vte.proofs.Common.{StopsUpdate, ◌≡◌, refl, stop, long_meaning, short_meaning, of_turns}
 use Rattle.vte_core.specs.declared.parser.Parser.{Parser}
-use Rattle.vte.proofs.runs.PlainRuns.{plain_call}
+use Rattle.vte.proofs.replays.PlainReplays.{plain_call}
 use Rattle.vte.proofs.turns.Turns.{has_advanced}
 use Rattle.vte.specs.declared.ansi.growing_text.GrowingText.{GrowingText}
 use Rattle.vte.specs.declared.ansi.long_processor.LongProcessor.{LongProcessor}
@@ -57,7 +57,7 @@ module _ {T A W : Type 0} {timeout_of : T → W} {processor : LongProcessor T A}
 -- ---- what is ensured of one standing, of another that is the same
 
 pub at_same : {V W : Type 0} {one other : Standing W} {value : V}
-    (same : (parsed held : List ℕ) (timeout : W) → one parsed held timeout → other parsed held timeout) (s : Stage V W)
+    (same : (parsed held : List ℕ) (timeout : W) → one parsed held timeout → other parsed held timeout) (s : State V W)
     → IsAt one value s → IsAt other value s
 at_same same s at = record { stands = same s.parsed s.held s.timeout at.stands; handler_is = at.handler_is }
 
@@ -73,8 +73,8 @@ module _ {V W : Type 0} {m : Meaning V W} {old turns_old turns_new new : Standin
       }
 
   module _ (bytes : Bor (List ℕ)) {read : ℕ}
-      (takes : (s : Stage V W) → IsAt turns_old before s → HasTaken m s bytes.now read (IsAt turns_new value)) where
-    pub takes_so : (s : Stage V W) → IsAt old before s → HasTaken m s bytes.now read (IsAt new value)
+      (takes : (s : State V W) → IsAt turns_old before s → HasTaken m s bytes.now read (IsAt turns_new value)) where
+    pub takes_so : (s : State V W) → IsAt old before s → HasTaken m s bytes.now read (IsAt new value)
     takes_so s at =
         let t = takes s (at_same from s at) in
         record {
@@ -85,7 +85,7 @@ module _ {V W : Type 0} {m : Meaning V W} {old turns_old turns_new new : Standin
           is_at = at_same to t.next t.is_at;
         }
 
-    advances_so : read ≡ length bytes.now → (s : Stage V W) → IsAt old before s
+    advances_so : read ≡ length bytes.now → (s : State V W) → IsAt old before s
         → Advanced m s bytes.now (IsAt new value)
     advances_so all s at = has_advanced m s bytes.now (takes_so s at) (omega (arith, all))
 

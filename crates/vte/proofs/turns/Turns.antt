@@ -4,13 +4,13 @@ use Rattle.vte.proofs.Common.{◌≡◌, ℕ, ◌+◌, ◌-◌, ◌<◌, ◌≤�
 use Rattle.vte.proofs.Common.{append_assoc, Result, Ok, Err, append_cancel_right, drop_all, drop-drop, take_all, take-append-drop, Refused, ProcessorState, Turns, Meaning}
 use Rattle.vte.proofs.Common.{held_of, false, MatchResult, EndsTurn, within}
 use Rattle.vte.proofs.Common.{Advanced, AreAt, HasTaken, TurnsMeaning, KeepsTurnRoom, ReadsSome, StopsUpdate, AreNextAt, EndsOpen, Halted, IsAtBegin, IsOpenAt, IsParsed, IsParsedOn}
-use Rattle.vte.proofs.Common.{IsParsedWithRoom, Turned, Stage, TakesSome, TakesTurns, all_bytes, turn, hold_turn, parse, stop, between, done, LacksSome, ReservesRoom, is_held, stop_if_due}
-use Rattle.vte.proofs.runs.EachOnce.{grown_bytes, stop_bytes}
+use Rattle.vte.proofs.Common.{IsParsedWithRoom, Turned, State, TakesSome, TakesTurns, all_bytes, turn, hold_turn, parse, stop, between, done, LacksSome, ReservesRoom, is_held, stop_if_due}
+use Rattle.vte.proofs.replays.EachOnce.{grown_bytes, stop_bytes}
 use Rattle.vte.proofs.turns.HoldFacts.{stop_well}
 use Rattle.vte.proofs.turns.Slices.{all_taken, halts, one_taken, some_grow, some_on, some_well, taken_on}
 
 -- turns stand where their parts do
-module _ {P J T A V W : Type 0} {w : TurnsMeaning P J T W} {turns : Turns P J T A} {value : V} {s : Stage V W} where
+module _ {P J T A V W : Type 0} {w : TurnsMeaning P J T W} {turns : Turns P J T A} {value : V} {s : State V W} where
   pub parts-at : AreAt w turns value s → IsParsed w turns.parser turns.state value s
   parts-at at = record { has_parsed = at.stands.has_parsed; handler_is = at.handler_is }
 
@@ -28,7 +28,7 @@ module _ {P J T A V W : Type 0} {w : TurnsMeaning P J T W} {turns : Turns P J T 
   }
 
 -- turns that go on, with the memory that was there before
-module _ {P J T A V W : Type 0} {w : TurnsMeaning P J T W} {value : V} {s : Stage V W} where
+module _ {P J T A V W : Type 0} {w : TurnsMeaning P J T W} {value : V} {s : State V W} where
   pub next-at : {turns : Turns P J T A} → AreAt w turns value s → AreNextAt w turns turns value s
   next-at at = record { are_at = at; memory = λ stream count had. had }
 
@@ -46,12 +46,12 @@ module _ {P J T A V W : Type 0} {w : TurnsMeaning P J T W} {value : V} {s : Stag
   }
 
 -- a slice is parsed with the memory that was taken for it
-module _ {P J T A V W : Type 0} {w : TurnsMeaning P J T W} {m : Meaning V W} {s : Stage V W} {bytes slice : List ℕ}
+module _ {P J T A V W : Type 0} {w : TurnsMeaning P J T W} {m : Meaning V W} {s : State V W} {bytes slice : List ℕ}
     {read count n : ℕ} {b : Bool}
     {first old taken : Turns P J T A} {parser : P} {state : ProcessorState T J} {before value : V} where
   pub slice_parsed : IsOpenAt m s bytes read (AreNextAt w first old before) → ReservesRoom w old taken count true
       → length slice ≡ count → s.held ≡ []
-      → ((t : Stage V W) (k : ℕ) → IsParsedWithRoom w taken.parser taken.state before t (length slice + k)
+      → ((t : State V W) (k : ℕ) → IsParsedWithRoom w taken.parser taken.state before t (length slice + k)
       → IsAtBegin m t slice n b (IsParsedOn w taken.parser taken.state parser state value))
       → IsAtBegin m (parse m s (take read bytes)) slice n b
       (AreNextAt w first (record taken { parser = parser; state = state }) value)
@@ -74,7 +74,7 @@ module _ {P J T A V W : Type 0} {w : TurnsMeaning P J T W} {m : Meaning V W} {s 
 -- after a stop
 pub stops_update : {P J T A V W : Type 0} {w : TurnsMeaning P J T W} {m : Meaning V W} {old mid new : Turns P J T A}
     {before value : V} → KeepsTurnRoom w old mid
-    → ((s : Stage V W) → AreAt w old before s → AreNextAt w mid new value (stop m s))
+    → ((s : State V W) → AreAt w old before s → AreNextAt w mid new value (stop m s))
     → StopsUpdate w m old new before value
 stops_update {m = m} keeps ends = record {
   stops = record { stops = λ s at. (ends s at).are_at; each_once = stop_bytes m; holds_well = stop_well m };
@@ -82,13 +82,13 @@ stops_update {m = m} keeps ends = record {
 }
 
 pub stops-next : {P J T A V W : Type 0} {w : TurnsMeaning P J T W} {m : Meaning V W} {old new : Turns P J T A}
-    {before value : V} {s : Stage V W} → StopsUpdate w m old new before value
+    {before value : V} {s : State V W} → StopsUpdate w m old new before value
     → AreAt w old before s → AreNextAt w old new value (stop m s)
 stops-next stopped at = record { are_at = stopped.stops.stops _ at; memory = stopped.memory _ at }
 
 -- a turn that parses bytes, after a stop if need be
 pub ends_turn : {P J T A V W : Type 0} {w : TurnsMeaning P J T W} {m : Meaning V W} {old mid new : Turns P J T A}
-    {value : V} {s : Stage V W} {bytes : List ℕ} (answer : Bool)
+    {value : V} {s : State V W} {bytes : List ℕ} (answer : Bool)
     → m.timeout.allows s.timeout answer → is_held answer s bytes ≡ false → KeepsTurnRoom w old mid
     → (result : Result ℕ Refused)
     → MatchResult result (λ read. read ≤ length bytes) (λ refused. refused.read < length bytes)
@@ -116,7 +116,7 @@ ends_turn {m = m} {s = s} {bytes = bytes} answer allowed parses keeps (Err refus
 
 -- ---- one turn
 
-module _ {V W : Type 0} (m : Meaning V W) {s : Stage V W} {bytes : List ℕ} {n : ℕ} {there : Stage V W → Type 0} where
+module _ {V W : Type 0} (m : Meaning V W) {s : State V W} {bytes : List ℕ} {n : ℕ} {there : State V W → Type 0} where
   pub turned_hold : {answer : Bool} → m.timeout.allows s.timeout answer → is_held answer s bytes ≡ true
       → n ≡ length bytes → there (hold_turn m s bytes) → Turned m s bytes n there
   turned_hold {answer} allowed held all at =
@@ -139,15 +139,15 @@ pub rest_size : (bytes : List ℕ) (read : ℕ) → read ≤ length bytes
     → length (take (length bytes - read) (drop read bytes)) ≡ length bytes - read
 rest_size bytes read inside = rw (rest_is bytes read inside, length-drop)
 
-module _ {V W : Type 0} (m : Meaning V W) (s : Stage V W) (bytes : List ℕ) where
+module _ {V W : Type 0} (m : Meaning V W) (s : State V W) (bytes : List ℕ) where
   -- So many bytes were read, by so many turns at most.
-  pub record HasReached (count read : ℕ) (there : Stage V W → Type 0) : Type 0 where
-    pub here : Stage V W
+  pub record HasReached (count read : ℕ) (there : State V W → Type 0) : Type 0 where
+    pub here : State V W
     pub enough : count ≤ read
     pub takes : TakesTurns m s bytes here (drop read bytes)
     pub is_at : there here
 
-  pub reaches-nothing : {there : Stage V W → Type 0} → there s → HasReached 0 0 there
+  pub reaches-nothing : {there : State V W → Type 0} → there s → HasReached 0 0 there
   reaches-nothing at = record { here = s; enough = omega arith; takes = done; is_at = at }
 
   pub reaches-more : {P J T A : Type 0} {w : TurnsMeaning P J T W} {first mid new : Turns P J T A} {before value : V}
@@ -168,7 +168,7 @@ module _ {V W : Type 0} (m : Meaning V W) (s : Stage V W) (bytes : List ℕ) whe
         is_at = after-next r.is_at.memory u.is_at;
       }
 
-  taken : {read : ℕ} {there : Stage V W → Type 0} (t : Stage V W) → TakesSome m s bytes t (drop read bytes) → there t
+  taken : {read : ℕ} {there : State V W → Type 0} (t : State V W) → TakesSome m s bytes t (drop read bytes) → there t
       → HasTaken m s bytes read there
   taken {read = read} t takes at = record {
     next = t;
@@ -181,7 +181,7 @@ module _ {V W : Type 0} (m : Meaning V W) (s : Stage V W) (bytes : List ℕ) whe
     is_at = at;
   }
 
-  pub has_taken : {count read : ℕ} {there : Stage V W → Type 0} → HasReached count read there
+  pub has_taken : {count read : ℕ} {there : State V W → Type 0} → HasReached count read there
       → HasTaken m s bytes read there
   has_taken r = taken r.here (between r.takes) r.is_at
 
@@ -199,7 +199,7 @@ module _ {V W : Type 0} (m : Meaning V W) (s : Stage V W) (bytes : List ℕ) whe
       (after-next r.is_at.memory h.is_at)
 
   -- a call that has read all its bytes
-  pub has_advanced : {read : ℕ} {there : Stage V W → Type 0} → HasTaken m s bytes read there → length bytes ≤ read
+  pub has_advanced : {read : ℕ} {there : State V W → Type 0} → HasTaken m s bytes read there → length bytes ≤ read
       → Advanced m s bytes there
   has_advanced {read} h all = record {
     next = h.next;
@@ -210,7 +210,7 @@ module _ {V W : Type 0} (m : Meaning V W) (s : Stage V W) (bytes : List ℕ) whe
   }
 
 -- what is true where a call is, of which more is known
-pub taken-at : {P J T A V W : Type 0} {w : TurnsMeaning P J T W} {m : Meaning V W} {s : Stage V W} {bytes : List ℕ}
+pub taken-at : {P J T A V W : Type 0} {w : TurnsMeaning P J T W} {m : Meaning V W} {s : State V W} {bytes : List ℕ}
     {read : ℕ} {old new : Turns P J T A} {value : V}
     → HasTaken m s bytes read (AreNextAt w old new value) → HasTaken m s bytes read (AreAt w new value)
 taken-at h =
@@ -226,8 +226,8 @@ taken-at h =
 module _ {P J T A V W : Type 0} {w : TurnsMeaning P J T W} {m : Meaning V W} {old new : Turns P J T A}
     {before value : V} (bytes : List ℕ) where
   pub all_read : {count read : ℕ}
-      → ((s : Stage V W) → AreAt w old before s → HasReached m s bytes count read (AreNextAt w old new value))
-      → ((s : Stage V W) → AreAt w old before s → read ≡ length bytes)
+      → ((s : State V W) → AreAt w old before s → HasReached m s bytes count read (AreNextAt w old new value))
+      → ((s : State V W) → AreAt w old before s → read ≡ length bytes)
       → ReadsSome w m old new before value bytes (Ok tt)
   all_read reaches is = record {
     takes = λ s at. rw (is s at) at (taken-at (has_taken m s bytes (reaches s at)));
@@ -237,7 +237,7 @@ module _ {P J T A V W : Type 0} {w : TurnsMeaning P J T W} {m : Meaning V W} {ol
   }
 
   pub read_until : {refused : Refused}
-      → ((s : Stage V W) → AreAt w old before s → HasTaken m s bytes refused.read (AreNextAt w old new value))
+      → ((s : State V W) → AreAt w old before s → HasTaken m s bytes refused.read (AreNextAt w old new value))
       → refused.read < length bytes → LacksSome w new (length bytes - refused.read)
       → ReadsSome w m old new before value bytes (Err refused)
   read_until taken less lacks =

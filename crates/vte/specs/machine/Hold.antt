@@ -2,11 +2,11 @@
 use Rattle.std.specs.Prelude.{◌≡◌, ℕ, ◌-◌, List, ◌++◌, length, take, drop}
 use Rattle.vte.specs.ProcessorCalls.{held_of}
 use Rattle.vte.specs.Synchronized.{begins_among, kept_of, last_part}
-use Rattle.vte.specs.declared.ansi.hold.SyncState.{SyncState}
+use Rattle.vte.specs.declared.ansi.hold.Hold.{Hold}
 use Rattle.vte.specs.declared.ansi.release.Added.{Added}
 
 -- The bytes before the held ones, which the last turn released.
-abbrev pub released_of : {A : Type 0} → SyncState A → List ℕ
+abbrev pub released_of : {A : Type 0} → Hold A → List ℕ
 released_of hold = take hold.released hold.bytes.items
 
 -- The end of a hold, from a place on, to whose bytes others were added: these, and at most seven
@@ -21,7 +21,7 @@ pub record Adds (bytes : List ℕ) (new : ℕ) (added : Added) : Type 0 where
   pub released : added.released ≡ length bytes - length (kept_of bytes)
 
 -- Bytes were added to those that were held.
-pub record IsAdded {A : Type 0} (held more : List ℕ) (hold : SyncState A)
+pub record IsAdded {A : Type 0} (held more : List ℕ) (hold : Hold A)
     (begins : ℕ) : Type 0 where
   pub held_is : held_of hold ≡ kept_of (held ++ more)
   pub released_is : released_of hold

@@ -12,7 +12,7 @@ use Rattle.vte_handler.specs.Call.{Call}
 use Rattle.vte_handler.specs.Handler.{after}
 use Rattle.vte_handler.specs.Timeout.{TimeoutMeaning}
 
-pub record Lent (H W : Type 0) : Type 0 where
+pub record PerformerValue (H W : Type 0) : Type 0 where
   pub handler : H
   pub timeout : W
   pub last : Option ℕ
@@ -33,7 +33,7 @@ FitsText room event = (last : Option ℕ) → calls_made room last event ≡ cal
 
 -- An event that begins an update terminates the performer.
 abbrev pub with_event : {H W : Type 0}
-    → (H → Call → H) → TimeoutMeaning W → Lent H W → Event → Lent H W
+    → (H → Call → H) → TimeoutMeaning W → PerformerValue H W → Event → PerformerValue H W
 with_event step timeout lent event = record {
   handler = after step lent.handler (calls_made lent.room lent.last event);
   timeout = set_times timeout (begins_of event) lent.timeout;

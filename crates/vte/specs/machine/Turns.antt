@@ -3,7 +3,7 @@ use Rattle.std.specs.Prelude.{◌≡◌, ℕ, ◌<◌, Bool, List, length, nat_l
 use Rattle.vte_core.specs.declared.parser.refused.Refused.{Refused}
 use Rattle.vte_core.specs.Stream.{added}
 use Rattle.vte.specs.BeginUpdate.{begin_count}
-use Rattle.vte.specs.Processor.{Meaning, Stage, begin_front, open_turn, parse, turn}
+use Rattle.vte.specs.Processor.{Meaning, State, begin_front, open_turn, parse, turn}
 use Rattle.vte.specs.Refusal.{TakesSome}
 use Rattle.vte.specs.machine.TurnsMeaning.{AreAt, HasParsed, KeepsRoom, KeepsTurnRoom, TurnsMeaning}
 use Rattle.vte.specs.declared.ansi.performer.ProcessorState.{ProcessorState}
@@ -11,38 +11,38 @@ use Rattle.vte.specs.declared.ansi.turns.Turns.{Turns}
 
 -- The parser, the state lent to it and the handler's value are as the state says, whatever is held.
 pub record IsParsed {P J T V W : Type 0} (w : TurnsMeaning P J T W) (parser : P)
-    (lent : ProcessorState T J) (value : V) (s : Stage V W) : Type 0 where
+    (lent : ProcessorState T J) (value : V) (s : State V W) : Type 0 where
   pub has_parsed : HasParsed w parser lent s.parsed s.timeout
   pub handler_is : value ≡ s.handler
 
 -- There is also memory for so many bytes.
 pub record IsParsedWithRoom {P J T V W : Type 0} (w : TurnsMeaning P J T W) (parser : P)
-    (lent : ProcessorState T J) (value : V) (s : Stage V W) (count : ℕ) : Type 0 where
+    (lent : ProcessorState T J) (value : V) (s : State V W) (count : ℕ) : Type 0 where
   pub is_parsed : IsParsed w parser lent value s
   pub room : w.reading.has_room parser (w.room_of lent.text) s.parsed count
 
 -- They are at a state, with the memory that was there before.
 pub record IsParsedOn {P J T V W : Type 0} (w : TurnsMeaning P J T W) (parser : P)
-    (lent : ProcessorState T J) (next : P) (back : ProcessorState T J) (value : V) (s : Stage V W)
+    (lent : ProcessorState T J) (next : P) (back : ProcessorState T J) (value : V) (s : State V W)
     : Type 0 where
   pub is_parsed : IsParsed w next back value s
   pub memory : KeepsRoom w.reading.has_room parser (w.room_of lent.text) next (w.room_of back.text)
 
 -- The turns are at a state, with the memory that was there before.
 pub record AreNextAt {P J T A V W : Type 0} (w : TurnsMeaning P J T W) (old new : Turns P J T A)
-    (value : V) (s : Stage V W) : Type 0 where
+    (value : V) (s : State V W) : Type 0 where
   pub are_at : AreAt w new value s
   pub memory : KeepsTurnRoom w old new
 
 -- From each state that the turns are at, they lead on as it says.
 abbrev pub LeadOn : {P J T A V W : Type 0} → TurnsMeaning P J T W → Turns P J T A → Turns P J T A
-    → V → V → (Stage V W → (Stage V W → Type 0) → Type 0) → Type 0
+    → V → V → (State V W → (State V W → Type 0) → Type 0) → Type 0
 LeadOn w old new before value ends =
-    (s : Stage _ _) → AreAt w old before s → ends s (AreNextAt w old new value)
+    (s : State _ _) → AreAt w old before s → ends s (AreNextAt w old new value)
 
 -- The bytes up to the one that begins an update, so many, were parsed, or all if none begins.
-pub record IsAtBegin {V W : Type 0} (m : Meaning V W) (s : Stage V W) (bytes : List ℕ) (read : ℕ)
-    (begins : Bool) (there : Stage V W → Type 0) : Type 0 where
+pub record IsAtBegin {V W : Type 0} (m : Meaning V W) (s : State V W) (bytes : List ℕ) (read : ℕ)
+    (begins : Bool) (there : State V W → Type 0) : Type 0 where
   pub count : read ≡ length (begin_front m.limit s.parsed bytes)
   pub begins_is : begins
       ≡ nat_lt 0 (begin_count (added m.limit s.parsed (begin_front m.limit s.parsed bytes)))
@@ -50,8 +50,8 @@ pub record IsAtBegin {V W : Type 0} (m : Meaning V W) (s : Stage V W) (bytes : L
 
 -- One turn has read this many bytes, and at least one if there were any. It is at the state to
 -- which it leads.
-pub record Turned {V W : Type 0} (m : Meaning V W) (s : Stage V W) (bytes : List ℕ) (read : ℕ)
-    (there : Stage V W → Type 0) : Type 0 where
+pub record Turned {V W : Type 0} (m : Meaning V W) (s : State V W) (bytes : List ℕ) (read : ℕ)
+    (there : State V W → Type 0) : Type 0 where
   pub answer : Bool
   pub allowed : m.timeout.allows s.timeout answer
   pub progress : 0 < length bytes → 0 < read
@@ -59,32 +59,32 @@ pub record Turned {V W : Type 0} (m : Meaning V W) (s : Stage V W) (bytes : List
   pub is_at : there (turn m answer s bytes).state
 
 -- An open turn has read this many bytes.
-pub record Opened {V W : Type 0} (m : Meaning V W) (s : Stage V W) (bytes : List ℕ) (read : ℕ)
-    (there : Stage V W → Type 0) : Type 0 where
+pub record Opened {V W : Type 0} (m : Meaning V W) (s : State V W) (bytes : List ℕ) (read : ℕ)
+    (there : State V W → Type 0) : Type 0 where
   pub progress : 0 < length bytes → 0 < read
   pub rest : (open_turn m s bytes).rest ≡ drop read bytes
   pub is_at : there (open_turn m s bytes).state
 
 -- An open turn has parsed this many bytes, and no update begins in them.
-pub record IsOpenAt {V W : Type 0} (m : Meaning V W) (s : Stage V W) (bytes : List ℕ) (read : ℕ)
-    (there : Stage V W → Type 0) : Type 0 where
+pub record IsOpenAt {V W : Type 0} (m : Meaning V W) (s : State V W) (bytes : List ℕ) (read : ℕ)
+    (there : State V W → Type 0) : Type 0 where
   pub none_begin : begin_count (added m.limit s.parsed (take read bytes)) ≡ 0
   pub is_at : there (parse m s (take read bytes))
 
 -- A turn that was refused memory has read this many bytes.
-pub record Halted {V W : Type 0} (m : Meaning V W) (s : Stage V W) (bytes : List ℕ) (read : ℕ)
-    (there : Stage V W → Type 0) : Type 0 where
-  pub next : Stage V W
+pub record Halted {V W : Type 0} (m : Meaning V W) (s : State V W) (bytes : List ℕ) (read : ℕ)
+    (there : State V W → Type 0) : Type 0 where
+  pub next : State V W
   pub takes : TakesSome m s bytes next (drop read bytes)
   pub is_at : there next
 
 -- How a turn and an open turn end, if memory for them may be refused.
-pub record EndsTurn {V W : Type 0} (m : Meaning V W) (s : Stage V W) (bytes : List ℕ)
-    (result : Result ℕ Refused) (there : Stage V W → Type 0) : Type 0 where
+pub record EndsTurn {V W : Type 0} (m : Meaning V W) (s : State V W) (bytes : List ℕ)
+    (result : Result ℕ Refused) (there : State V W → Type 0) : Type 0 where
   pub turned : IfOk result (λ read. Turned m s bytes read there)
   pub halted : IfErr result (λ refused. Halted m s bytes refused.read there)
 
-pub record EndsOpen {V W : Type 0} (m : Meaning V W) (s : Stage V W) (bytes : List ℕ)
-    (result : Result ℕ Refused) (there : Stage V W → Type 0) : Type 0 where
+pub record EndsOpen {V W : Type 0} (m : Meaning V W) (s : State V W) (bytes : List ℕ)
+    (result : Result ℕ Refused) (there : State V W → Type 0) : Type 0 where
   pub opened : IfOk result (λ read. Opened m s bytes read there)
   pub halted : IfErr result (λ refused. IsOpenAt m s bytes refused.read there)

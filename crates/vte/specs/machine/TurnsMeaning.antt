@@ -9,7 +9,7 @@ use Rattle.vte_core.specs.declared.parser.refused.Refused.{Refused}
 use Rattle.vte.specs.Calls.{last_printed}
 use Rattle.vte.specs.LongProcessor.{read_of}
 use Rattle.vte.specs.Memory.{HasRoom, LacksPart, LacksRoom}
-use Rattle.vte.specs.Processor.{Meaning, Stage}
+use Rattle.vte.specs.Processor.{Meaning, State}
 use Rattle.vte.specs.ProcessorCalls.{IsAt, StopsSync, held_of}
 use Rattle.vte.specs.Refusal.{HasTaken}
 use Rattle.vte.specs.declared.ansi.performer.ProcessorState.{ProcessorState}
@@ -73,7 +73,7 @@ pub record HaveTaken {P J T A W : Type 0} (w : TurnsMeaning P J T W) (turns : Tu
       → w.reading.has_room turns.parser (w.room_of turns.state.text) parsed (length held)
 
 -- The turns and the handler's value are as the state says.
-abbrev pub AreAt : {P J T A V W : Type 0} → TurnsMeaning P J T W → Turns P J T A → V → Stage V W
+abbrev pub AreAt : {P J T A V W : Type 0} → TurnsMeaning P J T W → Turns P J T A → V → State V W
     → Type 0
 AreAt w turns = IsAt (HaveTaken w turns)
 
@@ -107,14 +107,14 @@ pub record ReservesRoom {P J T A W : Type 0} (w : TurnsMeaning P J T W) (old new
 pub record StopsUpdate {P J T A V W : Type 0} (w : TurnsMeaning P J T W) (m : Meaning V W)
     (old new : Turns P J T A) (before value : V) : Type 0 where
   pub stops : StopsSync m (HaveTaken w old) (HaveTaken w new) before value
-  pub memory : (s : Stage V W) → AreAt w old before s → KeepsTurnRoom w old new
+  pub memory : (s : State V W) → AreAt w old before s → KeepsTurnRoom w old new
 
 -- Bytes are read: all, or those before memory is refused.
 pub record ReadsSome {P J T A V W : Type 0} (w : TurnsMeaning P J T W) (m : Meaning V W)
     (old new : Turns P J T A) (before value : V) (bytes : List ℕ)
     (result : Result (Unit {0}) Refused) : Type 0 where
-  pub takes : (s : Stage V W) → AreAt w old before s
+  pub takes : (s : State V W) → AreAt w old before s
       → HasTaken m s bytes (read_of result bytes) (AreAt w new value)
   pub within : IfErr result (λ refused. refused.read < length bytes)
   pub lacks : IfErr result (λ refused. LacksSome w new (length bytes - refused.read))
-  pub memory : (s : Stage V W) → AreAt w old before s → KeepsTurnRoom w old new
+  pub memory : (s : State V W) → AreAt w old before s → KeepsTurnRoom w old new

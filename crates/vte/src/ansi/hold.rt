@@ -11,12 +11,12 @@ use std::alloc::{AllocError, Allocator};
 /// The memory of a hold.
 const ROOM: usize = 2_097_152;
 
-/// The most bytes that are held at once: two less, as in the crate.
+/// The most bytes that are held at once: two less, as in `vte`.
 pub(crate) const MOST_HELD: usize = ROOM - 2;
 
 /// The held bytes, none of which end an update, after those that were released last.
 #[derive(Drop)]
-pub(crate) struct SyncState<A: Allocator> {
+pub(crate) struct Hold<A: Allocator> {
     bytes: Vec<u8, A>,
     released: usize,
     ghost within: { released ≤ length bytes.items },
@@ -26,7 +26,7 @@ pub(crate) struct SyncState<A: Allocator> {
     ghost room: { ROOM ≤ vec_capacity bytes },
 }
 
-impl<A: Allocator + Clone> Clone for SyncState<A> {
+impl<A: Allocator + Clone> Clone for Hold<A> {
     ghost use Rattle.vte.specs.ProcessorCalls.{held_of};
 
     ghost is_clone = { λ hold clone. held_of clone ≡ held_of hold };
@@ -36,11 +36,11 @@ impl<A: Allocator + Clone> Clone for SyncState<A> {
         // as much memory
         bytes.reserve(self.bytes.capacity() - bytes.len())?;
         let released = self.released;
-        Ok(SyncState { bytes, released })
+        Ok(Hold { bytes, released })
     }
 }
 
-impl<A: Allocator> SyncState<A> {
+impl<A: Allocator> Hold<A> {
     ghost use Rattle.vte.specs.machine.Hold.{IsAdded, released_of};
     ghost use Rattle.vte.specs.ProcessorCalls.{CountsHeld, held_of};
 
@@ -49,7 +49,7 @@ impl<A: Allocator> SyncState<A> {
         ensures { IfOk result (λ hold. held_of hold ≡ []) }
     {
         let bytes = Vec::with_capacity(alloc, ROOM)?;
-        Ok(SyncState { bytes, released: 0 })
+        Ok(Hold { bytes, released: 0 })
     }
 
     /// Returns the number of held bytes.

@@ -1,15 +1,15 @@
-//! Laws of whole runs of processors, and the laws of the types.
+//! Laws of lists of a processor's calls, and the laws of the types.
 ghost use Rattle.std.specs.Prelude.{ℕ, List, None};
 ghost use Rattle.vte.specs.CallExamples.{AreMade, AreRead, color_examples, command_examples, counted_examples, escape_examples, executed_examples};
 ghost use Rattle.vte.specs.CallExamples.{link_examples, mode_examples, palette_examples, position_examples, rendition_examples, selected_examples, title_examples};
-ghost use Rattle.vte.specs.Processor.{HoldsWellAt, Stage, TakesAllTurns, TakesTurns, meaning, timeout_meaning};
+ghost use Rattle.vte.specs.Processor.{HoldsWellAt, State, TakesAllTurns, TakesTurns, meaning, timeout_meaning};
 ghost use Rattle.vte.specs.Refusal.{TakesSome};
 ghost use Rattle.vte.specs.UpdateExamples.{AreLed, expired_example, update_examples};
 ghost use Rattle.vte_handler.specs.Timeout.{IsKept};
 
-mod runs;
+mod replays;
 
-pub use runs::{RefusedStep, Step, replay, replay_long};
+pub use replays::{RefusedStep, Step, replay, replay_long};
 use vte_handler::{Handler, Timeout};
 pub use vte_types::laws::{
     defaults, equal_values_hash_equally, keywords_are_text, modes_keep_their_numbers,
@@ -40,11 +40,11 @@ pub fn worked_examples()
 /// turn too, although the timeout is asked once more.
 #[tactic(auto, using(crate::proofs::turns::Slices::taken_on))]
 pub fn refused_calls_go_on<H: Handler, T: Timeout>()
-    ensures between { (s t end : Stage H.Value T.Value) (bytes rest : List ℕ)
+    ensures between { (s t end : State H.Value T.Value) (bytes rest : List ℕ)
         → TakesTurns (meaning None H.step T.set T.clear T.allows) s bytes t rest →
         TakesAllTurns (meaning None H.step T.set T.clear T.allows) t rest end
         → TakesAllTurns (meaning None H.step T.set T.clear T.allows) s bytes end }
-    ensures within { (s t end : Stage H.Value T.Value) (bytes rest : List ℕ)
+    ensures within { (s t end : State H.Value T.Value) (bytes rest : List ℕ)
         → IsKept (timeout_meaning T.set T.clear T.allows) →
         HoldsWellAt (meaning None H.step T.set T.clear T.allows) s
         → TakesSome (meaning None H.step T.set T.clear T.allows) s bytes t rest →

@@ -106,7 +106,8 @@ impl<T: Timeout + Drop, A: Allocator> LongProcessor<T, A> {
     }
 
     /// Stops an update: parses the bytes that are held back, tells the handler that the update has
-    /// ended, and clears the timeout. It needs no memory: what is held back has taken it.
+    /// ended, and clears the timeout. Without an update too, the handler is told. It needs no
+    /// memory: what is held back has taken it.
     pub fn stop_sync<H: Handler>(&mut self, handler: &mut H)
         ensures { StopsSyncLong T.value_of
             (meaning None H.step T.set T.clear T.allows) self.old self.new (H.value_of handler.old)

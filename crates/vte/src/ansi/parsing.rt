@@ -1,8 +1,8 @@
 //! The parser, together with what a processor lends it. The references are separate parameters, not
 //! fields of one struct, so that the performer can borrow each.
 ghost use Rattle.std.specs.Prelude.{◌≡◌, ◌≤◌, ◌+◌, ◌++◌, ℕ, List, Option, Some, true, false, length};
-ghost use Rattle.vte.specs.machine.Lent.{ParsesLent, StopsLent, lent_of};
-ghost use Rattle.vte.specs.Processor.{Stage, meaning, parse, timeout_meaning};
+ghost use Rattle.vte.specs.machine.Performing.{PerformsAll, PerformsUntilStop, performer_value};
+ghost use Rattle.vte.specs.Processor.{State, meaning, parse, timeout_meaning};
 ghost use Rattle.vte.specs.machine.Performer.{with_event};
 ghost use Rattle.vte.specs.machine.Turns.{IsAtBegin, IsParsedOn, IsParsedWithRoom};
 ghost use Rattle.vte.specs.machine.TurnsMeaning.{KeepsRoom, ParserMeaning, short_meaning, of_turns};
@@ -60,10 +60,10 @@ pub(crate) trait ParseAs<H: Handler, T: Timeout + Drop, P: EventParser>: Sized {
         performer: &mut Performer<'_, '_, H, T, J, Self>,
         bytes: &[u8],
     )
-        ensures { let lent_of = lent_of H.value_of T.value_of J.room in
-            ParsesLent P.reading P.limit
+        ensures { let value = performer_value H.value_of T.value_of J.room in
+            PerformsAll P.reading P.limit
             (with_event H.step (timeout_meaning T.set T.clear T.allows))
-            parser.old parser.new (lent_of performer.old) (lent_of performer.new) bytes.now };
+            parser.old parser.new (value performer.old) (value performer.new) bytes.now };
 
     /// Parses bytes until an update begins, and returns how many it parsed.
     fn advance_until_begin<J: TextBuffer + Drop>(
@@ -71,10 +71,10 @@ pub(crate) trait ParseAs<H: Handler, T: Timeout + Drop, P: EventParser>: Sized {
         performer: &mut Performer<'_, '_, H, T, J, Self>,
         bytes: &[u8],
     ) -> usize
-        ensures { let lent_of = lent_of H.value_of T.value_of J.room in
-            StopsLent P.reading P.limit
+        ensures { let value = performer_value H.value_of T.value_of J.room in
+            PerformsUntilStop P.reading P.limit
             (with_event H.step (timeout_meaning T.set T.clear T.allows))
-            parser.old parser.new (lent_of performer.old) (lent_of performer.new)
+            parser.old parser.new (value performer.old) (value performer.new)
             bytes.now result };
 }
 
@@ -128,14 +128,14 @@ pub(crate) fn parse_all<
     P: EventParser,
     G: ParseAs<H, T, P>,
 >(parser: &mut P, state: &mut ProcessorState<T, J>, handler: &mut H, bytes: &[u8])
-    ensures parsed { (s : Stage H.Value T.Value) (n : ℕ)
+    ensures parsed { (s : State H.Value T.Value) (n : ℕ)
         → IsParsedWithRoom (of_turns P.limit P.reading J.room T.value_of) parser.old state.old
         (H.value_of handler.old) s (length bytes.now + n) →
         IsParsedOn
         (of_turns P.limit P.reading J.room T.value_of) parser.old state.old parser.new state.new
         (H.value_of handler.new)
         (parse (meaning P.limit H.step T.set T.clear T.allows) s bytes.now) }
-    ensures room { (s : Stage H.Value T.Value) (n : ℕ)
+    ensures room { (s : State H.Value T.Value) (n : ℕ)
         → IsParsedWithRoom (of_turns P.limit P.reading J.room T.value_of) parser.old state.old
         (H.value_of handler.old) s (length bytes.now + n) →
         P.reading.has_room parser.new (J.room state.new.text) (s.parsed ++ bytes.now) n }
@@ -159,7 +159,7 @@ pub(crate) fn parse_until_begin<
     G: ParseAs<H, T, P>,
 >(parser: &mut P, state: &mut ProcessorState<T, J>, handler: &mut H, bytes: &[u8]) -> (usize, bool)
     ensures within { result.0 ≤ length bytes.now }
-    ensures stops { (s : Stage H.Value T.Value) (n : ℕ)
+    ensures stops { (s : State H.Value T.Value) (n : ℕ)
         → IsParsedWithRoom (of_turns P.limit P.reading J.room T.value_of) parser.old state.old
         (H.value_of handler.old) s (length bytes.now + n) →
         IsAtBegin (meaning P.limit H.step T.set T.clear T.allows) s bytes.now result.0 result.1

@@ -3,7 +3,7 @@ ghost use Rattle.std.specs.Prelude.{◌≡◌, false, map};
 ghost use Rattle.std.specs.Str.{chars};
 ghost use Rattle.vte_core.specs.Event.{Print};
 ghost use Rattle.vte.specs.Calls.{last_printed_from};
-ghost use Rattle.vte.specs.machine.Lent.{lent_of, with_private_mode, with_private_modes};
+ghost use Rattle.vte.specs.machine.Performing.{performer_value, with_private_mode, with_private_modes};
 ghost use Rattle.vte.specs.Processor.{timeout_meaning};
 ghost use Rattle.vte.specs.TextRoom.{fits_room};
 
@@ -42,11 +42,11 @@ pub(crate) struct Performer<'s, 'h, H: Handler, T: Timeout + Drop, J: TextBuffer
 
 impl<'s, 'h, H: InputAs<G>, T: Timeout + Drop, J: TextBuffer + Drop, G> Perform
     for Performer<'s, 'h, H, T, J, G> {
-    ghost use Rattle.vte.specs.machine.Performer.{Lent, with_event};
+    ghost use Rattle.vte.specs.machine.Performer.{PerformerValue, with_event};
 
-    ghost Value = { Lent H.Value T.Value };
+    ghost Value = { PerformerValue H.Value T.Value };
 
-    ghost value_of = { lent_of H.value_of T.value_of J.room };
+    ghost value_of = { performer_value H.value_of T.value_of J.room };
 
     ghost step = { with_event H.step (timeout_meaning T.set T.clear T.allows) };
 
@@ -122,9 +122,9 @@ impl<'s, 'h, H: HandlerText, T: Timeout + Drop, J: TextBuffer + Drop> PerformThr
 impl<'s, 'h, H: Handler, T: Timeout + Drop, J: TextBuffer + Drop, G> Performer<'s, 'h, H, T, J, G> {
     /// Sets the private modes, group by group.
     fn set_private_modes(&mut self, params: &Params)
-        ensures { lent_of H.value_of T.value_of J.room self.new
+        ensures { performer_value H.value_of T.value_of J.room self.new
             ≡ with_private_modes H.step (timeout_meaning T.set T.clear T.allows)
-            (lent_of H.value_of T.value_of J.room self.old) params.now }
+            (performer_value H.value_of T.value_of J.room self.old) params.now }
     {
         for group in params {
             self.set_private_mode(first_number(group));
@@ -133,9 +133,9 @@ impl<'s, 'h, H: Handler, T: Timeout + Drop, J: TextBuffer + Drop, G> Performer<'
 
     /// Sets a private mode. For that of updates it sets the timeout before the call.
     fn set_private_mode(&mut self, number: u16)
-        ensures { lent_of H.value_of T.value_of J.room self.new
+        ensures { performer_value H.value_of T.value_of J.room self.new
             ≡ with_private_mode H.step (timeout_meaning T.set T.clear T.allows)
-            (lent_of H.value_of T.value_of J.room self.old) number }
+            (performer_value H.value_of T.value_of J.room self.old) number }
     {
         if number == NamedPrivateMode::SyncUpdate as u16 {
             self.state

@@ -2,11 +2,11 @@
 ghost use Rattle.std.specs.Prelude.{◌≡◌, ℕ, ◌+◌, ◌≤◌, [], length, IfErr, IfOk, MatchResult, ◌-◌, ◌<◌, ◌++◌, nat_le};
 ghost use Rattle.vte.specs.ProcessorCalls.{held_of};
 ghost use Rattle.vte.specs.machine.Hold.{released_of};
-ghost use Rattle.vte.specs.Processor.{Stage, hold_turn, meaning, most_held, parse, set_times, stop, timeout_meaning};
+ghost use Rattle.vte.specs.Processor.{State, hold_turn, meaning, most_held, parse, set_times, stop, timeout_meaning};
 ghost use Rattle.vte.specs.machine.Turns.{AreNextAt, EndsOpen, EndsTurn, IsParsed, IsParsedOn, IsParsedWithRoom, LeadOn};
 ghost use Rattle.vte.specs.machine.TurnsMeaning.{HaveTaken, LacksSome, ReadsSome, ReservesRoom, StopsUpdate, of_turns};
 
-use crate::ansi::hold::{MOST_HELD, SyncState};
+use crate::ansi::hold::{Hold, MOST_HELD};
 use crate::ansi::parsing::{EventParser, ParseAs, parse_all, parse_until_begin};
 use crate::ansi::performer::{ProcessorState, UPDATE_TIMEOUT_MILLIS};
 use crate::ansi::text_buffer::TextBuffer;
@@ -24,7 +24,7 @@ const SLICE: usize = 65_536;
 #[derive(Clone, Drop)]
 pub(crate) struct Turns<P: Drop, J: Drop, T: Drop, A: Allocator> {
     pub(crate) parser: P,
-    pub(crate) hold: SyncState<A>,
+    pub(crate) hold: Hold<A>,
     pub(crate) state: ProcessorState<T, J>,
 }
 
@@ -44,7 +44,7 @@ impl<P: EventParser + Drop, J: TextBuffer + Drop, T: Timeout + Drop, A: Allocato
         ensures timeout { IfOk result (λ turns. turns.state.timeout ≡ timeout) }
     {
         laws::empty_stream();
-        match SyncState::new(alloc) {
+        match Hold::new(alloc) {
             Ok(hold) => Ok(Turns {
                 parser,
                 hold,
@@ -100,7 +100,7 @@ impl<P: EventParser + Drop, J: TextBuffer + Drop, T: Timeout + Drop, A: Allocato
     /// Parses the released bytes, after which nothing is held, and tells the handler that the
     /// update has ended.
     fn end_update<H: Handler, G: ParseAs<H, T, P>>(&mut self, handler: &mut H)
-        ensures stops { (s : Stage H.Value T.Value) (n : ℕ)
+        ensures stops { (s : State H.Value T.Value) (n : ℕ)
             → IsParsed (of_turns P.limit P.reading J.room T.value_of) self.old.parser self.old.state
             (H.value_of handler.old) s →
             released_of self.old.hold ≡ s.held → held_of self.old.hold ≡ []
@@ -118,7 +118,7 @@ impl<P: EventParser + Drop, J: TextBuffer + Drop, T: Timeout + Drop, A: Allocato
 
     /// Parses the released bytes.
     fn parse_released<H: Handler, G: ParseAs<H, T, P>>(&mut self, handler: &mut H)
-        ensures parsed { (s : Stage H.Value T.Value) (n : ℕ)
+        ensures parsed { (s : State H.Value T.Value) (n : ℕ)
             → IsParsed (of_turns P.limit P.reading J.room T.value_of) self.old.parser self.old.state
             (H.value_of handler.old) s →
             (0 < length (released_of self.old.hold)
@@ -128,7 +128,7 @@ impl<P: EventParser + Drop, J: TextBuffer + Drop, T: Timeout + Drop, A: Allocato
             (of_turns P.limit P.reading J.room T.value_of) self.old.parser self.old.state
             self.new.parser self.new.state (H.value_of handler.new)
             (parse (meaning P.limit H.step T.set T.clear T.allows) s (released_of self.old.hold)) }
-        ensures room { (s : Stage H.Value T.Value) (n : ℕ) →
+        ensures room { (s : State H.Value T.Value) (n : ℕ) →
             IsParsedWithRoom
             (of_turns P.limit P.reading J.room T.value_of) self.old.parser self.old.state
             (H.value_of handler.old) s (length (released_of self.old.hold) + n) →

@@ -3,7 +3,7 @@
 use Rattle.vte.proofs.Common.{drop, length, refl, meaning, begin_front}
 use Rattle.vte.proofs.performing.Parsed.{given_back, stops_at_front, stop_performs, stop_stream, stop_terminated}
 use Rattle.vte.proofs.performing.Rooms.{front_fits}
-use Rattle.vte.proofs.runs.EachOnce.{front_rest}
+use Rattle.vte.proofs.replays.EachOnce.{front_rest}
 use Rattle.vte.proofs.ansi.parsing.parse_until_begin.Goals as goal
 
 pub returns-clause-stops : goal.returns-clause-stops

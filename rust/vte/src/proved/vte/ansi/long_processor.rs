@@ -76,7 +76,8 @@ impl<T: Timeout> LongProcessor<T> {
     }
 
     /// Stops an update: parses the bytes that are held back, tells the handler that the update has
-    /// ended, and clears the timeout. It needs no memory: what is held back has taken it.
+    /// ended, and clears the timeout. Without an update too, the handler is told. It needs no
+    /// memory: what is held back has taken it.
     pub fn stop_sync<H: Handler>(&mut self, handler: &mut H) {
         self.turns.stop::<H, Singly>(handler);
     }

@@ -38,7 +38,7 @@ impl<T: Timeout> Processor<T> {
     }
 
     /// Stops an update: parses the bytes that are held back, tells the handler that the update has
-    /// ended, and clears the timeout.
+    /// ended, and clears the timeout. Without an update too, the handler is told.
     pub fn stop_sync<H: Handler>(&mut self, handler: &mut H) {
         self.turns.stop::<H, Singly>(handler);
     }

@@ -1,7 +1,7 @@
 // Written by tools/erase from crates/vte/src/ansi/turns.rt: edit that one.
 //! Turns: each parses bytes of a call, or holds them back.
 
-use crate::proved::vte::ansi::hold::{SyncState, MOST_HELD};
+use crate::proved::vte::ansi::hold::{Hold, MOST_HELD};
 use crate::proved::vte::ansi::parsing::{parse_all, parse_until_begin, EventParser, ParseAs};
 use crate::proved::vte::ansi::performer::{ProcessorState, UPDATE_TIMEOUT_MILLIS};
 use crate::proved::vte::ansi::text_buffer::TextBuffer;
@@ -18,7 +18,7 @@ const SLICE: usize = 65_536;
 #[derive(Clone)]
 pub(crate) struct Turns<P, J, T> {
     pub(crate) parser: P,
-    pub(crate) hold: SyncState,
+    pub(crate) hold: Hold,
     pub(crate) state: ProcessorState<T, J>,
 }
 
@@ -26,7 +26,7 @@ impl<P: EventParser, J: TextBuffer, T: Timeout> Turns<P, J, T> {
     /// Creates turns of a parser that has read nothing, with the memory for a hold. Returns the
     /// timeout if memory runs out.
     pub(crate) fn new(parser: P, text: J, timeout: T) -> Result<Self, T> {
-        match SyncState::new() {
+        match Hold::new() {
             Ok(hold) => Ok(Turns {
                 parser,
                 hold,

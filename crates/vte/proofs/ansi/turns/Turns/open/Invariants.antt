@@ -1,5 +1,5 @@
 -- The slices so far begin no update, and are parsed. Each has at least one byte, so the loop reads all.
-use Rattle.vte.proofs.Common.{◌<◌, ◌≤◌, length, meaning, AreAt, of_turns, AreNextAt, IsOpenAt, Stage}
+use Rattle.vte.proofs.Common.{◌<◌, ◌≤◌, length, meaning, AreAt, of_turns, AreNextAt, IsOpenAt, State}
 use Rattle.vte.proofs.ansi.turns.Turns.open.Given as goal
 
 abbrev pub invariant-loop-slice : goal.invariant-loop-slice
@@ -9,7 +9,7 @@ invariant-loop-slice g l =
     record {
       within : l.read ≤ length l.bytes;
       some : l._slice < length l.bytes → l.read < length l.bytes;
-      reaches : (s : Stage g.H.Handler.Value g.T.Timeout.Value)
+      reaches : (s : State g.H.Handler.Value g.T.Timeout.Value)
           → AreAt w l.initial.self (g.H.Handler.value_of l.initial.handler) s
           → (l._slice ≤ l.read)
           × IsOpenAt m s l.bytes l.read (AreNextAt w l.initial.self l.self (g.H.Handler.value_of l.handler));

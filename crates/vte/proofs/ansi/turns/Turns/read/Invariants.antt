@@ -1,5 +1,5 @@
 -- The turns so far have led to a state in which the processor stands. Each reads a byte or more.
-use Rattle.vte.proofs.Common.{◌<◌, ◌≤◌, length, meaning, AreAt, of_turns, AreNextAt, Stage}
+use Rattle.vte.proofs.Common.{◌<◌, ◌≤◌, length, meaning, AreAt, of_turns, AreNextAt, State}
 use Rattle.vte.proofs.turns.Turns.{HasReached}
 use Rattle.vte.proofs.ansi.turns.Turns.read.Given as goal
 
@@ -10,7 +10,7 @@ invariant-loop-turn g l =
     record {
       within : l.read ≤ length l.bytes;
       some : l._turn < length l.bytes → l.read < length l.bytes;
-      reaches : (s : Stage g.H.Handler.Value g.T.Timeout.Value)
+      reaches : (s : State g.H.Handler.Value g.T.Timeout.Value)
           → AreAt w l.initial.self (g.H.Handler.value_of l.initial.handler) s
           → HasReached m s l.bytes l._turn l.read (AreNextAt w l.initial.self l.self (g.H.Handler.value_of l.handler));
     }

@@ -1,9 +1,9 @@
--- From calls to a run: a loop over calls makes a `Run`, step by step. A kept timeout allows one answer in each state,
--- so a run is then a function of the calls.
+-- From calls to a list of them: a loop over calls makes `TakesSteps`, call by call. A kept timeout allows one answer in
+-- each state, so where the list leads is then a function of its calls.
 use Rattle.vte.proofs.Common.{ℕ, ◌+◌, ◌<◌, List, [], ◌∷◌, ◌++◌, length, take, drop, get_or, refl, Bor, drop_more, take_more, Step, Advance, StopSync, Meaning, Advanced}
-use Rattle.vte.proofs.Common.{HoldsWellAt, TakesSteps, Replayed, Stage, stop, ◌≡◌, ◌-◌, HasTaken, inl, inr, Bool, sym, ◌∙◌, IsKept, TakesAllTurns, done, turns}
+use Rattle.vte.proofs.Common.{HoldsWellAt, TakesSteps, Replayed, State, stop, ◌≡◌, ◌-◌, HasTaken, inl, inr, Bool, sym, ◌∙◌, IsKept, TakesAllTurns, done, turns}
 use Rattle.vte.specs.Refusal.{IsFirstRefused, left_of_first}
-use Rattle.vte.proofs.runs.EachOnce.{run_bytes}
+use Rattle.vte.proofs.replays.EachOnce.{run_bytes}
 use Rattle.vte.proofs.turns.HoldFacts.{stop_well, taken_well, turn_well}
 
 -- the refused step is the first of those that are left
@@ -15,21 +15,21 @@ first_lacks {i = i} lacks steps d read inside is lacking = rw (drop_more steps i
 -- ---- for a timeout that is kept, a run is a function of the calls
 
 module _ {V W : Type 0} (m : Meaning V W) (kept : IsKept m.timeout) where
-  answers_alone : (s : Stage V W) (a b : Bool) → HoldsWellAt m s → m.timeout.allows s.timeout a
+  answers_alone : (s : State V W) (a b : Bool) → HoldsWellAt m s → m.timeout.allows s.timeout a
       → m.timeout.allows s.timeout b → a ≡ b
   answers_alone s a b h first second = elim (h.kept kept) [
     | inl out ↦ out.not_pending.1 a first ∙ sym (out.not_pending.1 b second)
     | inr i ↦ i.pending.1 a first ∙ sym (i.pending.1 b second)
   ]
 
-  advances_alone : (s t u : Stage V W) (r : List ℕ) → HoldsWellAt m s → TakesAllTurns m s r t
+  advances_alone : (s t u : State V W) (r : List ℕ) → HoldsWellAt m s → TakesAllTurns m s r t
       → TakesAllTurns m s r u → u ≡ t
   advances_alone s t u [] h done done = refl
   advances_alone s t u (b ∷ r) h (turns answer allowed more) (turns other allowed_too further) =
       advances_alone _ t u _ (turn_well m answer s (b ∷ r) allowed h) more
       (rw (answers_alone s other answer h allowed_too allowed) at further)
 
-  run_alone : (s t u : Stage V W) (steps : List Step) → HoldsWellAt m s → TakesSteps m s steps t
+  run_alone : (s t u : State V W) (steps : List Step) → HoldsWellAt m s → TakesSteps m s steps t
       → TakesSteps m s steps u → u ≡ t
   run_alone s t u [] h first other = sym other ∙ first
   run_alone s t u (Advance bytes ∷ steps) h (next, (a, r)) (other, (b, q)) =
@@ -40,19 +40,19 @@ module _ {V W : Type 0} (m : Meaning V W) (kept : IsKept m.timeout) where
 -- ---- calls one by one
 
 module _ {V W : Type 0} (m : Meaning V W) where
-  run_well : (s t : Stage V W) (steps : List Step) → TakesSteps m s steps t → HoldsWellAt m s → HoldsWellAt m t
+  run_well : (s t : State V W) (steps : List Step) → TakesSteps m s steps t → HoldsWellAt m s → HoldsWellAt m t
   run_well s t [] same h = rw (← same) h
   run_well s t (Advance bytes ∷ steps) (next, (a, r)) h = run_well next t steps r (taken_well m s next bytes.now [] a h)
   run_well s t (StopSync ∷ steps) r h = run_well (stop m s) t steps r (stop_well m s)
 
   -- a run goes on with further steps
-  run_on : (s t u : Stage V W) (steps more : List Step) → TakesSteps m s steps t → TakesSteps m t more u
+  run_on : (s t u : State V W) (steps more : List Step) → TakesSteps m s steps t → TakesSteps m t more u
       → TakesSteps m s (steps ++ more) u
   run_on s t u [] more same r = rw same r
   run_on s t u (Advance bytes ∷ steps) more (next, (a, q)) r = (next, (a, run_on next t u steps more q r))
   run_on s t u (StopSync ∷ steps) more q r = run_on (stop m s) t u steps more q r
 
-  pub replayed : (s t : Stage V W) (steps : List Step) {there : Stage V W → Type 0} → TakesSteps m s steps t → there t
+  pub replayed : (s t : State V W) (steps : List Step) {there : State V W → Type 0} → TakesSteps m s steps t → there t
       → Replayed m s steps there
   replayed s t steps run at = record {
     next = t;
@@ -64,11 +64,11 @@ module _ {V W : Type 0} (m : Meaning V W) where
   }
 
   -- a call of `advance` is a run
-  pub advance_runs : (s : Stage V W) (bytes : Bor (List ℕ)) {there : Stage V W → Type 0} → Advanced m s bytes.now there
+  pub advance_runs : (s : State V W) (bytes : Bor (List ℕ)) {there : State V W → Type 0} → Advanced m s bytes.now there
       → Replayed m s (Advance bytes ∷ []) there
   advance_runs s bytes a = replayed s a.next (Advance bytes ∷ []) (a.next, (a.advances, refl)) a.is_at
 
-  module _ (s : Stage V W) (steps : List Step) {i : ℕ} (d : Step) {old : Stage V W → Type 0} (new : Stage V W → Type 0)
+  module _ (s : State V W) (steps : List Step) {i : ℕ} (d : Step) {old : State V W → Type 0} (new : State V W → Type 0)
       (inside : i < length steps) (r : Replayed m s (take i steps) old) where
     step_taken : Replayed m r.next (get_or steps i d ∷ []) new → Replayed m s (take (i + 1) steps) new
     step_taken q =

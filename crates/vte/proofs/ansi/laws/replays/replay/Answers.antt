@@ -1,9 +1,9 @@
 -- A call is one more step of the run, by what it ensures; and so is a stop.
 use Rattle.vte.proofs.Common.{[], refl, take_all}
-use Rattle.vte.proofs.runs.PlainRuns.{replays_all}
-use Rattle.vte.proofs.runs.Runs.{advance_taken, replayed, stop_taken}
-use Rattle.vte.proofs.ansi.laws.runs.replay.Goals as goal
-use Rattle.vte.proofs.ansi.laws.runs.replay.Goals.{in-Advance, in-StopSync}
+use Rattle.vte.proofs.replays.PlainReplays.{replays_all}
+use Rattle.vte.proofs.replays.Replays.{advance_taken, replayed, stop_taken}
+use Rattle.vte.proofs.ansi.laws.replays.replay.Goals as goal
+use Rattle.vte.proofs.ansi.laws.replays.replay.Goals.{in-Advance, in-StopSync}
 
 pub loop-step-init : goal.loop-step-init
 loop-step-init g c = λ s at. replayed _ s s [] refl at

@@ -1,4 +1,4 @@
--- The value of a performer.
+-- The value of a performer, and what a parser that reads bytes for it has performed.
 use Rattle.std.specs.Prelude.{◌≡◌, ℕ, ◌+◌, ◌≤◌, ◌||◌, ◌==◌, if◌then◌else◌, Option, List, ◌++◌}
 use Rattle.std.specs.Prelude.{length, nat_lt}
 use Rattle.std.specs.List.{All}
@@ -6,7 +6,7 @@ use Rattle.vte.specs.BeginUpdate.{update_groups, update_mode}
 use Rattle.vte.specs.Change.{change_call, change_calls}
 use Rattle.vte.specs.Processor.{set_times}
 use Rattle.vte.specs.Numbers.{first_numbers}
-use Rattle.vte.specs.machine.Performer.{FitsText, Lent}
+use Rattle.vte.specs.machine.Performer.{FitsText, PerformerValue}
 use Rattle.vte.specs.machine.TurnsMeaning.{KeepsRoom, ParserMeaning}
 use Rattle.vte.specs.declared.ansi.control_calls.Change.TheVariants.{SetPrivate}
 use Rattle.vte.specs.declared.ansi.performer.Performer.{Performer}
@@ -18,9 +18,9 @@ use Rattle.vte_handler.specs.Call.{Call}
 use Rattle.vte_handler.specs.Handler.{after}
 use Rattle.vte_handler.specs.Timeout.{TimeoutMeaning}
 
-abbrev pub lent_of : {H T J G V W : Type 0}
-    → (H → V) → (T → W) → (J → ℕ) → Performer H T J G → Lent V W
-lent_of handler_of timeout_of room_of performer = record {
+abbrev pub performer_value : {H T J G V W : Type 0}
+    → (H → V) → (T → W) → (J → ℕ) → Performer H T J G → PerformerValue V W
+performer_value handler_of timeout_of room_of performer = record {
   handler = handler_of performer.handler.now;
   timeout = timeout_of performer.state.now.timeout;
   last = performer.state.now.preceding_char;
@@ -32,7 +32,7 @@ lent_of handler_of timeout_of room_of performer = record {
 
 -- A private mode is set. The handler receives the call, and the update mode also begins an update.
 abbrev pub with_private_mode : {H W : Type 0}
-    → (H → Call → H) → TimeoutMeaning W → Lent H W → ℕ → Lent H W
+    → (H → Call → H) → TimeoutMeaning W → PerformerValue H W → ℕ → PerformerValue H W
 with_private_mode step timeout lent number = record lent {
   handler = step lent.handler (change_call SetPrivate number);
   timeout = set_times timeout (if number == update_mode then 1 else 0) lent.timeout;
@@ -41,7 +41,7 @@ with_private_mode step timeout lent number = record lent {
 
 -- One is set for each group.
 abbrev pub with_private_modes : {H W : Type 0}
-    → (H → Call → H) → TimeoutMeaning W → Lent H W → List (List ℕ) → Lent H W
+    → (H → Call → H) → TimeoutMeaning W → PerformerValue H W → List (List ℕ) → PerformerValue H W
 with_private_modes step timeout lent groups = record lent {
   handler = after step lent.handler (change_calls SetPrivate (first_numbers groups));
   timeout = set_times timeout (update_groups groups) lent.timeout;
@@ -51,7 +51,8 @@ with_private_modes step timeout lent groups = record lent {
 -- A parser has read bytes after a stream, and performed what they add. It still has memory for so
 -- many.
 pub record HasPerformed {P V W : Type 0} (reading : ParserMeaning P) (limit : Option ℕ)
-    (step : Lent V W → Event → Lent V W) (next : P) (old new : Lent V W)
+    (step : PerformerValue V W → Event → PerformerValue V W) (next : P)
+    (old new : PerformerValue V W)
     (stream bytes : List ℕ) (n : ℕ) : Type 0 where
   pub performs : new ≡ performed step old (added limit stream bytes)
   pub fits : All (FitsText old.room) (added limit stream bytes)
@@ -60,7 +61,8 @@ pub record HasPerformed {P V W : Type 0} (reading : ParserMeaning P) (limit : Op
 
 -- It has read so many, up to an event that terminates the performer.
 pub record HasStopped {P V W : Type 0} (reading : ParserMeaning P) (limit : Option ℕ)
-    (step : Lent V W → Event → Lent V W) (next : P) (old new : Lent V W)
+    (step : PerformerValue V W → Event → PerformerValue V W) (next : P)
+    (old new : PerformerValue V W)
     (stream bytes : List ℕ) (read : ℕ) : Type 0 where
   pub stops : StopsExactly step (λ lent. lent.terminated) old new limit stream bytes read
   pub fits : All (FitsText old.room) (added limit stream bytes)
@@ -68,16 +70,18 @@ pub record HasStopped {P V W : Type 0} (reading : ParserMeaning P) (limit : Opti
 
 -- So it does after each stream that it has read, if it has memory for all bytes. Memory that was
 -- there stays.
-pub record ParsesLent {P V W : Type 0} (reading : ParserMeaning P) (limit : Option ℕ)
-    (step : Lent V W → Event → Lent V W) (parser next : P) (old new : Lent V W)
+pub record PerformsAll {P V W : Type 0} (reading : ParserMeaning P) (limit : Option ℕ)
+    (step : PerformerValue V W → Event → PerformerValue V W) (parser next : P)
+    (old new : PerformerValue V W)
     (bytes : List ℕ) : Type 0 where
   pub parses : (stream : List ℕ) (n : ℕ) → reading.has_read parser stream
       → reading.has_room parser old.room stream (length bytes + n)
       → HasPerformed reading limit step next old new stream bytes n
   pub memory : (size : ℕ) → KeepsRoom reading.has_room parser size next size
 
-pub record StopsLent {P V W : Type 0} (reading : ParserMeaning P) (limit : Option ℕ)
-    (step : Lent V W → Event → Lent V W) (parser next : P) (old new : Lent V W)
+pub record PerformsUntilStop {P V W : Type 0} (reading : ParserMeaning P) (limit : Option ℕ)
+    (step : PerformerValue V W → Event → PerformerValue V W) (parser next : P)
+    (old new : PerformerValue V W)
     (bytes : List ℕ) (read : ℕ) : Type 0 where
   pub within : read ≤ length bytes
   pub stops : (stream : List ℕ) (n : ℕ) → reading.has_read parser stream

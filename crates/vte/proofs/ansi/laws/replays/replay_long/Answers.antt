@@ -1,9 +1,9 @@
 -- As for `replay`; a call that is refused memory ends the run where it is, and says what it lacks.
 use Rattle.vte.proofs.Common.{[], refl, take_all, LacksMemoryOnTheWay}
-use Rattle.vte.proofs.runs.PlainRuns.{replays_all}
-use Rattle.vte.proofs.runs.Runs.{advance_refused, advance_taken, first_lacks, replayed, stop_taken}
-use Rattle.vte.proofs.ansi.laws.runs.replay_long.Goals as goal
-use Rattle.vte.proofs.ansi.laws.runs.replay_long.Goals.{in-Advance+in_default, in-StopSync}
+use Rattle.vte.proofs.replays.PlainReplays.{replays_all}
+use Rattle.vte.proofs.replays.Replays.{advance_refused, advance_taken, first_lacks, replayed, stop_taken}
+use Rattle.vte.proofs.ansi.laws.replays.replay_long.Goals as goal
+use Rattle.vte.proofs.ansi.laws.replays.replay_long.Goals.{in-Advance+in_default, in-StopSync}
 
 pub loop-index-init : goal.loop-index-init
 loop-index-init g c = λ s at. replayed _ s s [] refl at

@@ -1,21 +1,21 @@
 -- With a timeout that is never pending nothing is ever held, so a run has no stops and its calls are those of the
 -- whole stream. By induction over turns: each one is open, and ends with nothing held.
 use Rattle.vte.proofs.Common.{◌≡◌, ℕ, true, false, List, [], ◌∷◌, ◌++◌, refl, ap, sym, ◌∙◌, Bor, append-nil, events, after, Step, Advance, StopSync, calls_added, calls}
-use Rattle.vte.proofs.Common.{Meaning, Advanced, HasParsedAll, IsAt, Replayed, Replays, TakesSteps, Standing, given_bytes, IsTold, calls_with_stops, stops_of, stops_of_advance, stops_of_turn, Stage, TakesAllTurns, done, turns}
+use Rattle.vte.proofs.Common.{Meaning, Advanced, HasParsedAll, IsAt, Replayed, Replays, TakesSteps, Standing, given_bytes, IsTold, calls_with_stops, stops_of, stops_of_advance, stops_of_turn, State, TakesAllTurns, done, turns}
 use Rattle.vte_core.proofs.streams.Performing.{events-empty}
 use Rattle.vte.specs.ProcessorCalls.{AreAdvances, IsNeverPending, ParsesAll}
 use Rattle.vte.proofs.performing.CallLists.{after-append, calls_whole}
-use Rattle.vte.proofs.runs.EachOnce.{stop_if_due_none}
-use Rattle.vte.proofs.runs.Runs.{advance_runs}
-use Rattle.vte.proofs.runs.Tellings.{told_run}
+use Rattle.vte.proofs.replays.EachOnce.{stop_if_due_none}
+use Rattle.vte.proofs.replays.Replays.{advance_runs}
+use Rattle.vte.proofs.replays.Tellings.{told_run}
 
 -- nothing is held, and there was no stop
-record IsPlain {V W : Type 0} (t : Stage V W) (stops : List ℕ) : Type 0 where
+record IsPlain {V W : Type 0} (t : State V W) (stops : List ℕ) : Type 0 where
   pub none_held : t.held ≡ []
   pub no_stop : stops ≡ []
 
 module _ {V W : Type 0} (m : Meaning V W) (never : IsNeverPending m.timeout.allows) where
-  plain_advances : (s t : Stage V W) (r : List ℕ) (a : TakesAllTurns m s r t) → s.held ≡ []
+  plain_advances : (s t : State V W) (r : List ℕ) (a : TakesAllTurns m s r t) → s.held ≡ []
       → IsPlain t (stops_of_advance m s t r a)
   plain_advances s t [] done none = record { none_held = none; no_stop = refl }
   plain_advances s t (b ∷ r) (turns true allowed more) none =
@@ -28,7 +28,7 @@ module _ {V W : Type 0} (m : Meaning V W) (never : IsNeverPending m.timeout.allo
         no_stop = ap (λ stops. stops ++ stops_of_advance m _ t _ more) no_stop ∙ rest.no_stop;
       }
 
-  plain_run : (s t : Stage V W) (steps : List Step) (r : TakesSteps m s steps t) → AreAdvances steps → s.held ≡ []
+  plain_run : (s t : State V W) (steps : List Step) (r : TakesSteps m s steps t) → AreAdvances steps → s.held ≡ []
       → IsPlain t (stops_of m s t steps r)
   plain_run s t [] same only none = record { none_held = rw (← same) none; no_stop = refl }
   plain_run s t (Advance bytes ∷ steps) (next, (a, r)) only none =
@@ -40,7 +40,7 @@ module _ {V W : Type 0} (m : Meaning V W) (never : IsNeverPending m.timeout.allo
 -- ---- from the beginning of the stream on
 
 module _ {V W : Type 0} {old : Standing W} (before : V) {stream : List ℕ} (all : HasParsedAll old stream) where
-  abbrev here : Stage V W
+  abbrev here : State V W
   here = record { parsed = stream; held = []; timeout = all.timeout; handler = before }
 
   is_here : IsAt old before here
@@ -84,7 +84,7 @@ module _ {V W : Type 0} {old : Standing W} (before : V) {stream : List ℕ} (all
 
 module _ {V W : Type 0} (m : Meaning V W) {old new : Standing W} {before value : V} where
   plain_calls : (steps : List Step)
-      → ((s : Stage V W) → IsAt old before s → IsTold m s steps value (IsAt new value)) → AreAdvances steps
+      → ((s : State V W) → IsAt old before s → IsTold m s steps value (IsAt new value)) → AreAdvances steps
       → ParsesAll m old new before value (given_bytes steps)
   plain_calls steps told only = record {
     follows = λ never start stream all. plain_follows before all m never steps only (told _ (is_here before all)) start;
@@ -93,16 +93,16 @@ module _ {V W : Type 0} (m : Meaning V W) {old new : Standing W} {before value :
   }
 
   pub replays_all : (steps : List Step)
-      → ((s : Stage V W) → IsAt old before s → Replayed m s steps (IsAt new value))
+      → ((s : State V W) → IsAt old before s → Replayed m s steps (IsAt new value))
       → Replays m old new before value steps
   replays_all steps replays =
-      let told : (s : Stage V W) → IsAt old before s → IsTold m s steps value (IsAt new value) =
+      let told : (s : State V W) → IsAt old before s → IsTold m s steps value (IsAt new value) =
       λ s at. told_run m s value (λ t there. there.handler_is) steps (replays s at) in
       record { told = told; plain = plain_calls steps told }
 
   -- a call is a run of one step
   pub plain_call : (bytes : Bor (List ℕ))
-      → ((s : Stage V W) → IsAt old before s → Advanced m s bytes.now (IsAt new value))
+      → ((s : State V W) → IsAt old before s → Advanced m s bytes.now (IsAt new value))
       → ParsesAll m old new before value bytes.now
   plain_call bytes advances =
       rw append-nil at ((replays_all (Advance bytes ∷ []) (λ s at. advance_runs m s bytes (advances s at))).plain tt)

@@ -1,8 +1,8 @@
-//! Whole runs of processors.
+//! Lists of a processor's calls.
 ghost use Rattle.std.specs.Prelude.{Some, None, IfOk, IfErr};
 ghost use Rattle.vte.specs.LongProcessor.{HasParsedAndHoldsLong};
 ghost use Rattle.vte.specs.Memory.{LacksMemoryOnTheWay};
-ghost use Rattle.vte.specs.Processor.{Stage, meaning};
+ghost use Rattle.vte.specs.Processor.{State, meaning};
 ghost use Rattle.vte.specs.ProcessorCalls.{HasParsedAndHolds, IsAt, Replays};
 ghost use Rattle.vte.specs.Refusal.{ReplayedUntil, left_by};
 
@@ -63,7 +63,7 @@ pub fn replay_long<H: Handler, T: Timeout + Drop, A: Allocator>(
         (HasParsedAndHoldsLong T.value_of processor.old)
         (HasParsedAndHoldsLong T.value_of processor.new)
         (H.value_of handler.old) (H.value_of handler.new) steps.now) }
-    ensures refuses { IfErr result (λ refused. (s : Stage H.Value T.Value)
+    ensures refuses { IfErr result (λ refused. (s : State H.Value T.Value)
         → IsAt (HasParsedAndHoldsLong T.value_of processor.old) (H.value_of handler.old) s →
         ReplayedUntil (meaning None H.step T.set T.clear T.allows) s steps.now refused
         (IsAt (HasParsedAndHoldsLong T.value_of processor.new) (H.value_of handler.new))) }

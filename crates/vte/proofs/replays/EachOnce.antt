@@ -1,7 +1,7 @@
 -- Each given byte is parsed or held, once and in order. Each turn and stop keeps `Grows`: parsed, held and left bytes
 -- together are those of before, and `Grows` composes over the turns of a call and the calls of a run.
 use Rattle.vte.proofs.Common.{◌≡◌, ℕ, ◌-◌, suc, inl, inr, Bool, Option, List, [], ◌∷◌, ◌++◌, length, take, drop, refl, ap, sym, ◌∙◌, append_assoc, arith}
-use Rattle.vte.proofs.Common.{take-append-drop, Step, Advance, StopSync, Meaning, TakesSteps, given_bytes, kept_of, Stage, TakesTurns, all_bytes, begin_front, extend, hold_turn, is_held, is_stopped, keep}
+use Rattle.vte.proofs.Common.{take-append-drop, Step, Advance, StopSync, Meaning, TakesSteps, given_bytes, kept_of, State, TakesTurns, all_bytes, begin_front, extend, hold_turn, is_held, is_stopped, keep}
 use Rattle.vte.proofs.Common.{cases_Bool, nat_tests, append-nil, stop_if_due, parse, stop, turn, done, turns}
 use Rattle.std.proofs.lemmas.List.{nil_from_length}
 use Rattle.vte.proofs.turns.Fronts.{is_front}
@@ -13,12 +13,12 @@ front_rest limit p r =
 
 -- A state has parsed what another had, and more of the bytes that were held there or given since.
 -- The others are held, or left.
-pub record Grows {V W : Type 0} (s t : Stage V W) (bytes left : List ℕ) : Type 0 where
+pub record Grows {V W : Type 0} (s t : State V W) (bytes left : List ℕ) : Type 0 where
   pub more : List ℕ
   pub parsed_is : t.parsed ≡ s.parsed ++ more
   pub each_once : s.held ++ bytes ≡ more ++ (t.held ++ left)
 
-pub grown_bytes : {V W : Type 0} {s t : Stage V W} {bytes left : List ℕ} → Grows s t bytes left
+pub grown_bytes : {V W : Type 0} {s t : State V W} {bytes left : List ℕ} → Grows s t bytes left
     → all_bytes t ++ left ≡ all_bytes s ++ bytes
 grown_bytes {s = s} {t = t} {bytes = bytes} {left = left} g =
     cc (
@@ -30,7 +30,7 @@ grown_bytes {s = s} {t = t} {bytes = bytes} {left = left} g =
       append_assoc s.parsed s.held bytes,
     )
 
-pub grows_on : {V W : Type 0} {s t u : Stage V W} {bytes rest left : List ℕ} → Grows s t bytes rest
+pub grows_on : {V W : Type 0} {s t u : State V W} {bytes rest left : List ℕ} → Grows s t bytes rest
     → Grows t u rest left → Grows s u bytes left
 grows_on {s = s} {u = u} {left = left} a b = record {
   more = a.more ++ b.more;
@@ -39,23 +39,23 @@ grows_on {s = s} {u = u} {left = left} a b = record {
 }
 
 module _ {V W : Type 0} (m : Meaning V W) where
-  same : (s : Stage V W) (bytes : List ℕ) → Grows s s bytes bytes
+  same : (s : State V W) (bytes : List ℕ) → Grows s s bytes bytes
   same s bytes = record { more = []; parsed_is = sym (append-nil s.parsed); each_once = refl }
 
-  pub stop_bytes : (s : Stage V W) → all_bytes (stop m s) ≡ all_bytes s
+  pub stop_bytes : (s : State V W) → all_bytes (stop m s) ≡ all_bytes s
   stop_bytes s = append-nil (s.parsed ++ s.held)
 
-  pub stop_grows : (s : Stage V W) (bytes : List ℕ) → Grows s (stop m s) bytes bytes
+  pub stop_grows : (s : State V W) (bytes : List ℕ) → Grows s (stop m s) bytes bytes
   stop_grows s bytes = record { more = s.held; parsed_is = refl; each_once = refl }
 
   -- before bytes are parsed
-  pub stop_if_due_none : (answer : Bool) (s : Stage V W) → (stop_if_due m answer s).held ≡ []
+  pub stop_if_due_none : (answer : Bool) (s : State V W) → (stop_if_due m answer s).held ≡ []
   stop_if_due_none answer s = elim (cases_Bool (is_stopped answer s)) [
     | inl stopped ↦ rw stopped refl
     | inr none ↦ rw none (nil_from_length s.held (grind (arith, nat_tests)))
   ]
 
-  pub stop_if_due_grows : (answer : Bool) (s : Stage V W) (bytes : List ℕ)
+  pub stop_if_due_grows : (answer : Bool) (s : State V W) (bytes : List ℕ)
       → Grows s (stop_if_due m answer s) bytes bytes
   stop_if_due_grows answer s bytes =
       elim (cases_Bool (is_stopped answer s)) [
@@ -63,11 +63,11 @@ module _ {V W : Type 0} (m : Meaning V W) where
         | inr none ↦ rw none (same s bytes)
       ]
 
-  pub parse_grows : (s : Stage V W) (front left bytes : List ℕ) → s.held ≡ [] → front ++ left ≡ bytes
+  pub parse_grows : (s : State V W) (front left bytes : List ℕ) → s.held ≡ [] → front ++ left ≡ bytes
       → Grows s (parse m s front) bytes left
   parse_grows s front left bytes none is = record { more = front; parsed_is = refl; each_once = rw none (sym is) }
 
-  keep_grows : (s : Stage V W) (kept : List ℕ) → Grows s (keep m s kept) [] []
+  keep_grows : (s : State V W) (kept : List ℕ) → Grows s (keep m s kept) [] []
   keep_grows s [] = stop_grows s []
   keep_grows s (b ∷ kept) =
       record {
@@ -76,13 +76,13 @@ module _ {V W : Type 0} (m : Meaning V W) where
         each_once = simp (append-nil, take-append-drop);
       }
 
-  hold_grows : (s : Stage V W) (r : List ℕ) → Grows s (hold_turn m s r) r []
+  hold_grows : (s : State V W) (r : List ℕ) → Grows s (hold_turn m s r) r []
   hold_grows s r =
       let held : Grows s (extend m s r) r [] =
       record { more = []; parsed_is = sym (append-nil s.parsed); each_once = sym (append-nil (s.held ++ r)) } in
       grows_on held (keep_grows (extend m s r) (kept_of (s.held ++ r)))
 
-  turn_grows : (answer : Bool) (s : Stage V W) (r : List ℕ)
+  turn_grows : (answer : Bool) (s : State V W) (r : List ℕ)
       → Grows s (turn m answer s r).state r (turn m answer s r).rest
   turn_grows answer s r = elim (cases_Bool (is_held answer s r)) [
     | inl held ↦ rw held (hold_grows s r)
@@ -93,12 +93,12 @@ module _ {V W : Type 0} (m : Meaning V W) where
         (front_rest m.limit (stop_if_due m answer s).parsed r)))
   ]
 
-  pub turns_grow : (s t : Stage V W) (bytes left : List ℕ) → TakesTurns m s bytes t left → Grows s t bytes left
+  pub turns_grow : (s t : State V W) (bytes left : List ℕ) → TakesTurns m s bytes t left → Grows s t bytes left
   turns_grow s t bytes left done = same s bytes
   turns_grow s t (b ∷ bytes) left (turns answer allowed more) =
       grows_on (turn_grows answer s (b ∷ bytes)) (turns_grow _ t _ left more)
 
-  pub run_bytes : (s t : Stage V W) (steps : List Step) → TakesSteps m s steps t
+  pub run_bytes : (s t : State V W) (steps : List Step) → TakesSteps m s steps t
       → all_bytes t ≡ all_bytes s ++ given_bytes steps
   run_bytes s t [] e = rw (e, append-nil)
   run_bytes s t (Advance bytes ∷ steps) (next, (a, r)) =

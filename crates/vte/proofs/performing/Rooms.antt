@@ -50,7 +50,8 @@ short_fits size stream bytes room =
     (All-drop (IsBounded (Some 1024)) (length (events (Some 1024) stream)) (events (Some 1024) (stream ++ bytes))
     (events_are_bounded (Some 1024) (stream ++ bytes)))
 
-module _ {V W : Type 0} {step : PerformerValue V W → Event → PerformerValue V W} {old new : PerformerValue V W} {bytes : List ℕ}
+module _ {V W : Type 0} {step : PerformerValue V W → Event → PerformerValue V W}
+    {old new : PerformerValue V W} {bytes : List ℕ}
     {parser next : Parser 1024} where
   pub short_parses : ReadsBytes step old new bytes parser next
       → PerformsAll short_meaning (Some 1024) step parser next old new bytes
@@ -110,7 +111,8 @@ module _ {A : Type 0} {parser : LongParser A} {size : ℕ} (stream bytes : List 
       }
 
 -- a call for which there is memory is refused none
-module _ {A V W : Type 0} {step : PerformerValue V W → Event → PerformerValue V W} {old new : PerformerValue V W} {bytes : List ℕ}
+module _ {A V W : Type 0} {step : PerformerValue V W → Event → PerformerValue V W} {old new : PerformerValue V W}
+    {bytes : List ℕ}
     {parser next : LongParser A} where
   pub long_parses : (result : Result (Unit {0}) Refused) → ReadsBytesLong step old new bytes result parser next
       → PerformsAll long_meaning None step parser next old new bytes

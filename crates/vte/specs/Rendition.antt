@@ -122,7 +122,7 @@ underline_of _ = attr.Underline
 -- A group of several numbers.
 abbrev pub joined_rendition : ℕ → List ℕ → Option (Color → Attr) → Rendition
 joined_rendition number numbers (Some with_color) =
-    alone (option_map with_color (color_reading (without_space numbers)).color)
+    attribute_alone (option_map with_color (color_reading (without_space numbers)).color)
 joined_rendition number numbers None =
     if number == 4 then attribute_alone (Some (underline_of numbers)) else attribute_alone None
 

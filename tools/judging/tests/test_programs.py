@@ -29,7 +29,7 @@ def judge_toy(judge):
 
 def processes(word):
     """The processes that have a word among their arguments, without tools/judge."""
-    _, told = run("ps", "-eo", "args")
+    _, told = run("ps", "-ww", "-eo", "args")
     return [line for line in told.splitlines() if line.endswith(word)
             and "tools/judge " not in line]
 

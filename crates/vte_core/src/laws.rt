@@ -91,7 +91,7 @@ pub fn resync()
     ensures { (limit : Option ℕ) → Resyncs limit }
 {}
 
-/// A text is divided as Unicode recommends: each piece is the well-formed sequence that starts
+/// A text is divided as Unicode recommends: each segment is the well-formed sequence that starts
 /// there, else the longest truncated one, else one byte. No other division has this property.
 #[tactic(auto, using(crate::proofs::dividing::DivisionLemmas::all_divided, crate::proofs::dividing::MaximalSubparts::are_right_segments, crate::proofs::dividing::MaximalSubparts::only_division))]
 pub fn maximal_subparts()

@@ -66,7 +66,9 @@ pub trait Perform {
         ensures { value_of self.new
             ≡ step (value_of self.old) (EscDispatch intermediates.now ignore byte) };
 
-    /// Returns whether `advance_until_terminated` stops.
+    /// Returns whether `advance_until_terminated` stops. It is asked after events, and not before
+    /// each byte: the answer should depend on the events alone, and on no clock or flag that
+    /// changes between them.
     fn terminated(&self) -> bool
         ensures { result ≡ is_terminated (value_of self.now) };
 }

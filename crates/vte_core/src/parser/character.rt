@@ -46,7 +46,7 @@ impl<B: Buffer> Machine<B> {
         }
         let second = looks.at(input, next);
         if !is_continuation(second) {
-            performer.print_char(looks, char::REPLACEMENT_CHARACTER);
+            performer.print_replacement(looks);
             return next;
         }
         if first < 0xe0 {
@@ -81,7 +81,7 @@ impl<B: Buffer> Machine<B> {
             looks.old looks.new }
     {
         if !may_begin_three(first, second) {
-            performer.print_char(looks, char::REPLACEMENT_CHARACTER);
+            performer.print_replacement(looks);
             return from;
         }
         if from + 1 >= input.len() {
@@ -90,7 +90,7 @@ impl<B: Buffer> Machine<B> {
         }
         let third = looks.at(input, from + 1);
         if !is_continuation(third) {
-            performer.print_char(looks, char::REPLACEMENT_CHARACTER);
+            performer.print_replacement(looks);
             return from + 1;
         }
         looks.tell_character(performer, character_of_three(first, second, third));
@@ -129,7 +129,7 @@ impl<B: Buffer> Machine<B> {
     {
         let next = from + 1;
         if !may_begin_four(first, second) {
-            performer.print_char(looks, char::REPLACEMENT_CHARACTER);
+            performer.print_replacement(looks);
             return next;
         }
         if next + 2 >= input.len() {
@@ -143,12 +143,12 @@ impl<B: Buffer> Machine<B> {
         }
         let third = looks.at(input, next + 1);
         if !is_continuation(third) {
-            performer.print_char(looks, char::REPLACEMENT_CHARACTER);
+            performer.print_replacement(looks);
             return next + 1;
         }
         let fourth = looks.at(input, next + 2);
         if !is_continuation(fourth) {
-            performer.print_char(looks, char::REPLACEMENT_CHARACTER);
+            performer.print_replacement(looks);
             return next + 2;
         }
         if G::IN_RUNS {
@@ -188,7 +188,7 @@ impl<B: Buffer> Machine<B> {
                     return position + 1;
                 }
                 Carried::Broken => {
-                    performer.print_char(looks, char::REPLACEMENT_CHARACTER);
+                    performer.print_replacement(looks);
                     self.state = State::Text(Unfinished::Nothing);
                     return position;
                 }

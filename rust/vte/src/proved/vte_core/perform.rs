@@ -40,9 +40,9 @@ pub trait Perform {
     /// intermediates; `ignore` says that there were more.
     fn esc_dispatch(&mut self, intermediates: &[u8], ignore: bool, byte: u8) {}
 
-    /// Returns whether `advance_until_terminated` stops. It is asked after events, and not
-    /// before each byte: the answer should depend on the events alone, and on no clock or flag
-    /// that changes between them.
+    /// Returns whether `advance_until_terminated` stops. It is asked after events, and not before
+    /// each byte: the answer should depend on the events alone, and on no clock or flag that
+    /// changes between them.
     fn terminated(&self) -> bool {
         false
     }

@@ -29,7 +29,7 @@ impl<B: Buffer> Machine<B> {
         }
         let second = input[next];
         if !is_continuation(second) {
-            performer.print_char(char::REPLACEMENT_CHARACTER);
+            performer.print_replacement();
             return next;
         }
         if first < 0xe0 {
@@ -54,7 +54,7 @@ impl<B: Buffer> Machine<B> {
         from: usize,
     ) -> usize {
         if !may_begin_three(first, second) {
-            performer.print_char(char::REPLACEMENT_CHARACTER);
+            performer.print_replacement();
             return from;
         }
         if from + 1 >= input.len() {
@@ -63,7 +63,7 @@ impl<B: Buffer> Machine<B> {
         }
         let third = input[from + 1];
         if !is_continuation(third) {
-            performer.print_char(char::REPLACEMENT_CHARACTER);
+            performer.print_replacement();
             return from + 1;
         }
         tell_character(performer, character_of_three(first, second, third));
@@ -83,7 +83,7 @@ impl<B: Buffer> Machine<B> {
     ) -> usize {
         let next = from + 1;
         if !may_begin_four(first, second) {
-            performer.print_char(char::REPLACEMENT_CHARACTER);
+            performer.print_replacement();
             return next;
         }
         if next + 2 >= input.len() {
@@ -96,12 +96,12 @@ impl<B: Buffer> Machine<B> {
         }
         let third = input[next + 1];
         if !is_continuation(third) {
-            performer.print_char(char::REPLACEMENT_CHARACTER);
+            performer.print_replacement();
             return next + 1;
         }
         let fourth = input[next + 2];
         if !is_continuation(fourth) {
-            performer.print_char(char::REPLACEMENT_CHARACTER);
+            performer.print_replacement();
             return next + 2;
         }
         if G::IN_RUNS {
@@ -133,7 +133,7 @@ impl<B: Buffer> Machine<B> {
                     return position + 1;
                 }
                 Carried::Broken => {
-                    performer.print_char(char::REPLACEMENT_CHARACTER);
+                    performer.print_replacement();
                     self.state = State::Text(Unfinished::Nothing);
                     return position;
                 }

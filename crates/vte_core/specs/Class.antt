@@ -111,7 +111,7 @@ ends_head Cancel = true
 ends_head Final = true
 ends_head _ = false
 
--- C0 and 20..7E: the data of a device control string
+-- C0 except CAN, SUB and ESC, and 20..7E: the data of a device control string
 abbrev pub is_data : Class → Bool
 is_data Control = true
 is_data Final = true

@@ -5,27 +5,26 @@ use Rattle.vte_core.specs.EarlyStop.{told}
 use Rattle.vte_core.specs.Event.{Event, Print, Put, replacement}
 use Rattle.vte_core.specs.Stream.{open_end}
 
--- Neither a character that is printed, but for U+FFFD, which is told of what is malformed, nor
--- data.
+-- Neither a printed character nor data. U+FFFD is allowed: it stands for what is malformed.
 abbrev pub IsOther : Event → Type 0
 IsOther (Print c) = c ≡ replacement
 IsOther (Put byte) = ⊥
 IsOther _ = Unit {0}
 
--- Neither a character of ASCII that is printed nor data.
+-- Neither a printed character of ASCII nor data.
 abbrev pub IsWide : Event → Type 0
 IsWide (Print c) = 0x80 ≤ c
 IsWide (Put byte) = ⊥
 IsWide _ = Unit {0}
 
--- What is told before place n of a call: characters and data are left to runs, unless a character
--- was open.
+-- Before place n of a call nothing is told that belongs into a run: only the character that an
+-- earlier call began, if one was open.
 pub record TellsOthers (limit : Option ℕ) (stream bytes : List ℕ) (n : ℕ) : Type 0 where
   pub others : open_end stream ≡ [] → All IsOther (told limit stream bytes n)
-  -- Such a character isn't ASCII.
+  -- That character isn't ASCII.
   pub opened : All IsWide (told limit stream bytes n)
 
--- What is told between two places.
+-- What is told between two places of a call belongs into no run.
 pub record AddsOthers (limit : Option ℕ) (stream bytes : List ℕ) (i j : ℕ) : Type 0 where
   pub events : List Event
   pub are : All IsOther events

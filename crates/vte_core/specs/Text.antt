@@ -15,11 +15,11 @@ is_control_character c = nat_lt c 0x20 || (nat_le 0x80 c && nat_lt c 0xa0)
 abbrev pub is_layout : ℕ → Bool
 is_layout c = c == 0x09 || c == 0x0a || c == 0x0d
 
--- The controls that a run of text may not hold: all, or all but HT, LF and CR if it keeps these.
+-- The controls that end a run of text: all of them, or all but HT, LF and CR if it keeps these.
 abbrev pub is_left_out : Bool → ℕ → Bool
 is_left_out keeps c = not (keeps && is_layout c) && is_control_character c
 
--- No character of a text is a control, but for HT, LF and CR if it keeps these.
+-- No character of the text ends a run.
 abbrev pub IsRunText : Bool → List ℕ → Type 0
 IsRunText keeps text = All (λ c. is_left_out keeps c ≡ false) (chars text)
 
@@ -27,7 +27,8 @@ IsRunText keeps text = All (λ c. is_left_out keeps c ≡ false) (chars text)
 abbrev pub HasNoControls : List ℕ → Type 0
 HasNoControls text = IsRunText false text
 
--- A character of a run is printed, and HT, LF and CR are executed.
+-- The event of a character of a run: HT, LF and CR, if it keeps these, are executed, and others
+-- printed.
 abbrev pub run_event : Bool → ℕ → Event
 run_event keeps c = if keeps && is_layout c then Execute c else Print c
 

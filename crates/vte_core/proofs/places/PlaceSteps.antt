@@ -1,5 +1,5 @@
--- After every place every byte reports at most two small events and leads to a place (`steps`): by cases of the place
--- and of the byte's class, each by a lemma of `PlaceLeads`.
+-- After every place every byte reports at most two events, of which the second is short, and leads to a place (`steps`):
+-- by cases of the place and of the byte's class, each by a lemma of `PlaceLeads`.
 use Rattle.vte_core.proofs.Common.{◌≡◌, ℕ, inl, inr, false, eqb, Option, List, refl, arith, cases_Bool, nat_tests, Class, Control, Cancel, Intermediate, Final, Delete, High, class_of, ends_all, Key, Dispatch, key_of, IsBrief, Event, head_of, is_well_shaped, Leads, Place, InText, AtEscape, InEscape, InControlSequence, InDeviceControl, InData, InSystemCommand, InIgnoredString, closing_events_at, escape, bell, pieces_of}
 use Rattle.vte_core.proofs.Common.{kept_items, data_left, left_at, breaks, open_at, sym, false≢true, ◌∙◌, [], ◌∷◌, ◌++◌, Execute, is_data, true}
 use Rattle.vte_core.proofs.bytes.FirstBytes.{Tests, ascii_breaks}
@@ -225,6 +225,6 @@ by_class limit place b Cancel is e =
     (λ size fits. closing_brief limit size place b fits (spans b Cancel e)) (cancel_others limit place b)
 by_class limit place b k is e = step-ordinary limit place b k is e refl
 
--- each byte tells something little after each place, and leads to a next place
+-- Each byte reports at most two events after each place, and leads to a next place.
 pub steps : (limit : Option ℕ) (place : Place) (b : ℕ) → IsPlace place → Steps limit place b
 steps limit place b is = by_class limit place b (class_of b) is refl

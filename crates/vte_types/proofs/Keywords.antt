@@ -1,4 +1,4 @@
--- Keywords are ASCII.
+-- Keywords are ASCII, as a test of the whole table computes. So a text that isn't UTF-8 differs from each of them.
 use Rattle.std.proofs.Common.{◌≡◌, ◌<◌, ℕ, zero, suc, Bool, true, false, cond, List, [], ◌∷◌, Option, None, Some, refl, ap, arith}
 use Rattle.std.proofs.lemmas.Bool.Decides.{nat_tests}
 use Rattle.std.proofs.lemmas.Str.{IsUtf8-from_ascii, is_utf8-from_IsUtf8}
@@ -47,6 +47,6 @@ other_bytes (row ∷ rows) text are not =
     (other_word text row.0 (λ e. let same = ap is_utf8 e in let is = ascii_is_utf8 row.0 (first_and _ _ are) in cc))
     (other_bytes rows text (second_and _ _ are) not)
 
--- a text that isn't UTF-8 is no keyword
+-- A text that isn't UTF-8 is no keyword.
 pub no_icon : (text : List ℕ) → is_utf8 text ≡ false → icon_of text ≡ None
 no_icon text not = other_bytes icons text refl not

@@ -2,6 +2,7 @@
 -- of this row if the row's word is the text, and otherwise that of the rows that follow.
 use Rattle.std.proofs.Common.{◌≡◌, ◌≢◌, ◌<◌, ◌+◌, ℕ, suc, Bool, true, false, cond, eqb, List, [], ◌∷◌, ◌++◌, length, drop, get_or}
 use Rattle.std.proofs.Common.{drop-cons, Option, None, Some, option_map, refl, sym, ◌∙◌, ap, arith, Bor, MatchOption}
+use Rattle.std.proofs.lemmas.Bool.{false_from_ne_true}
 use Rattle.std.proofs.lemmas.Bool.Decides.{nat_tests}
 use Rattle.std.specs.Prelude.{map, ◌&&◌}
 use Rattle.std.specs.Str.{bytes_eq}
@@ -19,12 +20,8 @@ same_word [] (b ∷ word) e = cc
 same_word (a ∷ text) [] e = cc
 same_word (a ∷ text) (b ∷ word) e = same_by a b text word (same_word text word) (eqb a b) refl e
 
-not_true : (b : Bool) → (b ≡ true → ⊥) → b ≡ false
-not_true true h = absurd (h refl)
-not_true false h = refl
-
 pub other_word : (text word : List ℕ) → (text ≡ word → ⊥) → is_word text word ≡ false
-other_word text word h = not_true _ (λ e. h (same_word text word e))
+other_word text word h = false_from_ne_true _ (λ e. h (same_word text word e))
 
 pub short_word : (text word : List ℕ) → length text < length word → is_word text word ≡ false
 short_word text word h = other_word text word (λ e. let k = ap length e in omega arith)

@@ -13,7 +13,8 @@ use crate::proved::vte_core::utf8::{
 
 impl<B: Buffer> Machine<B> {
     /// Reads the character or the malformed sequence that begins with a lead byte, which was looked
-    /// at. A byte that breaks it is left unread, and U+FFFD is printed for those before it.
+    /// at. A byte that breaks it is left unread, and U+FFFD is printed for those before it. If text
+    /// is taken in runs, a character of four bytes begins one.
     #[inline(always)]
     pub(crate) fn read_character<P: PerformAs<G>, G: Grain>(
         &mut self,
@@ -29,7 +30,7 @@ impl<B: Buffer> Machine<B> {
         }
         let second = input[next];
         if !is_continuation(second) {
-            performer.print_replacement();
+            performer.print_char(char::REPLACEMENT_CHARACTER);
             return next;
         }
         if first < 0xe0 {
@@ -54,7 +55,7 @@ impl<B: Buffer> Machine<B> {
         from: usize,
     ) -> usize {
         if !may_begin_three(first, second) {
-            performer.print_replacement();
+            performer.print_char(char::REPLACEMENT_CHARACTER);
             return from;
         }
         if from + 1 >= input.len() {
@@ -63,7 +64,7 @@ impl<B: Buffer> Machine<B> {
         }
         let third = input[from + 1];
         if !is_continuation(third) {
-            performer.print_replacement();
+            performer.print_char(char::REPLACEMENT_CHARACTER);
             return from + 1;
         }
         tell_character(performer, character_of_three(first, second, third));
@@ -83,7 +84,7 @@ impl<B: Buffer> Machine<B> {
     ) -> usize {
         let next = from + 1;
         if !may_begin_four(first, second) {
-            performer.print_replacement();
+            performer.print_char(char::REPLACEMENT_CHARACTER);
             return next;
         }
         if next + 2 >= input.len() {
@@ -96,12 +97,12 @@ impl<B: Buffer> Machine<B> {
         }
         let third = input[next + 1];
         if !is_continuation(third) {
-            performer.print_replacement();
+            performer.print_char(char::REPLACEMENT_CHARACTER);
             return next + 1;
         }
         let fourth = input[next + 2];
         if !is_continuation(fourth) {
-            performer.print_replacement();
+            performer.print_char(char::REPLACEMENT_CHARACTER);
             return next + 2;
         }
         if G::IN_RUNS {
@@ -133,7 +134,7 @@ impl<B: Buffer> Machine<B> {
                     return position + 1;
                 }
                 Carried::Broken => {
-                    performer.print_replacement();
+                    performer.print_char(char::REPLACEMENT_CHARACTER);
                     self.state = State::Text(Unfinished::Nothing);
                     return position;
                 }

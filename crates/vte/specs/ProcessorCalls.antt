@@ -1,12 +1,12 @@
 -- What calls of a processor ensure: where it stands in what `Processor` defines, and how each call
 -- leads on from there.
-use Rattle.std.specs.Prelude.{◌≡◌, ℕ, Some, List, ◌++◌, length, take, drop, [], ◌∷◌, Bool, false, ◌≤◌, None}
+use Rattle.std.specs.Prelude.{◌≡◌, ℕ, Some, List, ◌++◌, length, drop, [], ◌∷◌, Bool, false, ◌≤◌, None}
 use Rattle.vte_core.specs.Parser.{HasRead}
 use Rattle.vte_core.specs.Stream.{events}
 use Rattle.vte_handler.specs.Handler.{after}
 use Rattle.vte_handler.specs.Timeout.{IsKept}
 use Rattle.vte.specs.Calls.{last_printed, calls}
-use Rattle.vte.specs.Processor.{HoldsWellAt, Meaning, TakesSteps, State, TakesAllTurns, all_bytes, given_bytes, calls_with_stops, most_held, stop, stops_of}
+use Rattle.vte.specs.Processor.{HoldsWellAt, Meaning, TakesSteps, State, TakesAllTurns, all_bytes, given_bytes, calls_with_stops, AreInOrder, most_held, stop}
 use Rattle.vte.specs.Synchronized.{after_last_end}
 use Rattle.vte.specs.declared.ansi.hold.Hold.{Hold}
 use Rattle.vte.specs.declared.ansi.laws.replays.Step.{Step}
@@ -65,16 +65,20 @@ pub record Replayed {V W : Type 0} (m : Meaning V W) (s : State V W) (steps : Li
 
 -- The calls led to where the processor and the handler's value are (`replayed`). The bytes held
 -- before and those given are those parsed and held now, each once and in order. The handler has
--- received the calls of the parsed bytes, and one more at each stop on that way.
+-- received the calls of the bytes parsed since, and one more at each stop on that way.
 pub record IsTold {V W : Type 0} (m : Meaning V W) (s : State V W) (steps : List Step) (value : V)
     (there : State V W → Type 0) : Type 0 where
   pub replayed : Replayed m s steps there
   pub more : List ℕ
   pub parsed_is : replayed.next.parsed ≡ s.parsed ++ more
   pub each_once : s.held ++ given_bytes steps ≡ more ++ replayed.next.held
+  -- the places of these stops
+  pub places : List ℕ
+  pub stops_are : replayed.next.stops ≡ s.stops ++ places
+  pub in_order : AreInOrder (length s.parsed) places (length replayed.next.parsed)
   pub is_told : value
       ≡ after m.step s.handler
-      (calls_with_stops m.limit s.parsed more (stops_of m s replayed.next steps replayed.takes))
+      (calls_with_stops m.limit replayed.next.parsed (length s.parsed) places)
 
 -- No value allows the answer "pending".
 abbrev pub IsNeverPending : {W : Type 0} → (W → Bool → Type 0) → Type 0

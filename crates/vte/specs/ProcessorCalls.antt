@@ -126,11 +126,9 @@ pub record CountsHeld (held : List ℕ) (result : ℕ) : Type 0 where
   pub no_end : after_last_end held ≡ None
 
 -- `stop_sync` and `stop_sync_text`, of a processor and a handler that stood so and stand so now
-pub record StopsSync {V W : Type 0} (m : Meaning V W) (old new : Standing W)
-    (before value : V) : Type 0 where
-  pub stops : (s : State V W) → IsAt old before s → IsAt new value (stop m s)
-  pub each_once : (s : State V W) → all_bytes (stop m s) ≡ all_bytes s
-  pub holds_well : (s : State V W) → HoldsWellAt m (stop m s)
+abbrev pub StopsSync : {V W : Type 0} → Meaning V W → Standing W → Standing W → V → V → Type 0
+StopsSync m old new before value =
+    (s : State _ _) → IsAt old before s → IsAt new value (stop m s)
 
 -- `advance` and `advance_text`, that read all bytes
 pub record ReadsInTurns {V W : Type 0} (m : Meaning V W) (old new : Standing W) (before value : V)

@@ -1,7 +1,7 @@
 -- With a timeout that is never pending nothing is ever held, so a run has no stops and its calls are those of the
 -- whole stream. By induction over turns: each one is open, and ends with nothing held.
 use Rattle.vte.proofs.Common.{◌≡◌, ℕ, true, false, List, [], ◌∷◌, ◌++◌, refl, ap, sym, ◌∙◌, Bor, append-nil, events, after, Step, Advance, StopSync, calls_added, calls}
-use Rattle.vte.proofs.Common.{Meaning, Advanced, HasParsedAll, IsAt, Replayed, Replays, TakesSteps, Standing, given_bytes, IsTold, length, State, TakesAllTurns, done, turns, stop_if_due}
+use Rattle.vte.proofs.Common.{Meaning, Advanced, HasParsedAll, IsAt, Replayed, Replays, TakesSteps, Standing, given_bytes, IsTold, State, TakesAllTurns, done, turns, stop_if_due}
 use Rattle.vte_core.proofs.streams.Performing.{events-empty}
 use Rattle.vte.specs.ProcessorCalls.{AreAdvances, IsNeverPending, ParsesAll}
 use Rattle.vte.proofs.performing.CallLists.{after-append, calls_whole}

@@ -95,20 +95,15 @@ AreAdvances [] = Unit {0}
 AreAdvances (Advance bytes ∷ steps) = AreAdvances steps
 AreAdvances (StopSync ∷ steps) = ⊥
 
--- With a timeout that is never pending, calls that give these bytes, while nothing is held, parse
--- all bytes.
+-- Calls that give these bytes, while nothing is held, parse all bytes.
 pub record ParsesAll {V W : Type 0} (m : Meaning V W) (old new : Standing W) (before value : V)
     (bytes : List ℕ) : Type 0 where
-  -- If the handler was as after the calls of the stream, it is as after those of both ..
-  pub follows : IsNeverPending m.timeout.allows → (start : V) (stream : List ℕ)
-      → HasParsedAll old stream
+  -- If the handler was as after the calls of the stream, which every handler is if the stream is
+  -- empty, it is as after those of both.
+  pub follows : (start : V) (stream : List ℕ) → HasParsedAll old stream
       → before ≡ after m.step start (calls (events m.limit stream))
       → value ≡ after m.step start (calls (events m.limit (stream ++ bytes)))
-  -- .. and of a new stream, as after the calls of these bytes.
-  pub tells_all : IsNeverPending m.timeout.allows → HasParsedAll old []
-      → value ≡ after m.step before (calls (events m.limit bytes))
-  pub parses_all : IsNeverPending m.timeout.allows → (stream : List ℕ) → HasParsedAll old stream
-      → HasParsedAll new (stream ++ bytes)
+  pub parses_all : (stream : List ℕ) → HasParsedAll old stream → HasParsedAll new (stream ++ bytes)
 
 -- `clone`: the copy stands where the processor does, if the copy of the timeout has its value.
 pub record IsCopyOf {T A W : Type 0} (is_clone : T → T → Type 0) (timeout_of : T → W)
@@ -134,11 +129,12 @@ StopsSync m old new before value =
 pub record ReadsInTurns {V W : Type 0} (m : Meaning V W) (old new : Standing W) (before value : V)
     (bytes : List ℕ) : Type 0 where
   pub advances : (s : State V W) → IsAt old before s → Advanced m s bytes (IsAt new value)
-  pub plain : ParsesAll m old new before value bytes
+  pub plain : IsNeverPending m.timeout.allows → ParsesAll m old new before value bytes
 
 -- `replay`
 pub record Replays {V W : Type 0} (m : Meaning V W) (old new : Standing W) (before value : V)
     (steps : List Step) : Type 0 where
   pub told : (s : State V W) → IsAt old before s → IsTold m s steps value (IsAt new value)
   -- calls of `advance` alone, with all their bytes
-  pub plain : AreAdvances steps → ParsesAll m old new before value (given_bytes steps)
+  pub plain : IsNeverPending m.timeout.allows → AreAdvances steps
+      → ParsesAll m old new before value (given_bytes steps)

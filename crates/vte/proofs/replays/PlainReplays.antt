@@ -2,7 +2,6 @@
 -- whole stream. By induction over turns: each one is open, and ends with nothing held.
 use Rattle.vte.proofs.Common.{◌≡◌, ℕ, true, false, List, [], ◌∷◌, ◌++◌, refl, ap, sym, ◌∙◌, Bor, append-nil, events, after, Step, Advance, StopSync, calls_added, calls}
 use Rattle.vte.proofs.Common.{Meaning, Advanced, HasParsedAll, IsAt, Replayed, Replays, TakesSteps, Standing, given_bytes, IsTold, State, TakesAllTurns, done, turns, stop_if_due}
-use Rattle.vte_core.proofs.streams.Performing.{events-empty}
 use Rattle.vte.specs.ProcessorCalls.{AreAdvances, IsNeverPending, ParsesAll}
 use Rattle.vte.proofs.performing.CallLists.{after-append, calls_whole}
 use Rattle.vte.proofs.replays.EachOnce.{stop_if_due_none}
@@ -69,22 +68,15 @@ module _ {V W : Type 0} {old : Standing W} (before : V) {stream : List ℕ} (all
       stands = rw (parsed_all, plain.none_held) at told.replayed.is_at.stands;
     }
 
-    -- of a new stream
-    plain_tells : stream ≡ [] → next ≡ after m.step before (calls (events m.limit (given_bytes steps)))
-    plain_tells new =
-        rw new at (plain_follows before
-        (rw new (sym (ap (λ es. after m.step before (calls es)) (events-empty m.limit)))))
-
 -- ---- what calls ensure then
 
 module _ {V W : Type 0} (m : Meaning V W) {old new : Standing W} {before value : V} where
   plain_calls : (steps : List Step)
-      → ((s : State V W) → IsAt old before s → IsTold m s steps value (IsAt new value)) → AreAdvances steps
-      → ParsesAll m old new before value (given_bytes steps)
-  plain_calls steps told only = record {
-    follows = λ never start stream all. plain_follows before all m never steps only (told _ (is_here before all)) start;
-    tells_all = λ never all. plain_tells before all m never steps only (told _ (is_here before all)) refl;
-    parses_all = λ never stream all. plain_parses before all m never steps only (told _ (is_here before all));
+      → ((s : State V W) → IsAt old before s → IsTold m s steps value (IsAt new value))
+      → IsNeverPending m.timeout.allows → AreAdvances steps → ParsesAll m old new before value (given_bytes steps)
+  plain_calls steps told never only = record {
+    follows = λ start stream all. plain_follows before all m never steps only (told _ (is_here before all)) start;
+    parses_all = λ stream all. plain_parses before all m never steps only (told _ (is_here before all));
   }
 
   pub replays_all : (steps : List Step)
@@ -98,6 +90,7 @@ module _ {V W : Type 0} (m : Meaning V W) {old new : Standing W} {before value :
   -- a call is a run of one step
   pub plain_call : (bytes : Bor (List ℕ))
       → ((s : State V W) → IsAt old before s → Advanced m s bytes.now (IsAt new value))
-      → ParsesAll m old new before value bytes.now
-  plain_call bytes advances =
-      rw append-nil at ((replays_all (Advance bytes ∷ []) (λ s at. advance_runs m s bytes (advances s at))).plain tt)
+      → IsNeverPending m.timeout.allows → ParsesAll m old new before value bytes.now
+  plain_call bytes advances never =
+      let r = replays_all (Advance bytes ∷ []) (λ s at. advance_runs m s bytes (advances s at)) in
+      rw append-nil at (r.plain never tt)

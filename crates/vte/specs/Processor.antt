@@ -118,7 +118,7 @@ keep m s (b ∷ kept) = parse_held m s (length s.held - length (b ∷ kept))
 -- A hold turn. Without an end-update everything stays held; after the last one, what the next
 -- begin-update begins.
 abbrev pub hold_turn : {H W : Type 0} → Meaning H W → State H W → List ℕ → State H W
-hold_turn m s bytes = keep m (extend m s bytes) (kept_of (s.held ++ bytes))
+hold_turn m s bytes = let t = extend m s bytes in keep m t (kept_of t.held)
 
 -- While the timeout is pending, the bytes of a turn are held if there is room.
 abbrev pub is_held : {H W : Type 0} → Bool → State H W → List ℕ → Bool
@@ -132,10 +132,12 @@ is_stopped answer s = answer || nat_lt 0 (length s.held)
 abbrev pub stop_if_due : {H W : Type 0} → Meaning H W → Bool → State H W → State H W
 stop_if_due m answer s = if is_stopped answer s then stop m s else s
 
--- A turn, by the timeout's answer.
+-- A turn, by the timeout's answer, and its name in docs/UPDATES.md.
 abbrev pub turn : {H W : Type 0} → Meaning H W → Bool → State H W → List ℕ → Turn H W
 turn m answer s bytes =
+    -- hold
     if is_held answer s bytes then record { state = hold_turn m s bytes; rest = [] }
+    -- full if the timeout is pending, else expired if bytes are held, and open if none are
     else open_turn m (stop_if_due m answer s) bytes
 
 -- Turns of a call that led to a state and left these bytes, each with an answer that the timeout's

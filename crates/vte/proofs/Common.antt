@@ -42,7 +42,7 @@ pub use Rattle.vte.specs.ColorReading.{kind_reading, part_of}
 pub use Rattle.vte.specs.CommandCalls.{dynamic_calls, id_of, link_to, pair_calls, pairs_calls}
 unfoldable pub use Rattle.vte.specs.CommandCalls.{all_reset}
 pub use Rattle.vte.specs.machine.Hold.{Adds, IsAdded, IsEnd, released_of}
-pub use Rattle.vte.specs.ProcessorCalls.{Advanced, HasParsedAll, HasParsedAndHolds, IsAt, IsTold, ReadsInTurns, Replayed, Replays, Standing, StopsSync, held_of}
+pub use Rattle.vte.specs.ProcessorCalls.{Advanced, HasParsedAll, HasParsedAndHolds, IsAt, IsTold, ReadsInTurns, Replayed, Replays, Standing, held_of}
 pub use Rattle.vte.specs.machine.Performing.{PerformsAll, PerformsUntilStop, performer_value, with_private_mode, with_private_modes}
 pub use Rattle.vte.specs.LongProcessor.{AdvancesLong, HasParsedAndHoldsLong, Reserves, StopsSyncLong}
 pub use Rattle.vte.specs.Memory.{HasRoom, LacksMemoryOnTheWay}

@@ -41,10 +41,11 @@ set_times m (suc n) value = set_times m n (m.set value update_nanos)
 abbrev pub calls_added : Option ℕ → List ℕ → List ℕ → List Call
 calls_added limit stream more = added_calls (events limit stream) (events limit (stream ++ more))
 
--- The state between calls: the bytes parsed so far, those held after them, and the values of the
--- timeout and the handler.
+-- The state between calls: the bytes parsed so far, the places among them at which updates were
+-- stopped, the bytes held after them, and the values of the timeout and the handler.
 pub record State (H W : Type 0) : Type 0 where
   pub parsed : List ℕ
+  pub stops : List ℕ
   pub held : List ℕ
   pub timeout : W
   pub handler : H
@@ -59,22 +60,20 @@ most_held = 2097150
 -- Bytes are parsed: the handler receives the calls that they add, and each update that they begin
 -- sets the timeout.
 abbrev pub parse : {H W : Type 0} → Meaning H W → State H W → List ℕ → State H W
-parse m s bytes = record {
+parse m s bytes = record s {
   parsed = s.parsed ++ bytes;
-  held = s.held;
   timeout = set_times m.timeout (begin_count (added m.limit s.parsed bytes)) s.timeout;
   handler = after m.step s.handler (calls_added m.limit s.parsed bytes);
 }
 
 abbrev pub with_held : {H W : Type 0} → State H W → List ℕ → State H W
-with_held s bytes =
-    record { parsed = s.parsed; held = bytes; timeout = s.timeout; handler = s.handler }
+with_held s bytes = record s { held = bytes }
 
 -- A stop: the whole hold is parsed, the handler receives the call that reports the end of an
--- update, and the timeout is cleared.
+-- update, and the timeout is cleared. The stop's place is how many bytes were parsed by then.
 abbrev pub stop : {H W : Type 0} → Meaning H W → State H W → State H W
-stop m s = let p = parse m s s.held in record {
-  parsed = p.parsed;
+stop m s = let p = parse m s s.held in record p {
+  stops = p.stops ++ length p.parsed ∷ [];
   held = [];
   timeout = m.timeout.clear p.timeout;
   handler = m.step p.handler update_ended;
@@ -101,11 +100,9 @@ open_turn m s bytes =
 -- The bytes join the hold. Each begin-update that ends among them, and after the last end-update,
 -- sets the timeout.
 abbrev pub extend : {H W : Type 0} → Meaning H W → State H W → List ℕ → State H W
-extend m s bytes = let all = s.held ++ bytes in record {
-  parsed = s.parsed;
+extend m s bytes = let all = s.held ++ bytes in record s {
   held = all;
   timeout = set_times m.timeout (begins_among (length bytes) (last_part all)) s.timeout;
-  handler = s.handler;
 }
 
 -- The held bytes before a place are parsed, and the others stay.
@@ -121,7 +118,7 @@ keep m s (b ∷ kept) = parse_held m s (length s.held - length (b ∷ kept))
 -- A hold turn. Without an end-update everything stays held; after the last one, what the next
 -- begin-update begins.
 abbrev pub hold_turn : {H W : Type 0} → Meaning H W → State H W → List ℕ → State H W
-hold_turn m s bytes = keep m (extend m s bytes) (kept_of (s.held ++ bytes))
+hold_turn m s bytes = let t = extend m s bytes in keep m t (kept_of t.held)
 
 -- While the timeout is pending, the bytes of a turn are held if there is room.
 abbrev pub is_held : {H W : Type 0} → Bool → State H W → List ℕ → Bool
@@ -135,10 +132,12 @@ is_stopped answer s = answer || nat_lt 0 (length s.held)
 abbrev pub stop_if_due : {H W : Type 0} → Meaning H W → Bool → State H W → State H W
 stop_if_due m answer s = if is_stopped answer s then stop m s else s
 
--- A turn, by the timeout's answer.
+-- A turn, by the timeout's answer, and its name in docs/UPDATES.md.
 abbrev pub turn : {H W : Type 0} → Meaning H W → Bool → State H W → List ℕ → Turn H W
 turn m answer s bytes =
+    -- hold
     if is_held answer s bytes then record { state = hold_turn m s bytes; rest = [] }
+    -- full if the timeout is pending, else expired if bytes are held, and open if none are
     else open_turn m (stop_if_due m answer s) bytes
 
 -- Turns of a call that led to a state and left these bytes, each with an answer that the timeout's
@@ -200,41 +199,20 @@ given_bytes [] = []
 given_bytes (Advance bytes ∷ steps) = bytes.now ++ given_bytes steps
 given_bytes (StopSync ∷ steps) = given_bytes steps
 
--- The calls that more bytes add to those of a stream, if updates are stopped at these places of the
--- joined bytes: after the calls of the bytes up to a place comes the one that reports the end of an
--- update.
-abbrev pub calls_with_stops : Option ℕ → List ℕ → List ℕ → List ℕ → List Call
-calls_with_stops limit stream more [] = calls_added limit stream more
-calls_with_stops limit stream more (place ∷ places) = let count = place - length stream in
-    calls_added limit stream (take count more)
-    ++ update_ended ∷ calls_with_stops limit (stream ++ take count more) (drop count more) places
+-- The calls that the bytes from one place of a stream to another make.
+abbrev pub calls_between : Option ℕ → List ℕ → ℕ → ℕ → List Call
+calls_between limit stream from to =
+    added_calls (events limit (take from stream)) (events limit (take to stream))
 
--- A stop parses the whole hold, so this is its place.
-abbrev pub place_of_stop : {H W : Type 0} → State H W → ℕ
-place_of_stop s = length (all_bytes s)
+-- The calls that the bytes of a stream make from a place on, if updates are stopped at these ones:
+-- after the calls of the bytes before a stop comes the one that reports the end of an update.
+abbrev pub calls_with_stops : Option ℕ → List ℕ → ℕ → List ℕ → List Call
+calls_with_stops limit stream from [] = calls_between limit stream from (length stream)
+calls_with_stops limit stream from (place ∷ places) =
+    calls_between limit stream from place
+    ++ update_ended ∷ calls_with_stops limit stream place places
 
--- A hold turn that keeps nothing is one.
-abbrev pub stops_in_hold : {H W : Type 0} → State H W → List ℕ → List ℕ → List ℕ
-stops_in_hold s bytes [] = length (all_bytes s ++ bytes) ∷ []
-stops_in_hold s bytes (b ∷ kept) = []
-
--- The stops of a turn, by the timeout's answer: there is at most one.
-abbrev pub stops_of_turn : {H W : Type 0} → Bool → State H W → List ℕ → List ℕ
-stops_of_turn answer s bytes =
-    if is_held answer s bytes then stops_in_hold s bytes (kept_of (s.held ++ bytes))
-    else (if is_stopped answer s then place_of_stop s ∷ [] else [])
-
--- The stops of a call of `advance`, by the answers of its turns.
-abbrev pub stops_of_advance : {H W : Type 0} (m : Meaning H W) (s t : State H W) (bytes : List ℕ)
-    → TakesAllTurns m s bytes t → List ℕ
-stops_of_advance m s t [] done = []
-stops_of_advance m s t (b ∷ rest) (turns answer allowed more) =
-    stops_of_turn answer s (b ∷ rest) ++ stops_of_advance m _ t _ more
-
--- The stops of calls one after another. `StopSync` is always one.
-abbrev pub stops_of : {H W : Type 0} (m : Meaning H W) (s t : State H W) (steps : List Step)
-    → TakesSteps m s steps t → List ℕ
-stops_of m s t [] taken = []
-stops_of m s t (Advance bytes ∷ steps) (next, (advances, taken)) =
-    stops_of_advance m s next bytes.now advances ++ stops_of m next t steps taken
-stops_of m s t (StopSync ∷ steps) taken = place_of_stop s ∷ stops_of m (stop m s) t steps taken
+-- The places lie between two others, and none is before the one that precedes it.
+abbrev pub AreInOrder : ℕ → List ℕ → ℕ → Type 0
+AreInOrder from [] to = from ≤ to
+AreInOrder from (place ∷ places) to = (from ≤ place) × AreInOrder place places to

@@ -1,12 +1,12 @@
 -- What calls of a processor ensure: where it stands in what `Processor` defines, and how each call
 -- leads on from there.
-use Rattle.std.specs.Prelude.{◌≡◌, ℕ, Some, List, ◌++◌, length, take, drop, [], ◌∷◌, Bool, false, ◌≤◌, None}
+use Rattle.std.specs.Prelude.{◌≡◌, ℕ, Some, List, ◌++◌, length, drop, [], ◌∷◌, Bool, false, ◌≤◌, None}
 use Rattle.vte_core.specs.Parser.{HasRead}
 use Rattle.vte_core.specs.Stream.{events}
 use Rattle.vte_handler.specs.Handler.{after}
 use Rattle.vte_handler.specs.Timeout.{IsKept}
 use Rattle.vte.specs.Calls.{last_printed, calls}
-use Rattle.vte.specs.Processor.{HoldsWellAt, Meaning, TakesSteps, State, TakesAllTurns, all_bytes, given_bytes, calls_with_stops, most_held, stop, stops_of}
+use Rattle.vte.specs.Processor.{HoldsWellAt, Meaning, TakesSteps, State, TakesAllTurns, all_bytes, given_bytes, calls_with_stops, AreInOrder, most_held, stop}
 use Rattle.vte.specs.Synchronized.{after_last_end}
 use Rattle.vte.specs.declared.ansi.hold.Hold.{Hold}
 use Rattle.vte.specs.declared.ansi.laws.replays.Step.{Step}
@@ -65,16 +65,20 @@ pub record Replayed {V W : Type 0} (m : Meaning V W) (s : State V W) (steps : Li
 
 -- The calls led to where the processor and the handler's value are (`replayed`). The bytes held
 -- before and those given are those parsed and held now, each once and in order. The handler has
--- received the calls of the parsed bytes, and one more at each stop on that way.
+-- received the calls of the bytes parsed since, and one more at each stop on that way.
 pub record IsTold {V W : Type 0} (m : Meaning V W) (s : State V W) (steps : List Step) (value : V)
     (there : State V W → Type 0) : Type 0 where
   pub replayed : Replayed m s steps there
   pub more : List ℕ
   pub parsed_is : replayed.next.parsed ≡ s.parsed ++ more
   pub each_once : s.held ++ given_bytes steps ≡ more ++ replayed.next.held
+  -- the places of these stops
+  pub places : List ℕ
+  pub stops_are : replayed.next.stops ≡ s.stops ++ places
+  pub in_order : AreInOrder (length s.parsed) places (length replayed.next.parsed)
   pub is_told : value
       ≡ after m.step s.handler
-      (calls_with_stops m.limit s.parsed more (stops_of m s replayed.next steps replayed.takes))
+      (calls_with_stops m.limit replayed.next.parsed (length s.parsed) places)
 
 -- No value allows the answer "pending".
 abbrev pub IsNeverPending : {W : Type 0} → (W → Bool → Type 0) → Type 0
@@ -91,20 +95,15 @@ AreAdvances [] = Unit {0}
 AreAdvances (Advance bytes ∷ steps) = AreAdvances steps
 AreAdvances (StopSync ∷ steps) = ⊥
 
--- With a timeout that is never pending, calls that give these bytes, while nothing is held, parse
--- all bytes.
+-- Calls that give these bytes, while nothing is held, parse all bytes.
 pub record ParsesAll {V W : Type 0} (m : Meaning V W) (old new : Standing W) (before value : V)
     (bytes : List ℕ) : Type 0 where
-  -- If the handler was as after the calls of the stream, it is as after those of both ..
-  pub follows : IsNeverPending m.timeout.allows → (start : V) (stream : List ℕ)
-      → HasParsedAll old stream
+  -- If the handler was as after the calls of the stream, which every handler is if the stream is
+  -- empty, it is as after those of both.
+  pub follows : (start : V) (stream : List ℕ) → HasParsedAll old stream
       → before ≡ after m.step start (calls (events m.limit stream))
       → value ≡ after m.step start (calls (events m.limit (stream ++ bytes)))
-  -- .. and of a new stream, as after the calls of these bytes.
-  pub tells_all : IsNeverPending m.timeout.allows → HasParsedAll old []
-      → value ≡ after m.step before (calls (events m.limit bytes))
-  pub parses_all : IsNeverPending m.timeout.allows → (stream : List ℕ) → HasParsedAll old stream
-      → HasParsedAll new (stream ++ bytes)
+  pub parses_all : (stream : List ℕ) → HasParsedAll old stream → HasParsedAll new (stream ++ bytes)
 
 -- `clone`: the copy stands where the processor does, if the copy of the timeout has its value.
 pub record IsCopyOf {T A W : Type 0} (is_clone : T → T → Type 0) (timeout_of : T → W)
@@ -122,21 +121,20 @@ pub record CountsHeld (held : List ℕ) (result : ℕ) : Type 0 where
   pub no_end : after_last_end held ≡ None
 
 -- `stop_sync` and `stop_sync_text`, of a processor and a handler that stood so and stand so now
-pub record StopsSync {V W : Type 0} (m : Meaning V W) (old new : Standing W)
-    (before value : V) : Type 0 where
-  pub stops : (s : State V W) → IsAt old before s → IsAt new value (stop m s)
-  pub each_once : (s : State V W) → all_bytes (stop m s) ≡ all_bytes s
-  pub holds_well : (s : State V W) → HoldsWellAt m (stop m s)
+abbrev pub StopsSync : {V W : Type 0} → Meaning V W → Standing W → Standing W → V → V → Type 0
+StopsSync m old new before value =
+    (s : State _ _) → IsAt old before s → IsAt new value (stop m s)
 
 -- `advance` and `advance_text`, that read all bytes
 pub record ReadsInTurns {V W : Type 0} (m : Meaning V W) (old new : Standing W) (before value : V)
     (bytes : List ℕ) : Type 0 where
   pub advances : (s : State V W) → IsAt old before s → Advanced m s bytes (IsAt new value)
-  pub plain : ParsesAll m old new before value bytes
+  pub plain : IsNeverPending m.timeout.allows → ParsesAll m old new before value bytes
 
 -- `replay`
 pub record Replays {V W : Type 0} (m : Meaning V W) (old new : Standing W) (before value : V)
     (steps : List Step) : Type 0 where
   pub told : (s : State V W) → IsAt old before s → IsTold m s steps value (IsAt new value)
   -- calls of `advance` alone, with all their bytes
-  pub plain : AreAdvances steps → ParsesAll m old new before value (given_bytes steps)
+  pub plain : IsNeverPending m.timeout.allows → AreAdvances steps
+      → ParsesAll m old new before value (given_bytes steps)

@@ -1,6 +1,6 @@
 -- What turns, a call and a list of calls have led to if memory is refused. Only for
 -- `LongProcessor`.
-use Rattle.std.specs.Prelude.{◌≡◌, ℕ, ◌+◌, ◌-◌, ◌<◌, ◌++◌, Bool, false, List, [], ◌∷◌, length, take, drop}
+use Rattle.std.specs.Prelude.{◌≡◌, ℕ, ◌-◌, ◌<◌, ◌++◌, Bool, false, List, [], ◌∷◌, length, take, drop}
 use Rattle.vte_core.specs.Stream.{added}
 use Rattle.vte.specs.BeginUpdate.{begin_count}
 use Rattle.vte.specs.Processor.{HoldsWellAt, Meaning, State, TakesTurns, all_bytes, is_held, stop_if_due, parse}

@@ -29,7 +29,7 @@ abbrev pub PlainState : Type 0
 PlainState = State (List Call) Bool
 
 abbrev pub start : PlainState
-start = record { parsed = []; held = []; timeout = false; handler = [] }
+start = record { parsed = []; stops = []; held = []; timeout = false; handler = [] }
 
 -- At most this many turns, until no byte is left. The timeout answers whether it is pending.
 abbrev pub with_turns : ℕ → PlainState → List ℕ → PlainState

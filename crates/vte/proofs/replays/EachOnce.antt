@@ -42,7 +42,7 @@ module _ {V W : Type 0} (m : Meaning V W) where
   same : (s : State V W) (bytes : List ℕ) → Grows s s bytes bytes
   same s bytes = record { more = []; parsed_is = sym (append-nil s.parsed); each_once = refl }
 
-  pub stop_bytes : (s : State V W) → all_bytes (stop m s) ≡ all_bytes s
+  stop_bytes : (s : State V W) → all_bytes (stop m s) ≡ all_bytes s
   stop_bytes s = append-nil (s.parsed ++ s.held)
 
   pub stop_grows : (s : State V W) (bytes : List ℕ) → Grows s (stop m s) bytes bytes

@@ -1,47 +1,42 @@
 -- With a timeout that is never pending nothing is ever held, so a run has no stops and its calls are those of the
 -- whole stream. By induction over turns: each one is open, and ends with nothing held.
 use Rattle.vte.proofs.Common.{◌≡◌, ℕ, true, false, List, [], ◌∷◌, ◌++◌, refl, ap, sym, ◌∙◌, Bor, append-nil, events, after, Step, Advance, StopSync, calls_added, calls}
-use Rattle.vte.proofs.Common.{Meaning, Advanced, HasParsedAll, IsAt, Replayed, Replays, TakesSteps, Standing, given_bytes, IsTold, calls_with_stops, stops_of, stops_of_advance, stops_of_turn, State, TakesAllTurns, done, turns}
-use Rattle.vte_core.proofs.streams.Performing.{events-empty}
+use Rattle.vte.proofs.Common.{Meaning, Advanced, HasParsedAll, IsAt, Replayed, Replays, TakesSteps, Standing, given_bytes, IsTold, State, TakesAllTurns, done, turns, stop_if_due}
 use Rattle.vte.specs.ProcessorCalls.{AreAdvances, IsNeverPending, ParsesAll}
 use Rattle.vte.proofs.performing.CallLists.{after-append, calls_whole}
 use Rattle.vte.proofs.replays.EachOnce.{stop_if_due_none}
 use Rattle.vte.proofs.replays.Replays.{advance_runs}
-use Rattle.vte.proofs.replays.Tellings.{told_run}
+use Rattle.vte.proofs.replays.Tellings.{between-whole, told_run}
 
 -- nothing is held, and there was no stop
-record IsPlain {V W : Type 0} (t : State V W) (stops : List ℕ) : Type 0 where
+record IsPlain {V W : Type 0} (s t : State V W) : Type 0 where
   pub none_held : t.held ≡ []
-  pub no_stop : stops ≡ []
+  pub no_stop : t.stops ≡ s.stops
 
 module _ {V W : Type 0} (m : Meaning V W) (never : IsNeverPending m.timeout.allows) where
-  plain_advances : (s t : State V W) (r : List ℕ) (a : TakesAllTurns m s r t) → s.held ≡ []
-      → IsPlain t (stops_of_advance m s t r a)
+  plain_advances : (s t : State V W) (r : List ℕ) → TakesAllTurns m s r t → s.held ≡ [] → IsPlain s t
   plain_advances s t [] done none = record { none_held = none; no_stop = refl }
   plain_advances s t (b ∷ r) (turns true allowed more) none =
       absurd (let e : true ≡ false = never s.timeout true allowed in cc)
   plain_advances s t (b ∷ r) (turns false allowed more) none =
       let rest = plain_advances _ t _ more (stop_if_due_none m false s) in
-      let no_stop : stops_of_turn false s (b ∷ r) ≡ [] = rw none refl in
-      record {
-        none_held = rest.none_held;
-        no_stop = ap (λ stops. stops ++ stops_of_advance m _ t _ more) no_stop ∙ rest.no_stop;
-      }
+      let no_stop : (stop_if_due m false s).stops ≡ s.stops = rw none refl in
+      record { none_held = rest.none_held; no_stop = rest.no_stop ∙ no_stop }
 
-  plain_run : (s t : State V W) (steps : List Step) (r : TakesSteps m s steps t) → AreAdvances steps → s.held ≡ []
-      → IsPlain t (stops_of m s t steps r)
-  plain_run s t [] same only none = record { none_held = rw (← same) none; no_stop = refl }
+  plain_run : (s t : State V W) (steps : List Step) → TakesSteps m s steps t → AreAdvances steps → s.held ≡ []
+      → IsPlain s t
+  plain_run s t [] same only none = rw (← same) (record { none_held = none; no_stop = refl })
   plain_run s t (Advance bytes ∷ steps) (next, (a, r)) only none =
       let first = plain_advances s next bytes.now a none in
       let rest = plain_run next t steps r only first.none_held in
-      record { none_held = rest.none_held; no_stop = rw first.no_stop rest.no_stop }
+      record { none_held = rest.none_held; no_stop = rest.no_stop ∙ first.no_stop }
   plain_run s t (StopSync ∷ steps) r only none = absurd only
 
 -- ---- from the beginning of the stream on
 
 module _ {V W : Type 0} {old : Standing W} (before : V) {stream : List ℕ} (all : HasParsedAll old stream) where
   abbrev here : State V W
-  here = record { parsed = stream; held = []; timeout = all.timeout; handler = before }
+  here = record { parsed = stream; stops = []; held = []; timeout = all.timeout; handler = before }
 
   is_here : IsAt old before here
   is_here = record { stands = all.stands; handler_is = refl }
@@ -49,47 +44,39 @@ module _ {V W : Type 0} {old : Standing W} (before : V) {stream : List ℕ} (all
   module _ (m : Meaning V W) (never : IsNeverPending m.timeout.allows) {new : Standing W} {next : V}
       (steps : List Step) (only : AreAdvances steps)
       (told : IsTold m here steps next (IsAt new next)) where
-    plain : IsPlain told.replayed.next (stops_of m here told.replayed.next steps told.replayed.takes)
+    plain : IsPlain here told.replayed.next
     plain = plain_run m never here told.replayed.next steps told.replayed.takes only refl
 
     more_is : told.more ≡ given_bytes steps
     more_is = sym (told.each_once ∙ ap (λ held. told.more ++ held) plain.none_held ∙ append-nil told.more)
 
+    parsed_all : told.replayed.next.parsed ≡ stream ++ given_bytes steps
+    parsed_all = told.parsed_is ∙ ap (λ more. stream ++ more) more_is
+
     plain_follows : (start : V) → before ≡ after m.step start (calls (events m.limit stream))
         → next ≡ after m.step start (calls (events m.limit (stream ++ given_bytes steps)))
     plain_follows start was =
         told.is_told
-        ∙ ap (λ stops. after m.step before (calls_with_stops m.limit stream told.more stops)) plain.no_stop
-        ∙ rw (more_is, was)
+        ∙ rw (← told.stops_are, plain.no_stop, parsed_all, between-whole m.limit stream (given_bytes steps), was)
         (sym
         (after-append m.step start (calls (events m.limit stream)) (calls_added m.limit stream (given_bytes steps))))
         ∙ ap (after m.step start) (sym (calls_whole m.limit stream (given_bytes steps)))
 
     plain_parses : HasParsedAll new (stream ++ given_bytes steps)
-    plain_parses =
-        let parsed : told.replayed.next.parsed ≡ stream ++ given_bytes steps =
-        told.parsed_is ∙ ap (λ more. stream ++ more) more_is in
-        record {
-          timeout = told.replayed.next.timeout;
-          stands = rw (parsed, plain.none_held) at told.replayed.is_at.stands;
-        }
-
-    -- of a new stream
-    plain_tells : stream ≡ [] → next ≡ after m.step before (calls (events m.limit (given_bytes steps)))
-    plain_tells new =
-        rw new at (plain_follows before
-        (rw new (sym (ap (λ es. after m.step before (calls es)) (events-empty m.limit)))))
+    plain_parses = record {
+      timeout = told.replayed.next.timeout;
+      stands = rw (parsed_all, plain.none_held) at told.replayed.is_at.stands;
+    }
 
 -- ---- what calls ensure then
 
 module _ {V W : Type 0} (m : Meaning V W) {old new : Standing W} {before value : V} where
   plain_calls : (steps : List Step)
-      → ((s : State V W) → IsAt old before s → IsTold m s steps value (IsAt new value)) → AreAdvances steps
-      → ParsesAll m old new before value (given_bytes steps)
-  plain_calls steps told only = record {
-    follows = λ never start stream all. plain_follows before all m never steps only (told _ (is_here before all)) start;
-    tells_all = λ never all. plain_tells before all m never steps only (told _ (is_here before all)) refl;
-    parses_all = λ never stream all. plain_parses before all m never steps only (told _ (is_here before all));
+      → ((s : State V W) → IsAt old before s → IsTold m s steps value (IsAt new value))
+      → IsNeverPending m.timeout.allows → AreAdvances steps → ParsesAll m old new before value (given_bytes steps)
+  plain_calls steps told never only = record {
+    follows = λ start stream all. plain_follows before all m never steps only (told _ (is_here before all)) start;
+    parses_all = λ stream all. plain_parses before all m never steps only (told _ (is_here before all));
   }
 
   pub replays_all : (steps : List Step)
@@ -103,6 +90,7 @@ module _ {V W : Type 0} (m : Meaning V W) {old new : Standing W} {before value :
   -- a call is a run of one step
   pub plain_call : (bytes : Bor (List ℕ))
       → ((s : State V W) → IsAt old before s → Advanced m s bytes.now (IsAt new value))
-      → ParsesAll m old new before value bytes.now
-  plain_call bytes advances =
-      rw append-nil at ((replays_all (Advance bytes ∷ []) (λ s at. advance_runs m s bytes (advances s at))).plain tt)
+      → IsNeverPending m.timeout.allows → ParsesAll m old new before value bytes.now
+  plain_call bytes advances never =
+      let r = replays_all (Advance bytes ∷ []) (λ s at. advance_runs m s bytes (advances s at)) in
+      rw append-nil at (r.plain never tt)

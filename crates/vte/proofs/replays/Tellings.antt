@@ -1,105 +1,123 @@
 -- What a handler receives in a run, from a state on: first by what is done there, then by the rest of the run. By
 -- induction over the run; the calls before a stop are those of the bytes up to it, and places of later stops only
 -- grow.
-use Rattle.vte.proofs.Common.{◌≡◌, ◌≤◌, ℕ, ◌+◌, ◌-◌, inl, inr, Bool, Option, List, [], ◌∷◌, ◌++◌, length, take, sym, ◌∙◌, arith}
-use Rattle.vte.proofs.Common.{append_assoc, length-append, cases_Bool, append-nil, append_cancel_left, drop-append-add, take-append-add, after, Step, Advance, StopSync, calls_added, Meaning}
-use Rattle.vte.proofs.Common.{TakesSteps, Replayed, given_bytes, kept_of, IsTold, calls_with_stops, place_of_stop, stops_in_hold, stops_of}
-use Rattle.vte.proofs.Common.{stops_of_advance, stops_of_turn, State, TakesAllTurns, begin_front, extend, is_held, is_stopped, keep, open_turn, stop, turn, done, turns}
-use Rattle.vte.proofs.performing.CallLists.{after-append, calls_added-append, calls_added-nothing}
+use Rattle.vte.proofs.Common.{◌≡◌, ◌≤◌, ℕ, ◌+◌, ◌-◌, inl, inr, Bool, Option, List, [], ◌∷◌, ◌++◌, length, take, refl, ap, sym, ◌∙◌, arith}
+use Rattle.vte.proofs.Common.{append_assoc, length-append, cases_Bool, append-nil, append_cancel_left, drop_all, take-append-add, take-append_seam, take_all, after, Step, Advance, StopSync, calls_added, Meaning}
+use Rattle.vte.proofs.Common.{TakesSteps, Replayed, added_calls, given_bytes, kept_of, AreInOrder, IsTold, calls, calls_between, calls_with_stops, events}
+use Rattle.vte.proofs.Common.{State, TakesAllTurns, begin_front, extend, is_held, is_stopped, keep, open_turn, stop, turn, done, turns}
+use Rattle.vte.proofs.performing.CallLists.{after-append, calls_added-append}
+
+-- ---- the calls between two places
+
+between_none : (limit : Option ℕ) (stream : List ℕ) (place : ℕ) → calls_between limit stream place place ≡ []
+between_none limit stream place =
+    let seen = calls (events limit (take place stream)) in drop_all (length seen) seen (omega arith)
+
+between-append : (limit : Option ℕ) (p f rest : List ℕ) (place : ℕ) → length (p ++ f) ≤ place
+    → calls_between limit ((p ++ f) ++ rest) (length p) place
+    ≡ calls_added limit p f ++ calls_between limit ((p ++ f) ++ rest) (length (p ++ f)) place
+between-append limit p f rest place from =
+    let k = place - length (p ++ f) in
+    let is : place ≡ length (p ++ f) + k = omega (arith, from) in
+    let first : take (length p) ((p ++ f) ++ rest) ≡ p =
+    ap (take (length p)) (append_assoc p f rest) ∙ take-append_seam p (f ++ rest) in
+    let more = take k rest in
+    rw (is, first, take-append-add (p ++ f) rest k, take-append_seam (p ++ f) rest)
+    (ap (λ all. added_calls (events limit p) (events limit all)) (append_assoc p f more)
+    ∙ calls_added-append limit p f more)
+
+pub between-whole : (limit : Option ℕ) (p f : List ℕ)
+    → calls_between limit (p ++ f) (length p) (length (p ++ f)) ≡ calls_added limit p f
+between-whole limit p f = rw (take-append_seam p f, take_all (length (p ++ f)) (p ++ f) (omega arith)) refl
 
 -- ---- bytes before the first stop
 
--- no stop is before this place
-abbrev pub AreFrom : ℕ → List ℕ → Type 0
-AreFrom first [] = Unit {0}
-AreFrom first (place ∷ places) = first ≤ place
+order_sooner : (p f places : List ℕ) (to : ℕ) → AreInOrder (length (p ++ f)) places to
+    → AreInOrder (length p) places to
+order_sooner p f [] to order = omega (arith, order, length-append p f)
+order_sooner p f (place ∷ places) to (from, order) = (omega (arith, from, length-append p f), order)
 
-from_sooner : (p f stops : List ℕ) → AreFrom (length (p ++ f)) stops → AreFrom (length p) stops
-from_sooner p f [] from = tt
-from_sooner p f (place ∷ places) from = omega (arith, from, length-append p f)
-
-stops-later : (limit : Option ℕ) (p f more stops : List ℕ) → AreFrom (length (p ++ f)) stops
-    → calls_with_stops limit p (f ++ more) stops ≡ calls_added limit p f ++ calls_with_stops limit (p ++ f) more stops
-stops-later limit p f more [] from = calls_added-append limit p f more
-stops-later limit p f more (place ∷ places) from =
-    let k = place - length (p ++ f) in
-    let count : place - length p ≡ length f + k = omega (arith, from, length-append p f) in
-    rw (
-      count,
-      take-append-add f more k,
-      drop-append-add f more k,
-      calls_added-append limit p f
-          (take k more),
-      ← append_assoc p f (take k more),
-    )
-    (append_assoc (calls_added limit p f) (calls_added limit (p ++ f) (take k more)) _)
+stops-later : (limit : Option ℕ) (p f rest places : List ℕ) (all : List ℕ) → all ≡ (p ++ f) ++ rest
+    → AreInOrder (length (p ++ f)) places (length all)
+    → calls_with_stops limit all (length p) places
+    ≡ calls_added limit p f ++ calls_with_stops limit all (length (p ++ f)) places
+stops-later limit p f rest [] all is from = rw is (between-append limit p f rest _ (rw is at from))
+stops-later limit p f rest (place ∷ places) all is (from, order) =
+    rw (is, between-append limit p f rest place from) (append_assoc (calls_added limit p f) _ _)
 
 -- ---- from a state to the end of a run
 
 module _ {V W : Type 0} (m : Meaning V W) (u : State V W) where
-  -- what the handler is still told, with these stops, if bytes were parsed and its value is this
-  record Tells (parsed : List ℕ) (value : V) (stops : List ℕ) : Type 0 where
+  -- what the handler is still told if bytes were parsed, with these stops, and its value is this
+  record Tells (parsed stops : List ℕ) (value : V) : Type 0 where
     pub more : List ℕ
     pub parsed_is : u.parsed ≡ parsed ++ more
-    pub from : AreFrom (length parsed) stops
-    pub told : u.handler ≡ after m.step value (calls_with_stops m.limit parsed more stops)
+    pub places : List ℕ
+    pub stops_are : u.stops ≡ stops ++ places
+    pub in_order : AreInOrder (length parsed) places (length u.parsed)
+    pub told : u.handler ≡ after m.step value (calls_with_stops m.limit u.parsed (length parsed) places)
 
-  abbrev TellsAt : State V W → List ℕ → Type 0
-  TellsAt t = Tells t.parsed t.handler
+  abbrev TellsAt : State V W → Type 0
+  TellsAt t = Tells t.parsed t.stops t.handler
 
-  tells-nothing : TellsAt u []
-  tells-nothing = record { more = []; parsed_is = sym (append-nil u.parsed); from = tt; told = rw calls_added-nothing }
-
-  tells-parse : (p f : List ℕ) (value : V) (stops : List ℕ)
-      → Tells (p ++ f) (after m.step value (calls_added m.limit p f)) stops → Tells p value stops
-  tells-parse p f value stops e = record {
-    more = f ++ e.more;
-    parsed_is = e.parsed_is ∙ append_assoc p f e.more;
-    from = from_sooner p f stops e.from;
-    told = rw (stops-later m.limit p f e.more stops e.from, after-append) e.told;
+  tells-nothing : TellsAt u
+  tells-nothing = record {
+    more = [];
+    parsed_is = sym (append-nil u.parsed);
+    places = [];
+    stops_are = sym (append-nil u.stops);
+    in_order = omega arith;
+    told = rw between_none refl;
   }
 
-  tells-stop : (t : State V W) (stops : List ℕ) → TellsAt (stop m t) stops → TellsAt t (place_of_stop t ∷ stops)
-  tells-stop t stops e =
-      let all = t.parsed ++ t.held in
-      let none : length all - length all ≡ 0 = omega arith in
-      tells-parse t.parsed t.held t.handler (length all ∷ stops) (record {
+  tells-parse : (p f stops : List ℕ) (value : V)
+      → Tells (p ++ f) stops (after m.step value (calls_added m.limit p f)) → Tells p stops value
+  tells-parse p f stops value e = record {
+    more = f ++ e.more;
+    parsed_is = e.parsed_is ∙ append_assoc p f e.more;
+    places = e.places;
+    stops_are = e.stops_are;
+    in_order = order_sooner p f e.places _ e.in_order;
+    told = rw (stops-later m.limit p f e.more e.places u.parsed e.parsed_is e.in_order, after-append) e.told;
+  }
+
+  tells-stop : (t : State V W) → TellsAt (stop m t) → TellsAt t
+  tells-stop t e =
+      let place = length (t.parsed ++ t.held) in
+      tells-parse t.parsed t.held t.stops t.handler (record {
         more = e.more;
         parsed_is = e.parsed_is;
-        from = omega arith;
-        told = rw (none, calls_added-nothing m.limit all, append-nil all) e.told;
+        places = place ∷ e.places;
+        stops_are = e.stops_are ∙ append_assoc t.stops (place ∷ []) e.places;
+        in_order = (omega arith, e.in_order);
+        told = rw between_none e.told;
       })
 
-  tells-open : (t : State V W) (r stops : List ℕ) → TellsAt (open_turn m t r).state stops → TellsAt t stops
-  tells-open t r = tells-parse t.parsed (begin_front m.limit t.parsed r) t.handler
+  tells-open : (t : State V W) (r : List ℕ) → TellsAt (open_turn m t r).state → TellsAt t
+  tells-open t r = tells-parse t.parsed (begin_front m.limit t.parsed r) t.stops t.handler
 
-  tells-keep : (t : State V W) (r kept stops : List ℕ) → TellsAt (keep m (extend m t r) kept) stops
-      → TellsAt t (stops_in_hold t r kept ++ stops)
-  tells-keep t r [] stops e = rw append_assoc (tells-stop (extend m t r) stops e)
-  tells-keep t r (b ∷ kept) stops e = tells-parse t.parsed _ t.handler stops e
+  tells-keep : (t : State V W) (kept : List ℕ) → TellsAt (keep m t kept) → TellsAt t
+  tells-keep t [] = tells-stop t
+  tells-keep t (b ∷ kept) = tells-parse t.parsed _ t.stops t.handler
 
-  tells-turn : (answer : Bool) (t : State V W) (r stops : List ℕ) → TellsAt (turn m answer t r).state stops
-      → TellsAt t (stops_of_turn answer t r ++ stops)
-  tells-turn answer t r stops = elim (cases_Bool (is_held answer t r)) [
-    | inl held ↦ rw held (λ e. tells-keep t r (kept_of (t.held ++ r)) stops e)
+  tells-turn : (answer : Bool) (t : State V W) (r : List ℕ) → TellsAt (turn m answer t r).state → TellsAt t
+  tells-turn answer t r = elim (cases_Bool (is_held answer t r)) [
+    | inl held ↦ rw held (tells-keep (extend m t r) (kept_of (t.held ++ r)))
     | inr parses ↦ rw parses (elim (cases_Bool (is_stopped answer t)) [
-      | inl stopped ↦ rw stopped (λ e. tells-stop t stops (tells-open (stop m t) r stops e))
-      | inr none ↦ rw none (λ e. tells-open t r stops e)
+      | inl stopped ↦ rw stopped (λ e. tells-stop t (tells-open (stop m t) r e))
+      | inr none ↦ rw none (tells-open t r)
     ])
   ]
 
-  tells-advances : (t v : State V W) (r stops : List ℕ) (a : TakesAllTurns m t r v) → TellsAt v stops
-      → TellsAt t (stops_of_advance m t v r a ++ stops)
-  tells-advances t v [] stops done e = e
-  tells-advances t v (b ∷ r) stops (turns answer allowed more) e =
-      rw append_assoc
-      (tells-turn answer t (b ∷ r) (stops_of_advance m _ v _ more ++ stops) (tells-advances _ v _ stops more e))
+  tells-advances : (t v : State V W) (r : List ℕ) → TakesAllTurns m t r v → TellsAt v → TellsAt t
+  tells-advances t v [] done e = e
+  tells-advances t v (b ∷ r) (turns answer allowed more) e =
+      tells-turn answer t (b ∷ r) (tells-advances _ v _ more e)
 
-  tells-run : (t : State V W) (steps : List Step) (r : TakesSteps m t steps u) → TellsAt t (stops_of m t u steps r)
+  tells-run : (t : State V W) (steps : List Step) → TakesSteps m t steps u → TellsAt t
   tells-run t [] same = rw same tells-nothing
-  tells-run t (Advance bytes ∷ steps) (next, (a, r)) =
-      tells-advances t next bytes.now (stops_of m next u steps r) a (tells-run next steps r)
-  tells-run t (StopSync ∷ steps) r = tells-stop t (stops_of m (stop m t) u steps r) (tells-run (stop m t) steps r)
+  tells-run t (Advance bytes ∷ steps) (next, (a, r)) = tells-advances t next bytes.now a (tells-run next steps r)
+  tells-run t (StopSync ∷ steps) r = tells-stop t (tells-run (stop m t) steps r)
 
 pub told_run : {V W : Type 0} (m : Meaning V W) (s : State V W) (value : V) {there : State V W → Type 0}
     → ((t : State V W) → there t → value ≡ t.handler)
@@ -117,5 +135,8 @@ told_run m s value is steps r =
             ← append_assoc s.parsed e.more r.next.held,
             ← e.parsed_is,
           ) (sym r.each_once));
+      places = e.places;
+      stops_are = e.stops_are;
+      in_order = e.in_order;
       is_told = is r.next r.is_at ∙ e.told;
     }

@@ -1,6 +1,6 @@
 -- A processor stands where its turns do: with a limit there is always memory. So what the turns ensure is true of it.
 use Rattle.vte.proofs.Common.{◌<◌, ◌≤◌, ℕ, List, None, Some, length, Bool, Result, Ok, Err, arith, Bor, Refused, LongParser, TurnsMeaning, Meaning, State}
-use Rattle.vte.proofs.Common.{Advanced, HasParsedAndHolds, HasParsedAndHoldsLong, HasTaken, HaveTaken, IsAt, ReadsInTurns, ReadsSome, Reserves, ReservesRoom, Standing, StopsSync, StopsSyncLong}
+use Rattle.vte.proofs.Common.{Advanced, HasParsedAndHolds, HasParsedAndHoldsLong, HasTaken, HaveTaken, IsAt, ReadsInTurns, ReadsSome, Reserves, ReservesRoom, Standing, StopsSyncLong}
 use Rattle.vte.proofs.Common.{StopsUpdate, ◌≡◌, refl, stop, long_meaning, short_meaning, of_turns}
 use Rattle.vte_core.specs.declared.parser.Parser.{Parser}
 use Rattle.vte.proofs.replays.PlainReplays.{plain_call}
@@ -64,14 +64,6 @@ at_same same s at = record { stands = same s.parsed s.held s.timeout at.stands; 
 module _ {V W : Type 0} {m : Meaning V W} {old turns_old turns_new new : Standing W} {before value : V}
     (from : (parsed held : List ℕ) (timeout : W) → old parsed held timeout → turns_old parsed held timeout)
     (to : (parsed held : List ℕ) (timeout : W) → turns_new parsed held timeout → new parsed held timeout) where
-  pub stops_so : StopsSync m turns_old turns_new before value → StopsSync m old new before value
-  stops_so r =
-      record {
-        stops = λ s at. at_same to (stop m s) (r.stops s (at_same from s at));
-        each_once = r.each_once;
-        holds_well = r.holds_well;
-      }
-
   module _ (bytes : Bor (List ℕ)) {read : ℕ}
       (takes : (s : State V W) → IsAt turns_old before s → HasTaken m s bytes.now read (IsAt turns_new value)) where
     pub takes_so : (s : State V W) → IsAt old before s → HasTaken m s bytes.now read (IsAt new value)
@@ -111,7 +103,7 @@ module _ {T A V W : Type 0} {timeout_of : T → W} {m : Meaning V W} {old new : 
   pub stops_sync_long : StopsUpdate (unlimited timeout_of) m old.turns new.turns before value
       → StopsSyncLong timeout_of m old new before value
   stops_sync_long r = record {
-    stops = stops_so turns_stand_long stands_long r.stops;
+    stops = λ s at. at_same stands_long (stop m s) (r.stops s (at_same turns_stand_long s at));
     memory = λ s at. r.memory s (at_same turns_stand_long s at);
   }
 

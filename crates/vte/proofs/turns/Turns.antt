@@ -5,8 +5,7 @@ use Rattle.vte.proofs.Common.{append_assoc, Result, Ok, Err, append_cancel_right
 use Rattle.vte.proofs.Common.{held_of, false, MatchResult, EndsTurn, within}
 use Rattle.vte.proofs.Common.{Advanced, AreAt, HasTaken, TurnsMeaning, KeepsTurnRoom, ReadsSome, StopsUpdate, AreNextAt, EndsOpen, Halted, IsAtBegin, IsOpenAt, IsParsed, IsParsedOn}
 use Rattle.vte.proofs.Common.{IsParsedWithRoom, Turned, State, TakesSome, TakesTurns, all_bytes, turn, hold_turn, parse, stop, between, done, LacksSome, ReservesRoom, is_held, stop_if_due}
-use Rattle.vte.proofs.replays.EachOnce.{grown_bytes, stop_bytes}
-use Rattle.vte.proofs.turns.HoldFacts.{stop_well}
+use Rattle.vte.proofs.replays.EachOnce.{grown_bytes}
 use Rattle.vte.proofs.turns.Slices.{all_taken, halts, one_taken, some_grow, some_on, some_well, taken_on}
 
 -- turns stand where their parts do
@@ -77,14 +76,14 @@ pub stops_update : {P J T A V W : Type 0} {w : TurnsMeaning P J T W} {m : Meanin
     → ((s : State V W) → AreAt w old before s → AreNextAt w mid new value (stop m s))
     → StopsUpdate w m old new before value
 stops_update {m = m} keeps ends = record {
-  stops = record { stops = λ s at. (ends s at).are_at; each_once = stop_bytes m; holds_well = stop_well m };
+  stops = λ s at. (ends s at).are_at;
   memory = λ s at stream count had. (ends s at).memory stream count (keeps stream count had);
 }
 
 pub stops-next : {P J T A V W : Type 0} {w : TurnsMeaning P J T W} {m : Meaning V W} {old new : Turns P J T A}
     {before value : V} {s : State V W} → StopsUpdate w m old new before value
     → AreAt w old before s → AreNextAt w old new value (stop m s)
-stops-next stopped at = record { are_at = stopped.stops.stops _ at; memory = stopped.memory _ at }
+stops-next stopped at = record { are_at = stopped.stops _ at; memory = stopped.memory _ at }
 
 -- a turn that parses bytes, after a stop if need be
 pub ends_turn : {P J T A V W : Type 0} {w : TurnsMeaning P J T W} {m : Meaning V W} {old mid new : Turns P J T A}

@@ -1,8 +1,8 @@
 //! Laws of lists of a processor's calls, and the laws of the types.
-ghost use Rattle.std.specs.Prelude.{ℕ, List, None};
+ghost use Rattle.std.specs.Prelude.{◌≡◌, ℕ, List, None, Option};
 ghost use Rattle.vte.specs.CallExamples.{AreMade, AreRead, color_examples, command_examples, counted_examples, escape_examples, executed_examples};
 ghost use Rattle.vte.specs.CallExamples.{link_examples, mode_examples, palette_examples, position_examples, rendition_examples, selected_examples, title_examples};
-ghost use Rattle.vte.specs.Processor.{HoldsWellAt, State, TakesAllTurns, TakesTurns, meaning, timeout_meaning};
+ghost use Rattle.vte.specs.Processor.{HoldsWellAt, State, TakesAllTurns, TakesTurns, all_bytes, meaning, stop, timeout_meaning};
 ghost use Rattle.vte.specs.Refusal.{TakesSome};
 ghost use Rattle.vte.specs.UpdateExamples.{AreLed, expired_example, update_examples};
 ghost use Rattle.vte_handler.specs.Timeout.{IsKept};
@@ -33,6 +33,15 @@ pub fn worked_examples()
     ensures color { AreRead color_examples }
     ensures update { AreLed update_examples }
     ensures expired { expired_example }
+{}
+
+/// A stop loses no byte, and the facts about the hold are true after it.
+#[tactic(auto, using(crate::proofs::turns::HoldFacts::stop_well))]
+pub fn stops_lose_nothing<H: Handler, T: Timeout>()
+    ensures each_once { (limit : Option ℕ) (s : State H.Value T.Value)
+        → all_bytes (stop (meaning limit H.step T.set T.clear T.allows) s) ≡ all_bytes s }
+    ensures holds_well { (limit : Option ℕ) (s : State H.Value T.Value)
+        → let m = meaning limit H.step T.set T.clear T.allows in HoldsWellAt m (stop m s) }
 {}
 
 /// Where the rest of a refused call of a [`LongProcessor`](crate::ansi::LongProcessor) leads to,

@@ -17,7 +17,7 @@ loop-index-preserved g c = λ s at.
           (w.in_default.ensures.all.advances r.next r.is_at))
       | in-StopSync w ↦ rw (w.processor-is, w.handler-is)
           (stop_taken _ s c.args.steps.now _ _ c.loop-index-test.true r w.in-StopSync.is
-          (w.stop_sync.ensures.stops.stops r.next r.is_at))
+          (w.stop_sync.ensures.stops r.next r.is_at))
     ]
 
 pub returns-in-Err-clause-refuses : goal.returns-in-Err-clause-refuses

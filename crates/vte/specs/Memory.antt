@@ -54,7 +54,7 @@ of_turns limit reading room_of timeout_of =
 abbrev pub unlimited : {T A W : Type 0} → (T → W) → TurnsMeaning (LongParser A) (GrowingText A) T W
 unlimited timeout_of = of_turns None long_meaning (λ text. text.size) timeout_of
 
--- After a stream turns have memory for `count` more bytes.
+-- After a stream turns have memory for `count` more bytes, or lack it.
 abbrev pub HasMemory : {P J T A W : Type 0} → TurnsMeaning P J T W → Turns P J T A
     → (stream : List ℕ) → (count : ℕ) → Type 0
 HasMemory w turns = w.reading.has_room turns.parser (w.room_of turns.state.text)
@@ -67,7 +67,7 @@ LacksMemoryFor w turns = w.reading.lacks_room turns.parser (w.room_of turns.stat
 abbrev pub KeepsMemory : (had has : List ℕ → ℕ → Type 0) → Type 0
 KeepsMemory had has = (stream : List ℕ) (count : ℕ) → had stream count → has stream count
 
--- It has no memory for data of a command, or to join a text.
+-- The processor has no memory for data of a command, or to join a text.
 abbrev pub HasNoMemory : {T A : Type 0} → LongProcessor T A → Type 0
 HasNoMemory processor =
     (memory_of processor.turns.parser ≡ 0) × (string_capacity processor.turns.state.text.text ≡ 0)

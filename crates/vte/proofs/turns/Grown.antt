@@ -2,7 +2,7 @@
 -- given bytes at the start leaves room for what is left, turn by turn.
 use Rattle.vte.proofs.Common.{◌≡◌, ℕ, ◌+◌, ◌-◌, ◌<◌, inl, inr, List, ◌++◌, length, Result, Ok, Err, refl, ap, arith, length-append, Refused, LongParser, counts_data}
 use Rattle.vte.proofs.Common.{AdvancesLong, Bor, Turns, Meaning, AreAt, HasTaken, LacksSome, ReadsSome, HasRoom, State, drop, length-drop, unlimited}
-use Rattle.vte.proofs.turns.Standings.{all_read_so}
+use Rattle.vte.proofs.turns.Standings.{reads_in_turns}
 use Rattle.vte.specs.declared.ansi.growing_text.GrowingText.{GrowingText}
 use Rattle.vte.specs.declared.ansi.long_processor.LongProcessor.{LongProcessor}
 use Rattle.vte.proofs.turns.Slices.{some_grow}
@@ -43,7 +43,7 @@ pub advances_long : {T A V W : Type 0} {timeout_of : T → W} {m : Meaning V W} 
     → ReadsSome (unlimited timeout_of) m old.turns new.turns before value bytes.now result
     → AdvancesLong timeout_of m old new before value bytes.now result
 advances_long bytes (Ok all) r =
-    record { reads = r; all = all_read_so bytes r.takes refl; enough = λ s at room. refl }
+    record { reads = r; all = reads_in_turns bytes r.takes refl; enough = λ s at room. refl }
 advances_long bytes (Err refused) r = record {
   reads = r;
   all = tt;

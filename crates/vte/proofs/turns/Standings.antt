@@ -43,16 +43,16 @@ module _ {V W : Type 0} {m : Meaning V W} {old new : Standing W} {before value :
   advances_so : (s : State V W) → IsAt old before s → Advanced m s bytes.now (IsAt new value)
   advances_so s at = has_advanced m s bytes.now (takes s at) (omega (arith, all))
 
-  pub all_read_so : ReadsInTurns m old new before value bytes.now
-  all_read_so = record { advances = advances_so; plain = plain_call m bytes advances_so }
+  pub reads_in_turns : ReadsInTurns m old new before value bytes.now
+  reads_in_turns = record { advances = advances_so; plain = plain_call m bytes advances_so }
 
 pub never_refused : {T A V W : Type 0} {timeout_of : T → W} {m : Meaning V W} {old new : Processor T A}
     {before value : V} (bytes : Bor (List ℕ)) (result : Result (Unit {0}) Refused)
     → ReadsSome (limited timeout_of) m old.turns new.turns before value bytes.now result
     → ReadsInTurns m (HasParsedAndHolds timeout_of old) (HasParsedAndHolds timeout_of new) before value bytes.now
-never_refused bytes (Ok all) r = all_read_so bytes (λ s at. taken-to is_at (r.takes s (turns_at s at))) refl
+never_refused bytes (Ok all) r = reads_in_turns bytes (λ s at. taken-to is_at (r.takes s (turns_at s at))) refl
 never_refused bytes (Err refused) r =
-    all_read_so bytes {read = length bytes.now} (λ s at. absurd (
+    reads_in_turns bytes {read = length bytes.now} (λ s at. absurd (
     let t = r.takes s (turns_at s at) in
     let lacking : TEXT_ROOM < TEXT_ROOM =
     (r.lacks t.next.parsed t.is_at.stands.has_parsed.has_read).is_lacking in

@@ -44,13 +44,13 @@ unfoldable pub use Rattle.vte.specs.CommandCalls.{all_reset}
 pub use Rattle.vte.specs.machine.Hold.{Adds, IsAdded, IsEnd, released_of}
 pub use Rattle.vte.specs.ProcessorCalls.{Advanced, HasParsedAll, HasParsedAndHolds, IsAt, IsTold, ReadsInTurns, Replayed, Replays, Standing, held_of}
 pub use Rattle.vte.specs.machine.Performing.{PerformsAll, PerformsUntilStop, performer_value, with_private_mode, with_private_modes}
-pub use Rattle.vte.specs.LongProcessor.{AdvancesLong, HasParsedAndHoldsLong, Reserves, StopsSyncLong}
-pub use Rattle.vte.specs.Memory.{HasRoom, LacksMemoryOnTheWay}
+pub use Rattle.vte.specs.LongProcessor.{AdvancesLong, HasParsedAndHoldsLong, ReadsSome, ReservesRoom, StopsUpdate, TurnsStandAt}
+pub use Rattle.vte.specs.Memory.{HasMemory, HasRoom, KeepsMemory, LacksMemoryOnTheWay, LacksSome, ParserMeaning, TurnsMeaning, long_meaning, of_turns, unlimited}
 pub use Rattle.vte.specs.Numbers.{first_number, first_numbers}
 pub use Rattle.vte.specs.Parts.{first_after, parts_left, parts_of}
 pub use Rattle.vte.specs.machine.Performer.{FitsText, PerformerValue, with_event}
-pub use Rattle.vte.specs.machine.Turns.{AreNextAt, EndsOpen, EndsTurn, Halted, IsAtBegin, IsOpenAt, IsParsed, IsParsedOn, IsParsedWithRoom, Opened, Turned}
-pub use Rattle.vte.specs.machine.TurnsMeaning.{AreAt, HaveTaken, KeepsRoom, KeepsTurnRoom, LacksSome, ParserMeaning, ReadsSome, ReservesRoom, StopsUpdate, TurnsMeaning, long_meaning, short_meaning, of_turns}
+pub use Rattle.vte.specs.machine.Turns.{AreAt, AreNextAt, EndsOpen, EndsTurn, Halted, IsAtBegin, IsOpenAt, IsParsed, IsParsedOn, IsParsedWithRoom, Opened, Turned}
+pub use Rattle.vte.specs.machine.ShortMeaning.{short_meaning}
 pub use Rattle.vte.specs.Rendition.{attribute_calls, attributes_from}
 pub use Rattle.vte.specs.Synchronized.{begin_update, begins_among, begins_with, after_last_end, end_update, from_begin, kept_of, last_part}
 pub use Rattle.vte.specs.TextRoom.{FitsRoom, fits_room, joined_size}

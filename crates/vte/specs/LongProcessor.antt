@@ -1,15 +1,16 @@
 -- What calls of a processor without a limit ensure: the same as those of `Processor`, unless memory
--- is refused.
-use Rattle.std.specs.Prelude.{◌≡◌, ℕ, ◌+◌, ◌-◌, ◌<◌, Bool, true, false, None, List, length, IsOk, IfErr, IfOk, Result, Ok, Err}
-use Rattle.vte_core.specs.LongParser.{HasReadLong}
+-- is refused. It is said of turns, whose parts mean what `w` says (`Memory`).
+use Rattle.std.specs.Prelude.{◌≡◌, ℕ, ◌+◌, ◌-◌, ◌<◌, Bool, true, false, List, length, IsOk, IfErr, IfOk, Result, Ok, Err}
 use Rattle.vte_core.specs.Stream.{events}
 use Rattle.vte_core.specs.declared.parser.refused.Refused.{Refused}
 use Rattle.vte.specs.Calls.{last_printed}
-use Rattle.vte.specs.Memory.{HasMemory, KeepsMemory, LacksMemoryFor, LacksMemoryOnTheWay}
+use Rattle.vte.specs.Memory.{HasMemory, KeepsMemory, LacksMemoryFor, LacksSome, TurnsMeaning, unlimited}
 use Rattle.vte.specs.Processor.{Meaning, State}
-use Rattle.vte.specs.ProcessorCalls.{IsAt, ReadsInTurns, StopsSync, held_of}
+use Rattle.vte.specs.ProcessorCalls.{IsAt, ReadsInTurns, Standing, StopsSync, held_of}
 use Rattle.vte.specs.Refusal.{HasTaken}
 use Rattle.vte.specs.declared.ansi.long_processor.LongProcessor.{LongProcessor}
+use Rattle.vte.specs.declared.ansi.performer.ProcessorState.{ProcessorState}
+use Rattle.vte.specs.declared.ansi.turns.Turns.{Turns}
 
 abbrev pub held_long : {T A : Type 0} → LongProcessor T A → List ℕ
 held_long processor = held_of processor.turns.hold
@@ -17,14 +18,24 @@ held_long processor = held_of processor.turns.hold
 abbrev pub timeout_long : {T A : Type 0} → LongProcessor T A → T
 timeout_long processor = processor.turns.state.timeout
 
+-- The parser has read the parsed bytes, and the state has the last printed character and the
+-- timeout.
+pub record HasParsed {P J T W : Type 0} (w : TurnsMeaning P J T W) (parser : P)
+    (state : ProcessorState T J) (parsed : List ℕ) (timeout : W) : Type 0 where
+  pub has_read : w.reading.has_read parser parsed
+  pub last : state.preceding_char ≡ last_printed (events w.limit parsed)
+  pub timeout_is : w.timeout_of state.timeout ≡ timeout
+
+-- The turns have parsed bytes, and hold those that follow, with memory to parse them.
+pub record TurnsStandAt {P J T A W : Type 0} (w : TurnsMeaning P J T W) (turns : Turns P J T A)
+    (parsed held : List ℕ) (timeout : W) : Type 0 where
+  pub has_parsed : HasParsed w turns.parser turns.state parsed timeout
+  pub holds : held_of turns.hold ≡ held
+  pub has_memory : 0 < length held → HasMemory w turns parsed (length held)
+
 -- `HasParsedAndHolds`, with memory to parse the held bytes.
-pub record HasParsedAndHoldsLong {T A W : Type 0} (timeout_of : T → W)
-    (processor : LongProcessor T A) (parsed held : List ℕ) (timeout : W) : Type 0 where
-  pub has_read : HasReadLong processor.turns.parser parsed
-  pub last : processor.turns.state.preceding_char ≡ last_printed (events None parsed)
-  pub timeout_is : timeout_of (timeout_long processor) ≡ timeout
-  pub holds : held_long processor ≡ held
-  pub has_memory : 0 < length held → HasMemory processor parsed (length held)
+abbrev pub HasParsedAndHoldsLong : {T A W : Type 0} → (T → W) → LongProcessor T A → Standing W
+HasParsedAndHoldsLong timeout_of processor = TurnsStandAt (unlimited timeout_of) processor.turns
 
 -- `IsCopyOf`, with as much memory.
 pub record IsCopyOfLong {T A W : Type 0} (is_clone : T → T → Type 0) (timeout_of : T → W)
@@ -34,49 +45,60 @@ pub record IsCopyOfLong {T A W : Type 0} (is_clone : T → T → Type 0) (timeou
       → (parsed held : List ℕ) (timeout : W)
       → HasParsedAndHoldsLong timeout_of processor parsed held timeout
       → HasParsedAndHoldsLong timeout_of copy parsed held timeout
-  pub memory : KeepsMemory processor copy
+  pub memory : KeepsMemory (HasMemory (unlimited timeout_of) processor.turns)
+      (HasMemory (unlimited timeout_of) copy.turns)
 
--- `reserve`: memory for the held bytes and for this many more
-pub record Reserves {T A W : Type 0} (timeout_of : T → W) (old new : LongProcessor T A)
+-- `reserve`: memory for the held bytes and for `more`
+pub record ReservesRoom {P J T A W : Type 0} (w : TurnsMeaning P J T W) (old new : Turns P J T A)
     (more : ℕ) (result : Bool) : Type 0 where
-  pub same : (parsed held : List ℕ) (timeout : W)
-      → HasParsedAndHoldsLong timeout_of old parsed held timeout
-      → HasParsedAndHoldsLong timeout_of new parsed held timeout
+  pub same : (parsed held : List ℕ) (timeout : W) → TurnsStandAt w old parsed held timeout
+      → TurnsStandAt w new parsed held timeout
   pub room : result ≡ true → (parsed held : List ℕ) (timeout : W)
-      → HasParsedAndHoldsLong timeout_of new parsed held timeout
-      → HasMemory new parsed (length held + more)
-  pub memory : KeepsMemory old new
-  pub lacks : result ≡ false → (stream : List ℕ) → HasReadLong new.turns.parser stream
-      → LacksMemoryFor new stream (length (held_long new) + more)
+      → TurnsStandAt w new parsed held timeout → HasMemory w new parsed (length held + more)
+  pub memory : KeepsMemory (HasMemory w old) (HasMemory w new)
+  pub lacks : result ≡ false → (stream : List ℕ) → w.reading.has_read new.parser stream
+      → LacksMemoryFor w new stream (length (held_of new.hold) + more)
+
+abbrev pub Reserves : {T A W : Type 0} → (T → W) → (old new : LongProcessor T A) → (more : ℕ)
+    → (result : Bool) → Type 0
+Reserves timeout_of old new = ReservesRoom (unlimited timeout_of) old.turns new.turns
 
 -- `stop_sync` and `stop_sync_text`
-pub record StopsSyncLong {T A V W : Type 0} (timeout_of : T → W) (m : Meaning V W)
-    (old new : LongProcessor T A) (before value : V) : Type 0 where
-  pub stops : StopsSync m (HasParsedAndHoldsLong timeout_of old)
-      (HasParsedAndHoldsLong timeout_of new) before value
-  pub memory : (s : State V W) → IsAt (HasParsedAndHoldsLong timeout_of old) before s
-      → KeepsMemory old new
+pub record StopsUpdate {P J T A V W : Type 0} (w : TurnsMeaning P J T W) (m : Meaning V W)
+    (old new : Turns P J T A) (before value : V) : Type 0 where
+  pub stops : StopsSync m (TurnsStandAt w old) (TurnsStandAt w new) before value
+  pub memory : (s : State V W) → IsAt (TurnsStandAt w old) before s
+      → KeepsMemory (HasMemory w old) (HasMemory w new)
+
+abbrev pub StopsSyncLong : {T A V W : Type 0} → (T → W) → Meaning V W
+    → (old new : LongProcessor T A) → (before value : V) → Type 0
+StopsSyncLong timeout_of m old new = StopsUpdate (unlimited timeout_of) m old.turns new.turns
 
 -- How many bytes a call read.
 abbrev pub read_of : Result (Unit {0}) Refused → List ℕ → ℕ
 read_of (Ok _) bytes = length bytes
 read_of (Err refused) bytes = refused.read
 
+-- A call reads bytes: all, or those that the first turns of such a call read before memory is
+-- refused.
+pub record ReadsSome {P J T A V W : Type 0} (w : TurnsMeaning P J T W) (m : Meaning V W)
+    (old new : Turns P J T A) (before value : V) (bytes : List ℕ)
+    (result : Result (Unit {0}) Refused) : Type 0 where
+  pub takes : (s : State V W) → IsAt (TurnsStandAt w old) before s
+      → HasTaken m s bytes (read_of result bytes) (IsAt (TurnsStandAt w new) value)
+  pub within : IfErr result (λ refused. refused.read < length bytes)
+  pub lacks : IfErr result (λ refused. LacksSome w new (length bytes - refused.read))
+  pub memory : (s : State V W) → IsAt (TurnsStandAt w old) before s
+      → KeepsMemory (HasMemory w old) (HasMemory w new)
+
 -- `advance` and `advance_text`
 pub record AdvancesLong {T A V W : Type 0} (timeout_of : T → W) (m : Meaning V W)
     (old new : LongProcessor T A) (before value : V) (bytes : List ℕ)
     (result : Result (Unit {0}) Refused) : Type 0 where
-  -- All bytes are read, ..
+  pub reads : ReadsSome (unlimited timeout_of) m old.turns new.turns before value bytes result
   pub all : IfOk result (λ all. ReadsInTurns m (HasParsedAndHoldsLong timeout_of old)
       (HasParsedAndHoldsLong timeout_of new) before value bytes)
-  -- .. or those that the first turns of such a call read.
-  pub takes : (s : State V W) → IsAt (HasParsedAndHoldsLong timeout_of old) before s
-      → HasTaken m s bytes (read_of result bytes)
-      (IsAt (HasParsedAndHoldsLong timeout_of new) value)
-  pub within : IfErr result (λ refused. refused.read < length bytes)
-  pub lacks : IfErr result (λ refused. LacksMemoryOnTheWay new (length bytes - refused.read))
-  pub memory : (s : State V W) → IsAt (HasParsedAndHoldsLong timeout_of old) before s
-      → KeepsMemory old new
   -- If there was memory for all bytes, none is refused.
   pub enough : (s : State V W) → IsAt (HasParsedAndHoldsLong timeout_of old) before s
-      → HasMemory old s.parsed (length s.held + length bytes) → IsOk result
+      → HasMemory (unlimited timeout_of) old.turns s.parsed (length s.held + length bytes)
+      → IsOk result

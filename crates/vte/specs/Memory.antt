@@ -1,57 +1,92 @@
 -- Memory of a processor without a limit: for how many bytes it has taken some, and for which it is
--- refused some. Only for `LongProcessor`.
-use Rattle.std.specs.Prelude.{◌≡◌, ◌⊎◌, ℕ, ◌+◌, ◌<◌, ◌≤◌, ◌^◌, List, length, string_capacity}
+-- refused some. `Processor` takes the same turns with another parser, so what turns ensure is said
+-- of turns with any parser. Their parts mean what `w` says: of a `LongProcessor`, `unlimited`.
+use Rattle.std.specs.Prelude.{◌≡◌, ◌⊎◌, ℕ, ◌+◌, ◌<◌, ◌≤◌, ◌^◌, None, Option, List, length, string_capacity}
 use Rattle.vte_core.specs.LongParser.{HasReadLong, memory_of, open_size}
 use Rattle.vte_core.specs.declared.parser.long.LongParser.{LongParser}
 use Rattle.vte.specs.Processor.{most_held}
 use Rattle.vte.specs.ProcessorCalls.{held_of}
+use Rattle.vte.specs.declared.ansi.growing_text.GrowingText.{GrowingText}
 use Rattle.vte.specs.declared.ansi.long_processor.LongProcessor.{LongProcessor}
 use Rattle.vte.specs.declared.ansi.titles.TheConstants.{SEPARATORS}
 use Rattle.vte.specs.declared.ansi.turns.TheConstants.{SLICE}
+use Rattle.vte.specs.declared.ansi.turns.Turns.{Turns}
 
--- After a stream the parser has memory to keep so many more bytes with an open command, and a text
--- of this size holds what is joined from them.
+-- After a stream the parser has memory to keep `count` more bytes with an open command, and a text
+-- of `size` bytes holds what is joined from them.
 pub record HasRoom {A : Type 0} (parser : LongParser A) (size : ℕ) (stream : List ℕ)
     (count : ℕ) : Type 0 where
   pub kept : open_size stream + count ≤ memory_of parser
   pub joined : open_size stream + count + SEPARATORS ≤ size
   pub counted : open_size stream + count + SEPARATORS < 2 ^ 64
 
--- It doesn't keep so many, or the text is too small, or they are too many to be counted.
+-- It doesn't keep these bytes, or the text is too small, or they are too many to be counted.
 abbrev pub LacksRoom : {A : Type 0} → LongParser A → ℕ → List ℕ → ℕ → Type 0
 LacksRoom parser size stream count =
     (memory_of parser < open_size stream + count)
     ⊎ ((size < open_size stream + count + SEPARATORS)
     ⊎ (2 ^ 64 ≤ open_size stream + count + SEPARATORS))
 
--- The same of a processor.
-abbrev pub HasMemory : {T A : Type 0} → LongProcessor T A → List ℕ → ℕ → Type 0
-HasMemory processor = HasRoom processor.turns.parser processor.turns.state.text.size
+-- What a parser means: the streams that it has read, and for how many more bytes it has memory
+-- after each, with a text of `size` bytes, or lacks it.
+pub record ParserMeaning (P : Type 0) : Type 1 where
+  pub has_read : P → List ℕ → Type 0
+  pub has_room : P → (size : ℕ) → List ℕ → ℕ → Type 0
+  pub lacks_room : P → (size : ℕ) → List ℕ → ℕ → Type 0
 
-abbrev pub LacksMemoryFor : {T A : Type 0} → LongProcessor T A → List ℕ → ℕ → Type 0
-LacksMemoryFor processor = LacksRoom processor.turns.parser processor.turns.state.text.size
+abbrev pub long_meaning : {A : Type 0} → ParserMeaning (LongParser A)
+long_meaning = record { has_read = HasReadLong; has_room = HasRoom; lacks_room = LacksRoom }
+
+-- What the parts of turns mean: their parser, with its limit, their buffer for texts and their
+-- timeout.
+pub record TurnsMeaning (P J T W : Type 0) : Type 1 where
+  pub limit : Option ℕ
+  pub reading : ParserMeaning P
+  pub room_of : J → ℕ
+  pub timeout_of : T → W
+
+abbrev pub of_turns : {P J T W : Type 0} → Option ℕ → ParserMeaning P → (J → ℕ) → (T → W)
+    → TurnsMeaning P J T W
+of_turns limit reading room_of timeout_of =
+    record { limit = limit; reading = reading; room_of = room_of; timeout_of = timeout_of }
+
+-- What the parts of a processor without a limit mean.
+abbrev pub unlimited : {T A W : Type 0} → (T → W) → TurnsMeaning (LongParser A) (GrowingText A) T W
+unlimited timeout_of = of_turns None long_meaning (λ text. text.size) timeout_of
+
+-- After a stream turns have memory for `count` more bytes, or lack it.
+abbrev pub HasMemory : {P J T A W : Type 0} → TurnsMeaning P J T W → Turns P J T A
+    → (stream : List ℕ) → (count : ℕ) → Type 0
+HasMemory w turns = w.reading.has_room turns.parser (w.room_of turns.state.text)
+
+abbrev pub LacksMemoryFor : {P J T A W : Type 0} → TurnsMeaning P J T W → Turns P J T A
+    → (stream : List ℕ) → (count : ℕ) → Type 0
+LacksMemoryFor w turns = w.reading.lacks_room turns.parser (w.room_of turns.state.text)
 
 -- Memory that was there stays.
-abbrev pub KeepsMemory : {T A : Type 0} → LongProcessor T A → LongProcessor T A → Type 0
-KeepsMemory old new =
-    (stream : List ℕ) (count : ℕ) → HasMemory old stream count → HasMemory new stream count
+abbrev pub KeepsMemory : (had has : List ℕ → ℕ → Type 0) → Type 0
+KeepsMemory had has = (stream : List ℕ) (count : ℕ) → had stream count → has stream count
 
--- It has no memory for data of a command, or to join a text.
+-- The processor has no memory for data of a command, or to join a text.
 abbrev pub HasNoMemory : {T A : Type 0} → LongProcessor T A → Type 0
 HasNoMemory processor =
     (memory_of processor.turns.parser ≡ 0) × (string_capacity processor.turns.state.text.text ≡ 0)
 
--- Memory is lacking for the held bytes and for some of those that a call left: at most a slice of
--- them, or no more than are held with the others. All together they are at most so many.
+-- `count` bytes are held or left. Memory is lacking for the `held` ones and the first `more` of
+-- those left: at most a slice, unless all fit the hold.
 pub record LacksPart (lacks : ℕ → Type 0) (held count : ℕ) : Type 0 where
   pub more : ℕ
   pub within : held + more ≤ count
   pub few : (more ≤ SLICE) ⊎ (held + more ≤ most_held)
   pub is_lacking : lacks (held + more)
 
--- Of the held bytes and so many that a call left, the processor has no memory for a part.
-abbrev pub LacksMemoryOnTheWay : {T A : Type 0} → LongProcessor T A → ℕ → Type 0
-LacksMemoryOnTheWay processor left =
-    (stream : List ℕ) → HasReadLong processor.turns.parser stream
-    → LacksPart (LacksMemoryFor processor stream) (length (held_of processor.turns.hold))
-    (length (held_of processor.turns.hold) + left)
+-- Of the held bytes and `left` ones that a call left, turns have no memory for a part.
+abbrev pub LacksSome : {P J T A W : Type 0} → TurnsMeaning P J T W → Turns P J T A → (left : ℕ)
+    → Type 0
+LacksSome w turns left = (stream : List ℕ) → w.reading.has_read turns.parser stream
+    → LacksPart (LacksMemoryFor w turns stream) (length (held_of turns.hold))
+    (length (held_of turns.hold) + left)
+
+-- The same of a processor, whatever its timeout means.
+abbrev pub LacksMemoryOnTheWay : {T A : Type 0} → LongProcessor T A → (left : ℕ) → Type 0
+LacksMemoryOnTheWay processor = LacksSome (unlimited (λ timeout. timeout)) processor.turns

@@ -2,5 +2,5 @@
 pub mod Hold
 pub mod Performer
 pub mod Performing
+pub mod ShortMeaning
 pub mod Turns
-pub mod TurnsMeaning

@@ -3,7 +3,7 @@
 use Rattle.vte.proofs.Common.{◌≡◌, ℕ, ◌+◌, ◌<◌, inl, inr, Bool, false, ◌||◌, nat_lt, All, List, [], ◌∷◌, ◌++◌, length, take, refl, ap, sym, ◌∙◌, arith, or-false}
 use Rattle.vte.proofs.Common.{cases_lt, false≢true, nat_tests, All-head, All-tail, told, stream_at, StopsExactly, Event, added, events, starts-between, stream_at-between, told-between, events_grow}
 use Rattle.vte.proofs.Common.{after, ProcessorState, begin_count, begins_of, calls_of, calls_from, last_printed_after, last_printed, last_printed_from, performer_value, Meaning, set_times, FitsText, PerformerValue}
-use Rattle.vte.proofs.Common.{with_event, of_turns, IsParsed, IsParsedOn, KeepsRoom, State, parse, begin_front, ParserMeaning}
+use Rattle.vte.proofs.Common.{with_event, of_turns, IsParsed, IsParsedOn, KeepsMemory, State, parse, begin_front, ParserMeaning}
 use Rattle.vte_core.specs.Perform.{after as performed}
 use Rattle.vte.specs.declared.ansi.performer.Performer.{Performer}
 use Rattle.vte.proofs.performing.CallLists.{after-append, calls_added-events, last-append, set_times-add}
@@ -65,7 +65,7 @@ module _ {H T J G V W : Type 0} (handler_of : H → V) (timeout_of : T → W) (r
       → old.room ≡ room_of lent.text
       → reading.has_read next (s.parsed ++ f)
       → (old.handler_name ≡ new.handler.ghost_name → handler ≡ new.handler.now)
-      → ((size : ℕ) → KeepsRoom reading.has_room parser size next size)
+      → ((size : ℕ) → KeepsMemory (reading.has_room parser size) (reading.has_room next size))
       → IsParsedOn (of_turns m.limit reading room_of timeout_of) parser lent next state (handler_of handler)
       (parse m s f)
   given_back {lent = lent} at at_last at_timeout at_handler at_room read back_handler keeps =

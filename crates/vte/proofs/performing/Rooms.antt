@@ -2,7 +2,7 @@
 -- was stored and read, nor more separators than 16; so the contracts of both parsers become those of one.
 use Rattle.vte.proofs.Common.{◌≡◌, ℕ, ◌+◌, ◌≤◌, true, All, Option, Some, None, List, [], ◌∷◌, ◌++◌, length, Result, Ok, Err, refl, arith, concat, take-append_seam}
 use Rattle.vte.proofs.Common.{false≢true, nat_tests, All-cons, All-drop, All-head, All-nil, All-tail, All-take, Event, OscDispatch}
-use Rattle.vte.proofs.Common.{added, events, LongParser, Refused, added_both, counts_data, events_are_bounded, PerformsAll, PerformsUntilStop, FitsText, PerformerValue, HasRoom, KeepsRoom, fits_room, short_meaning}
+use Rattle.vte.proofs.Common.{added, events, LongParser, Refused, added_both, counts_data, events_are_bounded, PerformsAll, PerformsUntilStop, FitsText, PerformerValue, HasRoom, KeepsMemory, fits_room, short_meaning}
 use Rattle.vte.proofs.Common.{long_meaning}
 use Rattle.vte_core.specs.Brief.{IsBounded}
 use Rattle.vte_core.specs.LongAdvance.{ReadsBytesLong, ReadsUntilTerminatedLong}
@@ -83,7 +83,7 @@ module _ {V W : Type 0} {step : PerformerValue V W → Event → PerformerValue 
 
 -- memory that is there stays
 pub keeps_room : {A : Type 0} {parser next : LongParser A} {size room : ℕ} → memory_of parser ≤ memory_of next
-    → size ≤ room → KeepsRoom HasRoom parser size next room
+    → size ≤ room → KeepsMemory (HasRoom parser size) (HasRoom next room)
 keeps_room more larger =
     λ stream count had. record {
       kept = omega (arith, had.kept, more);

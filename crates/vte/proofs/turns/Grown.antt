@@ -1,8 +1,8 @@
 -- A call adds to what is parsed, and is refused no memory that was there for all its bytes: room for the held and the
 -- given bytes at the start leaves room for what is left, turn by turn.
 use Rattle.vte.proofs.Common.{◌≡◌, ℕ, ◌+◌, ◌-◌, ◌<◌, inl, inr, List, ◌++◌, length, Result, Ok, Err, refl, ap, arith, length-append, Refused, LongParser, counts_data}
-use Rattle.vte.proofs.Common.{AdvancesLong, Bor, Turns, Meaning, AreAt, HasTaken, LacksSome, ReadsSome, HasRoom, State, drop, length-drop}
-use Rattle.vte.proofs.turns.Standings.{at_same, reads_so, stands_long, takes_so, turns_stand_long, unlimited}
+use Rattle.vte.proofs.Common.{AdvancesLong, Bor, Turns, Meaning, AreAt, HasTaken, LacksSome, ReadsSome, HasRoom, State, drop, length-drop, unlimited}
+use Rattle.vte.proofs.turns.Standings.{reads_in_turns}
 use Rattle.vte.specs.declared.ansi.growing_text.GrowingText.{GrowingText}
 use Rattle.vte.specs.declared.ansi.long_processor.LongProcessor.{LongProcessor}
 use Rattle.vte.proofs.turns.Slices.{some_grow}
@@ -42,21 +42,11 @@ pub advances_long : {T A V W : Type 0} {timeout_of : T → W} {m : Meaning V W} 
     {before value : V} (bytes : Bor (List ℕ)) (result : Result (Unit {0}) Refused)
     → ReadsSome (unlimited timeout_of) m old.turns new.turns before value bytes.now result
     → AdvancesLong timeout_of m old new before value bytes.now result
-advances_long bytes (Ok all) r = record {
-  all = reads_so turns_stand_long stands_long bytes r.takes refl;
-  takes = takes_so turns_stand_long stands_long bytes r.takes;
-  within = tt;
-  lacks = tt;
-  memory = λ s at. r.memory s (at_same turns_stand_long s at);
-  enough = λ s at room. refl;
-}
+advances_long bytes (Ok all) r =
+    record { reads = r; all = reads_in_turns bytes r.takes refl; enough = λ s at room. refl }
 advances_long bytes (Err refused) r = record {
+  reads = r;
   all = tt;
-  takes = takes_so turns_stand_long stands_long bytes r.takes;
-  within = r.within;
-  lacks = r.lacks;
-  memory = λ s at. r.memory s (at_same turns_stand_long s at);
-  enough = λ s at room. (
-      let there = at_same turns_stand_long s at in
-      absurd (had_memory refused.read r.within (r.takes s there) r.lacks (r.memory s there _ _ room)));
+  enough = λ s at room.
+      absurd (had_memory refused.read r.within (r.takes s at) r.lacks (r.memory s at _ _ room));
 }

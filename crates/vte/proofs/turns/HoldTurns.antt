@@ -62,7 +62,7 @@ module _ {P J T A V W : Type 0} {w : TurnsMeaning P J T W} (m : Meaning V W) {s 
           stands = record {
             has_parsed = parsed.has_parsed;
             holds = rw kept (added.held_is ∙ sym (stays-is all));
-            has_room =
+            has_memory =
                 λ some.
                 rw stays-is
                 (rw (added.released_is, added.held_is) at (leaves t rest

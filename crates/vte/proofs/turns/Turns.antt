@@ -3,7 +3,7 @@
 use Rattle.vte.proofs.Common.{◌≡◌, ℕ, ◌+◌, ◌-◌, ◌<◌, ◌≤◌, Bool, true, List, [], ◌++◌, length, take, drop, refl, ap, sym, ◌∙◌, arith, length-drop}
 use Rattle.vte.proofs.Common.{append_assoc, Result, Ok, Err, append_cancel_right, drop_all, drop-drop, take_all, take-append-drop, Refused, ProcessorState, Turns, Meaning}
 use Rattle.vte.proofs.Common.{held_of, false, MatchResult, EndsTurn, within}
-use Rattle.vte.proofs.Common.{Advanced, AreAt, HasTaken, TurnsMeaning, KeepsTurnRoom, ReadsSome, StopsUpdate, AreNextAt, EndsOpen, Halted, IsAtBegin, IsOpenAt, IsParsed, IsParsedOn}
+use Rattle.vte.proofs.Common.{Advanced, AreAt, HasTaken, TurnsMeaning, HasMemory, KeepsMemory, ReadsSome, StopsUpdate, AreNextAt, EndsOpen, Halted, IsAtBegin, IsOpenAt, IsParsed, IsParsedOn}
 use Rattle.vte.proofs.Common.{IsParsedWithRoom, Turned, State, TakesSome, TakesTurns, all_bytes, turn, hold_turn, parse, stop, between, done, LacksSome, ReservesRoom, is_held, stop_if_due}
 use Rattle.vte.proofs.replays.EachOnce.{grown_bytes}
 use Rattle.vte.proofs.turns.Slices.{all_taken, halts, one_taken, some_grow, some_on, some_well, taken_on}
@@ -21,7 +21,7 @@ module _ {P J T A V W : Type 0} {w : TurnsMeaning P J T W} {turns : Turns P J T 
         record {
           has_parsed = parsed.has_parsed;
           holds = holds;
-          has_room = λ some. absurd (omega (arith, some, ap length none));
+          has_memory = λ some. absurd (omega (arith, some, ap length none));
         };
     handler_is = parsed.handler_is;
   }
@@ -31,8 +31,8 @@ module _ {P J T A V W : Type 0} {w : TurnsMeaning P J T W} {value : V} {s : Stat
   pub next-at : {turns : Turns P J T A} → AreAt w turns value s → AreNextAt w turns turns value s
   next-at at = record { are_at = at; memory = λ stream count had. had }
 
-  pub after-next : {old mid new : Turns P J T A} → KeepsTurnRoom w old mid → AreNextAt w mid new value s
-      → AreNextAt w old new value s
+  pub after-next : {old mid new : Turns P J T A} → KeepsMemory (HasMemory w old) (HasMemory w mid)
+      → AreNextAt w mid new value s → AreNextAt w old new value s
   after-next keeps next =
       record { are_at = next.are_at; memory = λ stream count had. next.memory stream count (keeps stream count had) }
 
@@ -72,7 +72,7 @@ module _ {P J T A V W : Type 0} {w : TurnsMeaning P J T W} {m : Meaning V W} {s 
 
 -- after a stop
 pub stops_update : {P J T A V W : Type 0} {w : TurnsMeaning P J T W} {m : Meaning V W} {old mid new : Turns P J T A}
-    {before value : V} → KeepsTurnRoom w old mid
+    {before value : V} → KeepsMemory (HasMemory w old) (HasMemory w mid)
     → ((s : State V W) → AreAt w old before s → AreNextAt w mid new value (stop m s))
     → StopsUpdate w m old new before value
 stops_update {m = m} keeps ends = record {
@@ -88,8 +88,8 @@ stops-next stopped at = record { are_at = stopped.stops _ at; memory = stopped.m
 -- a turn that parses bytes, after a stop if need be
 pub ends_turn : {P J T A V W : Type 0} {w : TurnsMeaning P J T W} {m : Meaning V W} {old mid new : Turns P J T A}
     {value : V} {s : State V W} {bytes : List ℕ} (answer : Bool)
-    → m.timeout.allows s.timeout answer → is_held answer s bytes ≡ false → KeepsTurnRoom w old mid
-    → (result : Result ℕ Refused)
+    → m.timeout.allows s.timeout answer → is_held answer s bytes ≡ false
+    → KeepsMemory (HasMemory w old) (HasMemory w mid) → (result : Result ℕ Refused)
     → MatchResult result (λ read. read ≤ length bytes) (λ refused. refused.read < length bytes)
     → EndsOpen m (stop_if_due m answer s) bytes result (AreNextAt w mid new value)
     → EndsTurn m s bytes result (AreNextAt w old new value)
@@ -208,18 +208,22 @@ module _ {V W : Type 0} (m : Meaning V W) (s : State V W) (bytes : List ℕ) whe
     is_at = h.is_at;
   }
 
--- what is true where a call is, of which more is known
-pub taken-at : {P J T A V W : Type 0} {w : TurnsMeaning P J T W} {m : Meaning V W} {s : State V W} {bytes : List ℕ}
-    {read : ℕ} {old new : Turns P J T A} {value : V}
-    → HasTaken m s bytes read (AreNextAt w old new value) → HasTaken m s bytes read (AreAt w new value)
-taken-at h =
-    record {
-      next = h.next;
-      takes = h.takes;
-      each_once = h.each_once;
-      holds_well = h.holds_well;
-      is_at = h.is_at.are_at;
-    }
+-- what follows where a call is
+module _ {V W : Type 0} {m : Meaning V W} {s : State V W} {bytes : List ℕ} {read : ℕ} where
+  pub taken-to : {there other : State V W → Type 0} → ((t : State V W) → there t → other t)
+      → HasTaken m s bytes read there → HasTaken m s bytes read other
+  taken-to follows h =
+      record {
+        next = h.next;
+        takes = h.takes;
+        each_once = h.each_once;
+        holds_well = h.holds_well;
+        is_at = follows h.next h.is_at;
+      }
+
+  taken-at : {P J T A : Type 0} {w : TurnsMeaning P J T W} {old new : Turns P J T A} {value : V}
+      → HasTaken m s bytes read (AreNextAt w old new value) → HasTaken m s bytes read (AreAt w new value)
+  taken-at = taken-to (λ t next. next.are_at)
 
 -- what a call ensures by its turns
 module _ {P J T A V W : Type 0} {w : TurnsMeaning P J T W} {m : Meaning V W} {old new : Turns P J T A}

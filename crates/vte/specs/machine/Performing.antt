@@ -4,10 +4,10 @@ use Rattle.std.specs.Prelude.{length, nat_lt}
 use Rattle.std.specs.List.{All}
 use Rattle.vte.specs.BeginUpdate.{update_groups, update_mode}
 use Rattle.vte.specs.Change.{change_call, change_calls}
+use Rattle.vte.specs.Memory.{KeepsMemory, ParserMeaning}
 use Rattle.vte.specs.Processor.{set_times}
 use Rattle.vte.specs.Numbers.{first_numbers}
 use Rattle.vte.specs.machine.Performer.{FitsText, PerformerValue}
-use Rattle.vte.specs.machine.TurnsMeaning.{KeepsRoom, ParserMeaning}
 use Rattle.vte.specs.declared.ansi.control_calls.Change.TheVariants.{SetPrivate}
 use Rattle.vte.specs.declared.ansi.performer.Performer.{Performer}
 use Rattle.vte_core.specs.EarlyStop.{StopsExactly, stream_at}
@@ -77,7 +77,8 @@ pub record PerformsAll {P V W : Type 0} (reading : ParserMeaning P) (limit : Opt
   pub parses : (stream : List ℕ) (n : ℕ) → reading.has_read parser stream
       → reading.has_room parser old.room stream (length bytes + n)
       → HasPerformed reading limit step next old new stream bytes n
-  pub memory : (size : ℕ) → KeepsRoom reading.has_room parser size next size
+  pub memory : (size : ℕ)
+      → KeepsMemory (reading.has_room parser size) (reading.has_room next size)
 
 pub record PerformsUntilStop {P V W : Type 0} (reading : ParserMeaning P) (limit : Option ℕ)
     (step : PerformerValue V W → Event → PerformerValue V W) (parser next : P)
@@ -87,4 +88,5 @@ pub record PerformsUntilStop {P V W : Type 0} (reading : ParserMeaning P) (limit
   pub stops : (stream : List ℕ) (n : ℕ) → reading.has_read parser stream
       → reading.has_room parser old.room stream (length bytes + n)
       → HasStopped reading limit step next old new stream bytes read
-  pub memory : (size : ℕ) → KeepsRoom reading.has_room parser size next size
+  pub memory : (size : ℕ)
+      → KeepsMemory (reading.has_room parser size) (reading.has_room next size)

@@ -3,9 +3,11 @@ use Rattle.std.specs.Prelude.{◌≡◌, ℕ, ◌<◌, Bool, List, length, nat_l
 use Rattle.vte_core.specs.declared.parser.refused.Refused.{Refused}
 use Rattle.vte_core.specs.Stream.{added}
 use Rattle.vte.specs.BeginUpdate.{begin_count}
+use Rattle.vte.specs.LongProcessor.{HasParsed, TurnsStandAt}
+use Rattle.vte.specs.Memory.{HasMemory, KeepsMemory, TurnsMeaning}
 use Rattle.vte.specs.Processor.{Meaning, State, begin_front, open_turn, parse, turn}
+use Rattle.vte.specs.ProcessorCalls.{IsAt}
 use Rattle.vte.specs.Refusal.{TakesSome}
-use Rattle.vte.specs.machine.TurnsMeaning.{AreAt, HasParsed, KeepsRoom, KeepsTurnRoom, TurnsMeaning}
 use Rattle.vte.specs.declared.ansi.performer.ProcessorState.{ProcessorState}
 use Rattle.vte.specs.declared.ansi.turns.Turns.{Turns}
 
@@ -26,13 +28,19 @@ pub record IsParsedOn {P J T V W : Type 0} (w : TurnsMeaning P J T W) (parser : 
     (lent : ProcessorState T J) (next : P) (back : ProcessorState T J) (value : V) (s : State V W)
     : Type 0 where
   pub is_parsed : IsParsed w next back value s
-  pub memory : KeepsRoom w.reading.has_room parser (w.room_of lent.text) next (w.room_of back.text)
+  pub memory : KeepsMemory (w.reading.has_room parser (w.room_of lent.text))
+      (w.reading.has_room next (w.room_of back.text))
+
+-- The turns and the handler's value are as the state says.
+abbrev pub AreAt : {P J T A V W : Type 0} → TurnsMeaning P J T W → Turns P J T A → V → State V W
+    → Type 0
+AreAt w turns = IsAt (TurnsStandAt w turns)
 
 -- The turns are at a state, with the memory that was there before.
 pub record AreNextAt {P J T A V W : Type 0} (w : TurnsMeaning P J T W) (old new : Turns P J T A)
     (value : V) (s : State V W) : Type 0 where
   pub are_at : AreAt w new value s
-  pub memory : KeepsTurnRoom w old new
+  pub memory : KeepsMemory (HasMemory w old) (HasMemory w new)
 
 -- From each state that the turns are at, they lead on as it says.
 abbrev pub LeadOn : {P J T A V W : Type 0} → TurnsMeaning P J T W → Turns P J T A → Turns P J T A

@@ -5,7 +5,8 @@ ghost use Rattle.vte.specs.machine.Performing.{PerformsAll, PerformsUntilStop, p
 ghost use Rattle.vte.specs.Processor.{State, meaning, parse, timeout_meaning};
 ghost use Rattle.vte.specs.machine.Performer.{with_event};
 ghost use Rattle.vte.specs.machine.Turns.{IsAtBegin, IsParsedOn, IsParsedWithRoom};
-ghost use Rattle.vte.specs.machine.TurnsMeaning.{KeepsRoom, ParserMeaning, short_meaning, of_turns};
+ghost use Rattle.vte.specs.machine.ShortMeaning.{short_meaning};
+ghost use Rattle.vte.specs.Memory.{KeepsMemory, ParserMeaning, of_turns};
 
 use crate::ansi::performer::{Performer, ProcessorState};
 use crate::ansi::text_buffer::TextBuffer;
@@ -36,8 +37,8 @@ pub(crate) trait EventParser {
             → reading.has_read self.new stream }
         ensures room { result ≡ true → (stream : List ℕ) → reading.has_read self.new stream
             → reading.has_room self.new (J.room text.new) stream (held + more) }
-        ensures memory { KeepsRoom reading.has_room self.old (J.room text.old) self.new
-            (J.room text.new) }
+        ensures memory { KeepsMemory (reading.has_room self.old (J.room text.old))
+            (reading.has_room self.new (J.room text.new)) }
         ensures lacks { result ≡ false → (stream : List ℕ) → reading.has_read self.new stream
             → reading.lacks_room self.new (J.room text.new) stream (held + more) };
 }

@@ -1,10 +1,11 @@
 //! Turns: each parses bytes of a call, or holds them back.
 ghost use Rattle.std.specs.Prelude.{◌≡◌, ℕ, ◌+◌, ◌≤◌, [], length, IfErr, IfOk, MatchResult, ◌-◌, ◌<◌, ◌++◌, nat_le};
+ghost use Rattle.vte.specs.LongProcessor.{ReadsSome, ReservesRoom, StopsUpdate, TurnsStandAt};
+ghost use Rattle.vte.specs.Memory.{LacksSome, of_turns};
 ghost use Rattle.vte.specs.ProcessorCalls.{held_of};
 ghost use Rattle.vte.specs.machine.Hold.{released_of};
 ghost use Rattle.vte.specs.Processor.{State, hold_turn, meaning, most_held, parse, set_times, stop, timeout_meaning};
 ghost use Rattle.vte.specs.machine.Turns.{AreNextAt, EndsOpen, EndsTurn, IsParsed, IsParsedOn, IsParsedWithRoom, LeadOn};
-ghost use Rattle.vte.specs.machine.TurnsMeaning.{HaveTaken, LacksSome, ReadsSome, ReservesRoom, StopsUpdate, of_turns};
 
 use crate::ansi::hold::{Hold, MOST_HELD};
 use crate::ansi::parsing::{EventParser, ParseAs, parse_all, parse_until_begin};
@@ -39,7 +40,7 @@ impl<P: EventParser + Drop, J: TextBuffer + Drop, T: Timeout + Drop, A: Allocato
     pub(crate) fn new(alloc: A, parser: P, text: J, timeout: T) -> Result<Self, T>
         requires reads { P.reading.has_read parser [] }
         ensures stands { MatchResult result
-            (λ turns. HaveTaken (of_turns P.limit P.reading J.room T.value_of) turns [] []
+            (λ turns. TurnsStandAt (of_turns P.limit P.reading J.room T.value_of) turns [] []
             (T.value_of timeout)) (λ back. back ≡ timeout) }
         ensures timeout { IfOk result (λ turns. turns.state.timeout ≡ timeout) }
     {

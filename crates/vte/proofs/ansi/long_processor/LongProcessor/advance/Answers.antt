@@ -1,4 +1,4 @@
--- What the turns ensure, said of the processor (`turns/Standings`).
+-- What the turns ensure, and that no memory is refused which is there (`turns/Grown`).
 use Rattle.vte.proofs.turns.Grown.{advances_long}
 use Rattle.vte.proofs.ansi.long_processor.LongProcessor.advance.Goals as goal
 

@@ -12,7 +12,7 @@ returns-clause-reserved g c = record {
           timeout_is = had.has_parsed.timeout_is;
         };
     holds = had.holds;
-    has_room = λ some. c.reserve.ensures.memory parsed (length held) (had.has_room some);
+    has_memory = λ some. c.reserve.ensures.memory parsed (length held) (had.has_memory some);
   };
   room =
       λ yes parsed held timeout had.

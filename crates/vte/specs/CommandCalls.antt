@@ -1,5 +1,5 @@
 -- The calls of operating system commands.
-use Rattle.std.specs.Prelude.{ℕ, Bool, true, false, List, [], ◌∷◌, ◌++◌, map, length, if◌then◌else◌, ◌==◌, ◌+◌, ◌-◌, ◌%◌, codes, Option, Some, None}
+use Rattle.std.specs.Prelude.{ℕ, Bool, true, false, List, [], ◌∷◌, ◌++◌, map, length, if◌then◌else◌, ◌==◌, ◌+◌, ◌-◌, ◌%◌, codes, Option, Some, None, option_and_then}
 use Rattle.std.specs.Fmt.{decimal}
 use Rattle.std.specs.List.{filter_map, range_with_len}
 use Rattle.vte.specs.ColorText.{xparse_color_of}
@@ -41,13 +41,9 @@ pairs_calls terminator (index ∷ text ∷ texts) =
 abbrev pub palette_calls : List ℕ → List (List ℕ) → List Call
 palette_calls terminator texts = if length texts % 2 == 0 then pairs_calls terminator texts else []
 
-abbrev pub if_utf8 : Option (List ℕ) → Option (List ℕ)
-if_utf8 None = None
-if_utf8 (Some text) = text_in false text
-
 -- 8: the text after `id=` in the first part that starts with it
 abbrev pub id_of : List ℕ → Option (List ℕ)
-id_of parameters = if_utf8 (first_after (codes "id=") (parts_of 0x3a parameters))
+id_of parameters = option_and_then (text_in false) (first_after (codes "id=") (parts_of 0x3a parameters))
 
 abbrev pub link_to : List ℕ → List ℕ → Option Link
 link_to parameters [] = None

@@ -1,10 +1,10 @@
 -- The calls of a control sequence, by its final byte and intermediates (ECMA-48, the VT500, xterm).
-use Rattle.std.specs.Prelude.{ℕ, pos, List, [], ◌∷◌, if◌then◌else◌, ◌==◌, ◌&&◌, ◌-◌, Option, Some, None, drop, replicate}
+use Rattle.std.specs.Prelude.{ℕ, pos, List, [], ◌∷◌, if◌then◌else◌, ◌==◌, ◌&&◌, ◌-◌, Option, Some, None, drop, replicate, unwrap_or}
 use Rattle.vte.specs.declared.ansi.control_calls.Change.TheVariants as change
 use Rattle.vte.specs.Change.{change_calls}
 use Rattle.vte.specs.Numbers.{first_of, first_or, first_numbers, is_four}
 use Rattle.vte.specs.Rendition.{attribute_calls}
-use Rattle.vte.specs.Maybe.{for_both, or_none, for_some}
+use Rattle.vte.specs.Maybe.{for_both, for_some}
 use Rattle.vte_types.specs.Rows.{Row, entry_of}
 use Rattle.vte.specs.Values.{behavior_of, bottom_of, cursor_rows, keyboard_modes, keys_rows, line_rows, path_rows, screen_rows, tab_rows, update_rows}
 use Rattle.vte_handler.specs.Call.{Call}
@@ -75,7 +75,7 @@ module _ (last : Option ℕ) (intermediates : List ℕ) (groups : List (List ℕ
       (0x53, call.ScrollUp pn ∷ []) ∷  -- S: SU
       (0x73, call.SaveCursorPosition ∷ []) ∷  -- s: SCOSC
       (0x54, call.ScrollDown pn ∷ []) ∷  -- T: SD
-      (0x74, or_none (entry_of window_rows pn)) ∷  -- t: XTWINOPS
+      (0x74, unwrap_or (entry_of window_rows pn) []) ∷  -- t: XTWINOPS
       (0x75, call.RestoreCursorPosition ∷ []) ∷  -- u: SCORC
       (0x58, call.EraseChars pn ∷ []) ∷  -- X: ECH
       (0x5a, call.MoveBackwardTabs pn ∷ []) ∷  -- Z: CBT
@@ -83,7 +83,7 @@ module _ (last : Option ℕ) (intermediates : List ℕ) (groups : List (List ℕ
 
   abbrev pub question_rows : List (Row (List Call))
   question_rows =
-      (0x57, or_none (entry_of set_tabs_rows ps)) ∷  -- W: DECST8C
+      (0x57, unwrap_or (entry_of set_tabs_rows ps) []) ∷  -- W: DECST8C
       (0x68, change_calls change.SetPrivate (first_numbers groups)) ∷  -- h: DECSET
       (0x6c, change_calls change.ResetPrivate (first_numbers groups)) ∷  -- l: DECRST
       (0x6d, if is_four groups then call.ReportModifyOtherKeys ∷ [] else []) ∷  -- m: XTQMODKEYS
@@ -147,4 +147,4 @@ module _ (last : Option ℕ) (intermediates : List ℕ) (groups : List (List ℕ
   control_calls final =
       if final == 0x63
       then (if ps == 0 then call.IdentifyTerminal (first_of intermediates) ∷ [] else [])
-      else or_none (entry_of (rows_of intermediates) final)
+      else unwrap_or (entry_of (rows_of intermediates) final) []

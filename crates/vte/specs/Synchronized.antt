@@ -4,7 +4,7 @@
 use Rattle.vte_handler.specs.Call.{Call, UnsetPrivateMode}
 use Rattle.vte_types.specs.declared.mode.NamedPrivateMode.TheVariants.{SyncUpdate}
 use Rattle.vte_types.specs.declared.mode.PrivateMode.TheVariants.{Named}
-use Rattle.std.specs.Prelude.{ℕ, ◌+◌, Bool, true, false, ◌&&◌, Option, Some, None, List, [], ◌∷◌, length, drop, if◌then◌else◌, ◌==◌, nat_lt}
+use Rattle.std.specs.Prelude.{ℕ, ◌+◌, Bool, true, false, ◌&&◌, Option, Some, None, List, [], ◌∷◌, length, drop, if◌then◌else◌, ◌==◌, nat_lt, unwrap_or}
 
 -- ESC [?2026h
 abbrev pub begin_update : List ℕ
@@ -53,12 +53,8 @@ begins_among n (b ∷ text) =
 
 -- The part of a text in which begin-updates count: what follows the last end-update or, without
 -- one, all of it.
-abbrev pub counted_part : List ℕ → Option (List ℕ) → List ℕ
-counted_part text (Some rest) = rest
-counted_part text None = text
-
 abbrev pub last_part : List ℕ → List ℕ
-last_part text = counted_part text (after_last_end text)
+last_part text = unwrap_or (after_last_end text) text
 
 -- The call that reports the end of an update.
 abbrev pub update_ended : Call

@@ -33,7 +33,7 @@ pub(crate) fn perform_control<H: InputAs<G>, G>(
 )
     requires other { intermediates.now ≡ 0x3f ∷ [] → action ≢ 0x68 }
     ensures { H.value_of handler.new ≡ after H.step (H.value_of handler.old)
-        (control_calls last intermediates.now params.now action) }
+        (control_calls last params.now intermediates.now action) }
 {
     let mut numbers = params.iter();
     match (intermediates, action) {
@@ -88,7 +88,7 @@ fn perform_plain<H: InputAs<G>, G>(
     action: char,
 )
     ensures { H.value_of handler.new ≡ after H.step (H.value_of handler.old)
-        (unwrap_or (entry_of (rows_without_intermediates last [] params.now) action) []) }
+        (unwrap_or (entry_of (rows_without_intermediates last params.now) action) []) }
 {
     let mut numbers = params.iter();
     match action {

@@ -38,8 +38,8 @@ pub use Rattle.vte.specs.Refusal.{OpenTurnHalts, HasTaken, TakesSome, TurnHalts,
 pub use Rattle.vte.specs.BeginUpdate.{begin_count, begins_of, is_update_group, update_groups}
 pub use Rattle.vte.specs.Calls.{added_calls, calls, calls_from, calls_of, last_printed_after, last_printed, last_printed_from}
 pub use Rattle.vte.specs.Change.{change_calls}
-pub use Rattle.vte.specs.ColorReading.{kind_reading, part_of}
-pub use Rattle.vte.specs.CommandCalls.{dynamic_calls, id_of, link_to, pair_calls, pairs_calls}
+pub use Rattle.vte.specs.ColorReading.{kind_reading, component_at_front}
+pub use Rattle.vte.specs.CommandCalls.{dynamic_calls, id_of, link_to, palette_entry_calls, palette_entries_calls}
 unfoldable pub use Rattle.vte.specs.CommandCalls.{all_reset}
 pub use Rattle.vte.specs.machine.Hold.{Adds, IsAdded, IsEnd, released_of}
 pub use Rattle.vte.specs.ProcessorCalls.{Advanced, HasParsedAll, HasParsedAndHolds, IsAt, IsTold, ReadsInTurns, Replayed, Replays, Standing, StopsSync, held_of}

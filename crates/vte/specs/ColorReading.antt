@@ -29,15 +29,15 @@ short_color parts [] = record { color = None; used = parts }
 short_color parts (number ∷ numbers) = record { color = None; used = suc parts }
 
 -- The components are the numbers up to 255 at the start, at most as many as the kind has.
-abbrev pub parts_reading : ℕ → List ℕ → ReadColor
-parts_reading count numbers =
+abbrev pub components_reading : ℕ → List ℕ → ReadColor
+components_reading count numbers =
     let parts = take_while is_component (take count numbers) in
     if length parts == count then record { color = color_of_numbers parts; used = count }
     else short_color (length parts) (drop (length parts) numbers)
 
 abbrev pub reading_of : Option ℕ → List ℕ → ReadColor
 reading_of None numbers = record { color = None; used = 0 }
-reading_of (Some count) numbers = parts_reading count numbers
+reading_of (Some count) numbers = components_reading count numbers
 
 -- A colour of this kind.
 abbrev pub kind_reading : ℕ → List ℕ → ReadColor
@@ -57,6 +57,6 @@ without_space (kind ∷ space ∷ numbers) =
 without_space numbers = numbers
 
 -- The first number, if it is at most 255.
-abbrev pub part_of : List ℕ → Option ℕ
-part_of [] = None
-part_of (number ∷ numbers) = if is_component number then Some number else None
+abbrev pub component_at_front : List ℕ → Option ℕ
+component_at_front [] = None
+component_at_front (number ∷ numbers) = if is_component number then Some number else None

@@ -27,19 +27,19 @@ color_calls prefix index terminator text =
     else for_some (λ color. call.SetColor index color) (xparse_color_of text)
 
 -- 4: an index and a colour
-abbrev pub pair_calls : List ℕ → Option ℕ → List ℕ → List Call
-pair_calls terminator None text = []
-pair_calls terminator (Some index) text =
+abbrev pub palette_entry_calls : List ℕ → Option ℕ → List ℕ → List Call
+palette_entry_calls terminator None text = []
+palette_entry_calls terminator (Some index) text =
     color_calls (codes "4;" ++ decimal index) index terminator text
 
-abbrev pub pairs_calls : List ℕ → List (List ℕ) → List Call
-pairs_calls terminator [] = []
-pairs_calls terminator (index ∷ []) = []
-pairs_calls terminator (index ∷ text ∷ texts) =
-    pair_calls terminator (decimal_number index) text ++ pairs_calls terminator texts
+abbrev pub palette_entries_calls : List ℕ → List (List ℕ) → List Call
+palette_entries_calls terminator [] = []
+palette_entries_calls terminator (index ∷ []) = []
+palette_entries_calls terminator (index ∷ text ∷ texts) =
+    palette_entry_calls terminator (decimal_number index) text ++ palette_entries_calls terminator texts
 
 abbrev pub palette_calls : List ℕ → List (List ℕ) → List Call
-palette_calls terminator texts = if length texts % 2 == 0 then pairs_calls terminator texts else []
+palette_calls terminator texts = if length texts % 2 == 0 then palette_entries_calls terminator texts else []
 
 -- 8: the text after `id=` in the first part that starts with it
 abbrev pub id_of : List ℕ → Option (List ℕ)
@@ -59,15 +59,15 @@ link_calls (parameters ∷ text ∷ texts) =
 abbrev pub dynamic_prefixes : List (Row (List ℕ))
 dynamic_prefixes = (10, codes "10") ∷ (11, codes "11") ∷ (12, codes "12") ∷ []
 
-abbrev pub dynamic_call : ℕ → List ℕ → List ℕ → Option (List ℕ) → List Call
-dynamic_call code terminator text None = []
-dynamic_call code terminator text (Some prefix) =
+abbrev pub dynamic_color_calls : ℕ → List ℕ → List ℕ → Option (List ℕ) → List Call
+dynamic_color_calls code terminator text None = []
+dynamic_color_calls code terminator text (Some prefix) =
     color_calls prefix (256 + (code - 10)) terminator text
 
 abbrev pub dynamic_calls : ℕ → List ℕ → List (List ℕ) → List Call
 dynamic_calls code terminator [] = []
 dynamic_calls code terminator (text ∷ texts) =
-    dynamic_call code terminator text (entry_of dynamic_prefixes code)
+    dynamic_color_calls code terminator text (entry_of dynamic_prefixes code)
     ++ dynamic_calls (code + 1) terminator texts
 
 -- 22

@@ -10,13 +10,15 @@ pub one_less : (n i : ℕ) → i < n → n - i ≡ suc (n - (i + 1))
 one_less n i inside = omega arith
 
 module _ {V : Type 0} (step : V → Call → V) (old new all : V) where
-  -- one pair is read
+  -- one entry is read
   pub entry_made : (terminator : List ℕ) (left : List (Bor (List ℕ))) (d e : Bor (List ℕ)) → 2 ≤ length left
       → new
       ≡ after step old
       (palette_entry_calls terminator (decimal_number (slice_index_or left 0 d).now) (slice_index_or left 1 e).now)
       → after step old (palette_entries_calls terminator (map (λ piece. piece.now) left)) ≡ all
-      → after step new (palette_entries_calls terminator (map (λ piece. piece.now) (take (length left - 2) (drop 2 left)))) ≡ all
+      → after step new
+      (palette_entries_calls terminator (map (λ piece. piece.now) (take (length left - 2) (drop 2 left))))
+      ≡ all
   entry_made terminator [] d e some made before = absurd (omega arith)
   entry_made terminator (index ∷ []) d e some made before = absurd (omega arith)
   entry_made terminator (index ∷ color ∷ rest) d e some made before =

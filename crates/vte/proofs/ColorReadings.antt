@@ -1,8 +1,9 @@
--- A colour of which a part is missing or is none is no colour: by the number of parts that are left.
+-- A colour of which a component is missing or is none is no colour: by the number of components that are left.
 use Rattle.vte.proofs.Common.{◌≡◌, ℕ, List, [], ◌∷◌, map, drop, None, Some, arith, nat_tests, kind_reading, map-id, component_at_front}
 
 module _ {A : Type 0} (number : A → ℕ) where
-  pub no_red : (left : List A) → None ≡ component_at_front (map number left) → None ≡ (kind_reading 2 (map number left)).color
+  pub no_red : (left : List A) → None ≡ component_at_front (map number left)
+      → None ≡ (kind_reading 2 (map number left)).color
   no_red [] part = cc
   no_red (r ∷ left) part = grind (arith, nat_tests)
 

@@ -27,7 +27,8 @@ component_by value digits =
 -- r/g/b
 abbrev pub color_of_parts : List (List ℕ) → Option Rgb
 color_of_parts (r ∷ g ∷ b ∷ []) =
-    color_by (component_by scaled_to_255 r) (component_by scaled_to_255 g) (component_by scaled_to_255 b)
+    color_by (component_by scaled_to_255 r) (component_by scaled_to_255 g)
+    (component_by scaled_to_255 b)
 color_of_parts _ = None
 
 -- Three components with the same number of digits.

@@ -1,5 +1,5 @@
 -- The calls of operating system commands.
-use Rattle.std.specs.Prelude.{ℕ, Bool, true, false, List, [], ◌∷◌, ◌++◌, map, length, if◌then◌else◌, ◌==◌, ◌+◌, ◌-◌, ◌%◌, codes, Option, Some, None, option_and_then}
+use Rattle.std.specs.Prelude.{ℕ, Bool, true, false, List, [], ◌∷◌, ◌++◌, map, length, if◌then◌else◌, ◌==◌, ◌+◌, ◌%◌, codes, Option, Some, None, option_and_then}
 use Rattle.std.specs.Fmt.{decimal}
 use Rattle.std.specs.List.{filter_map, range_with_len}
 use Rattle.vte.specs.ColorText.{xparse_color_of}
@@ -11,6 +11,9 @@ use Rattle.vte_handler.specs.Call.{Call}
 use Rattle.vte_handler.specs.Call as call
 use Rattle.vte_handler.specs.Link.{Link}
 use Rattle.vte_types.specs.CursorIcon.{icon_of}
+use Rattle.vte_types.specs.NamedColor.{number_of_color}
+use Rattle.vte_types.specs.declared.color.NamedColor.{NamedColor}
+use Rattle.vte_types.specs.declared.color.NamedColor.TheVariants.{Background, Cursor, Foreground}
 use Rattle.vte_types.specs.Words.{is_word, after_word, entry_of_word}
 use Rattle.vte_types.specs.declared.screen.CursorShape.{CursorShape}
 use Rattle.vte_types.specs.declared.screen.CursorShape.TheVariants as shape
@@ -36,14 +39,17 @@ abbrev pub palette_entries_calls : List ℕ → List (List ℕ) → List Call
 palette_entries_calls terminator [] = []
 palette_entries_calls terminator (index ∷ []) = []
 palette_entries_calls terminator (index ∷ text ∷ texts) =
-    palette_entry_calls terminator (decimal_number index) text ++ palette_entries_calls terminator texts
+    palette_entry_calls terminator (decimal_number index) text
+    ++ palette_entries_calls terminator texts
 
 abbrev pub palette_calls : List ℕ → List (List ℕ) → List Call
-palette_calls terminator texts = if length texts % 2 == 0 then palette_entries_calls terminator texts else []
+palette_calls terminator texts =
+    if length texts % 2 == 0 then palette_entries_calls terminator texts else []
 
 -- 8: the text after `id=` in the first part that starts with it
 abbrev pub id_of : List ℕ → Option (List ℕ)
-id_of parameters = option_and_then (text_in false) (first_after (codes "id=") (parts_of 0x3a parameters))
+id_of parameters =
+    option_and_then (text_in false) (first_after (codes "id=") (parts_of 0x3a parameters))
 
 abbrev pub link_to : List ℕ → List ℕ → Option Link
 link_to parameters [] = None
@@ -55,19 +61,19 @@ link_calls (parameters ∷ []) = []
 link_calls (parameters ∷ text ∷ texts) =
     call.SetHyperlink (link_to parameters (joined_texts true (text ∷ texts))) ∷ []
 
--- 10, 11, 12: the foreground, the background, the cursor; further colours are for the next ones
-abbrev pub dynamic_prefixes : List (Row (List ℕ))
-dynamic_prefixes = (10, codes "10") ∷ (11, codes "11") ∷ (12, codes "12") ∷ []
+-- 10, 11, 12: further colours are for the next ones
+abbrev pub dynamic_colors : List (Row NamedColor)
+dynamic_colors = (10, Foreground) ∷ (11, Background) ∷ (12, Cursor) ∷ []
 
-abbrev pub dynamic_color_calls : ℕ → List ℕ → List ℕ → Option (List ℕ) → List Call
+abbrev pub dynamic_color_calls : ℕ → List ℕ → List ℕ → Option NamedColor → List Call
 dynamic_color_calls code terminator text None = []
-dynamic_color_calls code terminator text (Some prefix) =
-    color_calls prefix (256 + (code - 10)) terminator text
+dynamic_color_calls code terminator text (Some color) =
+    color_calls (decimal code) (number_of_color color) terminator text
 
 abbrev pub dynamic_calls : ℕ → List ℕ → List (List ℕ) → List Call
 dynamic_calls code terminator [] = []
 dynamic_calls code terminator (text ∷ texts) =
-    dynamic_color_calls code terminator text (entry_of dynamic_prefixes code)
+    dynamic_color_calls code terminator text (entry_of dynamic_colors code)
     ++ dynamic_calls (code + 1) terminator texts
 
 -- 22
@@ -126,9 +132,9 @@ command_rows =
     (codes "50", λ terminator texts. shape_calls texts) ∷
     (codes "52", λ terminator texts. clipboard_calls terminator texts) ∷
     (codes "104", λ terminator texts. reset_calls texts) ∷
-    (codes "110", λ terminator texts. call.ResetColor 256 ∷ []) ∷
-    (codes "111", λ terminator texts. call.ResetColor 257 ∷ []) ∷
-    (codes "112", λ terminator texts. call.ResetColor 258 ∷ []) ∷
+    (codes "110", λ terminator texts. call.ResetColor (number_of_color Foreground) ∷ []) ∷
+    (codes "111", λ terminator texts. call.ResetColor (number_of_color Background) ∷ []) ∷
+    (codes "112", λ terminator texts. call.ResetColor (number_of_color Cursor) ∷ []) ∷
     []
 
 -- A command without a row makes no call.

@@ -5,9 +5,9 @@ ghost use Rattle.vte.specs.ColorReading.{color_reading, kind_reading, component_
 use crate::ansi::numbers::NumberIterator;
 use vte_types::{Color, Rgb};
 
-/// The next number that is a part of a colour.
+/// The next number, if it is a component of a colour.
 fn next_component<I: NumberIterator>(numbers: &mut I) -> Option<u8>
-    ensures part { result ≡ component_at_front (map I.number (I.left numbers.old)) }
+    ensures component { result ≡ component_at_front (map I.number (I.left numbers.old)) }
     ensures rest { I.left numbers.new ≡ drop 1 (I.left numbers.old) }
 {
     u8::try_from(numbers.next_number()?).ok()

@@ -1,6 +1,6 @@
 //! The calls of operating system commands.
 ghost use Rattle.std.specs.Prelude.{◌≡◌, ◌≤◌, map, codes};
-ghost use Rattle.vte.specs.CommandCalls.{all_reset, clipboard_calls, color_calls, dynamic_color_calls, dynamic_calls, dynamic_prefixes, link_calls, link_to, palette_calls, pointer_calls};
+ghost use Rattle.vte.specs.CommandCalls.{all_reset, clipboard_calls, color_calls, dynamic_color_calls, dynamic_calls, dynamic_colors, link_calls, link_to, palette_calls, pointer_calls};
 ghost use Rattle.vte.specs.CommandCalls.{reset_calls, shape_calls, system_command_calls, palette_entry_calls};
 ghost use Rattle.vte_types.specs.Rows.{entry_of};
 ghost use Rattle.vte.specs.TextRoom.{FitsRoom};
@@ -21,6 +21,7 @@ use vte_types::cursor_icon::CursorIcon;
 use vte_types::{CursorShape, laws};
 
 /// Makes the calls of an operating system command.
+#[tactic(auto, unfolding(vte_types::specs::NamedColor::number_of_color))]
 pub(crate) fn perform_system_command<H: Handler, J: TextBuffer>(
     handler: &mut H,
     text: &mut J,
@@ -145,9 +146,10 @@ fn set_link_to<H: Handler>(handler: &mut H, parameters: &[u8], uri: &str)
     }
 }
 
+#[tactic(auto, unfolding(crate::proofs::Common::digits, vte_types::specs::NamedColor::number_of_color))]
 fn set_dynamic_color<H: Handler>(handler: &mut H, code: usize, terminator: &str, text: &[u8])
     ensures { H.value_of handler.new ≡ after H.step (H.value_of handler.old)
-        (dynamic_color_calls code terminator.now text.now (entry_of dynamic_prefixes code)) }
+        (dynamic_color_calls code terminator.now text.now (entry_of dynamic_colors code)) }
 {
     match code {
         10 => set_color(handler, "10", 256, terminator, text),

@@ -54,6 +54,7 @@ pub use Rattle.vte.specs.machine.TurnsMeaning.{AreAt, HaveTaken, KeepsRoom, Keep
 pub use Rattle.vte.specs.Rendition.{attribute_calls, attributes_from}
 pub use Rattle.vte.specs.Synchronized.{begin_update, begins_among, begins_with, after_last_end, end_update, from_begin, kept_of, last_part}
 pub use Rattle.vte.specs.TextRoom.{FitsRoom, fits_room, joined_size}
+pub use Rattle.vte_types.specs.Words.{after_word}
 pub use Rattle.vte.specs.Titles.{with_separator, decimal_number, joined_texts, number_from, text_in}
 pub use Rattle.vte.specs.declared.ansi.laws.replays.Step.{Step}
 pub use Rattle.vte.specs.declared.ansi.laws.replays.Step.TheVariants.{Advance, StopSync}

@@ -1,5 +1,5 @@
 -- The calls of operating system commands.
-use Rattle.std.specs.Prelude.{ℕ, Bool, true, false, List, [], ◌∷◌, ◌++◌, map, length, if◌then◌else◌, ◌==◌, ◌+◌, ◌%◌, codes, Option, Some, None, option_and_then}
+use Rattle.std.specs.Prelude.{ℕ, Bool, true, false, List, [], ◌∷◌, ◌++◌, map, length, if◌then◌else◌, ◌==◌, ◌+◌, ◌%◌, bytes_eq, codes, Option, Some, None, option_and_then}
 use Rattle.std.specs.Fmt.{decimal}
 use Rattle.std.specs.List.{filter_map, range_with_len}
 use Rattle.vte.specs.ColorText.{xparse_color_of}
@@ -14,7 +14,7 @@ use Rattle.vte_types.specs.CursorIcon.{icon_of}
 use Rattle.vte_types.specs.NamedColor.{number_of_color}
 use Rattle.vte_types.specs.declared.color.NamedColor.{NamedColor}
 use Rattle.vte_types.specs.declared.color.NamedColor.TheVariants.{Background, Cursor, Foreground}
-use Rattle.vte_types.specs.Words.{is_word, after_word, entry_of_word}
+use Rattle.vte_types.specs.Words.{after_word, entry_of_word}
 use Rattle.vte_types.specs.declared.screen.CursorShape.{CursorShape}
 use Rattle.vte_types.specs.declared.screen.CursorShape.TheVariants as shape
 
@@ -26,7 +26,7 @@ terminator_of false = 0x1b ∷ 0x5c ∷ []
 -- `?` queries a colour; a colour sets it.
 abbrev pub color_calls : List ℕ → ℕ → List ℕ → List ℕ → List Call
 color_calls prefix index terminator text =
-    if is_word text (codes "?") then call.DynamicColorSequence prefix index terminator ∷ []
+    if bytes_eq text (codes "?") then call.DynamicColorSequence prefix index terminator ∷ []
     else for_some (λ color. call.SetColor index color) (xparse_color_of text)
 
 -- 4: an index and a colour
@@ -105,7 +105,7 @@ abbrev pub clipboard_calls : List ℕ → List (List ℕ) → List Call
 clipboard_calls terminator [] = []
 clipboard_calls terminator (name ∷ []) = []
 clipboard_calls terminator (name ∷ stored ∷ more) =
-    (if is_word stored (codes "?") then call.ClipboardLoad (clipboard_of name) terminator
+    (if bytes_eq stored (codes "?") then call.ClipboardLoad (clipboard_of name) terminator
     else call.ClipboardStore (clipboard_of name) stored) ∷ []
 
 -- 104: without an index all colours are reset

@@ -1,5 +1,5 @@
 //! The calls of operating system commands.
-ghost use Rattle.std.specs.Prelude.{◌≡◌, ◌≤◌, map, codes};
+ghost use Rattle.std.specs.Prelude.{◌≡◌, ◌≤◌, bytes_eq, codes, map};
 ghost use Rattle.vte.specs.CommandCalls.{all_reset, clipboard_calls, color_calls, dynamic_color_calls, dynamic_calls, dynamic_colors, link_calls, link_to, palette_calls, pointer_calls};
 ghost use Rattle.vte.specs.CommandCalls.{reset_calls, shape_calls, system_command_calls, palette_entry_calls};
 ghost use Rattle.vte_types.specs.Rows.{entry_of};
@@ -8,7 +8,6 @@ ghost use Rattle.vte.specs.Titles.{decimal_number};
 ghost use Rattle.vte_handler.specs.Call.{SetHyperlink};
 ghost use Rattle.vte_handler.specs.Handler.{after};
 ghost use Rattle.vte_types.specs.CursorIcon.{icon_of};
-ghost use Rattle.vte_types.specs.Words.{is_word};
 
 use crate::ansi::color_text::xparse_color;
 use crate::ansi::parts::{id_in, strip_word};
@@ -58,7 +57,7 @@ pub(crate) fn perform_system_command<H: Handler, J: TextBuffer>(
 
 /// Whether a text asks for a value.
 fn is_question(text: &[u8]) -> bool
-    ensures { result ≡ is_word text.now (codes "?") }
+    ensures { result ≡ bytes_eq text.now (codes "?") }
 {
     laws::words_differ_from_other_texts();
     matches!(text, [b'?'])

@@ -20,7 +20,8 @@ unfolding events outcome text_outcome segment_event character_event malformed_ev
     class_of executed_events escape_outcome control_sequence_outcome control_sequence_end head_of is_well_shaped
     sequence_event
     numbers groups_of has_too_many_numbers
-    system_command_outcome pieces_of kept_items digits chars is_utf8 trim_start trim_end encode_utf8 all_reset number_of_color
+    system_command_outcome pieces_of kept_items digits chars is_utf8 trim_start trim_end encode_utf8 all_reset
+    number_of_color
 returns c = record {
   executed = refl;
   escape = refl;

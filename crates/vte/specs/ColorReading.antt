@@ -55,8 +55,3 @@ abbrev pub without_space : List ℕ → List ℕ
 without_space (kind ∷ space ∷ numbers) =
     if nat_lt 2 (length numbers) then kind ∷ numbers else kind ∷ space ∷ numbers
 without_space numbers = numbers
-
--- The first number, if it is at most 255.
-abbrev pub component_at_front : List ℕ → Option ℕ
-component_at_front [] = None
-component_at_front (number ∷ numbers) = if is_component number then Some number else None

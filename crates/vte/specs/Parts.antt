@@ -1,8 +1,7 @@
 -- Prefixes of texts, and parts between separators.
-use Rattle.std.specs.Prelude.{ℕ, List, [], ◌∷◌, ◌==◌, Option, Some, None}
+use Rattle.std.specs.Prelude.{ℕ, List, [], ◌∷◌, ◌==◌, Option, None}
 use Rattle.std.specs.List.{slice_split}
 use Rattle.std.specs.Option.{option_or}
-use Rattle.std.specs.Borrow.{Bor}
 use Rattle.vte_types.specs.Words.{after_word}
 
 -- What follows `word` in the first text that starts with it.
@@ -13,8 +12,3 @@ first_after word (text ∷ texts) = option_or (after_word word text) (first_afte
 -- The parts of a text between separators.
 abbrev pub parts_of : ℕ → List ℕ → List (List ℕ)
 parts_of separator text = slice_split (λ b. b == separator) text
-
--- The parts of what is left, if anything is.
-abbrev pub parts_left : ℕ → Option (Bor (List ℕ)) → List (List ℕ)
-parts_left separator None = []
-parts_left separator (Some text) = parts_of separator text.now

@@ -1,6 +1,7 @@
 //! Colours of numbers, read from any iterator of them.
 ghost use Rattle.std.specs.Prelude.{◌≡◌, drop, map};
-ghost use Rattle.vte.specs.ColorReading.{color_reading, kind_reading, component_at_front, without_space};
+ghost use Rattle.vte.specs.ColorReading.{color_reading, kind_reading, without_space};
+ghost use Rattle.vte.specs.machine.ColorReader.{component_at_front};
 
 use crate::ansi::numbers::NumberIterator;
 use vte_types::{Color, Rgb};

@@ -3,7 +3,7 @@ ghost use Rattle.std.specs.Prelude.{◌≡◌, ◌≤◌, bytes_eq, codes, map};
 ghost use Rattle.vte.specs.CommandCalls.{all_reset, clipboard_calls, color_calls, dynamic_color_calls, dynamic_calls, dynamic_colors, link_calls, link_to, palette_calls, pointer_calls};
 ghost use Rattle.vte.specs.CommandCalls.{reset_calls, shape_calls, system_command_calls, palette_entry_calls};
 ghost use Rattle.vte_types.specs.Rows.{entry_of};
-ghost use Rattle.vte.specs.TextRoom.{FitsRoom};
+ghost use Rattle.vte.specs.machine.Texts.{FitsRoom};
 ghost use Rattle.vte.specs.Titles.{decimal_number};
 ghost use Rattle.vte_handler.specs.Call.{SetHyperlink};
 ghost use Rattle.vte_handler.specs.Handler.{after};

@@ -32,8 +32,8 @@ pub use Rattle.vte_core.specs.declared.parser.long.LongParser.{LongParser}
 pub use Rattle.vte_core.specs.declared.parser.refused.Refused.{Refused}
 pub use Rattle.vte_handler.specs.Call.{Call, Input, ResetColor}
 pub use Rattle.vte_handler.specs.Handler.{after}
-pub use Rattle.vte_handler.specs.Timeout.{AllowsAlone, IsKept, TimeoutMeaning}
-pub use Rattle.vte.specs.Processor.{EndsInBegin, HoldsWellAt, IsInsideUpdate, IsOutsideUpdate, Meaning, TakesSteps, State, TakesAllTurns, TakesTurns, all_bytes, begin_front, given_bytes, calls_added, calls_with_stops, parse_held, done, extend, hold_turn, is_held, is_stopped, keep, meaning, most_held, open_turn, stop_if_due, parse, place_of_stop, set_times, stop, stops_in_hold, stops_of, stops_of_advance, stops_of_turn, timeout_meaning, turn, turns, update_nanos}
+pub use Rattle.vte_handler.specs.Timeout.{AllowsAlone, IsKept, TimeoutMeaning, timeout_meaning}
+pub use Rattle.vte.specs.Processor.{EndsInBegin, HoldsWellAt, IsInsideUpdate, IsOutsideUpdate, Meaning, TakesSteps, State, TakesAllTurns, TakesTurns, all_bytes, begin_front, given_bytes, calls_added, calls_with_stops, parse_held, done, extend, hold_turn, is_held, is_stopped, keep, meaning, most_held, open_turn, stop_if_due, parse, place_of_stop, set_times, stop, stops_in_hold, stops_of, stops_of_advance, stops_of_turn, turn, turns, update_nanos}
 pub use Rattle.vte.specs.Refusal.{OpenTurnHalts, HasTaken, TakesSome, TurnHalts, between, within}
 pub use Rattle.vte.specs.BeginUpdate.{begin_count, begins_of, is_update_group, update_groups}
 pub use Rattle.vte.specs.Calls.{added_calls, calls, calls_from, calls_of, last_printed_after, last_printed, last_printed_from}

@@ -1,7 +1,7 @@
 -- Loops that make calls one by one: what is left gives what all gave. The invariant is an equation between the value
 -- now and the value after all calls, and each round takes one call off its front.
 use Rattle.vte.proofs.Common.{◌≡◌, ◌≤◌, ◌<◌, ◌+◌, ◌-◌, ℕ, zero, suc, List, [], ◌∷◌, length, map, Option, None, Some, refl, arith, take, drop, Bor}
-use Rattle.vte.proofs.Common.{take_all, ok_or, slice_index_or, id_of, link_to, pair_calls, pairs_calls, attributes_from, decimal_number, Call, after}
+use Rattle.vte.proofs.Common.{take_all, ok_or, slice_index_or, id_of, link_to, palette_entry_calls, palette_entries_calls, attributes_from, decimal_number, Call, after}
 use Rattle.std.specs.Result.{result_ok}
 use Rattle.vte.proofs.performing.CallLists.{after-append}
 
@@ -10,16 +10,18 @@ pub one_less : (n i : ℕ) → i < n → n - i ≡ suc (n - (i + 1))
 one_less n i inside = omega arith
 
 module _ {V : Type 0} (step : V → Call → V) (old new all : V) where
-  -- one pair is read
-  pub pair_made : (terminator : List ℕ) (left : List (Bor (List ℕ))) (d e : Bor (List ℕ)) → 2 ≤ length left
+  -- one entry is read
+  pub entry_made : (terminator : List ℕ) (left : List (Bor (List ℕ))) (d e : Bor (List ℕ)) → 2 ≤ length left
       → new
       ≡ after step old
-      (pair_calls terminator (decimal_number (slice_index_or left 0 d).now) (slice_index_or left 1 e).now)
-      → after step old (pairs_calls terminator (map (λ piece. piece.now) left)) ≡ all
-      → after step new (pairs_calls terminator (map (λ piece. piece.now) (take (length left - 2) (drop 2 left)))) ≡ all
-  pair_made terminator [] d e some made before = absurd (omega arith)
-  pair_made terminator (index ∷ []) d e some made before = absurd (omega arith)
-  pair_made terminator (index ∷ color ∷ rest) d e some made before =
+      (palette_entry_calls terminator (decimal_number (slice_index_or left 0 d).now) (slice_index_or left 1 e).now)
+      → after step old (palette_entries_calls terminator (map (λ piece. piece.now) left)) ≡ all
+      → after step new
+      (palette_entries_calls terminator (map (λ piece. piece.now) (take (length left - 2) (drop 2 left))))
+      ≡ all
+  entry_made terminator [] d e some made before = absurd (omega arith)
+  entry_made terminator (index ∷ []) d e some made before = absurd (omega arith)
+  entry_made terminator (index ∷ color ∷ rest) d e some made before =
       let left : take (length (index ∷ color ∷ rest) - 2) rest ≡ rest = take_all _ rest (omega arith) in
       rw (left, made) (rw after-append at before)
 

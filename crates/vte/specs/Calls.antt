@@ -10,7 +10,7 @@ use Rattle.vte_handler.specs.Call as call
 -- A control sequence that is ignored makes no call.
 abbrev pub sequence_calls : Option ℕ → List (List ℕ) → List ℕ → Bool → ℕ → List Call
 sequence_calls last groups intermediates true final = []
-sequence_calls last groups intermediates false final = control_calls last intermediates groups final
+sequence_calls last groups intermediates false final = control_calls last groups intermediates final
 
 -- The calls of an event, given the last printed character before it.
 abbrev pub calls_of : Option ℕ → Event → List Call

@@ -25,19 +25,19 @@ pub record ReadColor : Type 0 where
 -- Too few components after a kind: either no number is left, or the next is above 255 and is used
 -- too.
 abbrev pub short_color : ℕ → List ℕ → ReadColor
-short_color parts [] = record { color = None; used = parts }
-short_color parts (number ∷ numbers) = record { color = None; used = suc parts }
+short_color found [] = record { color = None; used = found }
+short_color found (number ∷ numbers) = record { color = None; used = suc found }
 
 -- The components are the numbers up to 255 at the start, at most as many as the kind has.
-abbrev pub parts_reading : ℕ → List ℕ → ReadColor
-parts_reading count numbers =
-    let parts = take_while is_component (take count numbers) in
-    if length parts == count then record { color = color_of_numbers parts; used = count }
-    else short_color (length parts) (drop (length parts) numbers)
+abbrev pub components_reading : ℕ → List ℕ → ReadColor
+components_reading count numbers =
+    let components = take_while is_component (take count numbers) in
+    if length components == count then record { color = color_of_numbers components; used = count }
+    else short_color (length components) (drop (length components) numbers)
 
 abbrev pub reading_of : Option ℕ → List ℕ → ReadColor
 reading_of None numbers = record { color = None; used = 0 }
-reading_of (Some count) numbers = parts_reading count numbers
+reading_of (Some count) numbers = components_reading count numbers
 
 -- A colour of this kind.
 abbrev pub kind_reading : ℕ → List ℕ → ReadColor
@@ -53,10 +53,5 @@ color_reading (kind ∷ numbers) =
 -- space, is skipped.
 abbrev pub without_space : List ℕ → List ℕ
 without_space (kind ∷ space ∷ numbers) =
-    if nat_lt 4 (suc (suc (length numbers))) then kind ∷ numbers else kind ∷ space ∷ numbers
+    if nat_lt 2 (length numbers) then kind ∷ numbers else kind ∷ space ∷ numbers
 without_space numbers = numbers
-
--- The first number, if it is at most 255.
-abbrev pub part_of : List ℕ → Option ℕ
-part_of [] = None
-part_of (number ∷ numbers) = if is_component number then Some number else None

@@ -19,15 +19,16 @@ abbrev pub top_eight_bits : ℕ → ℕ → ℕ
 top_eight_bits count number = 256 * number / 16 ^ count
 
 -- A component of one to four hex digits, converted by `value`.
-abbrev pub part_by : (ℕ → ℕ → ℕ) → List ℕ → Option ℕ
-part_by value digits =
+abbrev pub component_by : (ℕ → ℕ → ℕ) → List ℕ → Option ℕ
+component_by value digits =
     if is_size (length digits)
     then option_map (λ number. value (length digits) number) (hex_number digits) else None
 
 -- r/g/b
 abbrev pub color_of_parts : List (List ℕ) → Option Rgb
 color_of_parts (r ∷ g ∷ b ∷ []) =
-    color_by (part_by scaled_to_255 r) (part_by scaled_to_255 g) (part_by scaled_to_255 b)
+    color_by (component_by scaled_to_255 r) (component_by scaled_to_255 g)
+    (component_by scaled_to_255 b)
 color_of_parts _ = None
 
 -- Three components with the same number of digits.
@@ -35,9 +36,9 @@ abbrev pub color_of_thirds : List ℕ → Option Rgb
 color_of_thirds digits =
     let count = length digits / 3 in
     if length digits == 3 * count
-    then color_by (part_by top_eight_bits (take count digits))
-    (part_by top_eight_bits (take count (drop count digits)))
-    (part_by top_eight_bits (drop (2 * count) digits))
+    then color_by (component_by top_eight_bits (take count digits))
+    (component_by top_eight_bits (take count (drop count digits)))
+    (component_by top_eight_bits (drop (2 * count) digits))
     else None
 
 -- `rgb:` and three components, or `#` and three components with the same number of digits.

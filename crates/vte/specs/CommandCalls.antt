@@ -1,5 +1,5 @@
 -- The calls of operating system commands.
-use Rattle.std.specs.Prelude.{ℕ, Bool, true, false, List, [], ◌∷◌, ◌++◌, map, length, if◌then◌else◌, ◌==◌, ◌+◌, ◌-◌, ◌%◌, codes, Option, Some, None}
+use Rattle.std.specs.Prelude.{ℕ, Bool, true, false, List, [], ◌∷◌, ◌++◌, map, length, if◌then◌else◌, ◌==◌, ◌+◌, ◌%◌, bytes_eq, codes, Option, Some, None, option_and_then}
 use Rattle.std.specs.Fmt.{decimal}
 use Rattle.std.specs.List.{filter_map, range_with_len}
 use Rattle.vte.specs.ColorText.{xparse_color_of}
@@ -11,7 +11,10 @@ use Rattle.vte_handler.specs.Call.{Call}
 use Rattle.vte_handler.specs.Call as call
 use Rattle.vte_handler.specs.Link.{Link}
 use Rattle.vte_types.specs.CursorIcon.{icon_of}
-use Rattle.vte_types.specs.Words.{is_word, after_word, entry_of_word}
+use Rattle.vte_types.specs.NamedColor.{number_of_color}
+use Rattle.vte_types.specs.declared.color.NamedColor.{NamedColor}
+use Rattle.vte_types.specs.declared.color.NamedColor.TheVariants.{Background, Cursor, Foreground}
+use Rattle.vte_types.specs.Words.{after_word, entry_of_word}
 use Rattle.vte_types.specs.declared.screen.CursorShape.{CursorShape}
 use Rattle.vte_types.specs.declared.screen.CursorShape.TheVariants as shape
 
@@ -23,31 +26,30 @@ terminator_of false = 0x1b ∷ 0x5c ∷ []
 -- `?` queries a colour; a colour sets it.
 abbrev pub color_calls : List ℕ → ℕ → List ℕ → List ℕ → List Call
 color_calls prefix index terminator text =
-    if is_word text (codes "?") then call.DynamicColorSequence prefix index terminator ∷ []
+    if bytes_eq text (codes "?") then call.DynamicColorSequence prefix index terminator ∷ []
     else for_some (λ color. call.SetColor index color) (xparse_color_of text)
 
 -- 4: an index and a colour
-abbrev pub pair_calls : List ℕ → Option ℕ → List ℕ → List Call
-pair_calls terminator None text = []
-pair_calls terminator (Some index) text =
+abbrev pub palette_entry_calls : List ℕ → Option ℕ → List ℕ → List Call
+palette_entry_calls terminator None text = []
+palette_entry_calls terminator (Some index) text =
     color_calls (codes "4;" ++ decimal index) index terminator text
 
-abbrev pub pairs_calls : List ℕ → List (List ℕ) → List Call
-pairs_calls terminator [] = []
-pairs_calls terminator (index ∷ []) = []
-pairs_calls terminator (index ∷ text ∷ texts) =
-    pair_calls terminator (decimal_number index) text ++ pairs_calls terminator texts
+abbrev pub palette_entries_calls : List ℕ → List (List ℕ) → List Call
+palette_entries_calls terminator [] = []
+palette_entries_calls terminator (index ∷ []) = []
+palette_entries_calls terminator (index ∷ text ∷ texts) =
+    palette_entry_calls terminator (decimal_number index) text
+    ++ palette_entries_calls terminator texts
 
 abbrev pub palette_calls : List ℕ → List (List ℕ) → List Call
-palette_calls terminator texts = if length texts % 2 == 0 then pairs_calls terminator texts else []
-
-abbrev pub if_utf8 : Option (List ℕ) → Option (List ℕ)
-if_utf8 None = None
-if_utf8 (Some text) = text_in false text
+palette_calls terminator texts =
+    if length texts % 2 == 0 then palette_entries_calls terminator texts else []
 
 -- 8: the text after `id=` in the first part that starts with it
 abbrev pub id_of : List ℕ → Option (List ℕ)
-id_of parameters = if_utf8 (first_after (codes "id=") (parts_of 0x3a parameters))
+id_of parameters =
+    option_and_then (text_in false) (first_after (codes "id=") (parts_of 0x3a parameters))
 
 abbrev pub link_to : List ℕ → List ℕ → Option Link
 link_to parameters [] = None
@@ -59,19 +61,19 @@ link_calls (parameters ∷ []) = []
 link_calls (parameters ∷ text ∷ texts) =
     call.SetHyperlink (link_to parameters (joined_texts true (text ∷ texts))) ∷ []
 
--- 10, 11, 12: the foreground, the background, the cursor; further colours are for the next ones
-abbrev pub dynamic_prefixes : List (Row (List ℕ))
-dynamic_prefixes = (10, codes "10") ∷ (11, codes "11") ∷ (12, codes "12") ∷ []
+-- 10, 11, 12: further colours are for the next ones
+abbrev pub dynamic_colors : List (Row NamedColor)
+dynamic_colors = (10, Foreground) ∷ (11, Background) ∷ (12, Cursor) ∷ []
 
-abbrev pub dynamic_call : ℕ → List ℕ → List ℕ → Option (List ℕ) → List Call
-dynamic_call code terminator text None = []
-dynamic_call code terminator text (Some prefix) =
-    color_calls prefix (256 + (code - 10)) terminator text
+abbrev pub dynamic_color_calls : ℕ → List ℕ → List ℕ → Option NamedColor → List Call
+dynamic_color_calls code terminator text None = []
+dynamic_color_calls code terminator text (Some color) =
+    color_calls (decimal code) (number_of_color color) terminator text
 
 abbrev pub dynamic_calls : ℕ → List ℕ → List (List ℕ) → List Call
 dynamic_calls code terminator [] = []
 dynamic_calls code terminator (text ∷ texts) =
-    dynamic_call code terminator text (entry_of dynamic_prefixes code)
+    dynamic_color_calls code terminator text (entry_of dynamic_colors code)
     ++ dynamic_calls (code + 1) terminator texts
 
 -- 22
@@ -103,7 +105,7 @@ abbrev pub clipboard_calls : List ℕ → List (List ℕ) → List Call
 clipboard_calls terminator [] = []
 clipboard_calls terminator (name ∷ []) = []
 clipboard_calls terminator (name ∷ stored ∷ more) =
-    (if is_word stored (codes "?") then call.ClipboardLoad (clipboard_of name) terminator
+    (if bytes_eq stored (codes "?") then call.ClipboardLoad (clipboard_of name) terminator
     else call.ClipboardStore (clipboard_of name) stored) ∷ []
 
 -- 104: without an index all colours are reset
@@ -130,9 +132,9 @@ command_rows =
     (codes "50", λ terminator texts. shape_calls texts) ∷
     (codes "52", λ terminator texts. clipboard_calls terminator texts) ∷
     (codes "104", λ terminator texts. reset_calls texts) ∷
-    (codes "110", λ terminator texts. call.ResetColor 256 ∷ []) ∷
-    (codes "111", λ terminator texts. call.ResetColor 257 ∷ []) ∷
-    (codes "112", λ terminator texts. call.ResetColor 258 ∷ []) ∷
+    (codes "110", λ terminator texts. call.ResetColor (number_of_color Foreground) ∷ []) ∷
+    (codes "111", λ terminator texts. call.ResetColor (number_of_color Background) ∷ []) ∷
+    (codes "112", λ terminator texts. call.ResetColor (number_of_color Cursor) ∷ []) ∷
     []
 
 -- A command without a row makes no call.

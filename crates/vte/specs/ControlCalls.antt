@@ -1,10 +1,10 @@
 -- The calls of a control sequence, by its final byte and intermediates (ECMA-48, the VT500, xterm).
-use Rattle.std.specs.Prelude.{ℕ, pos, List, [], ◌∷◌, if◌then◌else◌, ◌==◌, ◌&&◌, ◌-◌, Option, Some, None, drop, replicate}
+use Rattle.std.specs.Prelude.{ℕ, pos, List, [], ◌∷◌, if◌then◌else◌, ◌==◌, ◌&&◌, ◌-◌, Option, Some, None, drop, replicate, unwrap_or}
 use Rattle.vte.specs.declared.ansi.control_calls.Change.TheVariants as change
 use Rattle.vte.specs.Change.{change_calls}
 use Rattle.vte.specs.Numbers.{first_of, first_or, first_numbers, is_four}
 use Rattle.vte.specs.Rendition.{attribute_calls}
-use Rattle.vte.specs.Maybe.{for_both, or_none, for_some}
+use Rattle.vte.specs.Maybe.{for_both, for_some}
 use Rattle.vte_types.specs.Rows.{Row, entry_of}
 use Rattle.vte.specs.Values.{behavior_of, bottom_of, cursor_rows, keyboard_modes, keys_rows, line_rows, path_rows, screen_rows, tab_rows, update_rows}
 use Rattle.vte_handler.specs.Call.{Call}
@@ -27,7 +27,19 @@ window_rows =
     (23, call.PopTitle ∷ []) ∷
     []
 
-module _ (last : Option ℕ) (intermediates : List ℕ) (groups : List (List ℕ)) where
+-- How modified keys are reported (XTMODKEYS): only resource 4, `modifyOtherKeys`, is known.
+abbrev pub modify_keys_calls : ℕ → ℕ → List Call
+modify_keys_calls resource value =
+    if resource == 4 then for_some (λ keys. call.SetModifyOtherKeys keys) (entry_of keys_rows value)
+    else []
+
+-- The path of characters and how it is updated, or nothing if one of them is unknown (SCP).
+abbrev pub scp_calls : ℕ → ℕ → List Call
+scp_calls path update =
+    for_both (λ path update. call.SetScp path update) (entry_of path_rows path)
+    (entry_of update_rows update)
+
+module _ (last : Option ℕ) (groups : List (List ℕ)) where
   -- Parameters as ECMA-48 names them, one per group: a number Pn is 1 if it is 0 or omitted, and an
   -- omitted Ps is 0.
   abbrev pub pn : ℕ
@@ -75,7 +87,7 @@ module _ (last : Option ℕ) (intermediates : List ℕ) (groups : List (List ℕ
       (0x53, call.ScrollUp pn ∷ []) ∷  -- S: SU
       (0x73, call.SaveCursorPosition ∷ []) ∷  -- s: SCOSC
       (0x54, call.ScrollDown pn ∷ []) ∷  -- T: SD
-      (0x74, or_none (entry_of window_rows pn)) ∷  -- t: XTWINOPS
+      (0x74, unwrap_or (entry_of window_rows pn) []) ∷  -- t: XTWINOPS
       (0x75, call.RestoreCursorPosition ∷ []) ∷  -- u: SCORC
       (0x58, call.EraseChars pn ∷ []) ∷  -- X: ECH
       (0x5a, call.MoveBackwardTabs pn ∷ []) ∷  -- Z: CBT
@@ -83,7 +95,7 @@ module _ (last : Option ℕ) (intermediates : List ℕ) (groups : List (List ℕ
 
   abbrev pub question_rows : List (Row (List Call))
   question_rows =
-      (0x57, or_none (entry_of set_tabs_rows ps)) ∷  -- W: DECST8C
+      (0x57, unwrap_or (entry_of set_tabs_rows ps) []) ∷  -- W: DECST8C
       (0x68, change_calls change.SetPrivate (first_numbers groups)) ∷  -- h: DECSET
       (0x6c, change_calls change.ResetPrivate (first_numbers groups)) ∷  -- l: DECRST
       (0x6d, if is_four groups then call.ReportModifyOtherKeys ∷ [] else []) ∷  -- m: XTQMODKEYS
@@ -91,11 +103,8 @@ module _ (last : Option ℕ) (intermediates : List ℕ) (groups : List (List ℕ
       []
 
   abbrev pub greater_rows : List (Row (List Call))
-  greater_rows = (
-    0x6d,
-    if pn == 4 then for_some (λ keys. call.SetModifyOtherKeys keys) (entry_of keys_rows ps2)
-        else [],
-  ) ∷  -- m: XTMODKEYS
+  greater_rows =
+      (0x6d, modify_keys_calls pn ps2) ∷  -- m: XTMODKEYS
       (0x75, call.PushKeyboardMode (keyboard_modes ps) ∷ []) ∷  -- u: kitty
       []
 
@@ -110,11 +119,8 @@ module _ (last : Option ℕ) (intermediates : List ℕ) (groups : List (List ℕ
       []
 
   abbrev pub blank_rows : List (Row (List Call))
-  blank_rows = (
-    0x6b,
-    for_both (λ path update. call.SetScp path update) (entry_of path_rows ps)
-        (entry_of update_rows ps2),
-  ) ∷  -- k: SCP
+  blank_rows =
+      (0x6b, scp_calls ps ps2) ∷  -- k: SCP
       (0x71, for_some (λ x. call.SetCursorStyle x) (entry_of cursor_rows ps)) ∷  -- q: DECSCUSR
       []
 
@@ -143,8 +149,8 @@ module _ (last : Option ℕ) (intermediates : List ℕ) (groups : List (List ℕ
   rows_of _ = []
 
   -- Device attributes (DA) may have any intermediates. A sequence without a row makes no call.
-  abbrev pub control_calls : ℕ → List Call
-  control_calls final =
+  abbrev pub control_calls : List ℕ → ℕ → List Call
+  control_calls intermediates final =
       if final == 0x63
       then (if ps == 0 then call.IdentifyTerminal (first_of intermediates) ∷ [] else [])
-      else or_none (entry_of (rows_of intermediates) final)
+      else unwrap_or (entry_of (rows_of intermediates) final) []

@@ -1,6 +1,5 @@
 -- The calls of executed bytes and of escape sequences.
-use Rattle.std.specs.Prelude.{ℕ, List, [], ◌∷◌, if◌then◌else◌, ◌==◌, Option, Some, None}
-use Rattle.vte.specs.Maybe.{or_none}
+use Rattle.std.specs.Prelude.{ℕ, List, [], ◌∷◌, if◌then◌else◌, ◌==◌, Option, Some, None, unwrap_or}
 use Rattle.vte_types.specs.Rows.{Row, entry_of}
 use Rattle.vte_handler.specs.Call.{Call}
 use Rattle.vte_handler.specs.Call as call
@@ -25,7 +24,7 @@ execute_rows =
     []
 
 abbrev pub execute_calls : ℕ → List Call
-execute_calls byte = or_none (entry_of execute_rows byte)
+execute_calls byte = unwrap_or (entry_of execute_rows byte) []
 
 -- Without intermediates.
 abbrev pub escape_rows : List (Row (List Call))
@@ -54,7 +53,7 @@ charset_calls (Some index) (Some charset) = call.ConfigureCharset index charset 
 charset_calls _ _ = []
 
 abbrev pub escape_calls : List ℕ → ℕ → List Call
-escape_calls [] byte = or_none (entry_of escape_rows byte)
+escape_calls [] byte = unwrap_or (entry_of escape_rows byte) []
 escape_calls (i ∷ []) byte =
     if i == 0x23 then (if byte == 0x38 then call.Decaln ∷ [] else [])
     else charset_calls (entry_of charset_rows i) (entry_of standard_charsets byte)

@@ -19,7 +19,6 @@ pub mod Refusal
 pub mod Rendition
 pub mod StdSyncHandler
 pub mod Synchronized
-pub mod TextRoom
 pub mod Titles
 pub mod UpdateExamples
 pub mod Values

@@ -2,10 +2,6 @@
 use Rattle.std.specs.Prelude.{List, [], ◌∷◌, Option, Some, None}
 use Rattle.vte_handler.specs.Call.{Call}
 
-abbrev pub or_none : {A : Type 0} → Option (List A) → List A
-or_none None = []
-or_none (Some xs) = xs
-
 abbrev pub for_some : {A : Type 0} → (A → Call) → Option A → List Call
 for_some call_with None = []
 for_some call_with (Some x) = call_with x ∷ []

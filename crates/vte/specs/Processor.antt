@@ -5,7 +5,7 @@ use Rattle.std.specs.Prelude.{ℕ, zero, suc, Bool, Option, ◌++◌, List, ◌�
 use Rattle.vte_core.specs.Stream.{events, added}
 use Rattle.vte_handler.specs.Call.{Call}
 use Rattle.vte_handler.specs.Handler.{after}
-use Rattle.vte_handler.specs.Timeout.{TimeoutMeaning, AllowsAlone, IsKept}
+use Rattle.vte_handler.specs.Timeout.{TimeoutMeaning, timeout_meaning, AllowsAlone, IsKept}
 use Rattle.vte.specs.BeginUpdate.{begin_count}
 use Rattle.vte.specs.Calls.{added_calls}
 use Rattle.vte.specs.Synchronized.{begins_among, kept_of, last_part, update_ended, begin_update, begins_with, after_last_end}
@@ -18,10 +18,6 @@ pub record Meaning (H W : Type 0) : Type 1 where
   pub limit : Option ℕ
   pub step : H → Call → H
   pub timeout : TimeoutMeaning W
-
-abbrev pub timeout_meaning : {W : Type 0} → (W → ℕ → W) → (W → W) → (W → Bool → Type 0)
-    → TimeoutMeaning W
-timeout_meaning set clear allows = record { set = set; clear = clear; allows = allows }
 
 abbrev pub meaning : {H W : Type 0} → Option ℕ → (H → Call → H) → (W → ℕ → W) → (W → W)
     → (W → Bool → Type 0) → Meaning H W

@@ -1,5 +1,5 @@
 -- Select graphic rendition: the attributes of groups (ECMA-48, section 8.3.117; xterm).
-use Rattle.std.specs.Prelude.{ℕ, List, [], ◌∷◌, ◌++◌, map, if◌then◌else◌, ◌==◌, Option, Some, None, suc, zero, option_map, option_to_list}
+use Rattle.std.specs.Prelude.{ℕ, List, [], ◌∷◌, ◌++◌, map, if◌then◌else◌, ◌==◌, Option, Some, None, suc, zero, option_map, option_to_list, unwrap_or}
 use Rattle.vte.specs.ColorReading.{ReadColor, color_reading, without_space}
 use Rattle.vte.specs.Numbers.{first_numbers}
 use Rattle.vte_types.specs.Rows.{Row, entry_of}
@@ -111,12 +111,8 @@ single_rendition number (Some with_color) groups =
 single_rendition number None groups = attribute_alone (entry_of attribute_rows number)
 
 -- Any other kind is a plain underline.
-abbrev pub or_underline : Option Attr → Attr
-or_underline None = attr.Underline
-or_underline (Some attribute) = attribute
-
 abbrev pub underline_of : List ℕ → Attr
-underline_of (kind ∷ []) = or_underline (entry_of underline_rows kind)
+underline_of (kind ∷ []) = unwrap_or (entry_of underline_rows kind) attr.Underline
 underline_of _ = attr.Underline
 
 -- A group of several numbers.

@@ -4,7 +4,9 @@
 use Rattle.vte_handler.specs.Call.{Call, UnsetPrivateMode}
 use Rattle.vte_types.specs.declared.mode.NamedPrivateMode.TheVariants.{SyncUpdate}
 use Rattle.vte_types.specs.declared.mode.PrivateMode.TheVariants.{Named}
-use Rattle.std.specs.Prelude.{ℕ, ◌+◌, Bool, true, false, ◌&&◌, Option, Some, None, List, [], ◌∷◌, length, drop, if◌then◌else◌, ◌==◌, nat_lt}
+use Rattle.std.specs.Prelude.{ℕ, ◌+◌, Bool, Option, Some, None, List, [], ◌∷◌, length, if◌then◌else◌, is_some, nat_lt, unwrap_or}
+use Rattle.std.specs.Option.{option_map_or, option_or}
+use Rattle.vte_types.specs.Words.{after_word}
 
 -- ESC [?2026h
 abbrev pub begin_update : List ℕ
@@ -16,19 +18,12 @@ end_update = 0x1b ∷ 0x5b ∷ 0x3f ∷ 0x32 ∷ 0x30 ∷ 0x32 ∷ 0x36 ∷ 0x6c
 
 -- The text starts with the sequence.
 abbrev pub begins_with : List ℕ → List ℕ → Bool
-begins_with [] text = true
-begins_with (a ∷ sequence) [] = false
-begins_with (a ∷ sequence) (b ∷ text) = a == b && begins_with sequence text
-
--- What follows an end-update at the start of the text, unless there is a later one.
-abbrev pub or_after_front : List ℕ → Option (List ℕ) → Option (List ℕ)
-or_after_front text (Some rest) = Some rest
-or_after_front text None = if begins_with end_update text then Some (drop 8 text) else None
+begins_with sequence text = is_some (after_word sequence text)
 
 -- What follows the last end-update of a text.
 abbrev pub after_last_end : List ℕ → Option (List ℕ)
 after_last_end [] = None
-after_last_end (b ∷ text) = or_after_front (b ∷ text) (after_last_end text)
+after_last_end (b ∷ text) = option_or (after_last_end text) (after_word end_update (b ∷ text))
 
 -- The text from its earliest begin-update on, if there is one.
 abbrev pub from_begin : List ℕ → List ℕ
@@ -48,17 +43,14 @@ kept_of text = kept_part text (after_last_end text)
 abbrev pub begins_among : ℕ → List ℕ → ℕ
 begins_among n [] = 0
 begins_among n (b ∷ text) =
-    (if begins_with begin_update (b ∷ text) && nat_lt (length (drop 8 (b ∷ text))) n then 1 else 0)
+    option_map_or (λ rest. if nat_lt (length rest) n then 1 else 0)
+    (after_word begin_update (b ∷ text)) 0
     + begins_among n text
 
 -- The part of a text in which begin-updates count: what follows the last end-update or, without
 -- one, all of it.
-abbrev pub counted_part : List ℕ → Option (List ℕ) → List ℕ
-counted_part text (Some rest) = rest
-counted_part text None = text
-
 abbrev pub last_part : List ℕ → List ℕ
-last_part text = counted_part text (after_last_end text)
+last_part text = unwrap_or (after_last_end text) text
 
 -- The call that reports the end of an update.
 abbrev pub update_ended : Call

@@ -1,5 +1,5 @@
 -- Titles, and numbers in commands.
-use Rattle.std.specs.Prelude.{ℕ, Bool, true, false, List, [], ◌∷◌, ◌+◌, ◌*◌, ◌&&◌, Option, Some, None, nat_lt, if◌then◌else◌}
+use Rattle.std.specs.Prelude.{ℕ, Bool, false, List, [], ◌∷◌, ◌+◌, ◌*◌, ◌&&◌, Option, Some, None, nat_lt, if◌then◌else◌}
 use Rattle.std.specs.Char.{digit_value}
 use Rattle.std.specs.List.{filter_map, join_with_byte}
 use Rattle.std.specs.Str.{is_utf8, trim}
@@ -15,11 +15,6 @@ number_from number (byte ∷ bytes) =
 abbrev pub decimal_number : List ℕ → Option ℕ
 decimal_number [] = None
 decimal_number (byte ∷ bytes) = number_from 0 (byte ∷ bytes)
-
--- Every text but the first is preceded by `;`.
-abbrev pub with_separator : Bool → List ℕ → List ℕ
-with_separator true text = text
-with_separator false text = 0x3b ∷ text
 
 -- The text of a piece. One that isn't UTF-8 counts as empty if all are kept, and is left out
 -- otherwise.

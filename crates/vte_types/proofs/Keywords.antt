@@ -2,10 +2,10 @@
 use Rattle.std.proofs.Common.{◌≡◌, ℕ, zero, suc, Bool, true, false, cond, List, [], ◌∷◌, Option, None, Some, refl, ap, arith}
 use Rattle.std.proofs.lemmas.Bool.{and_parts, ltb-true}
 use Rattle.std.proofs.lemmas.Str.{IsUtf8-from_ascii, is_utf8-from_IsUtf8}
-use Rattle.std.specs.Prelude.{nat_lt, ◌&&◌}
+use Rattle.std.specs.Prelude.{bytes_eq, nat_lt, ◌&&◌}
 use Rattle.std.specs.Str.{is_utf8, IsAscii}
 use Rattle.vte_types.specs.CursorIcon.{icons, icon_of}
-use Rattle.vte_types.specs.Words.{entry_of_word, is_word}
+use Rattle.vte_types.specs.Words.{entry_of_word}
 use Rattle.vte_types.proofs.Words.{other_word}
 
 row_by : {A : Type 0} (x : A) (others : Option A) (t : Bool) → t ≡ false → others ≡ None → cond t (Some x) others ≡ None
@@ -32,7 +32,7 @@ other_bytes : {A : Type 0} (rows : List (List ℕ × A)) (text : List ℕ) → h
     → is_utf8 text ≡ false → entry_of_word rows text ≡ None
 other_bytes [] text are not = refl
 other_bytes (row ∷ rows) text are not =
-    row_by row.1 (entry_of_word rows text) (is_word text row.0)
+    row_by row.1 (entry_of_word rows text) (bytes_eq text row.0)
     (other_word text row.0 (λ e. let same = ap is_utf8 e in let is = ascii_is_utf8 row.0 (and_parts _ _ are).0 in cc))
     (other_bytes rows text (and_parts _ _ are).1 not)
 

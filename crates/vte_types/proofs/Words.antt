@@ -4,29 +4,18 @@ use Rattle.std.proofs.Common.{◌≡◌, ◌≢◌, ◌<◌, ◌+◌, ℕ, suc, 
 use Rattle.std.proofs.Common.{drop-cons, Option, None, Some, option_map, refl, sym, ◌∙◌, ap, arith, Bor, MatchOption}
 use Rattle.std.proofs.lemmas.Bool.{false_from_ne_true}
 use Rattle.std.proofs.lemmas.Bool.Decides.{nat_tests}
-use Rattle.std.specs.Prelude.{map, ◌&&◌}
+use Rattle.std.proofs.lemmas.Slice.Eq.{bytes_eq-Decides}
+use Rattle.std.specs.Prelude.{map}
 use Rattle.std.specs.Str.{bytes_eq}
-use Rattle.vte_types.specs.Words.{is_word, after_word, entry_of_word}
+use Rattle.vte_types.specs.Words.{after_word, entry_of_word}
 
-same_by : (a b : ℕ) (text word : List ℕ) (rest : is_word text word ≡ true → text ≡ word) (t : Bool) → eqb a b ≡ t
-    → cond t (is_word text word) false ≡ true → (a ∷ text) ≡ (b ∷ word)
-same_by a b text word rest true same e =
-    let first : a ≡ b = grind (arith, nat_tests) in let more : text ≡ word = rest e in cc
-same_by a b text word rest false same e = cc
+pub other_word : (text word : List ℕ) → (text ≡ word → ⊥) → bytes_eq text word ≡ false
+other_word text word h = false_from_ne_true _ (λ e. h ((bytes_eq-Decides text word).0 e))
 
-same_word : (text word : List ℕ) → is_word text word ≡ true → text ≡ word
-same_word [] [] e = refl
-same_word [] (b ∷ word) e = cc
-same_word (a ∷ text) [] e = cc
-same_word (a ∷ text) (b ∷ word) e = same_by a b text word (same_word text word) (eqb a b) refl e
-
-pub other_word : (text word : List ℕ) → (text ≡ word → ⊥) → is_word text word ≡ false
-other_word text word h = false_from_ne_true _ (λ e. h (same_word text word e))
-
-pub short_word : (text word : List ℕ) → length text < length word → is_word text word ≡ false
+pub short_word : (text word : List ℕ) → length text < length word → bytes_eq text word ≡ false
 short_word text word h = other_word text word (λ e. let k = ap length e in omega arith)
 
-pub long_word : (text word : List ℕ) → length word < length text → is_word text word ≡ false
+pub long_word : (text word : List ℕ) → length word < length text → bytes_eq text word ≡ false
 long_word text word h = other_word text word (λ e. let k = ap length e in omega arith)
 
 same_first : (a : ℕ) (word text : List ℕ) (t : Bool) → eqb a a ≡ t
@@ -58,17 +47,6 @@ after_is word text (Some x) h = sym (ap (after_word word) h ∙ word_front word 
 
 -- ---- a table of words
 
-same_and : (t x y : Bool) → x ≡ y → (t && x) ≡ cond t y false
-same_and true x y e = e
-same_and false x y e = refl
-
--- A test for a word is `==` of texts.
-pub tests_agree : (text word : List ℕ) → bytes_eq text word ≡ is_word text word
-tests_agree [] [] = refl
-tests_agree [] (b ∷ word) = refl
-tests_agree (a ∷ text) [] = refl
-tests_agree (a ∷ text) (b ∷ word) = same_and (eqb a b) _ _ (tests_agree text word)
-
 -- A table in code has references to its words, and one in a definition has the words.
 abbrev pub rows_of : {A : Type 0} → List (Bor (List ℕ) × A) → List (List ℕ × A)
 rows_of rows = map (λ row. (row.0.now, row.1)) rows
@@ -83,4 +61,4 @@ from_row rows i d text t within told =
     ap (λ rows. entry_of_word (rows_of rows) text)
     (drop-cons rows i d within ∙ ap (λ n. get_or rows i d ∷ drop n rows) next)
     ∙ ap (λ t. cond t (Some (get_or rows i d).1) (entry_of_word (rows_of (drop (i + 1) rows)) text))
-    (sym (told ∙ tests_agree text (get_or rows i d).0.now))
+    (sym told)

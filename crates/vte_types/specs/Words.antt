@@ -1,17 +1,11 @@
 -- Words and what they stand for.
-use Rattle.std.specs.Prelude.{ℕ, Bool, true, false, List, [], ◌∷◌, if◌then◌else◌, ◌==◌, Option, Some, None}
-
--- The text is this word.
-abbrev pub is_word : List ℕ → List ℕ → Bool
-is_word [] [] = true
-is_word [] (b ∷ word) = false
-is_word (a ∷ text) [] = false
-is_word (a ∷ text) (b ∷ word) = if a == b then is_word text word else false
+use Rattle.std.specs.Prelude.{ℕ, List, [], ◌∷◌, if◌then◌else◌, ◌==◌, bytes_eq, Option, Some, None}
 
 -- The entry of a word in a table.
 abbrev pub entry_of_word : {A : Type 0} → List (List ℕ × A) → List ℕ → Option A
 entry_of_word [] text = None
-entry_of_word (row ∷ rows) text = if is_word text row.0 then Some row.1 else entry_of_word rows text
+entry_of_word (row ∷ rows) text =
+    if bytes_eq text row.0 then Some row.1 else entry_of_word rows text
 
 -- What follows a word at the start of the text.
 abbrev pub after_word : List ℕ → List ℕ → Option (List ℕ)

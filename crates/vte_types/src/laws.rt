@@ -1,5 +1,5 @@
 //! Laws of the tables. All functions except `defaults` do nothing: their contracts are the laws.
-ghost use Rattle.std.specs.Prelude.{◌≡◌, ◌≢◌, ◌<◌, ◌^◌, ℕ, IsTrue, List, ◌++◌, None, Some, false, fold, length};
+ghost use Rattle.std.specs.Prelude.{◌≡◌, ◌≢◌, ◌<◌, ◌^◌, ℕ, IsTrue, List, ◌++◌, None, Some, bytes_eq, false, fold, length};
 ghost use Rattle.std.specs.Str.{is_utf8};
 ghost use Rattle.vte_types.specs.Bright.{bright_of, dim_of, is_bright, is_dim};
 ghost use Rattle.vte_types.specs.CursorIcon.{icon_of};
@@ -7,7 +7,7 @@ ghost use Rattle.vte_types.specs.Keyboard.{modes_of_bits};
 ghost use Rattle.vte_types.specs.Mode.{mode_of, number_of_mode, number_of_private_mode, private_mode_of};
 ghost use Rattle.vte_types.specs.NamedColor.{number_of_color};
 ghost use Rattle.vte_types.specs.RgbText.{hex_color_of, shown_color};
-ghost use Rattle.vte_types.specs.Words.{after_word, is_word};
+ghost use Rattle.vte_types.specs.Words.{after_word};
 
 use crate::charset::{CharsetIndex, StandardCharset};
 use crate::color::{NamedColor, Rgb};
@@ -50,9 +50,10 @@ pub fn words_stand_in_front()
 
 /// No text but the word itself is a word, and so none that is shorter or longer.
 pub fn words_differ_from_other_texts()
-    ensures other { (text word : List ℕ) → text ≢ word → is_word text word ≡ false }
-    ensures shorter { (text word : List ℕ) → length text < length word → is_word text word ≡ false }
-    ensures longer { (text word : List ℕ) → length word < length text → is_word text word ≡ false }
+    ensures other { (text word : List ℕ) → text ≢ word → bytes_eq text word ≡ false }
+    ensures shorter { (text word : List ℕ) → length text < length word
+        → bytes_eq text word ≡ false }
+    ensures longer { (text word : List ℕ) → length word < length text → bytes_eq text word ≡ false }
 {}
 
 /// A text that isn't UTF-8 isn't a cursor keyword.

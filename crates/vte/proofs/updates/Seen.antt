@@ -1,11 +1,11 @@
 -- What the search from the end of a hold has seen, place by place: how many updates begin, and where what is unread
 -- starts. Only a place with ESC can change it, and the older bytes matter only by their last seven.
 use Rattle.vte.proofs.Common.{◌≡◌, ℕ, zero, suc, ◌+◌, ◌-◌, ◌<◌, ◌≤◌, inl, inr, true, false, eqb, Some, None, List, [], ◌∷◌, length, drop, take, get_or, refl}
-use Rattle.vte.proofs.Common.{ap, ◌∙◌, add-zero, length-drop, arith, cases_Bool, nat_tests, drop_all, drop_more, get_or-drop, get_or-take, length-take-le, take_all, and-false, ◌++◌}
-use Rattle.vte.proofs.Common.{IsEnd, drop-drop, length-append, Adds, begin_update, end_update, begins_among, begins_with, after_last_end, from_begin}
+use Rattle.vte.proofs.Common.{ap, ◌∙◌, add-zero, length-drop, arith, cases_Bool, nat_tests, drop_all, drop_more, get_or-drop, get_or-take, length-take-le, take_all, ◌++◌}
+use Rattle.vte.proofs.Common.{IsEnd, drop-drop, length-append, Adds, after_word, begin_update, end_update, begins_among, begins_with, after_last_end, from_begin}
 use Rattle.std.specs.Prelude.{nat_lt}
 use Rattle.memchr.specs.Find.{NoneAfter, Nowhere, Passes, is_byte}
-use Rattle.vte.proofs.updates.Sequences.{begins_among-tail, begins_is, begins_long, after_last_end-tail, end_skipped}
+use Rattle.vte.proofs.updates.Sequences.{after_whole, begins_among-tail, begins_is, begins_long, after_last_end-tail, end_skipped, not_further, not_some}
 
 -- no update begins or ends with the sequence at this place
 record IsNeither (text : List ℕ) (place : ℕ) : Type 0 where
@@ -46,7 +46,7 @@ no_escape [] text i plain inside here = absurd (omega arith)
 no_escape (a ∷ sequence) [] i plain inside here = refl
 no_escape (a ∷ sequence) (b ∷ text) zero plain inside here = let first = plain.0 in grind (arith, nat_tests)
 no_escape (a ∷ sequence) (b ∷ text) (suc i) plain inside here =
-    rw (no_escape sequence text i plain.1 (omega arith) here) (and-false _)
+    not_further a b sequence text (no_escape sequence text i plain.1 (omega arith) here)
 
 neither_before : (text : List ℕ) (place escape : ℕ) → place < escape → escape < place + 8 → escape < length text
     → eqb (get_or text escape 0) 0x1b ≡ true → IsNeither text place
@@ -55,22 +55,16 @@ neither_before text place escape before near inside here =
     let i = escape - (place + 1) in
     let n : place + 1 + i ≡ escape = omega arith in
     let there : eqb (get_or (drop (place + 1) text) i 0) 0x1b ≡ true = rw (get_or-drop, n) here in
+    let none : (sequence : List ℕ) → HasNoEscape sequence → 7 ≡ length sequence
+    → begins_with (0x1b ∷ sequence) (drop place text) ≡ false
+    = λ sequence plain long.
+    rw d (not_further 0x1b _ sequence _ (no_escape sequence _ i plain (omega (arith, long)) there)) in
     record {
-      no_begin =
-          rw (
-            d,
-            no_escape (drop 1 begin_update) (drop (place + 1) text) i
-                (refl, (refl, (refl, (refl, (refl, (refl, (refl, tt))))))) (omega arith) there,
-          ) (and-false _);
-      no_end =
-          rw (
-            d,
-            no_escape (drop 1 end_update) (drop (place + 1) text) i
-                (refl, (refl, (refl, (refl, (refl, (refl, (refl, tt))))))) (omega arith) there,
-          ) (and-false _);
+      no_begin = none (drop 1 begin_update) (refl, (refl, (refl, (refl, (refl, (refl, (refl, tt))))))) refl;
+      no_end = none (drop 1 end_update) (refl, (refl, (refl, (refl, (refl, (refl, (refl, tt))))))) refl;
     }
 
-begins_one : (text : List ℕ) → begins_with begin_update text ≡ true → begins_with end_update text ≡ false
+begins_one : (text : List ℕ) → begins_with begin_update text ≡ true → after_word end_update text ≡ None
 begins_one text e = rw (begins_is begin_update text e) refl
 
 -- what is after a place, of a text of which so many bytes are new
@@ -84,7 +78,10 @@ pub record HasSeen (text : List ℕ) (new unread begin begins : ℕ) : Type 0 wh
 module _ (text : List ℕ) (new place begin begins : ℕ) (l : place < length text)
     (seen : HasSeen text new (place + 1) begin begins) where
   seen_other : IsNeither text place → HasSeen text new place begin begins
-  seen_other n = let d = drop_more text place 0 l in let e = n.no_begin in let other = n.no_end in grind (arith, d)
+  seen_other n = let d = drop_more text place 0 l in
+      let no_begin = not_some _ (rw d at n.no_begin) in
+      let no_end = not_some _ (rw d at n.no_end) in
+      grind (arith, d)
 
   -- with at most seven older bytes from there on, it ends among the new ones
   seen_begin : length text ≤ place + 7 + new → begins_with begin_update (drop place text) ≡ true
@@ -99,15 +96,17 @@ module _ (text : List ℕ) (new place begin begins : ℕ) (l : place < length te
       record {
         no_end = rw (d, seen.no_end, other) refl;
         begin_is = rw (d, here) (rw length-drop (omega arith));
-        begins_are = rw (d, here, near) (omega (arith, seen.begins_are));
+        begins_are = rw (d, after_whole begin_update _ here, near) (omega (arith, seen.begins_are));
       }
 
   pub seen_end : begins_with end_update (drop place text) ≡ true
       → Adds text new (record { begins = begins; released = begin })
   seen_end e =
       let d = drop_more text place 0 l in
-      let skipped = end_skipped new (get_or text place 0) (drop (place + 1) text) (rw d at e) in
-      let last : after_last_end text ≡ Some (drop 7 (drop (place + 1) text)) = last_of place text _ (grind arith) in
+      let here = rw d at e in
+      let skipped = end_skipped new (get_or text place 0) (drop (place + 1) text) here in
+      let last : after_last_end text ≡ Some (drop 7 (drop (place + 1) text)) =
+      last_of place text _ (rw (d, seen.no_end, after_whole end_update _ here) refl) in
       record {
         begins = rw last (seen.begins_are ∙ skipped.1);
         released = rw last (seen.begin_is ∙ ap (λ part. length text - length part) skipped.0);

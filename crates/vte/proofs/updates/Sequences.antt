@@ -1,16 +1,30 @@
 -- The two sequences of updates in a text, and the parts after them. Both have eight bytes and one ESC, so they never
 -- overlap; without an end-update in the older bytes, their last seven decide as all of them would.
 use Rattle.vte.proofs.Common.{◌≡◌, ℕ, zero, suc, ◌+◌, ◌-◌, ◌≤◌, inl, inr, ◌⊎◌, true, false, Option, Some, None, List, [], ◌∷◌, ◌++◌, length, drop, refl, ap}
-use Rattle.vte.proofs.Common.{zero-add, length-append, length-drop, arith, cases_Bool, cases_lt, nat_tests, and-false, drop-drop, begin_update, end_update, begins_with, after_last_end, from_begin}
+use Rattle.vte.proofs.Common.{zero-add, length-append, length-drop, arith, cases_Bool, cases_lt, nat_tests, drop-drop, after_word, begin_update, end_update, begins_with, after_last_end, from_begin}
 use Rattle.vte.proofs.Common.{begins_among, kept_of, sym, ◌<◌}
-use Rattle.std.specs.Prelude.{nat_lt}
+use Rattle.std.specs.Prelude.{is_some, nat_lt}
 
 -- an `Option` by cases, for `elim`
 pub cases_Option : {A : Type 0} (o : Option A) → (o ≡ None) ⊎ ((x : A) × (o ≡ Some x))
 cases_Option None = inl refl
 cases_Option (Some x) = inr (x, refl)
 
+pub not_some : {A : Type 0} (o : Option A) → is_some o ≡ false → o ≡ None
+not_some None e = refl
+not_some (Some x) e = cc
+
 -- ---- a sequence at the front
+
+pub after_whole : (sequence text : List ℕ) → begins_with sequence text ≡ true
+    → after_word sequence text ≡ Some (drop (length sequence) text)
+after_whole [] text e = refl
+after_whole (a ∷ sequence) [] e = cc
+after_whole (a ∷ sequence) (b ∷ text) e = grind (arith, after_whole sequence text)
+
+pub not_further : (a b : ℕ) (sequence text : List ℕ) → begins_with sequence text ≡ false
+    → begins_with (a ∷ sequence) (b ∷ text) ≡ false
+not_further a b sequence text e = grind (arith, e)
 
 -- the text is the sequence and what follows it
 pub begins_is : (sequence text : List ℕ) → begins_with sequence text ≡ true
@@ -75,9 +89,11 @@ pub follows_last_end : (text rest : List ℕ) → after_last_end text ≡ Some r
 follows_last_end [] rest e = cc
 follows_last_end (b ∷ text) rest e = elim (cases_Option (after_last_end text)) [
   | inl none ↦
-      let is : rest ≡ drop 7 text = grind arith in
+      let here : after_word end_update (b ∷ text) ≡ Some rest = rw none at e in
+      let first : begins_with end_update (b ∷ text) ≡ true = rw here refl in
+      let is : rest ≡ drop 7 text = cc (here, after_whole end_update (b ∷ text) first) in
       record {
-        suffix = record { front = 8; within = begins_long end_update (b ∷ text) (grind arith); is = is };
+        suffix = record { front = 8; within = begins_long end_update (b ∷ text) first; is = is };
         no_end = rw is (none_drop 7 text none);
       }
   | inr later ↦
@@ -140,7 +156,8 @@ after_last_end-tail (b ∷ old) more none = elim (cases_lt (length old) 7) [
   | inl few ↦ let e : suc (length old) - 7 ≡ 0 = omega arith in rw e
   | inr many ↦
       let e : suc (length old) - 7 ≡ suc (length old - 7) = omega arith in
-      rw e (grind (arith, no_end_here b old more many none, after_last_end-tail old more))
+      let no_end = not_some _ (no_end_here b old more many none) in
+      rw e (grind (arith, no_end, after_last_end-tail old more))
 ]
 
 -- A begin-update ends among the last n bytes only if it begins among these and the seven before
@@ -154,5 +171,9 @@ begins_among-tail n (b ∷ old) more is = elim (cases_lt (length old) 7) [
       let e : suc (length old) - 7 ≡ suc (length old - 7) = omega arith in
       let far : nat_lt (length (drop 7 (old ++ more))) n ≡ false =
       rw (length-drop, length-append) (grind (arith, nat_tests)) in
-      rw (e, far, and-false, zero-add) (begins_among-tail n old more is)
+      let tail = begins_among-tail n old more is in
+      rw e (elim (cases_Bool (begins_with begin_update (b ∷ (old ++ more)))) [
+        | inl here ↦ rw (after_whole begin_update (b ∷ (old ++ more)) here, far, zero-add) tail
+        | inr other ↦ rw (not_some _ other, zero-add) tail
+      ])
 ]

@@ -6,7 +6,7 @@ use Rattle.vte.specs.BeginUpdate.{begins_of}
 use Rattle.vte.specs.Calls.{calls_of, last_printed_after}
 use Rattle.vte.specs.CommandCalls.{system_command_calls}
 use Rattle.vte.specs.Processor.{set_times}
-use Rattle.vte.specs.TextRoom.{fits_room}
+use Rattle.vte.specs.machine.Texts.{fits_room}
 use Rattle.vte_core.specs.Event.{Event, OscDispatch}
 use Rattle.vte_handler.specs.Call.{Call}
 use Rattle.vte_handler.specs.Handler.{after}

@@ -1,13 +1,14 @@
 //! Colours of numbers, read from any iterator of them.
 ghost use Rattle.std.specs.Prelude.{◌≡◌, drop, map};
-ghost use Rattle.vte.specs.ColorReading.{color_reading, kind_reading, part_of, without_space};
+ghost use Rattle.vte.specs.ColorReading.{color_reading, kind_reading, without_space};
+ghost use Rattle.vte.specs.machine.ColorReader.{component_at_front};
 
 use crate::ansi::numbers::NumberIterator;
 use vte_types::{Color, Rgb};
 
-/// The next number that is a part of a colour.
-fn next_part<I: NumberIterator>(numbers: &mut I) -> Option<u8>
-    ensures part { result ≡ part_of (map I.number (I.left numbers.old)) }
+/// The next number, if it is a component of a colour.
+fn next_component<I: NumberIterator>(numbers: &mut I) -> Option<u8>
+    ensures component { result ≡ component_at_front (map I.number (I.left numbers.old)) }
     ensures rest { I.left numbers.new ≡ drop 1 (I.left numbers.old) }
 {
     u8::try_from(numbers.next_number()?).ok()
@@ -22,12 +23,12 @@ pub(crate) fn read_color<I: NumberIterator>(kind: u16, numbers: &mut I) -> Optio
 {
     match kind {
         2 => {
-            let r = next_part(numbers)?;
-            let g = next_part(numbers)?;
-            let b = next_part(numbers)?;
+            let r = next_component(numbers)?;
+            let g = next_component(numbers)?;
+            let b = next_component(numbers)?;
             Some(Color::Spec(Rgb { r, g, b }))
         }
-        5 => Some(Color::Indexed(next_part(numbers)?)),
+        5 => Some(Color::Indexed(next_component(numbers)?)),
         _ => None,
     }
 }

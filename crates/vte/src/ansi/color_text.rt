@@ -1,6 +1,6 @@
 //! Colours as texts.
 ghost use Rattle.std.specs.Prelude.{◌≡◌, ◌≤◌, ◌<◌, ◌^◌, length, Some, IfSome};
-ghost use Rattle.vte.specs.ColorText.{xparse_color_of, color_of_parts, color_of_thirds, part_by, scaled_to_255, top_eight_bits};
+ghost use Rattle.vte.specs.ColorText.{xparse_color_of, color_of_parts, color_of_thirds, component_by, scaled_to_255, top_eight_bits};
 ghost use Rattle.vte.specs.Parts.{parts_of};
 ghost use Rattle.vte_types.specs.Hex.{hex_number};
 
@@ -62,7 +62,7 @@ fn hex_value(digits: &[u8]) -> Option<u32>
 
 /// Scales a number to 255, from the greatest number of as many digits.
 fn share_of(digits: &[u8]) -> Option<u8>
-    ensures { result ≡ part_by scaled_to_255 digits.now }
+    ensures { result ≡ component_by scaled_to_255 digits.now }
 {
     let greatest = match digits.len() {
         1 => 0xf,
@@ -76,7 +76,7 @@ fn share_of(digits: &[u8]) -> Option<u8>
 
 /// Returns the top eight bits of a number of this many digits.
 fn top_of(digits: &[u8]) -> Option<u8>
-    ensures { result ≡ part_by top_eight_bits digits.now }
+    ensures { result ≡ component_by top_eight_bits digits.now }
 {
     let range = match digits.len() {
         1 => 0x10,

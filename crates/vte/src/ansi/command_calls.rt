@@ -1,14 +1,13 @@
 //! The calls of operating system commands.
-ghost use Rattle.std.specs.Prelude.{◌≡◌, ◌≤◌, map, codes};
-ghost use Rattle.vte.specs.CommandCalls.{all_reset, clipboard_calls, color_calls, dynamic_call, dynamic_calls, dynamic_prefixes, link_calls, link_to, palette_calls, pointer_calls};
-ghost use Rattle.vte.specs.CommandCalls.{reset_calls, shape_calls, system_command_calls, pair_calls};
+ghost use Rattle.std.specs.Prelude.{◌≡◌, ◌≤◌, bytes_eq, codes, map};
+ghost use Rattle.vte.specs.CommandCalls.{all_reset, clipboard_calls, color_calls, dynamic_color_calls, dynamic_calls, dynamic_colors, link_calls, link_to, palette_calls, pointer_calls};
+ghost use Rattle.vte.specs.CommandCalls.{reset_calls, shape_calls, system_command_calls, palette_entry_calls};
 ghost use Rattle.vte_types.specs.Rows.{entry_of};
-ghost use Rattle.vte.specs.TextRoom.{FitsRoom};
+ghost use Rattle.vte.specs.machine.Texts.{FitsRoom};
 ghost use Rattle.vte.specs.Titles.{decimal_number};
 ghost use Rattle.vte_handler.specs.Call.{SetHyperlink};
 ghost use Rattle.vte_handler.specs.Handler.{after};
 ghost use Rattle.vte_types.specs.CursorIcon.{icon_of};
-ghost use Rattle.vte_types.specs.Words.{is_word};
 
 use crate::ansi::color_text::xparse_color;
 use crate::ansi::parts::{id_in, strip_word};
@@ -21,6 +20,7 @@ use vte_types::cursor_icon::CursorIcon;
 use vte_types::{CursorShape, laws};
 
 /// Makes the calls of an operating system command.
+#[tactic(auto, unfolding(vte_types::specs::NamedColor::number_of_color))]
 pub(crate) fn perform_system_command<H: Handler, J: TextBuffer>(
     handler: &mut H,
     text: &mut J,
@@ -57,7 +57,7 @@ pub(crate) fn perform_system_command<H: Handler, J: TextBuffer>(
 
 /// Whether a text asks for a value.
 fn is_question(text: &[u8]) -> bool
-    ensures { result ≡ is_word text.now (codes "?") }
+    ensures { result ≡ bytes_eq text.now (codes "?") }
 {
     laws::words_differ_from_other_texts();
     matches!(text, [b'?'])
@@ -78,10 +78,10 @@ fn set_color<H: Handler>(handler: &mut H, prefix: &str, index: usize, terminator
 
 /// Sets a colour of the palette, or asks for it.
 #[tactic(auto, using(crate::proofs::Joining::few_digits))]
-fn set_pair<H: Handler>(handler: &mut H, index: &[u8], color: &[u8], terminator: &str)
+fn set_palette_entry<H: Handler>(handler: &mut H, index: &[u8], color: &[u8], terminator: &str)
     ensures { H.value_of handler.new
         ≡ after H.step (H.value_of handler.old)
-        (pair_calls terminator.now (decimal_number index.now) color.now) }
+        (palette_entry_calls terminator.now (decimal_number index.now) color.now) }
 {
     if let Some(index) = parse_number(index) {
         let mut prefix = ArrayString::<5>::new();
@@ -97,7 +97,7 @@ fn set_pair<H: Handler>(handler: &mut H, index: &[u8], color: &[u8], terminator:
     }
 }
 
-#[tactic(auto, using(crate::proofs::Calling::pair_made))]
+#[tactic(auto, using(crate::proofs::Calling::entry_made))]
 fn set_colors<H: Handler>(handler: &mut H, texts: &[&[u8]], terminator: &str)
     ensures { H.value_of handler.new
         ≡ after H.step (H.value_of handler.old)
@@ -108,7 +108,7 @@ fn set_colors<H: Handler>(handler: &mut H, texts: &[&[u8]], terminator: &str)
     }
     let mut left = texts;
     while let [index, color, rest @ ..] = left {
-        set_pair(handler, index, color, terminator);
+        set_palette_entry(handler, index, color, terminator);
         left = rest;
     }
 }
@@ -145,9 +145,10 @@ fn set_link_to<H: Handler>(handler: &mut H, parameters: &[u8], uri: &str)
     }
 }
 
+#[tactic(auto, unfolding(crate::proofs::Common::digits, vte_types::specs::NamedColor::number_of_color))]
 fn set_dynamic_color<H: Handler>(handler: &mut H, code: usize, terminator: &str, text: &[u8])
     ensures { H.value_of handler.new ≡ after H.step (H.value_of handler.old)
-        (dynamic_call code terminator.now text.now (entry_of dynamic_prefixes code)) }
+        (dynamic_color_calls code terminator.now text.now (entry_of dynamic_colors code)) }
 {
     match code {
         10 => set_color(handler, "10", 256, terminator, text),

@@ -1,9 +1,9 @@
 //! The calls of control sequences.
-ghost use Rattle.std.specs.Prelude.{◌≡◌, ◌≢◌, [], ◌∷◌};
+ghost use Rattle.std.specs.Prelude.{◌≡◌, ◌≢◌, [], ◌∷◌, unwrap_or};
 ghost use Rattle.vte.specs.ControlCalls.{control_calls, repeat_calls, window_rows};
 ghost use Rattle.vte.specs.ControlCalls.{rows_without_intermediates};
 ghost use Rattle.vte.specs.Numbers.{first_numbers};
-ghost use Rattle.vte.specs.Maybe.{or_none, for_some};
+ghost use Rattle.vte.specs.Maybe.{for_some};
 ghost use Rattle.vte.specs.Values.{cursor_rows, keys_rows, line_rows, screen_rows, tab_rows};
 ghost use Rattle.vte_handler.specs.Call as call;
 ghost use Rattle.vte_types.specs.Rows.{entry_of};
@@ -33,7 +33,7 @@ pub(crate) fn perform_control<H: InputAs<G>, G>(
 )
     requires other { intermediates.now ≡ 0x3f ∷ [] → action ≢ 0x68 }
     ensures { H.value_of handler.new ≡ after H.step (H.value_of handler.old)
-        (control_calls last intermediates.now params.now action) }
+        (control_calls last params.now intermediates.now action) }
 {
     let mut numbers = params.iter();
     match (intermediates, action) {
@@ -88,7 +88,7 @@ fn perform_plain<H: InputAs<G>, G>(
     action: char,
 )
     ensures { H.value_of handler.new ≡ after H.step (H.value_of handler.old)
-        (or_none (entry_of (rows_without_intermediates last [] params.now) action)) }
+        (unwrap_or (entry_of (rows_without_intermediates last params.now) action) []) }
 {
     let mut numbers = params.iter();
     match action {
@@ -148,7 +148,7 @@ fn repeat<H: InputAs<G>, G>(handler: &mut H, last: Option<char>, count: u16)
 
 fn operate_window<H: Handler>(handler: &mut H, number: u16)
     ensures { H.value_of handler.new ≡ after H.step (H.value_of handler.old)
-        (or_none (entry_of window_rows number)) }
+        (unwrap_or (entry_of window_rows number) []) }
 {
     match number {
         14 => handler.text_area_size_pixels(),

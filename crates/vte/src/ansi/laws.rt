@@ -2,10 +2,10 @@
 ghost use Rattle.std.specs.Prelude.{◌≡◌, ℕ, List, None, Option};
 ghost use Rattle.vte.specs.CallExamples.{AreMade, AreRead, color_examples, command_examples, counted_examples, escape_examples, executed_examples};
 ghost use Rattle.vte.specs.CallExamples.{link_examples, mode_examples, palette_examples, position_examples, rendition_examples, selected_examples, title_examples};
-ghost use Rattle.vte.specs.Processor.{HoldsWellAt, State, TakesAllTurns, TakesTurns, all_bytes, meaning, stop, timeout_meaning};
+ghost use Rattle.vte.specs.Processor.{HoldsWellAt, State, TakesAllTurns, TakesTurns, all_bytes, meaning, stop};
 ghost use Rattle.vte.specs.Refusal.{TakesSome};
 ghost use Rattle.vte.specs.UpdateExamples.{AreLed, expired_example, update_examples};
-ghost use Rattle.vte_handler.specs.Timeout.{IsKept};
+ghost use Rattle.vte_handler.specs.Timeout.{IsKept, timeout_meaning};
 
 mod replays;
 

@@ -1,8 +1,8 @@
 //! The processor without a limit.
 ghost use Rattle.std.specs.Prelude.{◌≡◌, ℕ, ◌+◌, false, List, [], length, None, IfOk, MatchResult};
 ghost use Rattle.vte_core.specs.LongParser.{open_size};
-ghost use Rattle.vte_handler.specs.Timeout.{AllowsAlone, IsKept};
-ghost use Rattle.vte.specs.Processor.{HoldsWell, meaning, timeout_meaning};
+ghost use Rattle.vte_handler.specs.Timeout.{AllowsAlone, IsKept, timeout_meaning};
+ghost use Rattle.vte.specs.Processor.{HoldsWell, meaning};
 ghost use Rattle.vte.specs.LongProcessor.{AdvancesLong, HasParsedAndHoldsLong, IsCopyOfLong, Reserves, StopsSyncLong, held_long, timeout_long};
 ghost use Rattle.vte.specs.Memory.{HasNoMemory};
 ghost use Rattle.vte.specs.ProcessorCalls.{CountsHeld, HasParsedAll};

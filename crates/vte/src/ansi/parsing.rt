@@ -2,11 +2,12 @@
 //! fields of one struct, so that the performer can borrow each.
 ghost use Rattle.std.specs.Prelude.{◌≡◌, ◌≤◌, ◌+◌, ◌++◌, ℕ, List, Option, Some, true, false, length};
 ghost use Rattle.vte.specs.machine.Performing.{PerformsAll, PerformsUntilStop, performer_value};
-ghost use Rattle.vte.specs.Processor.{State, meaning, parse, timeout_meaning};
+ghost use Rattle.vte.specs.Processor.{State, meaning, parse};
 ghost use Rattle.vte.specs.machine.Performer.{with_event};
 ghost use Rattle.vte.specs.machine.Turns.{IsAtBegin, IsParsedOn, IsParsedWithRoom};
 ghost use Rattle.vte.specs.machine.ShortMeaning.{short_meaning};
 ghost use Rattle.vte.specs.Memory.{KeepsMemory, ParserMeaning, of_turns};
+ghost use Rattle.vte_handler.specs.Timeout.{timeout_meaning};
 
 use crate::ansi::performer::{Performer, ProcessorState};
 use crate::ansi::text_buffer::TextBuffer;

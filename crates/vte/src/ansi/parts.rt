@@ -1,6 +1,7 @@
 //! Prefixes of texts, and parts between separators.
 ghost use Rattle.std.specs.Prelude.{◌≡◌, ◌<◌, ◌∷◌, codes, length, option_map, IfSome};
-ghost use Rattle.vte.specs.Parts.{first_after, parts_of, parts_left};
+ghost use Rattle.vte.specs.Parts.{first_after, parts_of};
+ghost use Rattle.vte.specs.machine.Texts.{parts_left};
 ghost use Rattle.vte_types.specs.Words.{after_word};
 
 use vte_types::laws;

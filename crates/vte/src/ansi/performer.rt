@@ -4,8 +4,8 @@ ghost use Rattle.std.specs.Str.{chars};
 ghost use Rattle.vte_core.specs.Event.{Print};
 ghost use Rattle.vte.specs.Calls.{last_printed_from};
 ghost use Rattle.vte.specs.machine.Performing.{performer_value, with_private_mode, with_private_modes};
-ghost use Rattle.vte.specs.Processor.{timeout_meaning};
-ghost use Rattle.vte.specs.TextRoom.{fits_room};
+ghost use Rattle.vte.specs.machine.Texts.{fits_room};
+ghost use Rattle.vte_handler.specs.Timeout.{timeout_meaning};
 
 use crate::ansi::command_calls::perform_system_command;
 use crate::ansi::control_calls::{Change, change_mode, perform_control};

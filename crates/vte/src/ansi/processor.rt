@@ -1,7 +1,7 @@
 //! The processor. A call of `advance` takes turns, and each turn parses bytes or holds them back.
 ghost use Rattle.std.specs.Prelude.{◌≡◌, [], IfOk, MatchResult, Some, false};
-ghost use Rattle.vte_handler.specs.Timeout.{AllowsAlone, IsKept};
-ghost use Rattle.vte.specs.Processor.{HoldsWell, meaning, timeout_meaning};
+ghost use Rattle.vte_handler.specs.Timeout.{AllowsAlone, IsKept, timeout_meaning};
+ghost use Rattle.vte.specs.Processor.{HoldsWell, meaning};
 ghost use Rattle.vte.specs.ProcessorCalls.{CountsHeld, HasParsedAll, HasParsedAndHolds, IsCopyOf, ReadsInTurns, StopsSync, held_in, timeout_in};
 
 use crate::ansi::parsing::{ProcessorParser, ProcessorText};

@@ -4,8 +4,9 @@ ghost use Rattle.vte.specs.LongProcessor.{ReadsSome, ReservesRoom, StopsUpdate, 
 ghost use Rattle.vte.specs.Memory.{LacksSome, of_turns};
 ghost use Rattle.vte.specs.ProcessorCalls.{held_of};
 ghost use Rattle.vte.specs.machine.Hold.{released_of};
-ghost use Rattle.vte.specs.Processor.{State, hold_turn, meaning, most_held, parse, set_times, stop, timeout_meaning};
+ghost use Rattle.vte.specs.Processor.{State, hold_turn, meaning, most_held, parse, set_times, stop};
 ghost use Rattle.vte.specs.machine.Turns.{AreNextAt, EndsOpen, EndsTurn, IsParsed, IsParsedOn, IsParsedWithRoom, LeadOn};
+ghost use Rattle.vte_handler.specs.Timeout.{timeout_meaning};
 
 use crate::ansi::hold::{Hold, MOST_HELD};
 use crate::ansi::parsing::{EventParser, ParseAs, parse_all, parse_until_begin};

@@ -4,8 +4,8 @@
 use crate::proved::vte::ansi::numbers::NumberIterator;
 use crate::proved::vte_types::{Color, Rgb};
 
-/// The next number that is a part of a colour.
-fn next_part<I: NumberIterator>(numbers: &mut I) -> Option<u8> {
+/// The next number, if it is a component of a colour.
+fn next_component<I: NumberIterator>(numbers: &mut I) -> Option<u8> {
     u8::try_from(numbers.next_number()?).ok()
 }
 
@@ -13,12 +13,12 @@ fn next_part<I: NumberIterator>(numbers: &mut I) -> Option<u8> {
 pub(crate) fn read_color<I: NumberIterator>(kind: u16, numbers: &mut I) -> Option<Color> {
     match kind {
         2 => {
-            let r = next_part(numbers)?;
-            let g = next_part(numbers)?;
-            let b = next_part(numbers)?;
+            let r = next_component(numbers)?;
+            let g = next_component(numbers)?;
+            let b = next_component(numbers)?;
             Some(Color::Spec(Rgb { r, g, b }))
         }
-        5 => Some(Color::Indexed(next_part(numbers)?)),
+        5 => Some(Color::Indexed(next_component(numbers)?)),
         _ => None,
     }
 }

@@ -62,7 +62,7 @@ fn set_color<H: Handler>(
 }
 
 /// Sets a colour of the palette, or asks for it.
-fn set_pair<H: Handler>(handler: &mut H, index: &[u8], color: &[u8], terminator: &str) {
+fn set_palette_entry<H: Handler>(handler: &mut H, index: &[u8], color: &[u8], terminator: &str) {
     if let Some(index) = parse_number(index) {
         let mut prefix = ArrayString::<5>::new();
         prefix.push_str("4;");
@@ -83,7 +83,7 @@ fn set_colors<H: Handler>(handler: &mut H, texts: &[&[u8]], terminator: &str) {
     }
     let mut left = texts;
     while let [index, color, rest @ ..] = left {
-        set_pair(handler, index, color, terminator);
+        set_palette_entry(handler, index, color, terminator);
         left = rest;
     }
 }

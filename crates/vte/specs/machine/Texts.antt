@@ -1,0 +1,26 @@
+-- How the texts of a command are split and joined, and whether they fit the buffer for texts. They
+-- fit 1,040 bytes if the parser keeps 1,024 bytes, since there are at most 16 pieces.
+use Rattle.std.specs.Prelude.{ℕ, ◌+◌, ◌≤◌, Bool, true, false, List, [], ◌∷◌, length, nat_le, Option, Some, None}
+use Rattle.std.specs.Borrow.{Bor}
+use Rattle.std.specs.List.{concat}
+use Rattle.vte.specs.Parts.{parts_of}
+
+-- The parts of what is left, if anything is.
+abbrev pub parts_left : ℕ → Option (Bor (List ℕ)) → List (List ℕ)
+parts_left separator None = []
+parts_left separator (Some text) = parts_of separator text.now
+
+-- Every text but the first is preceded by `;`.
+abbrev pub with_separator : Bool → List ℕ → List ℕ
+with_separator true text = text
+with_separator false text = 0x3b ∷ text
+
+-- All bytes, and a separator for each piece.
+abbrev pub joined_size : List (List ℕ) → ℕ
+joined_size pieces = length (concat pieces) + length pieces
+
+abbrev pub FitsRoom : ℕ → List (List ℕ) → Type 0
+FitsRoom room pieces = joined_size pieces ≤ room
+
+abbrev pub fits_room : ℕ → List (List ℕ) → Bool
+fits_room room pieces = nat_le (joined_size pieces) room

@@ -36,7 +36,7 @@ pub record IsCopyOfLong {T A W : Type 0} (is_clone : T → T → Type 0) (timeou
       → HasParsedAndHoldsLong timeout_of copy parsed held timeout
   pub memory : KeepsMemory processor copy
 
--- `reserve`: memory for the held bytes and for this many more
+-- `reserve`: memory for the held bytes and `more` others
 pub record Reserves {T A W : Type 0} (timeout_of : T → W) (old new : LongProcessor T A)
     (more : ℕ) (result : Bool) : Type 0 where
   pub same : (parsed held : List ℕ) (timeout : W)
@@ -66,10 +66,10 @@ read_of (Err refused) bytes = refused.read
 pub record AdvancesLong {T A V W : Type 0} (timeout_of : T → W) (m : Meaning V W)
     (old new : LongProcessor T A) (before value : V) (bytes : List ℕ)
     (result : Result (Unit {0}) Refused) : Type 0 where
-  -- All bytes are read, ..
+  -- If no memory is refused, all bytes are read.
   pub all : IfOk result (λ all. ReadsInTurns m (HasParsedAndHoldsLong timeout_of old)
       (HasParsedAndHoldsLong timeout_of new) before value bytes)
-  -- .. or those that the first turns of such a call read.
+  -- The bytes read are those that the first turns of the call read.
   pub takes : (s : State V W) → IsAt (HasParsedAndHoldsLong timeout_of old) before s
       → HasTaken m s bytes (read_of result bytes)
       (IsAt (HasParsedAndHoldsLong timeout_of new) value)

@@ -9,22 +9,23 @@ use Rattle.vte.specs.declared.ansi.long_processor.LongProcessor.{LongProcessor}
 use Rattle.vte.specs.declared.ansi.titles.TheConstants.{SEPARATORS}
 use Rattle.vte.specs.declared.ansi.turns.TheConstants.{SLICE}
 
--- After a stream the parser has memory to keep so many more bytes with an open command, and a text
--- of this size holds what is joined from them.
+-- After the stream the parser has memory for `count` bytes besides those of an open command, and a
+-- text of this size, which can be counted, holds what is joined from all.
 pub record HasRoom {A : Type 0} (parser : LongParser A) (size : ℕ) (stream : List ℕ)
     (count : ℕ) : Type 0 where
   pub kept : open_size stream + count ≤ memory_of parser
   pub joined : open_size stream + count + SEPARATORS ≤ size
   pub counted : open_size stream + count + SEPARATORS < 2 ^ 64
 
--- It doesn't keep so many, or the text is too small, or they are too many to be counted.
+-- The opposite of `HasRoom`: the parser lacks memory, or the text is too small, or its size can't
+-- be counted.
 abbrev pub LacksRoom : {A : Type 0} → LongParser A → ℕ → List ℕ → ℕ → Type 0
 LacksRoom parser size stream count =
     (memory_of parser < open_size stream + count)
     ⊎ ((size < open_size stream + count + SEPARATORS)
     ⊎ (2 ^ 64 ≤ open_size stream + count + SEPARATORS))
 
--- The same of a processor.
+-- `HasRoom` of the parser and the text of a processor.
 abbrev pub HasMemory : {T A : Type 0} → LongProcessor T A → List ℕ → ℕ → Type 0
 HasMemory processor = HasRoom processor.turns.parser processor.turns.state.text.size
 
@@ -36,20 +37,21 @@ abbrev pub KeepsMemory : {T A : Type 0} → LongProcessor T A → LongProcessor 
 KeepsMemory old new =
     (stream : List ℕ) (count : ℕ) → HasMemory old stream count → HasMemory new stream count
 
--- It has no memory for data of a command, or to join a text.
+-- The processor has no memory for data of a command, or to join a text.
 abbrev pub HasNoMemory : {T A : Type 0} → LongProcessor T A → Type 0
 HasNoMemory processor =
     (memory_of processor.turns.parser ≡ 0) × (string_capacity processor.turns.state.text.text ≡ 0)
 
--- Memory is lacking for the held bytes and for some of those that a call left: at most a slice of
--- them, or no more than are held with the others. All together they are at most so many.
+-- `count` bytes are held or left. Memory is lacking for the `held` ones and the first `more` of
+-- those left: at most a slice, unless both together fit the hold.
 pub record LacksPart (lacks : ℕ → Type 0) (held count : ℕ) : Type 0 where
   pub more : ℕ
   pub within : held + more ≤ count
   pub few : (more ≤ SLICE) ⊎ (held + more ≤ most_held)
   pub is_lacking : lacks (held + more)
 
--- Of the held bytes and so many that a call left, the processor has no memory for a part.
+-- Of the held bytes and the `left` ones that a call didn't read, the processor has no memory for a
+-- part.
 abbrev pub LacksMemoryOnTheWay : {T A : Type 0} → LongProcessor T A → ℕ → Type 0
 LacksMemoryOnTheWay processor left =
     (stream : List ℕ) → HasReadLong processor.turns.parser stream

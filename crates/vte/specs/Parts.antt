@@ -4,11 +4,11 @@ use Rattle.std.specs.List.{slice_split}
 use Rattle.std.specs.Borrow.{Bor}
 use Rattle.vte_types.specs.Words.{after_word}
 
--- What follows `word` in the first text that starts with it.
 abbrev pub or_first_after : Option (List ℕ) → Option (List ℕ) → Option (List ℕ)
 or_first_after (Some rest) others = Some rest
 or_first_after None others = others
 
+-- What follows `word` in the first text that starts with it.
 abbrev pub first_after : List ℕ → List (List ℕ) → Option (List ℕ)
 first_after word [] = None
 first_after word (text ∷ texts) = or_first_after (after_word word text) (first_after word texts)

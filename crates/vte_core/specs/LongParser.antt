@@ -28,11 +28,11 @@ pub record IsCopyOfLong {A : Type 0} (parser copy : LongParser A) : Type 0 where
   pub lost : lost_data_long copy ≡ lost_data_long parser
   pub memory : memory_of parser ≤ memory_of copy
 
--- Its memory doesn't suffice for the data bytes at `from`.
+-- Its memory doesn't suffice for what it stores and the data bytes that begin at `from`.
 abbrev pub LacksMemory : {A : Type 0} → LongParser A → List ℕ → ℕ → Type 0
 LacksMemory parser bytes from = LacksMemoryAt parser.machine.command bytes from
 
--- .. nor for so many after those that it stores.
+-- Its memory doesn't suffice for what it stores and `more` data bytes.
 abbrev pub LacksMemoryForMore : {A : Type 0} → LongParser A → ℕ → Type 0
 LacksMemoryForMore parser more = memory_of parser < length parser.machine.command.bytes + more
 

@@ -23,8 +23,8 @@ HasShortRoom parser size stream count = TEXT_ROOM ≤ size
 abbrev pub LacksShortRoom : {P : Type 0} → P → ℕ → List ℕ → ℕ → Type 0
 LacksShortRoom parser size stream count = size < TEXT_ROOM
 
--- What a parser means: the streams that it has read, and after which of them it has memory for so
--- many bytes, with a text of this size, or lacks it.
+-- What a parser means: which streams it has read; after which stream, with a text of which size, it
+-- has memory for how many bytes, or lacks it.
 pub record ParserMeaning (P : Type 0) : Type 1 where
   pub has_read : P → List ℕ → Type 0
   pub has_room : P → ℕ → List ℕ → ℕ → Type 0
@@ -37,7 +37,7 @@ short_meaning =
 abbrev pub long_meaning : {A : Type 0} → ParserMeaning (LongParser A)
 long_meaning = record { has_read = HasReadLong; has_room = HasRoom; lacks_room = LacksRoom }
 
--- Where the one parser, with a text of this size, has memory, the next one has.
+-- The memory that `parser` has with a text of `size` bytes, `next` has with one of `room` bytes.
 abbrev pub KeepsRoom : {P : Type 0} → (P → ℕ → List ℕ → ℕ → Type 0) → P → ℕ → P → ℕ → Type 0
 KeepsRoom has_room parser size next room =
     (stream : List ℕ) (count : ℕ) → has_room parser size stream count
@@ -84,13 +84,13 @@ KeepsTurnRoom w old new =
     KeepsRoom w.reading.has_room old.parser (w.room_of old.state.text) new.parser
     (w.room_of new.state.text)
 
--- Of the held bytes and so many that a call left, there is no memory for a part.
+-- Of the held bytes and the `left` ones that a call didn't read, there is no memory for a part.
 abbrev pub LacksSome : {P J T A W : Type 0} → TurnsMeaning P J T W → Turns P J T A → ℕ → Type 0
 LacksSome w turns left = (stream : List ℕ) → w.reading.has_read turns.parser stream
     → LacksPart (w.reading.lacks_room turns.parser (w.room_of turns.state.text) stream)
     (length (held_of turns.hold)) (length (held_of turns.hold) + left)
 
--- Memory is reserved for the held bytes and for this many more.
+-- Memory is reserved for the held bytes and `more` others.
 pub record ReservesRoom {P J T A W : Type 0} (w : TurnsMeaning P J T W) (old new : Turns P J T A)
     (more : ℕ) (result : Bool) : Type 0 where
   pub same : (parsed held : List ℕ) (timeout : W) → HaveTaken w old parsed held timeout

@@ -38,7 +38,7 @@ data_of (Put byte) = byte ∷ []
 data_of (OscDispatch pieces bell) = flat_map piece_bytes pieces
 data_of _ = []
 
--- So many pieces, or so many data bytes with their lengths, that a command may have lost data.
+-- A command with so many pieces, or data of this size, may have lost data.
 abbrev pub has_most : ℕ → ℕ → Bool
 has_most pieces size = nat_le 16 pieces || nat_le 1024 size
 

@@ -83,7 +83,7 @@ AreReadable input (Single event ∷ items) = IsBounded (Some 1024) event × AreR
 AreReadable input (InInput run start size ∷ items) =
     IsRunAt input run start size × AreReadable input items
 
--- These events are encoded, and nothing else: by so many records, one for each item, and so many
+-- These events are encoded, and nothing else: by `count` records, one for each item, and `used`
 -- bytes of data, which begin in the area where the record says. A run in the input has no data.
 -- That the record of a command says whether data were lost is only tested.
 pub record AreEncoded (events : List Event) (count used : ℕ) (records : List VteEvent)

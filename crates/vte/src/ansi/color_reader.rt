@@ -5,7 +5,7 @@ ghost use Rattle.vte.specs.ColorReading.{color_reading, kind_reading, part_of, w
 use crate::ansi::numbers::NumberIterator;
 use vte_types::{Color, Rgb};
 
-/// The next number that is a part of a colour.
+/// Takes the next number, and returns it if it can be a part of a colour.
 fn next_part<I: NumberIterator>(numbers: &mut I) -> Option<u8>
     ensures part { result ≡ part_of (map I.number (I.left numbers.old)) }
     ensures rest { I.left numbers.new ≡ drop 1 (I.left numbers.old) }

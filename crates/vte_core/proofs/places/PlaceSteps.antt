@@ -30,7 +30,7 @@ sequenced other closed none = leads_on (λ text. absurd (other text)) (inl close
 pub plain : (b : ℕ) (k : Class) → class_of b ≡ k → ends_all k ≡ false → eqb b escape ≡ false
 plain b k e o = no_escape b (rw e o)
 
--- .. that tells nothing
+-- a byte outside text, by its class, that tells nothing
 silent : {limit : Option ℕ} {place next : Place} {b : ℕ} {k : Class} → class_of b ≡ k → ends_all k ≡ false
     → (IsText place → ⊥) → open_at next ≡ [] → data_left (left_at limit next) ≡ 0 → Leads limit place b [] next
     → IsPlace next → Steps limit place b

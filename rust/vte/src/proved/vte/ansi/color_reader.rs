@@ -4,7 +4,7 @@
 use crate::proved::vte::ansi::numbers::NumberIterator;
 use crate::proved::vte_types::{Color, Rgb};
 
-/// The next number that is a part of a colour.
+/// Takes the next number, and returns it if it can be a part of a colour.
 fn next_part<I: NumberIterator>(numbers: &mut I) -> Option<u8> {
     u8::try_from(numbers.next_number()?).ok()
 }

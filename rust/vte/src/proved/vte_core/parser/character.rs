@@ -13,7 +13,8 @@ use crate::proved::vte_core::utf8::{
 
 impl<B: Buffer> Machine<B> {
     /// Reads the character or the malformed sequence that begins with a lead byte, which was looked
-    /// at. A byte that breaks it is left unread, and U+FFFD is printed for those before it.
+    /// at. A byte that breaks it is left unread, and U+FFFD is printed for those before it. If text
+    /// is taken in runs, a character of four bytes begins one.
     #[inline(always)]
     pub(crate) fn read_character<P: PerformAs<G>, G: Grain>(
         &mut self,

@@ -32,7 +32,7 @@ reached g c =
       | else-IN_RUNS-2 w ↦ rw (w.performer-is, w.position-is) v.advances
     ]
 
--- .. and stands before this byte
+-- After the first part of the loop's body, the call stands before the byte to be read.
 at : (g : Over) (c : Joined-IN_RUNS-2 g) → MayReadByte (not (eqb g.row.ASKS 0)) g.P.CountedPerform.is_terminated
     (g.P.CountedPerform.value_of c.if-IN_RUNS-2.performer)
     (Text Nothing) c.loop-position-2.self c.args.input.bytes.now c.if-IN_RUNS-2.position c.if-IN_RUNS-2.byte
@@ -102,7 +102,7 @@ read_sequence-requires-clause-may_read g c =
     let here = at g (goal.at.read_sequence-requires-clause-may_read g c).Joined-IN_RUNS-2 in
     record { begun = here.begun; may_go_on = here.may_go_on; within = here.within }
 
--- .. which it reads
+-- The call reads the byte before which it stands.
 read : (g : Over) (c : Joined-is_printed_ascii-2 g)
     → MayReadByte (not (eqb g.row.ASKS 0)) g.P.CountedPerform.is_terminated
     (g.P.CountedPerform.value_of c.if-IN_RUNS-2.performer) (Text Nothing) c.loop-position-2.self
@@ -160,7 +160,7 @@ returns-then-terminated-clause-advances g c =
     advances-then (reached g (goal.at.returns-then-terminated-clause-advances g c).Joined-IN_RUNS-2)
     (advances-part c.read_longer-next-then-is_lead-2.ensures.advances)
 
--- .. and without a stop: the next round begins after the character.
+-- Without a stop after a longer character, the next round begins after the character.
 pub loop-position-2-preserved-then-not-IN_RUNS : goal.loop-position-2-preserved-then-not-IN_RUNS
 loop-position-2-preserved-then-not-IN_RUNS g c =
     let places = goal.at.loop-position-2-preserved-then-not-IN_RUNS g c in

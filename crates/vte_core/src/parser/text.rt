@@ -94,7 +94,7 @@ impl<B: Buffer> Machine<B> {
                         None => continue,
                     }
                 }
-                // A branch that comes to the `+= 1` below leaves `position` at the last byte it read.
+                // A branch that comes to `+= 1` below leaves `position` at the last byte it read.
                 if is_printed_ascii(byte) {
                     performer.print_char(looks, char::from(byte));
                 } else if G::IN_RUNS && byte >= 0xa0 {

@@ -23,7 +23,6 @@ as_all : (rung : Bool) (n : ℕ) (bytes : List ℕ)
 as_all true n bytes s = sym (stays_all (added (Some 1024) (stream_at [] bytes n) (drop n bytes))) ∙ s.comes.goes_on
 as_all false n bytes s = s.all (grind (arith, s.comes.within, s.stops))
 
--- src/bell.rt:58:1
 pub returns : goal.returns
 returns c =
     let bytes = c.args.stream.now in

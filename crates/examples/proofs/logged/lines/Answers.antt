@@ -13,7 +13,6 @@ are_told : (refused : Bool) (bytes written : List ℕ) → bytes_unless refused 
 are_told true bytes written e = cc
 are_told false bytes written e = cc
 
--- src/logged.rt:34:1
 pub returns-in-Ok : goal.returns-in-Ok
 returns-in-Ok c =
     let input =

@@ -99,7 +99,7 @@ impl<const OSC_RAW_BUF_SIZE: usize> Default for Parser<OSC_RAW_BUF_SIZE> {
 impl<const OSC_RAW_BUF_SIZE: usize> Clone for Parser<OSC_RAW_BUF_SIZE> {
     ghost is_clone = { λ parser clone. IsCopyOf parser clone };
 
-    // It takes no memory.
+    // A clone takes no memory.
     ghost is_infallible = { λ _. ⊤ };
 
     fn clone(&self) -> Result<Self, AllocError> {

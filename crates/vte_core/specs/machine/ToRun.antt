@@ -39,7 +39,7 @@ abbrev pub AreOfKind : RunKind → List ℕ → Type 0
 AreOfKind OfText bytes = AreRun false bytes
 AreOfKind _ bytes = Unit {0}
 
--- These bytes were taken.
+-- What was taken is a run of this kind, with these bytes.
 abbrev pub IsTaken : RunKind → List ℕ → Taken → Type 0
 IsTaken OfText bytes (TakenText text) = text.now ≡ bytes
 IsTaken OfData bytes (Data those) = those.now ≡ bytes

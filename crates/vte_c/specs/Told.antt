@@ -113,7 +113,7 @@ pub record HasFed (old new : Events) (parser : Saved) (told : List Event)
       (told ++ events_in new.count new.events.now (bytes ++ more) new.area.now)
       stream (drop n bytes ++ rest)
 
--- The same for text.
+-- A call read the first n bytes and wrote their text into the caller's buffer.
 pub record StripsMore (old new : Text) (parser : Saved) (text stream bytes rest : List ℕ)
     (n : ℕ) : Type 0 where
   pub name : new.room.ghost_name ≡ old.room.ghost_name

@@ -15,7 +15,8 @@ returns-then-not-may_begin_three-clause-completes g c =
     let r = c.requires.may_read in
     let misfits = sym c.may_begin_three.ensures ∙ c.if-not-may_begin_three.true in
     completes-broken (goes-nowhere c.args.self.now (some _ _))
-    (λ more. second_broken c.args.first c.args.second more misfits) r.begun c.print_replacement.ensures.value r.within r.is
+    (λ more. second_broken c.args.first c.args.second more misfits) r.begun c.print_replacement.ensures.value
+    r.within r.is
 
 -- The call ends after two bytes: still open.
 pub returns-then-from-len-clause-completes : goal.returns-then-from-len-clause-completes

@@ -1,28 +1,10 @@
--- From what a call of the parser reported to what a collector has kept.
-use Rattle.event_log.proofs.Common.{◌≡◌, ℕ, ◌-◌, false, List, [], ◌++◌, length, take, drop, Some, refl, sym, ap, ◌∙◌, append_assoc, append-nil, arith, drop-append_seam}
-use Rattle.event_log.proofs.Common.{flat_map-append, drop_all, length-drop, take_all, flat_map, Event, Grows, HasRead, added, events, Parser, AddsUpTo, HasKept, HasReadSome, Record}
+-- What a collector holds, and then the text of what is unread, adds up to the whole text from call to call: the events
+-- that a call reported are taken, and the parser goes on from another stream.
+use Rattle.event_log.proofs.Common.{◌≡◌, ℕ, ◌-◌, false, List, [], ◌++◌, length, take, drop, Some, refl, sym, ap, ◌∙◌, append_assoc, arith}
+use Rattle.event_log.proofs.Common.{flat_map-append, length-drop, take_all, flat_map, Event, HasRead, added, Parser, AddsUpTo, HasKept, HasReadSome, Record}
 use Rattle.event_log.proofs.Records.{record_of}
 
-pub added_nothing : (stream : List ℕ) → added (Some 1024) stream [] ≡ []
-added_nothing stream =
-    rw append-nil (drop_all (length (events (Some 1024) stream)) (events (Some 1024) stream) (omega arith))
-
--- what two pieces add
-pub added-append : Grows (Some 1024) → (stream first second : List ℕ)
-    → added (Some 1024) stream (first ++ second)
-    ≡ added (Some 1024) stream first ++ added (Some 1024) (stream ++ first) second
-added-append grows stream first second =
-    let before = events (Some 1024) stream in
-    let parts : events (Some 1024) (stream ++ (first ++ second))
-    ≡ before ++ (added (Some 1024) stream first ++ added (Some 1024) (stream ++ first) second) =
-    ap (events (Some 1024)) (sym (append_assoc stream first second))
-    ∙ grows (stream ++ first) second
-    ∙ ap (λ (es : List Event). es ++ added (Some 1024) (stream ++ first) second) (grows stream first)
-    ∙ append_assoc before _ _ in
-    ap (drop (length before)) parts
-    ∙ drop-append_seam before (added (Some 1024) stream first ++ added (Some 1024) (stream ++ first) second)
-
--- before a call, nothing is held, and the whole is the text of what the unread bytes and more add
+-- Before a call nothing is held, and the whole is the text of what the unread bytes and more add.
 pub adds_up_at_first : {text_of : Event → List ℕ} {parser : Parser 1024} (h : HasReadSome parser) (unread : List ℕ)
     → AddsUpTo text_of (λ more. flat_map text_of (added (Some 1024) h.since (unread ++ more))) [] parser unread
 adds_up_at_first h unread = record {
@@ -31,11 +13,11 @@ adds_up_at_first h unread = record {
   goes_on = λ more. refl;
 }
 
--- the bytes from n on, as the code cuts them
+-- A slice from n on is what follows n bytes.
 pub cut_from : (n : ℕ) (bytes : List ℕ) → take (length bytes - n) (drop n bytes) ≡ drop n bytes
 cut_from n bytes = take_all (length bytes - n) (drop n bytes) (omega (arith, length-drop n bytes))
 
--- a call reported events, whose texts were all taken, and goes on from another stream
+-- A call reported events, whose texts were all taken, and the parser goes on from another stream.
 pub kept_by : {text_of : Event → List ℕ} {whole : List ℕ → List ℕ} {unread unread_then : List ℕ}
     {parser parser_then : Parser 1024} {held held_then : Record}
     (events : List Event) (since : List ℕ) → (h : HasKept text_of whole held parser unread)

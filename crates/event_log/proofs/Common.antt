@@ -1,13 +1,14 @@
--- The words of std and of specs/ that most proofs use.
+-- Words from std, specs/ and `vte_core` for the files of proofs, so that a file imports one list from here instead of
+-- one line for each module.
 pub use Rattle.std.proofs.Common.{Bool, Bor, Err, IfSome, IsTrue, List, None, Ok, OnOk, Option, Result, Some, [], ap, append-nil, append_assoc, arith, codes, drop, false, get_or, if◌then◌else◌}
 pub use Rattle.std.proofs.Common.{inl, inr, is_err, length, length-append, map, max, refl, rules, subst, suc, sym, take, true, zero, ℕ, ◌%◌, ◌&&◌, ◌*◌, ◌++◌, ◌+◌, ◌-◌}
 pub use Rattle.std.proofs.Common.{◌/◌, ◌<◌, ◌^◌, ◌∙◌, ◌∷◌, ◌≡◌, ◌≤◌, ◌⊎◌}
-pub use Rattle.std.proofs.Math.Seq.{drop-append_seam, take-append_seam}
+pub use Rattle.std.proofs.Math.Seq.{take-append_seam}
 pub use Rattle.std.proofs.lemmas.Bool.{cases_Bool, le-leb}
 pub use Rattle.std.proofs.lemmas.Bool.Decides.{Decides-below_and, nat_tests}
 pub use Rattle.std.proofs.lemmas.Fmt.{decimal_digit, decimal_step, length-decimal-le}
 pub use Rattle.std.proofs.lemmas.Grind.{common_steps, flat_map-append}
-pub use Rattle.std.proofs.lemmas.List.{drop_all, length-drop, length-map, length-take-le, nil_from_length, take-append-drop, take_all}
+pub use Rattle.std.proofs.lemmas.List.{length-drop, length-map, length-take-le, nil_from_length, take-append-drop, take_all}
 pub use Rattle.std.proofs.lemmas.List.Elements.{All-head, All-tail}
 pub use Rattle.std.proofs.lemmas.Str.{encode_ascii, encodes-chars, len_utf8_bounds, length-encode}
 pub use Rattle.std.specs.Fmt.{decimal}
@@ -18,7 +19,6 @@ pub use Rattle.vte_core.specs.Brief.{IsBounded, IsBrief}
 pub use Rattle.vte_core.specs.EarlyStop.{IsStart, StopsExactly, breaks_at, stream_at}
 unfoldable pub use Rattle.vte_core.specs.EarlyStop.{told}
 pub use Rattle.vte_core.specs.Event.{CsiDispatch, EscDispatch, Event, Execute, Hook, OscDispatch, Print, replacement}
-pub use Rattle.vte_core.specs.Laws.{Grows}
 pub use Rattle.vte_core.specs.Parameters.{AreGroups, count_of, greatest_number, semicolon}
 unfoldable pub use Rattle.vte_core.specs.Parameters.{shown}
 pub use Rattle.vte_core.specs.Parser.{HasRead}

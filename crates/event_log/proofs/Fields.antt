@@ -1,10 +1,11 @@
--- Parts of a line that are pushed one after another: they extend it by all of them.
+-- Parts of a line that are pushed one after another extend it by all of them (`extends_then`). The digits of a number
+-- and the fields of pieces are such parts.
 use Rattle.event_log.proofs.Common.{◌≡◌, ℕ, ◌+◌, ◌/◌, ◌%◌, ◌^◌, ◌<◌, ◌≤◌, Bool, true, false, ◌&&◌, List, [], ◌∷◌, ◌++◌, length, IsTrue, refl, sym, ap}
 use Rattle.event_log.proofs.Common.{◌∙◌, append_assoc, map, length-append, arith, length-map, nat_tests, decimal_digit, decimal_step, decimal, flat_map, blank, hex_field, pieces_fields}
 use Rattle.event_log.proofs.Common.{has_room_after, ExtendsLine, Lines}
 use Rattle.std.proofs.lemmas.List.Folds.{flat_map-map}
 
--- if both texts had room, they have it together
+-- If both texts had room, they have it together.
 fit_together : (f fb fc : Bool) (a s b t : List ℕ) → fb ≡ (f && has_room_after a s) → fc ≡ (fb && has_room_after b t)
     → (IsTrue fb → b ≡ a ++ s) → fc ≡ (f && has_room_after a (s ++ t))
 fit_together false fb fc a s b t h k e = rw (k, h)
@@ -12,7 +13,7 @@ fit_together true true fc a s b t h k e = simp length-append
     (let l = ap length (e refl) ∙ length-append a s in grind (arith, nat_tests))
 fit_together true false fc a s b t h k e = simp length-append (grind (arith, nat_tests))
 
--- a line that didn't fit doesn't with more
+-- A line that doesn't fit doesn't fit with more either.
 fitted_before : (fb fc r : Bool) → fc ≡ (fb && r) → IsTrue fc → IsTrue fb
 fitted_before true fc r h e = refl
 fitted_before false fc r h e = sym h ∙ e
@@ -38,7 +39,7 @@ one_digit n low = grind (arith, decimal_digit)
 pub two_digits : (n : ℕ) → 10 ≤ n → n < 100 → decimal n ≡ (48 + n / 10 % 10) ∷ (48 + n % 10) ∷ []
 two_digits n high low = grind (arith, decimal_step, one_digit)
 
--- a number's last three digits, after the others
+-- A number's last three digits come after those of its thousands.
 pub three_more : (n : ℕ) → 1000 ≤ n → n < 2 ^ 64
     → decimal n ≡ decimal (n / 1000) ++ (48 + n / 100 % 10) ∷ (48 + n / 10 % 10) ∷ (48 + n % 10) ∷ []
 three_more n high fits = grind (arith, decimal_step, append_assoc)
@@ -47,7 +48,7 @@ pub three_digits : (n : ℕ) → 100 ≤ n → n < 1000
     → decimal n ≡ (48 + n / 100 % 10) ∷ (48 + n / 10 % 10) ∷ (48 + n % 10) ∷ []
 three_digits n high low = grind (arith, decimal_step, two_digits)
 
--- the fields of pieces, as they are pushed one after another
+-- The fields of pieces are pushed one after another.
 pub pieces_as_pushed : {P : Type 0} (f : P → List ℕ) (pieces : List P)
     → pieces_fields (map f pieces) ≡ blank ++ decimal (length pieces) ++ flat_map (λ piece. hex_field (f piece)) pieces
 unfolding pieces_fields

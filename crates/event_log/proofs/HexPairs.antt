@@ -1,4 +1,4 @@
--- The table of hex digits, checked entry by entry.
+-- The table has the two hex digits of each byte: a test of all 256 entries computes to true.
 use Rattle.event_log.proofs.Common.{◌≡◌, ℕ, zero, suc, ◌+◌, ◌*◌, ◌<◌, Bool, true, ◌&&◌, List, [], ◌∷◌, get_or, refl, bytes_eq, Decides-below_and, hex_byte, hex_digit}
 use Rattle.std.proofs.lemmas.Slice.Eq.{bytes_eq-Decides}
 use Rattle.event_log.specs.declared.lines.short.TheConstants.{HEX_PAIRS}

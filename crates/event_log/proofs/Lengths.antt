@@ -1,11 +1,13 @@
--- How long the texts of events are, and how many events bytes add.
+-- How long the text of an event is, part by part, and how many events bytes add: at most two each. So the text of bytes
+-- is at most eight times as long as they are.
 use Rattle.event_log.proofs.Common.{◌≡◌, ℕ, ◌+◌, ◌-◌, ◌*◌, ◌<◌, ◌≤◌, max, Bool, true, false, if◌then◌else◌, List, [], ◌∷◌, ◌++◌, length, map, Some, refl}
 use Rattle.event_log.proofs.Common.{length-append, arith, All, flat_map, concat, join_with_byte, decimal, length-decimal-le, All-head, All-tail, length-encode, len_utf8_bounds, IsBounded, IsBrief}
-use Rattle.event_log.proofs.Common.{Event, Print, Execute, Hook, OscDispatch, CsiDispatch, EscDispatch, Grows, AreGroups, semicolon, count_of, greatest_number, shown, added, is_layout, group_text}
+use Rattle.event_log.proofs.Common.{Event, Print, Execute, Hook, OscDispatch, CsiDispatch, EscDispatch, AreGroups, semicolon, count_of, greatest_number, shown, added, is_layout, group_text}
 use Rattle.event_log.proofs.Common.{hex_byte, hex_character, six_hex_digits, hex_length, hex_field, flag_field, pieces_fields, sequence_fields, line_of, plain_text_of}
 use Rattle.std.proofs.Common.{length-drop}
 use Rattle.std.proofs.lemmas.List.Sums.{sum_by-cons}
-use Rattle.event_log.proofs.Collected.{added-append, added_nothing}
+use Rattle.vte_core.proofs.stops.Units.{added_both}
+use Rattle.vte_core.proofs.streams.After.{added-nothing}
 use Rattle.event_log.proofs.Records.{IsSmall}
 
 -- ---- fields
@@ -101,7 +103,7 @@ length_line (EscDispatch intermediates ignore byte) h =
     simp length-append (omega (arith, length_hex_field intermediates, length_flag_field ignore))
 length_line _ h = omega arith
 
--- the lines of what is reported from one start to the next
+-- At most two lines are reported up to the next start, the second for a character or a control.
 pub lines_are_small : IsSmall line_of
 unfolding line_of hex_byte
 lines_are_small [] h = omega arith
@@ -139,20 +141,18 @@ at_most_two (event ∷ []) h = omega arith
 at_most_two (event ∷ last ∷ []) h = omega arith
 at_most_two (event ∷ last ∷ more ∷ events) h = absurd h
 
-events_grow_slowly : Grows (Some 1024) → AreBrief → (stream bytes : List ℕ)
-    → length (added (Some 1024) stream bytes) ≤ 2 * length bytes
-events_grow_slowly grows brief stream [] = rw added_nothing (omega arith)
-events_grow_slowly grows brief stream (b ∷ bytes) =
-    rw (added-append grows stream (b ∷ []) bytes) (simp length-append
+events_grow_slowly : AreBrief → (stream bytes : List ℕ) → length (added (Some 1024) stream bytes) ≤ 2 * length bytes
+events_grow_slowly brief stream [] = rw added-nothing (omega arith)
+events_grow_slowly brief stream (b ∷ bytes) =
+    rw (added_both (Some 1024) stream (b ∷ []) bytes) (simp length-append
     (omega (
       arith,
       at_most_two (added (Some 1024) stream (b ∷ [])) (brief stream b),
-      events_grow_slowly grows brief
-          (stream ++ b ∷ []) bytes,
+      events_grow_slowly brief (stream ++ b ∷ []) bytes,
     )))
 
 -- The text of what bytes add has at most eight bytes for each of them.
-pub text_grows_slowly : Grows (Some 1024) → AreBrief
-    → (stream bytes : List ℕ) → length (flat_map plain_text_of (added (Some 1024) stream bytes)) ≤ 8 * length bytes
-text_grows_slowly grows brief stream bytes =
-    omega (arith, length_texts (added (Some 1024) stream bytes), events_grow_slowly grows brief stream bytes)
+pub text_grows_slowly : AreBrief → (stream bytes : List ℕ)
+    → length (flat_map plain_text_of (added (Some 1024) stream bytes)) ≤ 8 * length bytes
+text_grows_slowly brief stream bytes =
+    omega (arith, length_texts (added (Some 1024) stream bytes), events_grow_slowly brief stream bytes)

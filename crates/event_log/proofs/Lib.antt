@@ -1,3 +1,5 @@
+-- From the parts of lines (`Fields`, `HexPairs`, `PrintLines`) and their lengths (`Lengths`) to what is held
+-- (`Records`, `RecordedLines`, `TextInRuns`, `Collected`) and written (`Progress`); `Common` passes on words.
 pub mod Common
 pub mod Collected
 pub mod Fields

@@ -1,4 +1,4 @@
--- The lines of characters, by their digits.
+-- The line of a character has the last four, five or six of its six hex digits: by the size of its number.
 use Rattle.event_log.proofs.Common.{◌≡◌, codes, ℕ, ◌-◌, ◌/◌, ◌%◌, ◌<◌, ◌≤◌, max, ◌++◌, drop, refl, arith, nat_tests, Print, line_of, hex_byte, hex_character}
 use Rattle.event_log.proofs.Common.{hex_length, six_hex_digits, line_feed}
 

@@ -1,10 +1,12 @@
--- From what a collector holds to what a run has written.
+-- From what a collector holds to what a run has written: what was collected is appended, and each read that gives
+-- something takes a piece off the input (`HasCome`), until one fails or gives nothing.
 use Rattle.event_log.proofs.Common.{◌≡◌, ℕ, ◌+◌, ◌<◌, ◌≤◌, ◌⊎◌, Bool, true, List, [], ◌++◌, length, Option, Some, None, IfSome, inl, inr, refl, sym, ap, ◌∙◌}
 use Rattle.event_log.proofs.Common.{append_assoc, append-nil, length-append, arith, flat_map, Event, HasRead, events, Parser, AddsUpTo, HasWritten}
 use Rattle.std.specs.Io.KnownBytes.{Appends, Consumes, IsAtEnd, Keeps}
 use Rattle.event_log.specs.Device.{KeepsWhereTold}
 use Rattle.event_log.specs.Run.{WritesAll, WritesFront, most_reads}
-use Rattle.event_log.proofs.Collected.{added_nothing, adds_up_at_first}
+use Rattle.vte_core.proofs.streams.After.{added-nothing}
+use Rattle.event_log.proofs.Collected.{adds_up_at_first}
 
 -- ---- devices whose bytes are known
 
@@ -33,7 +35,7 @@ kept_where_told (Some ys) known h = h
 
 -- ---- a piece
 
--- what was collected is written, and the run goes on with the unread bytes
+-- What was collected is written, and the run goes on with the unread bytes.
 pub written_more : {text_of : Event → List ℕ} {whole : List ℕ → List ℕ} {unread unread_then collected : List ℕ}
     {parser parser_then : Parser 1024}
     {taken taken_then : Option (List ℕ)} → HasWritten text_of whole taken parser unread
@@ -54,7 +56,7 @@ written_more {unread = unread} {collected = collected} {taken_then = taken_then}
       };
     }
 
--- a piece is still to be given to the parser
+-- A piece is still to be given to the parser.
 pub written_before : {text_of : Event → List ℕ} {whole : List ℕ → List ℕ} {parser : Parser 1024}
     {taken : Option (List ℕ)}
     (piece : List ℕ) → HasWritten text_of whole taken parser []
@@ -81,7 +83,7 @@ written_kept {taken_then = taken_then} h keeps =
 abbrev pub means : (Event → List ℕ) → List ℕ → List ℕ
 means text_of stream = flat_map text_of (events (Some 1024) stream)
 
--- The state of a run after this many reads that all gave something.
+-- A run has made this many reads, and each gave something.
 pub record HasCome (text_of : Event → List ℕ) (input held : List ℕ) (reads : ℕ) (parser : Parser 1024)
     (to_come taken : Option (List ℕ)) : Type 0 where
   pub stream : List ℕ
@@ -129,17 +131,17 @@ module _ {text_of : Event → List ℕ} {input held : List ℕ} {parser : Parser
         many = omega (arith, h.many, length-append h.stream piece);
       }
 
-  -- all that was read is written
+  -- All that was read is written.
   written_all : {reads : ℕ} → (h : HasCome text_of input held reads parser to_come taken)
       → taken ≡ Some (held ++ means text_of h.stream)
   written_all h =
       let w = h.written in
       w.told
       ∙ ap Some
-      (sym (rw (added_nothing w.adds_up.since) (append-nil w.written)) ∙ w.adds_up.goes_on [] ∙ h.is []
+      (sym (rw (added-nothing (Some 1024) w.adds_up.since) (append-nil w.written)) ∙ w.adds_up.goes_on [] ∙ h.is []
       ∙ rw append-nil refl)
 
-  -- a read that fails ends a run, and so do as many reads as there may be
+  -- A read that fails ends a run, and so do as many reads as there may be.
   pub come_to_front : {reads : ℕ} {to_come_then : Option (List ℕ)} {failed : Bool}
       → HasCome text_of input held reads parser to_come taken
       → KeepsWhereTold to_come to_come_then → (failed ≡ true) ⊎ (most_reads ≤ reads)
@@ -156,7 +158,7 @@ module _ {text_of : Event → List ℕ} {input held : List ℕ} {parser : Parser
     ];
   }
 
-  -- a read that gives nothing ends a run
+  -- A read that gives nothing ends a run.
   pub come_to_end : {reads : ℕ} {to_come_then : Option (List ℕ)} → HasCome text_of input held reads parser to_come taken
       → Consumes to_come to_come_then [] → IsAtEnd to_come_then
       → WritesAll (means text_of) input held to_come_then taken

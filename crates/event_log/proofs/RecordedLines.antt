@@ -1,26 +1,27 @@
--- That a recorder that is asked at each start loses no line.
+-- A recorder that is asked at each start loses no line: unless it is terminated, at most half of its room is in use,
+-- and the lines up to the next start fit into the rest.
 use Rattle.event_log.proofs.Common.{◌≡◌, inl, inr, ℕ, zero, suc, ◌<◌, false, List, [], length, drop, Some, refl, ap, ◌∙◌, arith, cases_Bool, StopsExactly, breaks_at, told, stream_at}
 use Rattle.event_log.proofs.Common.{Print, replacement, HasRead, after, GoesOnFromPlaces, TellsUnits, Parser, line_of, hex_character, hex_length, six_hex_digits, hex_byte, hex_digit, AddsUpTo}
 use Rattle.event_log.proofs.Common.{HasKept, Record, empty_record, is_to_be_written, with_event, with_text}
-use Rattle.event_log.proofs.Collected.{added_nothing, kept_by}
+use Rattle.vte_core.proofs.streams.After.{added-nothing}
+use Rattle.event_log.proofs.Collected.{kept_by}
 use Rattle.event_log.proofs.Lengths.{lines_are_small}
 use Rattle.event_log.proofs.Records.{half_has_room, takes_told}
 
--- the line of a replacement character is short
+-- The line of a replacement character is short.
 short_replacement : is_to_be_written (with_event line_of empty_record (Print replacement)) ≡ false
 unfolding line_of hex_character hex_length six_hex_digits hex_byte hex_digit with_text
 short_replacement = refl
 
--- A call reads a byte: neither an empty recorder nor the line of a replacement character stops it
--- at once.
+-- A call reads a byte: neither an empty recorder nor the line of a replacement character stops it at once.
 pub reads_some : {old new : Record} {stream bytes : List ℕ} {n : ℕ} → old ≡ empty_record
     → StopsExactly (with_event line_of) is_to_be_written old new (Some 1024) stream bytes n → 0 < length bytes → 0 < n
 unfolding told
 reads_some {stream = stream} {bytes = bytes} {n = zero} empty s some =
     absurd (elim (cases_Bool (breaks_at stream bytes 0)) [
-      | inl broken ↦ let e = rw (broken, added_nothing, empty) at s.comes.performed in let h = short_replacement in
+      | inl broken ↦ let e = rw (broken, added-nothing, empty) at s.comes.performed in let h = short_replacement in
           let f : ⊥ = cc (s.stops some) in f
-      | inr whole ↦ let e = rw (whole, added_nothing, empty) at s.comes.performed in let f : ⊥ = cc (s.stops some) in f
+      | inr whole ↦ let e = rw (whole, added-nothing, empty) at s.comes.performed in let f : ⊥ = cc (s.stops some) in f
     ])
 reads_some {n = suc n} empty s some = omega arith
 

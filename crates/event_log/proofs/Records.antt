@@ -1,5 +1,5 @@
--- What a record holds after texts, and that it holds the texts of all events if there is room at
--- each start.
+-- What a record holds after texts. It holds the texts of all events if there is room at each start: by induction over
+-- the places, from one start to the next.
 use Rattle.event_log.proofs.Common.{◌≡◌, ℕ, zero, suc, ◌+◌, ◌<◌, ◌≤◌, Bool, false, List, [], ◌∷◌, ◌++◌, length, Some, inl, inr, refl, sym, ap, subst, ◌∙◌}
 use Rattle.event_log.proofs.Common.{append_assoc, append-nil, length-append, arith, take-append_seam, cases_Bool, le-leb, nat_tests, flat_map-append, flat_map, IsBrief, IsStart, told, Event, after}
 use Rattle.event_log.proofs.Common.{TellsUnits, Record, BeginsLine, ExtendsLine, EndsLine, has_room_after, record_in, is_to_be_written, most_bytes, with_event, with_text, Lines}
@@ -7,20 +7,20 @@ use Rattle.vte_core.proofs.streams.Performing.{after-append}
 
 -- ---- one text
 
--- a record of these bytes and this flag
+-- A record has bytes, and a flag that says whether a text was lost.
 abbrev pub record_of : List ℕ → Bool → Record
 record_of bytes lost = record { bytes = bytes; lost = lost }
 
 same_record : {b c : List ℕ} {l m : Bool} → b ≡ c → l ≡ m → record_of b l ≡ record_of c m
 same_record e f = cc
 
--- a text is taken if there is room for it
+-- A text is taken if there is room for it.
 with_text_taken : (held : Record) (text : List ℕ) → length held.bytes + length text ≤ most_bytes
     → with_text held text ≡ record_of (held.bytes ++ text) held.lost
 unfolding with_text
 with_text_taken held text fits = rw (le-leb _ _ fits) refl
 
--- a line that begins, is written and ends is taken if there is room for it
+-- A line that begins, is written and ends is taken if there is room for it.
 pub takes_line : {a b c d : Lines} {line : List ℕ} → BeginsLine a b → ExtendsLine b line c → EndsLine c d
     → record_in d ≡ with_text (record_in a) line
 unfolding with_text
@@ -39,7 +39,7 @@ takes_line {a} {b} {c} {d} {line} h k e =
 
 -- ---- the texts of events
 
--- if all texts have room, they are all taken
+-- If all texts have room, they are all taken.
 pub all_taken : (text_of : Event → List ℕ) (bytes : List ℕ) (lost : Bool) (events : List Event)
     → length bytes + length (flat_map text_of events) ≤ most_bytes
     → after (with_event text_of) (record_of bytes lost) events ≡ record_of (bytes ++ flat_map text_of events) lost
@@ -52,7 +52,7 @@ all_taken text_of bytes lost (event ∷ more) fits =
     ∙ all_taken text_of (bytes ++ text) lost more (omega (arith, both, length-append bytes text))
     ∙ same_record (append_assoc bytes text (flat_map text_of more)) refl
 
--- a text is taken as the texts of events are, one after another, if there is room for it
+-- A text is taken as the texts of events are, one after another, if there is room for it.
 pub takes_all : (text_of : Event → List ℕ) (held : Record) (text : List ℕ) (events : List Event)
     → text ≡ flat_map text_of events
     → length held.bytes + length text ≤ most_bytes → with_text held text ≡ after (with_event text_of) held events
@@ -63,8 +63,7 @@ takes_all text_of held text events spelt fits =
 
 -- ---- a collector that has room at each start
 
--- The most bytes of the texts of what is reported from one start to the next: those of a line and
--- of a character's line.
+-- The texts of what is reported from one start to the next have at most the bytes of a line and of a character's line.
 abbrev pub most_of_unit : ℕ
 most_of_unit = 2213
 
@@ -94,8 +93,7 @@ module _ (text_of : Event → List ℕ) (small : IsSmall text_of) (units : Tells
       (omega (arith, small unit brief, ap (λ (r : Record). length r.bytes) taken))
       ∙ same_record (simp (append_assoc, flat_map-append)) refl
 
-  -- by induction on m: what was reported before a place is what was reported at an earlier start,
-  -- and one unit
+  -- By induction on m: what was reported before a place is what was reported at an earlier start, and one unit.
   takes_below : (m i : ℕ) → i < m → i ≤ length bytes
       → ((j : ℕ) → j < i → IsStart stream bytes j
       → HasRoomForUnit (after (with_event text_of) old (told (Some 1024) stream bytes j)))
@@ -112,7 +110,7 @@ module _ (text_of : Event → List ℕ) (small : IsSmall text_of) (units : Tells
             (takes_unit (told (Some 1024) stream bytes t.start) u.unit before (rooms t.start earlier t.starts) u.brief)
       ])
 
-  -- if there was room at each start before a place, all texts were taken
+  -- If there was room at each start before a place, all texts were taken.
   pub takes_told : (i : ℕ) → i ≤ length bytes
       → ((j : ℕ) → j < i → IsStart stream bytes j
       → HasRoomForUnit (after (with_event text_of) old (told (Some 1024) stream bytes j)))

@@ -147,7 +147,6 @@ impl Collector for Plain {
 
     // The text of a chunk fits whatever its bytes are, so no character needs a stop.
     fn collect<'a>(&mut self, parser: &mut RunParser, bytes: &'a [u8]) -> &'a [u8] {
-        laws::events_grow();
         laws::bytes_are_brief();
         let mut unread = bytes;
         while !unread.is_empty() && !self.terminated() {

@@ -1,7 +1,8 @@
--- The words of std, of the parser and of specs/ that proofs use.
+-- Words from std, specs/ and the crates below for the files of proofs, so that a file imports one list from here
+-- instead of one line for each module.
 pub use Rattle.std.proofs.Common.{Bool, List, Some, [], add-one, ap, append-nil, append_assoc, arith, drop, false, get_or, if◌then◌else◌, inl, inr, length, length-append}
 pub use Rattle.std.proofs.Common.{length-drop, length-take, map, min, nat_le, nat_lt, refl, rules, set, subst, suc, sym, take, true, zero, ℕ, ◌%◌, ◌&&◌, ◌*◌, ◌++◌, ◌+◌, ◌-◌, ◌/◌}
-pub use Rattle.std.proofs.Common.{◌<◌, ◌==◌, ◌||◌, ◌∙◌, ◌∷◌, ◌≡◌, ◌≤◌}
+pub use Rattle.std.proofs.Common.{◌<◌, ◌==◌, ◌∙◌, ◌∷◌, ◌≡◌, ◌≤◌}
 pub use Rattle.std.proofs.Math.Nat.{add-zero, add_assoc, zero-add}
 pub use Rattle.std.proofs.Math.Seq.{drop-append_seam, drop-drop, map-set_same, take-add, take-append_seam}
 pub use Rattle.std.proofs.lemmas.Bool.{cases_Bool, cases_lt, eqb-true, false≢true, le-leb, or_parts}
@@ -11,7 +12,7 @@ pub use Rattle.std.proofs.lemmas.List.{drop-append-le, flat_map_more, length-map
 pub use Rattle.std.proofs.lemmas.List.{take_more}
 pub use Rattle.std.proofs.lemmas.List.Elements.{All-head, All-tail, filter-append}
 pub use Rattle.std.proofs.lemmas.List.Sums.{sum_by-cons}
-pub use Rattle.std.proofs.lemmas.Str.{chars-encodes, encodes-chars, len_utf8_bounds, length-encode}
+pub use Rattle.std.proofs.lemmas.Str.{encodes-chars, len_utf8_bounds, length-encode}
 pub use Rattle.std.specs.List.{All, concat, flat_map}
 pub use Rattle.std.specs.Str.{IsUtf8, chars}
 pub use Rattle.event_log.specs.Plain.{plain_text}
@@ -20,7 +21,7 @@ pub use Rattle.vte_core.specs.Brief.{IsBounded, IsBrief, IsShort}
 pub use Rattle.vte_core.specs.EarlyStop.{ComesTo, IsStart, breaks}
 unfoldable pub use Rattle.vte_core.specs.EarlyStop.{breaks_at, stream_at, told}
 pub use Rattle.vte_core.specs.Event.{CsiDispatch, EscDispatch, Event, Execute, Hook, OscDispatch, Print, Put, Unhook, replacement}
-pub use Rattle.vte_core.specs.Laws.{Grows, OpensSilently}
+pub use Rattle.vte_core.specs.Laws.{OpensSilently}
 pub use Rattle.vte_core.specs.Parameters.{AreGroups, count_of}
 pub use Rattle.vte_core.specs.Parser.{HasRead}
 pub use Rattle.vte_core.specs.Perform.{after}

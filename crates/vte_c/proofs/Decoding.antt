@@ -1,11 +1,13 @@
--- Records and their data stand for the events that they were written for.
+-- Records and their data stand for the events that they were written for: each field is read back, by cases of the
+-- event.
 use Rattle.vte_c.proofs.Common.{AreGroups, AreReadable, Bool, CsiDispatch, DataRun, EscDispatch, Event, Hook, InInput, IsBounded, Item, List, OscDispatch, Print, Put, Run}
-use Rattle.vte_c.proofs.Common.{Single, Some, TextRun, VteEvent, [], add-zero, ap, append-nil, append_assoc, arith, cases_Bool, chars, chars-encodes, concat, count_byte}
+use Rattle.vte_c.proofs.Common.{Single, Some, TextRun, VteEvent, [], add-zero, ap, append_assoc, arith, cases_Bool, concat, count_byte}
 use Rattle.vte_c.proofs.Common.{count_of, data_of, drop, drop-append_seam, drop-drop, eqb-true, event_in, events_of, false, flag_byte, flat_map, get_or, group_bytes, groups_in}
 use Rattle.vte_c.proofs.Common.{inl, inr, intermediates_in, item_data, item_events, kinds_of, length, length-append, map, map-set_same, min, numbers_in, piece_bytes, pieces_in}
 use Rattle.vte_c.proofs.Common.{record_at, records_from, refl, run_events, run_kind, run_record, set, sum_by-cons, sym, take, take-append-drop, take-append_seam, take-map, true}
-use Rattle.vte_c.proofs.Common.{two_bytes, with_intermediates, with_loss, without_loss, ℕ, ◌%◌, ◌&&◌, ◌*◌, ◌++◌, ◌+◌, ◌/◌, ◌==◌, ◌∙◌, ◌∷◌, ◌≡◌, ◌≤◌}
-use Rattle.std.specs.Char.{IsScalar, encode_utf8}
+use Rattle.vte_c.proofs.Common.{two_bytes, with_intermediates, with_loss, without_loss, ℕ, ◌%◌, ◌*◌, ◌++◌, ◌+◌, ◌/◌, ◌==◌, ◌∙◌, ◌∷◌, ◌≡◌, ◌≤◌}
+use Rattle.std.specs.Char.{encode_utf8}
+use Rattle.vte_core.proofs.bytes.Printable.{chars_encode}
 use Rattle.vte_c.proofs.Sizes.{few_groups, length_numbers}
 
 -- ---- groups and pieces
@@ -67,15 +69,12 @@ read_intermediates event (a ∷ []) few = refl
 read_intermediates event (a ∷ b ∷ []) few = refl
 read_intermediates event (a ∷ b ∷ c ∷ more) few = absurd (omega arith)
 
-chars-encode : (c : ℕ) → IsScalar c → chars (encode_utf8 c) ≡ c ∷ []
-chars-encode c is = rw append-nil at (chars-encodes (c ∷ []) (ap (λ (b : Bool). b && true) is))
-
--- an event whose data is at its place in the area
+-- An event is read back if its data is at its place in the area.
 read_single : (input area back : List ℕ) (place : ℕ) (event : Event) → IsBounded (Some 1024) event
     → drop place area ≡ data_of event ++ back
     → events_of input area (record_at place (Single event)) ≡ event ∷ []
 unfolding events_of event_in
-read_single input area back place (Print c) h e = rw (e, take-append_seam (encode_utf8 c) back, chars-encode c h.0) refl
+read_single input area back place (Print c) h e = rw (e, take-append_seam (encode_utf8 c) back, chars_encode c h.0) refl
 read_single input area back place (Hook groups ints ignore final) h e =
     rw (e, groups_read groups back h.0, read_intermediates _ ints h.1, read_flag ignore) refl
 read_single input area back place (Put byte) h e = rw e refl
@@ -110,7 +109,7 @@ read_items input area back place (Single event ∷ items) are e =
     let others = read_items input area back (place + length (data_of event)) items are.1 left in
     rw (read_single input area rest place event are.0 (rw parts at e), others) refl
 
--- whether a command lost data isn't read
+-- Whether a command lost data isn't read.
 events_without_loss : (input area : List ℕ) (event : VteEvent)
     → events_of input area (without_loss event) ≡ events_of input area event
 unfolding events_of event_in without_loss
@@ -136,7 +135,7 @@ loss_plain event command =
     let flag : (event.flag % 2 + 2) % 2 ≡ event.flag % 2 = omega arith in
     rw (command, flag) refl
 
--- whether a command lost data isn't read, if it is written later either
+-- Writing whether a command lost data later doesn't change what is read.
 pub loss_unseen : (records : List VteEvent) (count place : ℕ) (default : VteEvent)
     → (get_or records place default).kind ≡ 5
     → map without_loss (take count (set records place (with_loss (get_or records place default))))
@@ -156,7 +155,7 @@ pub kinds_without_loss : (records : List VteEvent) → kinds_of (map without_los
 kinds_without_loss [] = refl
 kinds_without_loss (event ∷ records) = rw (kind_without_loss event, kinds_without_loss records) refl
 
--- in an area whose first bytes are the data of all items, their records report their events
+-- In an area whose first bytes are the data of all items, their records report their events.
 pub items_read : (input area : List ℕ) (used : ℕ) (items : List Item) → AreReadable input items
     → take used area ≡ flat_map item_data items
     → flat_map (events_of input area) (records_from 0 items) ≡ flat_map (item_events input) items

@@ -1,4 +1,5 @@
--- What a caller finds in its buffers.
+-- A caller finds in its buffers the records and data of the items that a call wrote, and reads their events back from
+-- them. More bytes after the input change nothing.
 use Rattle.vte_c.proofs.Common.{AreEncoded, AreReadable, Event, Events, HasFed, HasReadOn, HasItems, HasRead, HasReadSaved, HasTold, HaveOtherRecords, InInput, IsRunAt, Item, List}
 use Rattle.vte_c.proofs.Common.{Parser, Room, Run, Saved, Single, Starts, VteEvent, [], ap, arith, drop, drop-append-le, events_in, filter-append, flat_map, item_events, length}
 use Rattle.vte_c.proofs.Common.{length-append, length-drop, length-map, length-take, min, refl, room_of, sym, take, take-append-le, without_loss, ℕ, ◌++◌, ◌+◌, ◌<◌, ◌∙◌, ◌∷◌}
@@ -55,7 +56,7 @@ module _ (old new : Events) (input : List ℕ) (items : List Item) (starts : Sta
     held = rw starts.area at (ap (λ (r : Room). r.area) h.room);
   }
 
-  -- a reader finds the events
+  -- A reader finds the events.
   found : events_in new.count new.events.now (input ++ more) new.area.now ≡ flat_map (item_events (input ++ more)) items
   found = sym (all_without_loss (input ++ more) new.area.now (take new.count new.events.now))
       ∙ rw encoded.recorded
@@ -94,7 +95,7 @@ pub record AreOfRoom (room : Events) (count used : ℕ) (records : List VteEvent
   pub same_records : records ≡ room.events.now
   pub same_area : area ≡ room.area.now
 
--- a count is at most the length of its slice, which a call leaves as it is
+-- A count is at most the length of its slice, which a call leaves as it is.
 pub counts_are : {events : List Event} {input area : List ℕ} {records : List VteEvent} (room : Events) (count used : ℕ)
     → AreEncoded events room.count room.used room.events.now input room.area.now → records ≡ room.events.now
     → area ≡ room.area.now

@@ -1,11 +1,12 @@
--- How a call goes on by calls of the parser and by the runs that these return.
-use Rattle.vte_c.proofs.Common.{AreCharacters, Bool, ComesTo, DataRun, Event, ReadsOn, GoesOnFromPlaces, Grows, HasReadOn, HasItems, HasRead, HaveOtherRecords, InInput, IsRunOfKind}
+-- A call goes on (`ReadsOn`) by calls of the parser, whose events are written as long as there is room, and by the runs
+-- that these return. One step after another is a longer one (`goes-then`).
+use Rattle.vte_c.proofs.Common.{AreCharacters, Bool, ComesTo, DataRun, Event, ReadsOn, GoesOnFromPlaces, HasReadOn, HasItems, HasRead, HaveOtherRecords, InInput, IsRunOfKind}
 use Rattle.vte_c.proofs.Common.{IsRunAt, List, OpensSilently, Parser, Print, Put, Room, Run, Single, Some, Starts, StopsAtNone, TellsUnits, TextRun, [], added, after, ap}
 use Rattle.vte_c.proofs.Common.{append-nil, arith, breaks_at, cases_Bool, cases_lt, chars, data_of, drop, drop-drop, false, false≢true, filter-append, flat_map, flat_map-append}
 use Rattle.vte_c.proofs.Common.{has, if◌then◌else◌, inl, inr, is_full, is_stop, item_events, kind_of, len_utf8_bounds, length, length-append, length-drop, length-encode, map}
 use Rattle.vte_c.proofs.Common.{nat_tests, refl, replacement, reported, resumed, run_events, run_kind, run_record, stream_at, subst, sym, take, told, true, with_event}
 use Rattle.vte_c.proofs.Common.{with_items, with_run, with_taken, with_wanted, zero-add, ℕ, ◌++◌, ◌+◌, ◌-◌, ◌<◌, ◌∙◌, ◌∷◌, ◌≡◌, ◌≤◌}
-use Rattle.vte_c.proofs.Added.{added_nothing}
+use Rattle.vte_core.proofs.streams.After.{added-nothing}
 use Rattle.vte_core.specs.AdvanceToRun.{IsWhole, ReturnsRun, run_bytes, run_events as returned_events, taken_bytes}
 use Rattle.vte_core.specs.declared.scan.taken.Run.{Run as Returned}
 use Rattle.vte_core.specs.declared.scan.taken.Taken.{Taken}
@@ -17,7 +18,7 @@ use Rattle.vte_c.proofs.Rooms.{event_passed, event_written, items-nothing, items
 
 -- ---- a run of the input
 
--- all events of a run are reported, or none
+-- All events of a run are reported, or none.
 each_reported : (kinds : ℕ) (wanted : Bool) (call : ℕ → Event) → ((n : ℕ) → has kinds (kind_of (call n)) ≡ wanted)
     → (ns : List ℕ) → reported kinds (map call ns) ≡ (if wanted then map call ns else [])
 each_reported kinds true call is [] = refl
@@ -34,15 +35,15 @@ run_stops : (room : Room) (run : Run) → StopsAtNone room → is_stop room.kind
 run_stops room TextRun none = none.0
 run_stops room DataRun none = none.1
 
-goes-run : {old new : Room} {since bytes : List ℕ} (run : Run) {from size : ℕ} → Grows (Some 1024) → is_full old ≡ false
+goes-run : {old new : Room} {since bytes : List ℕ} (run : Run) {from size : ℕ} → is_full old ≡ false
     → new ≡ with_wanted old (run_record (run_kind run) from size) → IsRunAt bytes run from size
     → added (Some 1024) since (take size (drop from bytes)) ≡ run_events run (take size (drop from bytes))
     → ReadsOn old new since (since ++ take size (drop from bytes)) bytes from size
-goes-run {old} {new} {since = since} {bytes = bytes} run {from = from} {size = size} grows free is stands adds =
+goes-run {old} {new} {since = since} {bytes = bytes} run {from = from} {size = size} free is stands adds =
     let part : List ℕ = take size (drop from bytes) in
-    let goes_on = rw adds at (continues-added grows since (drop from bytes) size) in
+    let goes_on = rw adds at (continues-added since (drop from bytes) size) in
     let before = λ (none : StopsAtNone old) (i : ℕ) (earlier : i < size).
-    others_earlier (is_stop old.kinds old.stops) since (drop from bytes) i size (omega arith) grows
+    others_earlier (is_stop old.kinds old.stops) since (drop from bytes) i size (omega arith)
     (rw adds (runs_other (is_stop old.kinds old.stops) run part (run_stops old run none))) in
     elim (cases_Bool (has old.kinds (run_kind run))) [
       | inl wanted ↦ record {
@@ -69,8 +70,7 @@ events-singles : (input : List ℕ) (events : List Event) → flat_map (item_eve
 events-singles input [] = refl
 events-singles input (event ∷ events) = ap (λ (es : List Event). event ∷ es) (events-singles input events)
 
--- before the first byte at most U+FFFD is told, for a character that it breaks, and that doesn't
--- fill the room
+-- Before the first byte at most U+FFFD is told, for a character that it breaks, and that doesn't fill the room.
 goes_on_at_first : (old : Room) (broken : Bool) → Starts old
     → HaveOtherRecords old.stops (after with_event old (if broken then Print replacement ∷ [] else [])).events
     → is_full (after with_event old (if broken then Print replacement ∷ [] else [])) ≡ false
@@ -97,11 +97,10 @@ goes_on_at_first old true starts others =
           rw is (grind (arith, nat_tests))
     ]
 
--- the laws of the parser
+-- The code cites these laws of the parser.
 pub record Laws : Type 0 where
   pub units : TellsUnits (Some 1024)
   pub goes_on : GoesOnFromPlaces (Some 1024)
-  pub grows : Grows (Some 1024)
   pub silent : OpensSilently (Some 1024)
 
 module _ (old new : Room) (since bytes : List ℕ) (from n : ℕ) (laws : Laws) (free : is_full old ≡ false)
@@ -109,7 +108,7 @@ module _ (old new : Room) (since bytes : List ℕ) (from n : ℕ) (laws : Laws) 
   abbrev told_at : ℕ → List Event
   told_at i = told (Some 1024) since (drop from bytes) i
 
-  -- all that was told is written, since the room wasn't full at any start that the call came to
+  -- All that was told is written, since the room wasn't full at any start that the call came to.
   told_written : (i : ℕ) → i ≤ n
       → HasItems old (resumed (after with_event old (told_at i))) bytes (items_of old (told_at i))
   told_written i come =
@@ -123,13 +122,13 @@ module _ (old new : Room) (since bytes : List ℕ) (from n : ℕ) (laws : Laws) 
   goes-call = record {
     told = told_at n;
     items = items_of old (told_at n);
-    continues = continues-call laws.grows laws.goes_on since (drop from bytes) n;
+    continues = continues-call laws.goes_on since (drop from bytes) n;
     shows = events-singles bytes (reported old.kinds (told_at n));
     holds =
         subst (λ (r : Room). HasItems old (resumed r) bytes (items_of old (told_at n))) (sym s.performed)
         (told_written n (omega arith));
     before = λ none.
-        others_before (is_stop old.kinds old.stops) none.0 since (drop from bytes) n s.within laws.grows laws.silent
+        others_before (is_stop old.kinds old.stops) none.0 since (drop from bytes) n s.within laws.silent
         (λ i earlier start.
         others_reported old.kinds old.stops (told_at i) (rw (events-singles bytes (reported old.kinds (told_at i))) at
         (items_others old.stops bytes old.used (items_of old (told_at i))
@@ -197,7 +196,7 @@ gone-then a free within b =
 
 -- ---- a call of the parser, and the run that it returned
 
--- a run that has no bytes isn't there
+-- A run that has no bytes isn't there.
 no_run : (bytes : List ℕ) (end : ℕ) (taken : Taken) → IsWhole bytes end taken → length (taken_bytes taken) ≡ 0
     → (room : Room) (start : ℕ)
     → with_taken room start taken ≡ resumed room
@@ -215,7 +214,7 @@ module _ (old mid new : Room) (since bytes : List ℕ) (from : ℕ) (run : Retur
   call : ReadsOn old (resumed mid) since after_call bytes from run.start
   call = goes-call old mid since bytes from run.start laws free (r.comes since before)
 
-  -- a run of this kind was recorded
+  -- A run of this kind was recorded.
   goes-some : (kind : Run) → 0 < length (run_bytes run)
       → new ≡ with_wanted mid (run_record (run_kind kind) (from + run.start) (length (run_bytes run)))
       → IsRunOfKind kind (run_bytes run) → returned_events run ≡ run_events kind (run_bytes run)
@@ -228,7 +227,7 @@ module _ (old mid new : Room) (since bytes : List ℕ) (from : ℕ) (run : Retur
       let open_room = r.may_go_on (omega (arith, r.stands.end)) in
       let same_room : resumed mid ≡ mid = resumed_same mid (unpaused mid open_room) in
       let more =
-      goes-run {since = after_call} kind laws.grows open_room is
+      goes-run {since = after_call} kind open_room is
       (record { within = within; some = some; is = rw here plain }) (rw here (r.adds since before ∙ same)) in
       rw r.stands.end (goes-then (rw same_room at call) open_room within (rw here at more))
 
@@ -250,7 +249,7 @@ module _ (old mid new : Room) (since bytes : List ℕ) (from : ℕ) (run : Retur
       → ReadsOn old new since (after_call ++ run_bytes run) bytes from run.end
   goes-to-run utf8 is = goes-taken run.taken refl utf8 r.stands.whole is
 
-  -- with room for what two bytes add a call reads one, unless a record was written that stops
+  -- With room for what two bytes add, a call reads one, unless a record that stops was written.
   pub further : Starts old → from < length bytes → new ≡ with_run mid from run
       → HaveOtherRecords old.stops new.events → 0 < run.end
   unfolding told
@@ -262,7 +261,7 @@ module _ (old mid new : Room) (since bytes : List ℕ) (from : ℕ) (run : Retur
         let empty : length (run_bytes run) ≡ 0 = omega (arith, none, r.stands.end) in
         let same : new ≡ resumed mid =
         is ∙ no_run unread run.end run.taken r.stands.whole empty mid (from + run.start) in
-        let performed = rw (start, added_nothing since) at (r.comes since before).performed in
+        let performed = rw (start, added-nothing (Some 1024) since) at (r.comes since before).performed in
         let goes_on = goes_on_at_first old (breaks_at since unread 0) starts (rw (same, performed) at others) in
         absurd
         (false≢true

@@ -1,13 +1,14 @@
--- From calls to streams, for events and for text.
+-- From calls to streams, for events and for text (`HasGiven`): what a call gives comes after what was given, and once
+-- nothing is unread, all is given.
 use Rattle.vte_c.proofs.Common.{CsiDispatch, EscDispatch, Event, Execute, HasGiven, HasReadSaved, Hook, List, OscDispatch, Print, Put, Saved, Some, Unhook, [], added, append-nil}
 use Rattle.vte_c.proofs.Common.{append_assoc, arith, drop, events, has, kind_of, nat_tests, no_room, fed_count, refl, reported, true, ℕ, ◌++◌, ◌<◌, ◌∷◌, ◌≡◌}
-use Rattle.vte_c.proofs.Added.{added_nothing}
+use Rattle.vte_core.proofs.streams.After.{added-nothing}
 
--- what a call has read that isn't short of room
+-- A call that isn't short of room returns what it has read.
 pub counted : (n : ℕ) → n < no_room → fed_count n ≡ n
 counted n small = grind (arith, nat_tests)
 
--- every event has one of eight kinds
+-- Every event has one of eight kinds.
 is_reported : (event : Event) → has 255 (kind_of event) ≡ true
 unfolding has
 is_reported (Print c) = refl
@@ -36,7 +37,7 @@ module _ {A : Type 0} {of : List Event → List A} where
     goes_on = λ more. rw (append_assoc unread, append_assoc stream) (h.goes_on (bytes ++ more));
   }
 
-  -- what a call gives comes next, and the parser goes on from where it stopped
+  -- What a call gives comes next, and the parser goes on from where it stopped.
   pub given_more : {old new : Saved} {before : List A} {stream next : List ℕ} (now : List A) (bytes rest : List ℕ)
       (n : ℕ) (h : HasGiven of old before stream (bytes ++ rest))
       → HasReadSaved new next
@@ -54,4 +55,4 @@ module _ {A : Type 0} {of : List Event → List A} where
   pub given_all : of [] ≡ [] → (parser : Saved) (given : List A) (stream : List ℕ) → HasGiven of parser given stream []
       → given ≡ of (events (Some 1024) stream)
   given_all none parser given stream h =
-      rw (added_nothing h.since, none, append-nil given, append-nil stream) at (h.goes_on [])
+      rw (added-nothing (Some 1024) h.since, none, append-nil given, append-nil stream) at (h.goes_on [])

@@ -1,4 +1,5 @@
-pub mod Added
+-- From records and their data (`Sizes`, `Decoding`, `Rooms`) to calls (`Continuing`, `Going`, `OtherKinds`,
+-- `Stripping`) and to what their callers find (`Found`, `Joining`); `Common` passes on words.
 pub mod Common
 pub mod Continuing
 pub mod Decoding

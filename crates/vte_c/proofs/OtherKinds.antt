@@ -1,9 +1,11 @@
--- No event that stops a call is told before the last byte that it reads.
-use Rattle.vte_c.proofs.Common.{AreOthers, Bool, DataRun, Event, Grows, HaveOtherKinds, HaveOtherRecords, InInput, IsStart, Item, List, OpensSilently, Print, Put, Run, Single}
+-- No event that stops a call is told before the last byte that it reads: a byte before that ends at a start, where the
+-- call would have stopped, or adds nothing that stops.
+use Rattle.vte_c.proofs.Common.{AreOthers, Bool, DataRun, Event, HaveOtherKinds, HaveOtherRecords, InInput, IsStart, Item, List, OpensSilently, Print, Put, Run, Single}
 use Rattle.vte_c.proofs.Common.{Some, TextRun, VteEvent, [], add-one, added, append_assoc, arith, breaks_at, cases_Bool, chars, drop, false, flat_map, get_or, has, has_kind}
 use Rattle.vte_c.proofs.Common.{if◌then◌else◌, inl, inr, is_stop, item_data, item_events, kind_of, length, map, open_end, or_parts, records_from, refl, replacement, reported}
 use Rattle.vte_c.proofs.Common.{run_events, run_kind, suc, take, take-add, take_more, told, zero, ℕ, ◌++◌, ◌+◌, ◌-◌, ◌<◌, ◌∷◌, ◌≡◌, ◌≤◌}
-use Rattle.vte_c.proofs.Added.{added-append, added_nothing}
+use Rattle.vte_core.proofs.stops.Units.{added_both}
+use Rattle.vte_core.proofs.streams.After.{added-nothing}
 
 -- ---- records
 
@@ -40,7 +42,7 @@ pub runs_other : (stop : ℕ → Bool) (run : Run) (bytes : List ℕ) → stop (
 runs_other stop TextRun bytes other = each_other stop Print (λ c. other) (chars bytes)
 runs_other stop DataRun bytes other = each_other stop Put (λ b. other) bytes
 
--- the events of records that don't stop
+-- The events of records that don't stop don't stop either.
 pub items_others : (stops : ℕ) (input : List ℕ) (place : ℕ) (items : List Item)
     → HaveOtherRecords stops (records_from place items)
     → AreOthers (has stops) (flat_map (item_events input) items)
@@ -52,7 +54,7 @@ items_others stops input place (InInput run start size ∷ items) h =
     others_append (has stops) (run_events run bytes) (flat_map (item_events input) items)
     (runs_other (has stops) run bytes h.0) (items_others stops input (place + 0) items h.1)
 
--- what isn't reported doesn't stop
+-- An event that isn't reported doesn't stop.
 pub others_reported : (kinds stops : ℕ) (events : List Event) → AreOthers (has stops) (reported kinds events)
     → AreOthers (is_stop kinds stops) events
 others_reported kinds stops [] h = tt
@@ -63,20 +65,20 @@ others_reported kinds stops (event ∷ events) h = elim (cases_Bool (has kinds (
   | inr other ↦ (rw other refl, others_reported kinds stops events (rw other at h))
 ]
 
--- what fewer bytes add
-pub others_earlier : (stop : ℕ → Bool) (stream bytes : List ℕ) (i n : ℕ) → i ≤ n → Grows (Some 1024)
+-- If nothing that bytes add stops, neither does what fewer add.
+pub others_earlier : (stop : ℕ → Bool) (stream bytes : List ℕ) (i n : ℕ) → i ≤ n
     → AreOthers stop (added (Some 1024) stream (take n bytes))
     → AreOthers stop (added (Some 1024) stream (take i bytes))
-others_earlier stop stream bytes i n earlier grows h =
+others_earlier stop stream bytes i n earlier h =
     let parts : i + (n - i) ≡ n = omega arith in
     others_front stop (added (Some 1024) stream (take i bytes))
     (added (Some 1024) (stream ++ take i bytes) (take (n - i) (drop i bytes)))
-    (rw (← parts, take-add i (n - i) bytes, added-append grows) at h)
+    (rw (← parts, take-add i (n - i) bytes, added_both) at h)
 
 -- ---- what the bytes before the last add
 
 module _ (stop : ℕ → Bool) (no_text : stop 0 ≡ false) (stream bytes : List ℕ) (n : ℕ) (within : n ≤ length bytes)
-    (grows : Grows (Some 1024)) (silent : OpensSilently (Some 1024))
+    (silent : OpensSilently (Some 1024))
     (asked : (i : ℕ) → i < n → IsStart stream bytes i → AreOthers stop (told (Some 1024) stream bytes i)) where
   at_start : (i : ℕ) → i < n → open_end (stream ++ take i bytes) ≡ []
       → AreOthers stop (added (Some 1024) stream (take i bytes))
@@ -86,9 +88,9 @@ module _ (stop : ℕ → Bool) (no_text : stop 0 ≡ false) (stream bytes : List
       (if breaks_at stream bytes i then Print replacement ∷ [] else [])
       (asked i earlier (record { within = omega arith; starts = inl closed }))
 
-  -- a byte after which no character is open ends at a start, and any other adds nothing that stops
+  -- A byte after which no character is open ends at a start, and any other adds nothing that stops.
   pub others_before : (i : ℕ) → i < n → AreOthers stop (added (Some 1024) stream (take i bytes))
-  others_before zero earlier = rw (added_nothing stream) tt
+  others_before zero earlier = rw (added-nothing (Some 1024) stream) tt
   others_before (suc i) earlier =
       let byte : ℕ = get_or bytes i 0 in
       let here : List ℕ = stream ++ take i bytes in
@@ -96,7 +98,7 @@ module _ (stop : ℕ → Bool) (no_text : stop 0 ≡ false) (stream bytes : List
       let before = others_before i (omega arith) in
       elim (silent here byte) [
         | inl closed ↦ at_start (suc i) earlier (rw (one, ← append_assoc) closed)
-        | inr opens ↦ rw (one, added-append grows stream (take i bytes) (byte ∷ []))
+        | inr opens ↦ rw (one, added_both (Some 1024) stream (take i bytes) (byte ∷ []))
             (others_append stop (added (Some 1024) stream (take i bytes))
             (added (Some 1024) here (byte ∷ [])) before (elim opens [
               | inl none ↦ rw none tt

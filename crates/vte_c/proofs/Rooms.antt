@@ -1,4 +1,5 @@
--- What events leave in a room.
+-- What events leave in a room. One that isn't full has room for what one byte adds, so each event is written as one
+-- item, or isn't one of the kinds asked for.
 use Rattle.vte_c.proofs.Common.{AreReadable, Bool, CsiDispatch, DataRun, EscDispatch, Event, Events, Execute, HasItems, HaveOtherRecords, Holds, Hook, InInput, IsBounded}
 use Rattle.vte_c.proofs.Common.{IsBrief, IsRunAt, Item, List, OscDispatch, Print, Put, Room, Run, Single, Some, StopsAtKind, TextRun, Unhook, VteEvent, [], add-zero, after, ap}
 use Rattle.vte_c.proofs.Common.{append-nil, append_assoc, arith, cases_Bool, data_of, false, filter-append, flag_byte, flat_map, flat_map-append, has, has_kind, has_room_for}
@@ -7,8 +8,9 @@ use Rattle.vte_c.proofs.Common.{nat_lt, nat_tests, or_parts, record_at, records_
 use Rattle.vte_c.proofs.Common.{with_items, with_one, with_record, without_loss, ℕ, ◌%◌, ◌++◌, ◌+◌, ◌∙◌, ◌∷◌, ◌≡◌, ◌≤◌}
 use Rattle.std.proofs.Math.Bool.{or-false, or_assoc}
 use Rattle.std.proofs.lemmas.List.Folds.{list_any-append}
+use Rattle.vte_core.proofs.places.BriefLemmas.{short_bounded}
 use Rattle.vte_core.proofs.streams.Performing.{after-append}
-use Rattle.vte_c.proofs.Sizes.{data_most, short_bounded, short_data}
+use Rattle.vte_c.proofs.Sizes.{data_most, short_data}
 use Rattle.vte_c.proofs.OtherKinds.{kinds-append, kinds_of_none}
 
 -- ---- items one after the other
@@ -38,7 +40,7 @@ with_items-append room front back =
     rw (← count, records-append, flat_map-append, ← size, list_any-append)
     (rw (append_assoc room.events, append_assoc room.area, or_assoc) refl)
 
--- as long as a room isn't full, no record stops
+-- As long as a room isn't full, no record stops.
 pub unmet : {old new : Room} {input : List ℕ} {items : List Item} → HasItems old new input items → is_full new ≡ false
     → HaveOtherRecords old.stops (records_from old.used items)
 unmet {old} {new} {input} {items} h free =
@@ -53,7 +55,7 @@ readable-append input [] back f b = b
 readable-append input (Single event ∷ front) back f b = (f.0, readable-append input front back f.1 b)
 readable-append input (InInput run start size ∷ front) back f b = (f.0, readable-append input front back f.1 b)
 
--- two are few
+-- At most two records may all be the last ones: one that stops, and one after it.
 pub stops_soon : (stops place : ℕ) (items : List Item) → length items ≤ 2
     → StopsAtKind stops (kinds_of (records_from place items))
 stops_soon stops place items few =
@@ -103,7 +105,7 @@ holds_nothing events = record {
 
 -- ---- a run of the input
 
--- what is written has no bit for lost data
+-- What is written has no bit for lost data.
 run_plain : (run : Run) (start size : ℕ)
     → without_loss (run_record (run_kind run) start size) ≡ run_record (run_kind run) start size
 unfolding without_loss
@@ -160,7 +162,7 @@ either_paused : (choice paused : Bool) (a b : Room) → a.paused ≡ paused → 
 either_paused true paused a b f g = f
 either_paused false paused a b f g = g
 
--- an event is written alike
+-- An event is written in the same way after a pause.
 with_event_resumed : (room : Room) (event : Event)
     → resumed (with_event room event) ≡ resumed (with_event (resumed room) event)
 unfolding with_one with_record
@@ -180,12 +182,12 @@ paused_after room event kept =
 
 -- ---- events of the parser
 
--- there is room for `count` events and `size` bytes of data
+-- There is room for `count` events and `size` bytes of data.
 pub record HasRoomFor (room : Room) (count size : ℕ) : Type 0 where
   pub events : room.count + count ≤ room.most
   pub data_fits : room.used + size ≤ room.size
 
--- a room that isn't full has room for what one byte adds
+-- A room that isn't full has room for what one byte adds.
 roomy : (room : Room) → is_full room ≡ false → HasRoomFor room 2 most_added
 roomy room free = record { events = grind (arith, nat_tests); data_fits = grind (arith, nat_tests) }
 
@@ -198,12 +200,12 @@ event_written room event going room_for wanted =
     let some : nat_lt room.count room.most ≡ true = grind (arith, nat_tests) in
     rw (wanted, has_both, some, single_plain room.used event, going) (simp (append-nil, or-false))
 
--- an event that isn't reported leaves the room
+-- An event that isn't reported leaves the room as it is.
 pub event_passed : (room : Room) (event : Event) → room.paused ≡ false → has room.kinds (kind_of event) ≡ false
     → resumed (with_event room event) ≡ room
 event_passed room event going other = rw other (resumed_same room going)
 
--- the items of events
+-- Each event that is reported has an item.
 abbrev pub items_of : Room → List Event → List Item
 items_of room events = map Single (reported room.kinds events)
 
@@ -221,7 +223,7 @@ items-event input room event bounded going room_for = elim (cases_Bool (has room
   | inr other ↦ rw (event_passed room event going other, other) (items-nothing room input)
 ]
 
--- one event has at most one item, and no more data
+-- One event has at most one item, with no more data.
 record AreFew (room : Room) (event : Event) : Type 0 where
   pub count : length (items_of room (event ∷ [])) ≤ 1
   pub size : length (flat_map item_data (items_of room (event ∷ []))) ≤ length (data_of event)
@@ -262,7 +264,7 @@ items-unit input room (event ∷ last ∷ []) brief free =
     } in
     let second =
     subst (λ (k : ℕ). HasItems next (resumed (with_event next last)) input (map Single (reported k (last ∷ [])))) kinds
-    (items-event input next last (short_bounded last brief.1) refl room_for_last) in
+    (items-event input next last (short_bounded (Some 1024) last brief.1) refl room_for_last) in
     let both : items_of room (event ∷ last ∷ []) ≡ items_of room (event ∷ []) ++ items_of room (last ∷ []) =
     ap (map Single) (filter-append (λ e. has room.kinds (kind_of e)) (event ∷ []) (last ∷ []))
     ∙ map-append Single _ _ in

@@ -1,4 +1,4 @@
--- How many data bytes an event has.
+-- An event has at most 1,088 data bytes, and the second one that a byte adds has at most four: by cases of the event.
 use Rattle.vte_c.proofs.Common.{All, All-head, All-tail, AreGroups, CsiDispatch, Event, Execute, Hook, IsBounded, IsShort, List, OscDispatch, Print, Some, [], arith, concat}
 use Rattle.vte_c.proofs.Common.{count_of, data_of, flat_map, group_bytes, len_utf8_bounds, length, length-append, length-encode, piece_bytes, refl, sum_by-cons}
 use Rattle.vte_c.proofs.Common.{two_bytes, ℕ, ◌*◌, ◌+◌, ◌<◌, ◌∷◌, ◌≡◌, ◌≤◌}
@@ -36,7 +36,7 @@ few_groups groups h = omega (arith, filled_length groups h.filled, h.few)
 groups_size : (groups : List (List ℕ)) → AreGroups groups → length (flat_map group_bytes groups) ≤ 96
 groups_size groups h = omega (arith, length_groups groups, few_groups groups h, h.few)
 
--- The maximum number of data bytes of an event.
+-- No event has more data bytes.
 abbrev most_data : ℕ
 most_data = 1088
 
@@ -47,12 +47,7 @@ data_most (OscDispatch pieces bell) h = omega (arith, length_pieces pieces, h.0,
 data_most (CsiDispatch groups ints ignore final) h = omega (arith, groups_size groups h.0)
 data_most _ h = omega arith
 
--- what is known of the second event that a byte adds
-pub short_bounded : (event : Event) → IsShort event → IsBounded (Some 1024) event
-short_bounded (Print c) h = h
-short_bounded (Execute byte) h = h
-short_bounded _ h = absurd h
-
+-- The second event that a byte adds is short.
 pub short_data : (event : Event) → IsShort event → length (data_of event) ≤ 4
 short_data (Print c) h = omega (arith, length-encode c, (len_utf8_bounds c).1)
 short_data (Execute byte) h = omega arith

@@ -1,10 +1,12 @@
--- What text calls of the parser have written.
-use Rattle.vte_c.proofs.Common.{Event, Grows, HasRead, IsUtf8, List, Parser, Some, TextRoom, [], add-zero, add_assoc, added, after, ap, append-nil, append_assoc, arith}
+-- Calls of the parser write the text of what they read: a run is written as its characters are, and a chunk that is
+-- short enough has room for its text.
+use Rattle.vte_c.proofs.Common.{Event, HasRead, IsUtf8, List, Parser, Some, TextRoom, [], add-zero, add_assoc, added, after, ap, append-nil, append_assoc, arith}
 use Rattle.vte_c.proofs.Common.{cases_Bool, chars, encodes-chars, false, flat_map-append, inl, inr, le-leb, length, length-append, map, nat_le, nat_tests, plain_text}
 use Rattle.vte_c.proofs.Common.{plain_text_of, refl, sym, take, true, with_text, with_text_of, ℕ, ◌&&◌, ◌*◌, ◌++◌, ◌+◌, ◌<◌, ◌∙◌, ◌∷◌, ◌≡◌, ◌≤◌}
 use Rattle.vte_core.specs.Text.{run_event}
 use Rattle.event_log.proofs.TextInRuns.{text_of_run}
-use Rattle.vte_c.proofs.Added.{added-append, added_nothing}
+use Rattle.vte_core.proofs.stops.Units.{added_both}
+use Rattle.vte_core.proofs.streams.After.{added-nothing}
 
 -- ---- texts that have room
 
@@ -48,7 +50,7 @@ some_written room event (next ∷ events) =
     some_written (with_text_of room event) next events
     ∙ with_text-append room (plain_text_of event) (plain_text (next ∷ events))
 
--- a run is written as its characters are, one after another
+-- A run is written as its characters are, one after another.
 pub writes_run : (room : TextRoom) (text : List ℕ) → IsUtf8 text → 0 < length text
     → with_text room text ≡ after with_text_of room (map (run_event true) (chars text))
 writes_run room text utf8 some =
@@ -72,22 +74,25 @@ pub written_nothing : {stream : List ℕ} {parser : Parser 1024} (room : TextRoo
     → HasRead parser stream
     → HasTextOf room room stream bytes 0 parser
 written_nothing {stream} room bytes parsed =
-    record { parsed = rw (append-nil stream) parsed; holds = rw (added_nothing stream) (simp (append-nil, add-zero)) }
+    record {
+      parsed = rw (append-nil stream) parsed;
+      holds = rw (added-nothing (Some 1024) stream) (simp (append-nil, add-zero));
+    }
 
 pub written_more : {old new later : TextRoom} {stream bytes : List ℕ} {n : ℕ} {parser parser_later : Parser 1024}
     (chunk : List ℕ) → old.fits ≡ true
-    → Grows (Some 1024) → length (plain_text (added (Some 1024) (stream ++ take n bytes) chunk)) ≤ 8 * length chunk
+    → length (plain_text (added (Some 1024) (stream ++ take n bytes) chunk)) ≤ 8 * length chunk
     → HasTextOf old new stream bytes n parser
     → take (n + length chunk) bytes ≡ take n bytes ++ chunk → new.used + 8 * length chunk ≤ new.size
     → later ≡ after with_text_of new (added (Some 1024) (stream ++ take n bytes) chunk)
     → HasRead parser_later ((stream ++ take n bytes) ++ chunk)
     → HasTextOf old later stream bytes (n + length chunk) parser_later
-written_more {old} {new} {stream = stream} {bytes = bytes} {n = n} chunk kept grows slow h parts fits performed parsed =
+written_more {old} {new} {stream = stream} {bytes = bytes} {n = n} chunk kept slow h parts fits performed parsed =
     let before = added (Some 1024) stream (take n bytes) in
     let more = added (Some 1024) (stream ++ take n bytes) chunk in
     record {
       parsed = rw (parts, ← append_assoc) parsed;
-      holds = rw (parts, added-append grows stream (take n bytes) chunk, flat_map-append plain_text_of before more)
+      holds = rw (parts, added_both (Some 1024) stream (take n bytes) chunk, flat_map-append plain_text_of before more)
           (performed ∙ all_written new more (ap (λ (r : TextRoom). r.fits) h.holds ∙ kept) (omega (arith, fits, slow))
           ∙ ap (λ (r : TextRoom). with_all r (plain_text more)) h.holds
           ∙ with_all-append old (plain_text before) (plain_text more));

@@ -114,7 +114,6 @@ fn read_more(parser: &mut Parser<1024>, bytes: &[u8], from: usize, room: &mut Ev
         HaveOtherRecords (room_of room.old).stops (room_of room.new).events → 0 < result }
 {
     laws::early_stops();
-    laws::events_grow();
     laws::opens_silently();
     let run = parser.advance_to_run(room, &bytes[from..]);
     room.add_run(from, run, parser.command_lost_data());

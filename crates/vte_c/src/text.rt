@@ -153,7 +153,6 @@ fn read_into(saved: &mut Saved, bytes: &[u8], room: &mut Text<'_>) -> usize
         HasStripped saved.old text stream (bytes.now ++ rest) →
         StripsMore room.old room.new saved.new text stream bytes.now rest result }
 {
-    laws::events_grow();
     laws::bytes_are_brief();
     let mut parser = Parser::restored(saved);
     let mut count = 0;

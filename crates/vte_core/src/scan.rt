@@ -232,7 +232,7 @@ impl<B> Looks<B> {
     {
         match byte {
             0x00..=0x1f | 0x80..=0x9f => performer.execute_control(self, byte),
-            _ => performer.print_replacement(self),
+            _ => performer.print_char(self, char::REPLACEMENT_CHARACTER),
         }
     }
 

@@ -1,14 +1,15 @@
--- Bits of a byte.
+-- A byte is its flags and its other bits, and all flags are set exactly if setting them changes nothing: by laws of std
+-- about bits.
 use Rattle.std.proofs.Common.{◌≡◌, ◌<◌, ◌+◌, ℕ, sym, ◌∙◌, ap, arith}
 use Rattle.std.proofs.lemmas.Nat.{and-not, and_comm, and_or_self, or_comm}
 use Rattle.std.specs.Int.Bits.{or_add_and}
 use Rattle.std.specs.Int.RustNames.{bit_and, bit_or}
 
--- a byte is its flags and its other bits
+-- A byte is its flags and its other bits.
 pub parts : (bits : ℕ) → bits < 256 → bit_and bits 0xe0 + bit_and bits 0x1f ≡ bits
 parts bits fits = (λ i. and_comm bits 0xe0 i + and_comm bits 0x1f i) ∙ and-not 8 0x1f bits (omega arith) fits
 
--- all flags are set where setting them changes nothing
+-- All flags are set if setting them changes nothing.
 pub all_set : (bits : ℕ) → bit_or 0x1f bits ≡ bits → bit_and bits 0x1f ≡ 0x1f
 all_set bits e = ap (λ n. bit_and n 0x1f) (sym e ∙ or_comm 0x1f bits) ∙ and_or_self 0x1f bits
 

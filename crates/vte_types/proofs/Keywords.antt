@@ -1,6 +1,6 @@
--- Keywords are ASCII.
-use Rattle.std.proofs.Common.{◌≡◌, ◌<◌, ℕ, zero, suc, Bool, true, false, cond, List, [], ◌∷◌, Option, None, Some, refl, ap, arith}
-use Rattle.std.proofs.lemmas.Bool.Decides.{nat_tests}
+-- Keywords are ASCII, as a test of the whole table computes. So a text that isn't UTF-8 differs from each of them.
+use Rattle.std.proofs.Common.{◌≡◌, ℕ, zero, suc, Bool, true, false, cond, List, [], ◌∷◌, Option, None, Some, refl, ap, arith}
+use Rattle.std.proofs.lemmas.Bool.{and_parts, ltb-true}
 use Rattle.std.proofs.lemmas.Str.{IsUtf8-from_ascii, is_utf8-from_IsUtf8}
 use Rattle.std.specs.Prelude.{nat_lt, ◌&&◌}
 use Rattle.std.specs.Str.{is_utf8, IsAscii}
@@ -20,21 +20,10 @@ abbrev pub have_ascii_words : {A : Type 0} → List (List ℕ × A) → Bool
 have_ascii_words [] = true
 have_ascii_words (row ∷ rows) = are_ascii row.0 && have_ascii_words rows
 
-first_and : (a b : Bool) → (a && b) ≡ true → a ≡ true
-first_and true b e = refl
-first_and false b e = cc
-
-second_and : (a b : Bool) → (a && b) ≡ true → b ≡ true
-second_and true b e = e
-second_and false b e = cc
-
-below_by : (b : ℕ) → nat_lt b 128 ≡ true → b < 128
-below_by b e = grind (arith, nat_tests)
-
 are_below : (bytes : List ℕ) → are_ascii bytes ≡ true → IsAscii bytes
 are_below [] e i = omega arith
-are_below (b ∷ bytes) e zero = below_by b (first_and (nat_lt b 128) (are_ascii bytes) e)
-are_below (b ∷ bytes) e (suc i) = are_below bytes (second_and (nat_lt b 128) (are_ascii bytes) e) i
+are_below (b ∷ bytes) e zero = ltb-true b 128 (and_parts _ _ e).0
+are_below (b ∷ bytes) e (suc i) = are_below bytes (and_parts _ _ e).1 i
 
 ascii_is_utf8 : (bytes : List ℕ) → are_ascii bytes ≡ true → is_utf8 bytes ≡ true
 ascii_is_utf8 bytes e = is_utf8-from_IsUtf8 bytes (IsUtf8-from_ascii bytes (are_below bytes e))
@@ -44,9 +33,9 @@ other_bytes : {A : Type 0} (rows : List (List ℕ × A)) (text : List ℕ) → h
 other_bytes [] text are not = refl
 other_bytes (row ∷ rows) text are not =
     row_by row.1 (entry_of_word rows text) (is_word text row.0)
-    (other_word text row.0 (λ e. let same = ap is_utf8 e in let is = ascii_is_utf8 row.0 (first_and _ _ are) in cc))
-    (other_bytes rows text (second_and _ _ are) not)
+    (other_word text row.0 (λ e. let same = ap is_utf8 e in let is = ascii_is_utf8 row.0 (and_parts _ _ are).0 in cc))
+    (other_bytes rows text (and_parts _ _ are).1 not)
 
--- a text that isn't UTF-8 is no keyword
+-- A text that isn't UTF-8 is no keyword.
 pub no_icon : (text : List ℕ) → is_utf8 text ≡ false → icon_of text ≡ None
 no_icon text not = other_bytes icons text refl not

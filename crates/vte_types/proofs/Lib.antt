@@ -1,3 +1,4 @@
+-- Words and the tables of them (`Words`, `Keywords`), colours (`RgbTexts`, `Shades`) and flags (`Bits`).
 pub mod Bits
 pub mod Keywords
 pub mod RgbTexts

@@ -1,4 +1,4 @@
--- Shades, and the numbers of named colours.
+-- Shades undo each other, and a table reads a named colour back from its number: by cases of the colour.
 use Rattle.std.proofs.Common.{◌≡◌, false, Some, refl, ap}
 use Rattle.std.specs.Prelude.{List, [], ◌∷◌}
 use Rattle.vte_types.specs.Bright.{bright_of, dim_of, is_bright, is_dim}
@@ -35,7 +35,7 @@ dim_back DimWhite other = cc
 dim_back DimForeground other = cc
 dim_back color other = refl
 
--- the colour that has a number
+-- Each number has its colour.
 color_rows : List (Row NamedColor)
 color_rows =
     (0, Black) ∷ (1, Red) ∷ (2, Green) ∷ (3, Yellow) ∷ (4, Blue) ∷ (5, Magenta) ∷ (6, Cyan) ∷ (7, White)

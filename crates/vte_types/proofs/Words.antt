@@ -1,6 +1,8 @@
--- Words of texts.
+-- A text is a word, or begins with it, exactly if a comparison byte by byte says so. In a table, a text has the entry
+-- of this row if the row's word is the text, and otherwise that of the rows that follow.
 use Rattle.std.proofs.Common.{◌≡◌, ◌≢◌, ◌<◌, ◌+◌, ℕ, suc, Bool, true, false, cond, eqb, List, [], ◌∷◌, ◌++◌, length, drop, get_or}
 use Rattle.std.proofs.Common.{drop-cons, Option, None, Some, option_map, refl, sym, ◌∙◌, ap, arith, Bor, MatchOption}
+use Rattle.std.proofs.lemmas.Bool.{false_from_ne_true}
 use Rattle.std.proofs.lemmas.Bool.Decides.{nat_tests}
 use Rattle.std.specs.Prelude.{map, ◌&&◌}
 use Rattle.std.specs.Str.{bytes_eq}
@@ -18,12 +20,8 @@ same_word [] (b ∷ word) e = cc
 same_word (a ∷ text) [] e = cc
 same_word (a ∷ text) (b ∷ word) e = same_by a b text word (same_word text word) (eqb a b) refl e
 
-not_true : (b : Bool) → (b ≡ true → ⊥) → b ≡ false
-not_true true h = absurd (h refl)
-not_true false h = refl
-
 pub other_word : (text word : List ℕ) → (text ≡ word → ⊥) → is_word text word ≡ false
-other_word text word h = not_true _ (λ e. h (same_word text word e))
+other_word text word h = false_from_ne_true _ (λ e. h (same_word text word e))
 
 pub short_word : (text word : List ℕ) → length text < length word → is_word text word ≡ false
 short_word text word h = other_word text word (λ e. let k = ap length e in omega arith)
@@ -64,18 +62,18 @@ same_and : (t x y : Bool) → x ≡ y → (t && x) ≡ cond t y false
 same_and true x y e = e
 same_and false x y e = refl
 
--- `==` of texts is the test
+-- A test for a word is `==` of texts.
 pub tests_agree : (text word : List ℕ) → bytes_eq text word ≡ is_word text word
 tests_agree [] [] = refl
 tests_agree [] (b ∷ word) = refl
 tests_agree (a ∷ text) [] = refl
 tests_agree (a ∷ text) (b ∷ word) = same_and (eqb a b) _ _ (tests_agree text word)
 
--- the rows of a table in code as a definition has them
+-- A table in code has references to its words, and one in a definition has the words.
 abbrev pub rows_of : {A : Type 0} → List (Bor (List ℕ) × A) → List (List ℕ × A)
 rows_of rows = map (λ row. (row.0.now, row.1)) rows
 
--- from a row on, a text is beside that row or among those after it
+-- From a row on, a text has that row's entry, or the one that it has from the next row on.
 pub from_row : {A : Type 0} (rows : List (Bor (List ℕ) × A)) (i : ℕ) (d : Bor (List ℕ) × A) (text : List ℕ) (t : Bool)
     → i < length rows → t ≡ bytes_eq text (get_or rows i d).0.now
     → entry_of_word (rows_of (drop i rows)) text

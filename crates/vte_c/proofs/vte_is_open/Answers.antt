@@ -1,3 +1,4 @@
+-- The restored parser says whether something is open.
 use Rattle.vte_c.proofs.vte_is_open.Goals as goal
 
 pub returns-else-is_open-clause-closed : goal.returns-else-is_open-clause-closed

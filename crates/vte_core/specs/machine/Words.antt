@@ -1,7 +1,7 @@
 -- The words that contracts of the parser's functions share.
 pub use Rattle.vte_core.specs.Class.{IsPut, class_of, dispatches_escape, ends_all, is_control, is_data, is_final, is_head, is_intermediate, is_parameter_text}
 pub use Rattle.vte_core.specs.EarlyStop.{NoCharacterStops}
-pub use Rattle.vte_core.specs.Event.{CsiDispatch, EscDispatch, Event, Execute, Hook, OscDispatch, Print, Put, Unhook, replacement}
+pub use Rattle.vte_core.specs.Event.{CsiDispatch, EscDispatch, Event, Execute, Hook, OscDispatch, Print, Put, Unhook}
 pub use Rattle.vte_core.specs.Key.{begins_ignored_string}
 pub use Rattle.vte_core.specs.LongParser.{read_count}
 pub use Rattle.vte_core.specs.Looks.{looked}

@@ -47,7 +47,7 @@ impl<B: Buffer> Machine<B> {
         }
         let second = looks.at(input, next);
         if !is_continuation(second) {
-            performer.print_replacement(looks);
+            performer.print_char(looks, char::REPLACEMENT_CHARACTER);
             return next;
         }
         if first < 0xe0 {
@@ -82,7 +82,7 @@ impl<B: Buffer> Machine<B> {
             looks.old looks.new }
     {
         if !may_begin_three(first, second) {
-            performer.print_replacement(looks);
+            performer.print_char(looks, char::REPLACEMENT_CHARACTER);
             return from;
         }
         if from + 1 >= input.len() {
@@ -91,7 +91,7 @@ impl<B: Buffer> Machine<B> {
         }
         let third = looks.at(input, from + 1);
         if !is_continuation(third) {
-            performer.print_replacement(looks);
+            performer.print_char(looks, char::REPLACEMENT_CHARACTER);
             return from + 1;
         }
         looks.tell_character(performer, character_of_three(first, second, third));
@@ -130,7 +130,7 @@ impl<B: Buffer> Machine<B> {
     {
         let next = from + 1;
         if !may_begin_four(first, second) {
-            performer.print_replacement(looks);
+            performer.print_char(looks, char::REPLACEMENT_CHARACTER);
             return next;
         }
         if next + 2 >= input.len() {
@@ -144,12 +144,12 @@ impl<B: Buffer> Machine<B> {
         }
         let third = looks.at(input, next + 1);
         if !is_continuation(third) {
-            performer.print_replacement(looks);
+            performer.print_char(looks, char::REPLACEMENT_CHARACTER);
             return next + 1;
         }
         let fourth = looks.at(input, next + 2);
         if !is_continuation(fourth) {
-            performer.print_replacement(looks);
+            performer.print_char(looks, char::REPLACEMENT_CHARACTER);
             return next + 2;
         }
         if G::IN_RUNS {
@@ -189,7 +189,7 @@ impl<B: Buffer> Machine<B> {
                     return position + 1;
                 }
                 Carried::Broken => {
-                    performer.print_replacement(looks);
+                    performer.print_char(looks, char::REPLACEMENT_CHARACTER);
                     self.state = State::Text(Unfinished::Nothing);
                     return position;
                 }

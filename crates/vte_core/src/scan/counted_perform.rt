@@ -1,6 +1,6 @@
 //! Performers that count each event as it is reported.
 ghost use Rattle.std.specs.Prelude.{◌≡◌, ◌<◌, Bool, false, length, map, chars};
-ghost use Rattle.vte_core.specs.machine.Words.{CsiDispatch, EscDispatch, Event, Execute, Hook, IsTextRun, OscDispatch, Print, Put, Tells, TellsAll, Unhook, is_control_character, replacement, run_event};
+ghost use Rattle.vte_core.specs.machine.Words.{CsiDispatch, EscDispatch, Event, Execute, Hook, IsTextRun, OscDispatch, Print, Put, Tells, TellsAll, Unhook, is_control_character, run_event};
 
 use crate::head::Collected;
 use crate::perform::Perform;
@@ -27,10 +27,6 @@ pub(crate) trait CountedPerform<B, G> {
         requires { is_control_character c ≡ false }
         ensures { Tells step (value_of self.old) (value_of self.new)
             (Print c) looks.old looks.new };
-
-    fn print_replacement(&mut self, looks: &mut Looks<B>)
-        ensures { Tells step (value_of self.old) (value_of self.new)
-            (Print replacement) looks.old looks.new };
 
     /// Counts a text's bytes, which are no fewer than its characters.
     fn print_text(&mut self, looks: &mut Looks<B>, text: &str)
@@ -96,12 +92,6 @@ impl<P: PerformAs<G>, B, G> CountedPerform<B, G> for P {
     fn print_char(&mut self, looks: &mut Looks<B>, c: char) {
         looks.add(1);
         PerformAs::<G>::print_char(self, c);
-    }
-
-    #[inline(always)]
-    fn print_replacement(&mut self, looks: &mut Looks<B>) {
-        looks.add(1);
-        PerformAs::<G>::print_replacement(self);
     }
 
     #[inline(always)]

@@ -1,6 +1,6 @@
 //! How performers take text.
 ghost use Rattle.std.specs.Prelude.{◌≡◌, ◌<◌, Bool, true, false, length, map, chars};
-ghost use Rattle.vte_core.specs.machine.Words.{Execute, IsTextRun, Print, Put, after, is_control_character, replacement, run_event};
+ghost use Rattle.vte_core.specs.machine.Words.{Execute, IsTextRun, Print, Put, after, is_control_character, run_event};
 
 use crate::automaton::is_layout;
 use crate::perform::{Perform, PerformText};
@@ -44,11 +44,6 @@ pub(crate) trait PerformAs<G>: Perform {
         requires { is_control_character c ≡ false }
         ensures { Self.value_of self.new ≡ Self.step (Self.value_of self.old) (Print c) };
 
-    /// Receives U+FFFD, which stands for a malformed sequence.
-    fn print_replacement(&mut self)
-        ensures { Self.value_of self.new
-            ≡ Self.step (Self.value_of self.old) (Print replacement) };
-
     /// Receives a control function of one byte.
     fn execute_control(&mut self, byte: u8)
         ensures { Self.value_of self.new ≡ Self.step (Self.value_of self.old) (Execute byte) };
@@ -81,11 +76,6 @@ impl<P: Perform> PerformAs<Singly> for P {
     #[inline(always)]
     fn print_char(&mut self, c: char) {
         Perform::print(self, c);
-    }
-
-    #[inline(always)]
-    fn print_replacement(&mut self) {
-        Perform::print(self, char::REPLACEMENT_CHARACTER);
     }
 
     #[inline(always)]
@@ -124,12 +114,6 @@ impl<P: PerformText> PerformAs<InRuns> for P {
     #[inline(always)]
     fn print_char(&mut self, c: char) {
         PerformText::print_text(self, c.encode_utf8(&mut [0; 4]));
-    }
-
-    // A constant costs less than a character that is encoded.
-    #[inline(always)]
-    fn print_replacement(&mut self) {
-        PerformText::print_text(self, "\u{fffd}");
     }
 
     #[inline(always)]

@@ -1,3 +1,4 @@
+-- The events of the stream are those of its parts (`resync`), and the text of joined events is joined.
 use Rattle.event_log.proofs.Common.{◌∙◌, ap, flat_map, flat_map-append}
 use Rattle.event_log.specs.Plain.{plain_text_of}
 use Rattle.event_log.proofs.laws.text_of_parts.Goals as goal

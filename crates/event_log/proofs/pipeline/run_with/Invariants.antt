@@ -1,3 +1,4 @@
+-- After this many reads all that was read is written (`HasCome`), and the collector is empty.
 use Rattle.event_log.proofs.Common.{◌≡◌, ℕ, List, Some, HasReadSome, empty_record}
 use Rattle.event_log.proofs.Progress.{HasCome}
 use Rattle.event_log.proofs.pipeline.run_with.Given as goal

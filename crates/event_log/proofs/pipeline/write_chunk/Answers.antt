@@ -1,3 +1,4 @@
+-- At first the chunk is unread. In the end nothing is, and a flush keeps what was written.
 use Rattle.event_log.proofs.Common.{rules, nil_from_length}
 use Rattle.std.proofs.lemmas.Result.{on_ok_weaker}
 use Rattle.event_log.proofs.Progress.{written_before, written_kept}

@@ -1,3 +1,4 @@
+-- What was written, and then the text of what is unread, adds up to the whole text. Each round reads a byte or more.
 use Rattle.event_log.proofs.Common.{◌≡◌, ◌++◌, ℕ, List, [], length, HasReadSome, HasWritten, empty_record}
 use Rattle.event_log.proofs.pipeline.write_chunk.Given as goal
 

@@ -1,4 +1,5 @@
-use Rattle.std.proofs.Common.{◌≡◌, ◌<◌, ◌≤◌, ℕ, Bool, true, false, List, [], ◌∷◌, length, drop, Some, refl, sym, ◌∙◌, ap, arith}
+-- The call may stop early, but only once the bell has rung, and no further event changes that.
+use Rattle.std.proofs.Common.{◌≡◌, ℕ, Bool, true, false, List, [], ◌∷◌, length, drop, Some, refl, sym, ◌∙◌, ap, arith}
 use Rattle.examples.specs.Bell.{rung_after}
 use Rattle.vte_core.specs.EarlyStop.{StopsExactly, stream_at}
 use Rattle.vte_core.specs.Event.{Event, Execute}
@@ -10,13 +11,12 @@ stays : (event : Event) → rung_after true event ≡ true
 stays (Execute byte) = refl
 stays event = refl
 
--- a bell that has rung stays so
+-- A bell that has rung stays so.
 stays_all : (events : List Event) → after rung_after true events ≡ true
 stays_all [] = refl
 stays_all (event ∷ events) = ap (λ rung. after rung_after rung events) (stays event) ∙ stays_all events
 
--- Where the call stopped early the bell has rung, and the bytes after can't change that; else all
--- was read.
+-- If the call stopped early, the bell has rung, and the bytes that follow can't change that. Otherwise all was read.
 as_all : (rung : Bool) (n : ℕ) (bytes : List ℕ)
     → StopsExactly rung_after (λ has_rung. has_rung) false rung (Some 1024) [] bytes n
     → rung ≡ after rung_after false (added (Some 1024) [] bytes)

@@ -1,14 +1,15 @@
+-- The devices are new, so they tell their bytes, and the lines that `run` writes are those that the writer holds.
 use Rattle.std.proofs.Common.{◌≡◌, ℕ, Bool, true, false, List, [], Some, Bor, ap}
 use Rattle.examples.specs.Logged.{bytes_unless}
 use Rattle.examples.proofs.logged.lines.Goals as goal
 
--- a new device tells what it has inside
+-- A new device tells what it has inside.
 tells : (failed : Bool) (inside given : Bor (List ℕ)) → failed ≡ false → inside ≡ given
     → bytes_unless failed inside.now ≡ Some given.now
 tells true inside given works same = cc
 tells false inside given works same = ap (λ bytes. Some bytes.now) same
 
--- what is told is what was written
+-- What is told is what was written.
 are_told : (refused : Bool) (bytes written : List ℕ) → bytes_unless refused bytes ≡ Some written → bytes ≡ written
 are_told true bytes written e = cc
 are_told false bytes written e = cc

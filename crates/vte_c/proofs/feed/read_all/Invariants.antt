@@ -1,3 +1,4 @@
+-- The call has gone on to this position (`HasReadOn`). Each round reads a byte or more.
 use Rattle.vte_c.proofs.Common.{HasReadOn, HasRead, List, length, room_of, ℕ, ◌-◌, ◌≡◌, ◌≤◌}
 use Rattle.vte_c.proofs.feed.read_all.Given as goal
 

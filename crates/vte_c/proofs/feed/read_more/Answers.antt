@@ -1,3 +1,5 @@
+-- A call of the parser goes on to the run that it returns, and by this run (`goes-to-run`), and reads a byte if it can
+-- (`further`).
 use Rattle.vte_c.proofs.Common.{List, Some, arith, drop, length, length-drop, room_of, stream_at, take, take_all, ℕ, ◌++◌, ◌-◌, ◌≡◌, ◌≤◌}
 use Rattle.vte_core.specs.AdvanceToRun.{run_bytes}
 use Rattle.vte_c.proofs.Going.{Laws, further, goes-to-run}
@@ -17,7 +19,6 @@ returns c =
     let laws : Laws = record {
       units = c.early_stops.ensures.units (Some 1024);
       goes_on = c.early_stops.ensures.goes_on (Some 1024);
-      grows = c.events_grow.ensures (Some 1024);
       silent = c.opens_silently.ensures (Some 1024);
     } in
     let written = c.add_run.ensures.written in

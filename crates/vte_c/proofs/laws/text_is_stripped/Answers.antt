@@ -1,3 +1,5 @@
+-- A saved parser of zeros is a new one, which has read nothing. What calls give is joined, and in the end nothing is
+-- unread (`Joining`).
 use Rattle.vte_c.proofs.Common.{Some, refl, sym, ◌∙◌}
 use Rattle.vte_c.proofs.Joining.{given_all, given_before, given_first}
 use Rattle.vte_c.proofs.laws.text_is_stripped.Goals as goal

@@ -1,3 +1,4 @@
+-- This many bytes were read, and the room has all of their text (`HasTextOf`). Each round reads a byte or more.
 use Rattle.vte_c.proofs.Common.{HasReadSaved, List, length, text_room_of, ℕ, ◌-◌, ◌≡◌, ◌≤◌}
 use Rattle.vte_c.proofs.Stripping.{HasTextOf}
 use Rattle.vte_c.proofs.text.read_into.Given as goal

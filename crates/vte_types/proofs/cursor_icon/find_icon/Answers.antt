@@ -1,3 +1,4 @@
+-- The text is this row's keyword, or is looked up in the rows that follow (`from_row`).
 use Rattle.std.proofs.Common.{◌∙◌, sym}
 use Rattle.vte_types.proofs.Words.{from_row}
 use Rattle.vte_types.proofs.cursor_icon.find_icon.Goals as goal

@@ -1,3 +1,4 @@
+-- Each shade has an opposite, by cases of the colour (`Shades`).
 use Rattle.vte_types.proofs.Shades.{bright_back, dim_back}
 use Rattle.vte_types.proofs.laws.shades_undo_each_other.Goals as goal
 

@@ -1,3 +1,4 @@
+-- Each digit that is shown is read back (`RgbTexts`).
 use Rattle.vte_types.proofs.RgbTexts.{color_back}
 use Rattle.vte_types.proofs.laws.shown_colors_are_read_back.Goals as goal
 

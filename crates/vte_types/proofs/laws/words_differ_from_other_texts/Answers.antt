@@ -1,3 +1,4 @@
+-- A text that is a word has the same bytes, and so the same length (`Words`).
 use Rattle.vte_types.proofs.Words.{long_word, other_word, short_word}
 use Rattle.vte_types.proofs.laws.words_differ_from_other_texts.Goals as goal
 

@@ -1,3 +1,4 @@
+-- A word comes off the front byte by byte, and off no other text (`Words`).
 use Rattle.vte_types.proofs.Words.{other_front, word_front}
 use Rattle.vte_types.proofs.laws.words_stand_in_front.Goals as goal
 

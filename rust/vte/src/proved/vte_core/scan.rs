@@ -81,6 +81,6 @@ pub(crate) fn tell_character<P: PerformAs<G>, G>(performer: &mut P, c: char) {
 pub(crate) fn tell_single<P: PerformAs<G>, G>(performer: &mut P, byte: u8) {
     match byte {
         0x00..=0x1f | 0x80..=0x9f => performer.execute_control(byte),
-        _ => performer.print_replacement(),
+        _ => performer.print_char(char::REPLACEMENT_CHARACTER),
     }
 }

@@ -1,3 +1,5 @@
+-- A number of up to three digits is pushed digit by digit; a longer one is its thousands, and then its last three
+-- digits.
 use Rattle.event_log.proofs.Common.{arith}
 use Rattle.event_log.proofs.Fields.{extends_then, one_digit, two_digits, three_digits, three_more}
 use Rattle.event_log.proofs.lines.Lines.+push_decimal.Goals as goal

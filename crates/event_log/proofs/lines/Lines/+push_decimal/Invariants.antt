@@ -1,3 +1,4 @@
+-- The recursion ends, for a thousandth of a number is smaller.
 use Rattle.event_log.proofs.lines.Lines.+push_decimal.Given as goal
 
 abbrev pub decreases-push_decimal : goal.decreases-push_decimal

@@ -1,3 +1,5 @@
+-- The first group, and then each other one after `;`, are the text of all groups (`groups_written`). Without groups
+-- that text is empty.
 use Rattle.event_log.proofs.Common.{◌≡◌, ◌++◌, ◌<◌, ℕ, List, Bor, get_or, length, map, [], refl, sym, ◌∙◌, append-nil, arith, common_steps, All-tail, flat_map, shown}
 use Rattle.event_log.proofs.Common.{after_semicolon, group_text, groups_written, shown-nil}
 use Rattle.event_log.proofs.Fields.{extends_then}

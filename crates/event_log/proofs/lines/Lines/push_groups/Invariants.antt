@@ -1,3 +1,4 @@
+-- The first group is pushed, and those passed so far, each after `;`. Those that are left have numbers.
 use Rattle.event_log.proofs.Common.{◌≡◌, codes, ◌++◌, ◌<◌, ℕ, List, [], ◌∷◌, Bor, get_or, length, map, All, flat_map, after_semicolon, group_text, ExtendsLine}
 use Rattle.event_log.proofs.lines.Lines.push_groups.Given as goal
 

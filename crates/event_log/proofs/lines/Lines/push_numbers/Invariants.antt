@@ -1,3 +1,4 @@
+-- The first number is pushed, and those passed so far, each after `:`.
 use Rattle.event_log.proofs.Common.{◌++◌, ◌-◌, length, get_or, drop, take, decimal, flat_map, after_colon, ExtendsLine}
 use Rattle.event_log.proofs.lines.Lines.push_numbers.Given as goal
 

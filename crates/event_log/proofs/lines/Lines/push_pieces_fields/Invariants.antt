@@ -1,3 +1,4 @@
+-- The count of the pieces is pushed, and the fields of those passed so far.
 use Rattle.event_log.proofs.Common.{◌++◌, length, take, decimal, flat_map, blank, hex_field, ExtendsLine}
 use Rattle.event_log.proofs.lines.Lines.push_pieces_fields.Given as goal
 

@@ -1,3 +1,4 @@
+-- A run that fits is taken at once (`takes_run`). Otherwise its characters are, one by one: the iterator yields all.
 use Rattle.event_log.proofs.Common.{◌∙◌, true, ap, sym, arith, map, after, record_in, plain_text_of, run_event, with_event, with_text}
 use Rattle.std.proofs.lemmas.Iterator.{YieldsList-from_chars}
 use Rattle.std.proofs.lemmas.Iterator.Consumers.{YieldsList-end}

@@ -1,3 +1,4 @@
+-- The characters so far are taken.
 use Rattle.event_log.proofs.Common.{◌≡◌, true, map, after, record_in, with_event, plain_text_of, run_event}
 use Rattle.event_log.proofs.plain.PlainPerformText.print_text.Given as goal
 

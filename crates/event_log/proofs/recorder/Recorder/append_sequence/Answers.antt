@@ -1,3 +1,4 @@
+-- The parts of the line are pushed one after another, and it is taken whole or not at all (`takes_line`).
 use Rattle.event_log.proofs.Fields.{extends_then}
 use Rattle.event_log.proofs.Records.{takes_line}
 use Rattle.event_log.proofs.recorder.Recorder.append_sequence.Goals as goal

@@ -1,4 +1,5 @@
-use Rattle.event_log.proofs.Common.{Some, length, arith, length-drop}
+-- The call stops before a line could be lost (`kept_lines`), and not before its first byte (`reads_some`).
+use Rattle.event_log.proofs.Common.{Some, arith, length-drop}
 use Rattle.event_log.proofs.Collected.{cut_from}
 use Rattle.event_log.proofs.RecordedLines.{kept_lines, reads_some}
 use Rattle.event_log.proofs.recorder.RecorderCollector.collect.Goals as goal

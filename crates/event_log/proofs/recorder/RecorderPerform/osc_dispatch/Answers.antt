@@ -1,3 +1,4 @@
+-- The parts of the line are pushed one after another, and it is taken whole or not at all (`takes_line`).
 use Rattle.event_log.proofs.Common.{line_of}
 use Rattle.event_log.proofs.Fields.{extends_then}
 use Rattle.event_log.proofs.Records.{takes_line}

@@ -1,3 +1,4 @@
+-- The stop is as after the characters so far.
 use Rattle.std.proofs.Common.{◌≡◌, false, map}
 use Rattle.test_lines.specs.Stop.{stop_after}
 use Rattle.vte_core.specs.Perform.{after}

@@ -1,3 +1,5 @@
+-- Before the write the area holds no data of the event (`holds_nothing`), so after it the area holds exactly these
+-- bytes.
 use Rattle.vte_c.proofs.Common.{Room, ap, arith}
 use Rattle.vte_c.proofs.Rooms.{holds_nothing}
 use Rattle.vte_c.proofs.events.Events.add.Goals as goal

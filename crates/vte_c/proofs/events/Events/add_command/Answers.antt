@@ -1,3 +1,5 @@
+-- The size of the data is its end minus its start. The end may saturate, but then the size is above 1,024 in any case
+-- (`size_same`).
 use Rattle.vte_c.proofs.Common.{Room, ap, arith, flat_map, has_most, length, length-map, map, min, nat_le, nat_tests, paused_if, piece_bytes, sym, ℕ, ◌+◌, ◌-◌, ◌<◌, ◌∙◌, ◌≡◌}
 use Rattle.std.specs.Prelude.{◌^◌}
 use Rattle.vte_c.proofs.events.Events.add_command.Goals as goal

@@ -1,3 +1,4 @@
+-- A group of one number is written at once, and any other number by number after its count.
 use Rattle.vte_c.proofs.Common.{List, [], append_assoc, arith, flat_map_more, get_or, group_bytes, length, refl, take, take_all, take_more, two_bytes, ℕ, ◌∷◌, ◌≡◌}
 use Rattle.vte_c.proofs.events.Events.write_group.Goals as goal
 

@@ -1,3 +1,4 @@
+-- The count is written, and the numbers so far.
 use Rattle.vte_c.proofs.Common.{Holds, List, Room, [], count_byte, flat_map, length, take, two_bytes, ℕ, ◌++◌, ◌∷◌}
 use Rattle.vte_c.proofs.events.Events.write_group.Given as goal
 

@@ -1,3 +1,4 @@
+-- A group more is written, and no longer among those that are left.
 use Rattle.vte_c.proofs.Common.{append_assoc, group_bytes, rules, ◌++◌}
 use Rattle.vte_c.proofs.events.Events.write_groups.Goals as goal
 

@@ -1,3 +1,4 @@
+-- Four bytes with the length are written, and then the piece.
 use Rattle.vte_c.proofs.Common.{append_assoc}
 use Rattle.vte_c.proofs.events.Events.write_piece.Goals as goal
 

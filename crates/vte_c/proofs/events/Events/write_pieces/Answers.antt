@@ -1,3 +1,4 @@
+-- A piece more is written after those before it.
 use Rattle.vte_c.proofs.Common.{[], append-nil, flat_map-append, map-append, piece_bytes, room_of, take_more}
 use Rattle.vte_c.proofs.events.Events.write_pieces.Goals as goal
 

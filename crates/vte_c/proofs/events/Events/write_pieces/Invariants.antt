@@ -1,3 +1,4 @@
+-- The pieces so far are written.
 use Rattle.vte_c.proofs.Common.{Holds, flat_map, map, piece_bytes, room_of, take}
 use Rattle.vte_c.proofs.events.Events.write_pieces.Given as goal
 

@@ -1,3 +1,4 @@
+-- A run is written as its characters are, one after another (`writes_run`).
 use Rattle.vte_c.proofs.Common.{text_room_of, ◌∙◌}
 use Rattle.vte_c.proofs.Stripping.{writes_run}
 use Rattle.vte_c.proofs.text.TextPerformText.print_text.Goals as goal

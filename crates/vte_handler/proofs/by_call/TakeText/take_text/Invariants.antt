@@ -1,3 +1,4 @@
+-- The characters so far are taken.
 use Rattle.std.proofs.Common.{◌≡◌, map}
 use Rattle.vte_handler.specs.Call.{Input}
 use Rattle.vte_handler.specs.Handler.{after}

@@ -1,3 +1,4 @@
+-- What std leaves of a text is what follows the word (`after_is`).
 use Rattle.std.proofs.lemmas.Bool.Decides.{Decides-eqb}
 use Rattle.std.proofs.lemmas.Slice.Eq.{strip_prefix_is}
 use Rattle.vte_types.proofs.Words.{after_is}

@@ -1,3 +1,4 @@
+-- The bits are those that the trait's contract gives for this table of flags.
 use Rattle.std.proofs.Common.{ap}
 use Rattle.bitflags.proofs.OnLiterals.{bitflags_on_literals}
 use Rattle.vte_types.proofs.keyboard.KeyboardModes.all.Goals as goal

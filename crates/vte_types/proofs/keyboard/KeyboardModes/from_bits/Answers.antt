@@ -1,3 +1,4 @@
+-- A byte is its flags and its other bits (`Bits`), so it is a set exactly if no other bit is set.
 use Rattle.std.proofs.Common.{rules, ◌≡◌, ◌≢◌, ℕ, ◌+◌, ap, arith, eqb, Bool, true, false, Option, Some, None, refl}
 use Rattle.std.proofs.lemmas.Bool.Decides.{nat_tests}
 use Rattle.std.specs.Int.RustNames.{bit_and}
@@ -8,7 +9,7 @@ use Rattle.vte_types.proofs.keyboard.KeyboardModes.from_bits.Goals as goal
 use Rattle.vte_types.specs.Keyboard.{bits_of, modes_of_bits}
 use Rattle.vte_types.specs.declared.keyboard.KeyboardModes.{KeyboardModes}
 
--- the answer by whether another bit is set
+-- The answer depends on whether another bit is set.
 by_others : (bits others flags : ℕ) (result : Option KeyboardModes) → others + flags ≡ bits
     → IfSome result (λ modes. bits_of modes ≡ bits)
     → (flags ≡ bits → IsSome result) → (flags ≢ bits → IsNone result) → (t : Bool) → eqb others 0 ≡ t

@@ -1,3 +1,4 @@
+-- All flags are set exactly if setting them changes nothing (`Bits`).
 use Rattle.std.proofs.Common.{sym, ◌∙◌}
 use Rattle.std.proofs.lemmas.Bool.Decides.{Decides-eqb}
 use Rattle.bitflags.proofs.OnLiterals.{bitflags_on_literals}

@@ -30,7 +30,7 @@ impl<B: Buffer> Machine<B> {
         }
         let second = input[next];
         if !is_continuation(second) {
-            performer.print_replacement();
+            performer.print_char(char::REPLACEMENT_CHARACTER);
             return next;
         }
         if first < 0xe0 {
@@ -55,7 +55,7 @@ impl<B: Buffer> Machine<B> {
         from: usize,
     ) -> usize {
         if !may_begin_three(first, second) {
-            performer.print_replacement();
+            performer.print_char(char::REPLACEMENT_CHARACTER);
             return from;
         }
         if from + 1 >= input.len() {
@@ -64,7 +64,7 @@ impl<B: Buffer> Machine<B> {
         }
         let third = input[from + 1];
         if !is_continuation(third) {
-            performer.print_replacement();
+            performer.print_char(char::REPLACEMENT_CHARACTER);
             return from + 1;
         }
         tell_character(performer, character_of_three(first, second, third));
@@ -84,7 +84,7 @@ impl<B: Buffer> Machine<B> {
     ) -> usize {
         let next = from + 1;
         if !may_begin_four(first, second) {
-            performer.print_replacement();
+            performer.print_char(char::REPLACEMENT_CHARACTER);
             return next;
         }
         if next + 2 >= input.len() {
@@ -97,12 +97,12 @@ impl<B: Buffer> Machine<B> {
         }
         let third = input[next + 1];
         if !is_continuation(third) {
-            performer.print_replacement();
+            performer.print_char(char::REPLACEMENT_CHARACTER);
             return next + 1;
         }
         let fourth = input[next + 2];
         if !is_continuation(fourth) {
-            performer.print_replacement();
+            performer.print_char(char::REPLACEMENT_CHARACTER);
             return next + 2;
         }
         if G::IN_RUNS {
@@ -134,7 +134,7 @@ impl<B: Buffer> Machine<B> {
                     return position + 1;
                 }
                 Carried::Broken => {
-                    performer.print_replacement();
+                    performer.print_char(char::REPLACEMENT_CHARACTER);
                     self.state = State::Text(Unfinished::Nothing);
                     return position;
                 }

@@ -32,9 +32,6 @@ pub(crate) trait PerformAs<G>: Perform {
     /// Receives a character to print.
     fn print_char(&mut self, c: char);
 
-    /// Receives U+FFFD, which stands for a malformed sequence.
-    fn print_replacement(&mut self);
-
     /// Receives a control function of one byte.
     fn execute_control(&mut self, byte: u8);
 
@@ -57,11 +54,6 @@ impl<P: Perform> PerformAs<Singly> for P {
     #[inline(always)]
     fn print_char(&mut self, c: char) {
         Perform::print(self, c);
-    }
-
-    #[inline(always)]
-    fn print_replacement(&mut self) {
-        Perform::print(self, char::REPLACEMENT_CHARACTER);
     }
 
     #[inline(always)]
@@ -98,12 +90,6 @@ impl<P: PerformText> PerformAs<InRuns> for P {
     #[inline(always)]
     fn print_char(&mut self, c: char) {
         PerformText::print_text(self, c.encode_utf8(&mut [0; 4]));
-    }
-
-    // A constant costs less than a character that is encoded.
-    #[inline(always)]
-    fn print_replacement(&mut self) {
-        PerformText::print_text(self, "\u{fffd}");
     }
 
     #[inline(always)]

@@ -29,7 +29,7 @@ returns-then-not-may_begin_four-clause-advances g c =
     let misfits = sym c.may_begin_four.ensures ∙ c.if-not-may_begin_four.true in
     advances-first r.may_read (leads-all _ r.lead.low) r.lead.high
     (completes-broken (goes-nowhere c.args.self.now (some _ _))
-    (λ more. second_broken c.args.first c.args.second more misfits) r.may_read.begun c.print_replacement.ensures.value
+    (λ more. second_broken c.args.first c.args.second more misfits) r.may_read.begun c.print_char.ensures.value
     r.within r.is)
 
 -- The call has two bytes or three: another function reads the last ones, one at a time.
@@ -50,7 +50,7 @@ returns-then-not-is_continuation-clause-advances g c =
     advances-first r.may_read (leads-all _ r.lead.low) r.lead.high
     (completes-broken (goes-second c.args.self.now (leads _ r.lead.low) second r.within r.is)
     (λ more. third_broken c.args.first c.args.second c.at-third.result more misfits)
-    r.may_read.begun c.print_replacement-then-not-is_continuation.ensures.value
+    r.may_read.begun c.print_char-then-not-is_continuation.ensures.value
     (omega (arith, r.within, c.if-next-len.false)) c.at-third.ensures.value)
 
 -- The fourth byte does not continue: broken after three.
@@ -64,7 +64,7 @@ returns-then-not-is_continuation-2-clause-advances g c =
     advances-first r.may_read (leads-all _ r.lead.low) r.lead.high
     (completes-broken (goes-third c.args.self.now r.lead.low second third within r.is c.at-third.ensures.value)
     (λ more. fourth_broken c.args.first c.args.second c.at-third.result c.at-fourth.result more misfits)
-    r.may_read.begun c.print_replacement-then-not-is_continuation-2.ensures.value within c.at-fourth.ensures.value)
+    r.may_read.begun c.print_char-then-not-is_continuation-2.ensures.value within c.at-fourth.ensures.value)
 
 -- The run that the character begins: the four bytes, and what follows them.
 pub tell_text-requires-clause-run : goal.tell_text-requires-clause-run

@@ -15,8 +15,7 @@ returns-then-not-may_begin_three-clause-completes g c =
     let r = c.requires.may_read in
     let misfits = sym c.may_begin_three.ensures ∙ c.if-not-may_begin_three.true in
     completes-broken (goes-nowhere c.args.self.now (some _ _))
-    (λ more. second_broken c.args.first c.args.second more misfits) r.begun c.print_replacement.ensures.value
-    r.within r.is
+    (λ more. second_broken c.args.first c.args.second more misfits) r.begun c.print_char.ensures.value r.within r.is
 
 -- The call ends after two bytes: still open.
 pub returns-then-from-len-clause-completes : goal.returns-then-from-len-clause-completes
@@ -33,7 +32,7 @@ returns-then-not-is_continuation-clause-completes g c =
     let misfits = sym c.is_continuation.ensures ∙ c.if-not-is_continuation.true in
     completes-broken (goes-second c.args.self.now c.requires.lead.low second r.within r.is)
     (λ more. third_broken c.args.first c.args.second c.at-third.result more misfits) r.begun
-    c.print_replacement-then-not-is_continuation.ensures.value
+    c.print_char-then-not-is_continuation.ensures.value
     (omega (arith, r.within, c.if-from-len.false)) c.at-third.ensures.value
 
 -- Three bytes spell a character.

@@ -30,7 +30,7 @@ returns-in-Whole-clause-completes g c =
 pub returns-in-Broken-clause-completes : goal.returns-in-Broken-clause-completes
 returns-in-Broken-clause-completes g c =
     let v = c.loop-position.invariant in
-    completes-broken v.goes c.in-Broken.ensures refl (rw v.same at c.print_replacement.ensures.value)
+    completes-broken v.goes c.in-Broken.ensures refl (rw v.same at c.print_char.ensures.value)
     (omega (arith, c.loop-position-test.true, c.len-position-end.ensures)) c.at.ensures.value
 
 -- No byte is left.

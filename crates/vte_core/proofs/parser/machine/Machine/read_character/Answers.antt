@@ -22,7 +22,7 @@ returns-then-not-is_continuation-clause-advances g c =
     advances-first r.may_read r.lead r.fits
     (completes-broken (goes-nowhere c.args.self.now (some _ _))
     (λ more. second_broken c.args.first c.at-second.result more misfits)
-    r.may_read.begun c.print_replacement.ensures.value (omega arith) c.at-second.ensures.value)
+    r.may_read.begun c.print_char.ensures.value (omega arith) c.at-second.ensures.value)
 
 -- Two bytes spell a character.
 pub returns-then-first-lt224-clause-advances : goal.returns-then-first-lt224-clause-advances

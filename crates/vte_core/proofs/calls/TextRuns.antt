@@ -1,12 +1,12 @@
 -- What a run of text does to a call's progress: its characters one by one do the same. By induction over the
 -- characters, and for the performer by its contract over the whole run.
 use Rattle.vte_core.proofs.Common.{cases_Bool, inl, inr, Bool, List, Option, [], ap, arith, drop, false, length, map, refl, subst, sym, take, true, ℕ, ◌++◌, ◌+◌, ◌-◌, ◌<◌, ◌∙◌, ◌∷◌, ◌≡◌, ◌≢◌, ◌≤◌, encode, false≢true, append-nil, take-append-drop, All-append, All-head, All-nil, All-tail, All, slice_index, breaks_at, stream_at, told, Event, Print, replacement, after, added, cut_at_escape, escape, with_bodies, events}
-use Rattle.vte_core.proofs.Common.{is_left_out, run_event, character_event, text_outcome, Text, Machine, Nothing, Reads, Stands, InText, encodes, nat_tests, outcome_from, Advances, CameTo, MayGoOn, StandsAt, StandsInside, chars, IsUtf8, NoCharacterStops, AreRun, IsPrinted, PrintsRun}
+use Rattle.vte_core.proofs.Common.{is_left_out, run_event, character_event, is_control_character, malformed_event, text_outcome, Text, Machine, Nothing, Reads, Stands, InText, encodes, nat_tests, outcome_from, Advances, CameTo, MayGoOn, StandsAt, StandsInside, chars, IsUtf8, NoCharacterStops, AreRun, IsPrinted, PrintsRun}
 use Rattle.std.proofs.lemmas.List.{take-take}
 use Rattle.std.proofs.lemmas.List.Elements.{All-from_get_or}
 use Rattle.std.proofs.lemmas.Str.{inside_one, encodes-chars, scalars-chars}
 use Rattle.vte_core.proofs.bytes.Between.{each-one}
-use Rattle.vte_core.proofs.bytes.Printable.{chars-one, layout-is_control, printed-event, run-ascii}
+use Rattle.vte_core.proofs.bytes.Printable.{chars-one, layout-is_control, no_control_event, printed-event, run-ascii}
 use Rattle.vte_core.proofs.dividing.Utf8Agrees.{cut-text, text_outcome-encodes}
 use Rattle.vte_core.proofs.calls.Places.{come-further, run-added}
 use Rattle.vte_core.proofs.streams.After.{added-reads}
@@ -139,6 +139,18 @@ may_go_on-text {keeps = keeps} {step = step} {is_terminated = is_terminated} {ol
     ap is_terminated prints.printed
     ∙ not_stopped keeps step is_terminated (never does) old (map (run_event keeps) cs) [] cs
     (append-nil (map (run_event keeps) cs)) (may_go_on does)
+
+-- What is malformed in runs is told by U+FFFD, which is a character too.
+pub may_go_on-malformed : {V : Type 0} {asks : Bool} (keeps : Bool) (step : V → Event → V) {is_terminated : V → Bool}
+    {old new : V} {b : ℕ}
+    → (asks ≡ true → NoCharacterStops keeps step is_terminated) → MayGoOn asks is_terminated old → 0xa0 ≤ b
+    → new ≡ step old (malformed_event (b ∷ [])) → MayGoOn asks is_terminated new
+unfolding malformed_event
+may_go_on-malformed keeps step {old = old} {b = b} never may_go_on high performed does =
+    let printed : is_control_character b ≡ false = grind (arith, nat_tests) in
+    let event : malformed_event (b ∷ []) ≡ run_event keeps replacement =
+    rw printed (sym (no_control_event keeps replacement refl)) in
+    rw (performed, event) (never does old replacement (may_go_on does))
 
 -- a run more
 pub advances-text : {V B : Type 0} {asks keeps : Bool} {step : V → Event → V} {is_terminated : V → Bool} {old new : V}

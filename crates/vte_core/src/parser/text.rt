@@ -94,26 +94,32 @@ impl<B: Buffer> Machine<B> {
                         None => continue,
                     }
                 }
-                // A branch that comes to `+= 1` below leaves `position` at the last byte it read.
+                // Branches that meet again below leave `position` at the last byte they read: one
+                // `+= 1` steps past it.
                 if is_printed_ascii(byte) {
                     performer.print_char(looks, char::from(byte));
                 } else if G::IN_RUNS && byte >= 0xa0 {
-                    // One comparison tells lead bytes and malformed ones from ESC and controls.
+                    // One comparison tells lead bytes and malformed ones from ESC and controls. A lead
+                    // byte may begin a control, which may stop the call; U+FFFD doesn't.
                     if is_lead(byte) {
-                        let next = self.read_longer::<P, G, ASKS>(
+                        position = self.read_longer::<P, G, ASKS>(
                             looks, performer, input, position, byte,
                         );
-                        position = next - 1;
+                        if ASKS && performer.terminated() {
+                            return position;
+                        }
                     } else {
                         looks.tell_single(performer, byte);
+                        position += 1;
                     }
+                    continue;
                 } else if is_lead(byte) {
-                    let next = self.read_longer::<P, G, ASKS>(
+                    let next = self.read_character::<P, G, ASKS>(
                         looks, performer, input, position, byte,
                     );
                     // A path of its own takes fewer instructions if the call may stop after a
                     // character, and more otherwise.
-                    if ASKS && !G::IN_RUNS {
+                    if ASKS {
                         if performer.terminated() {
                             return next;
                         }
@@ -138,8 +144,8 @@ impl<B: Buffer> Machine<B> {
         position
     }
 
-    /// Reads what begins with a lead byte, which was looked at: a run if text is taken in runs, a
-    /// character or a malformed sequence.
+    /// Reads what begins with a lead byte, which was looked at, for a performer that takes runs: a
+    /// run, a character or a malformed sequence.
     #[inline(always)]
     fn read_longer<P: CountedPerform<B, G>, G: Grain, const ASKS: bool>(
         &mut self,
@@ -149,27 +155,23 @@ impl<B: Buffer> Machine<B> {
         from: usize,
         first: u8,
     ) -> usize
+        requires in_runs { G.IN_RUNS ≡ true }
         requires may_read { MayReadByte ASKS P.is_terminated (P.value_of performer.old)
             (Text Nothing) self.old input.bytes.now from first }
         requires lead { 0xc2 ≤ first }
         requires fits { first < 0xf5 }
-        requires no_stop { G.IN_RUNS ≡ true → ASKS ≡ true
-            → NoCharacterStops P.keeps P.step P.is_terminated }
+        requires no_stop { ASKS ≡ true → NoCharacterStops P.keeps P.step P.is_terminated }
         ensures advances { Advances ⊥ ASKS P.step P.is_terminated (P.value_of performer.old)
             (P.value_of performer.new) B.limit
             input.entry.bytes.now from result self.old self.new }
         ensures text { result < length input.entry.bytes.now → self.new.state ≡ Text Nothing }
         ensures moves { Moves 5 1 input.entry.bytes.now from result self.old self.new
             looks.old looks.new }
-        ensures few { G.IN_RUNS ≡ false
-            → looked looks.new + 3 * from + 1 ≤ looked looks.old + 3 * result }
     {
-        if G::IN_RUNS {
-            let end = looks.find_longer_run_end(performer, input, from, first);
-            if end > from {
-                looks.tell_text(performer, input, from, end);
-                return end;
-            }
+        let end = looks.find_longer_run_end(performer, input, from, first);
+        if end > from {
+            looks.tell_text(performer, input, from, end);
+            return end;
         }
         self.read_character::<P, G, ASKS>(looks, performer, input, from, first)
     }

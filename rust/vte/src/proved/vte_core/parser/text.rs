@@ -72,22 +72,28 @@ impl<B: Buffer> Machine<B> {
                         None => continue,
                     }
                 }
-                // A branch that comes to `+= 1` below leaves `position` at the last byte it read.
+                // Branches that meet again below leave `position` at the last byte they read: one
+                // `+= 1` steps past it.
                 if is_printed_ascii(byte) {
                     performer.print_char(char::from(byte));
                 } else if G::IN_RUNS && byte >= 0xa0 {
-                    // One comparison tells lead bytes and malformed ones from ESC and controls.
+                    // One comparison tells lead bytes and malformed ones from ESC and controls. A lead
+                    // byte may begin a control, which may stop the call; U+FFFD doesn't.
                     if is_lead(byte) {
-                        let next = self.read_longer(performer, input, position, byte);
-                        position = next - 1;
+                        position = self.read_longer(performer, input, position, byte);
+                        if ASKS && performer.terminated() {
+                            return position;
+                        }
                     } else {
                         tell_single(performer, byte);
+                        position += 1;
                     }
+                    continue;
                 } else if is_lead(byte) {
-                    let next = self.read_longer(performer, input, position, byte);
+                    let next = self.read_character(performer, input, position, byte);
                     // A path of its own takes fewer instructions if the call may stop after a
                     // character, and more otherwise.
-                    if ASKS && !G::IN_RUNS {
+                    if ASKS {
                         if performer.terminated() {
                             return next;
                         }
@@ -112,8 +118,8 @@ impl<B: Buffer> Machine<B> {
         position
     }
 
-    /// Reads what begins with a lead byte, which was looked at: a run if text is taken in runs, a
-    /// character or a malformed sequence.
+    /// Reads what begins with a lead byte, which was looked at, for a performer that takes runs: a
+    /// run, a character or a malformed sequence.
     #[inline(always)]
     fn read_longer<P: PerformAs<G>, G: Grain>(
         &mut self,
@@ -122,12 +128,10 @@ impl<B: Buffer> Machine<B> {
         from: usize,
         first: u8,
     ) -> usize {
-        if G::IN_RUNS {
-            let end = find_longer_run_end(performer, input, from, first);
-            if end > from {
-                performer.print_text(text(input, from, end));
-                return end;
-            }
+        let end = find_longer_run_end(performer, input, from, first);
+        if end > from {
+            performer.print_text(text(input, from, end));
+            return end;
         }
         self.read_character(performer, input, from, first)
     }

@@ -1,6 +1,6 @@
 -- What the first byte begins is open, so the call goes on by what completes it (`advances-first`): the second byte
 -- here, or three bytes in a function of their own; that for four says the same as this one.
-use Rattle.vte_core.proofs.Common.{◌+◌, ◌<◌, ◌≤◌, refl, sym, ◌∙◌, arith}
+use Rattle.vte_core.proofs.Common.{refl, sym, ◌∙◌, arith}
 use Rattle.vte_core.proofs.bytes.CarriedLemmas.{second_broken, second_lone, spells_two}
 use Rattle.vte_core.proofs.calls.Characters.{completes-all, completes-broken, completes-whole, goes-nowhere}
 use Rattle.vte_core.proofs.calls.InsideCharacters.{some}

@@ -1,5 +1,5 @@
 -- A run of text that begins here is told at once, and is as its characters one by one (`advances-text`).
-use Rattle.vte_core.proofs.Common.{◌<◌, arith, sym, ◌∙◌}
+use Rattle.vte_core.proofs.Common.{◌<◌, arith}
 use Rattle.vte_core.proofs.calls.TextRuns.{advances-text}
 use Rattle.vte_core.proofs.parser.machine.Machine.read_longer.Goals as goal
 
@@ -8,6 +8,5 @@ returns-then-end-from-clause-advances g c =
     let ends = c.find_longer_run_end-end.ensures in
     let further : c.args.from < c.find_longer_run_end-end.result = omega (arith, c.if-end-from.true) in
     advances-text
-    (c.requires.no_stop (sym c.IN_RUNS.ensures ∙ c.if-IN_RUNS.true)) c.requires.may_read.may_go_on
-    c.requires.may_read.within c.requires.may_read.begun
-    further ends.range.within c.tell_text.ensures.printed
+    c.requires.no_stop c.requires.may_read.may_go_on c.requires.may_read.within c.requires.may_read.begun further
+    ends.range.within c.tell_text.ensures.printed

@@ -3,10 +3,10 @@
 use Rattle.vte_core.proofs.Common.{◌≡◌, ◌+◌, ◌<◌, not, eqb, true, length, sym, ◌∙◌, arith, rules, false≢true, Advances, Text, Nothing}
 use Rattle.vte_core.specs.machine.Words.{MayReadByte}
 use Rattle.vte_core.proofs.calls.Runs.{advances-byte, advances-moved, advances-part, advances-then, settled-by}
-use Rattle.vte_core.proofs.calls.TextRuns.{advances-text, may_go_on-text}
+use Rattle.vte_core.proofs.calls.TextRuns.{advances-text, may_go_on-malformed, may_go_on-text}
 use Rattle.vte_core.proofs.calls.BetweenCharacters.{performs-printed, performs-single}
 use Rattle.vte_core.proofs.parser.machine.Machine.read_text.Given.{Over}
-use Rattle.vte_core.proofs.parser.machine.Machine.read_text.Goals.{Joined-IN_RUNS-2, then-IN_RUNS-2+then-is_printed_ascii+in-Some, else-IN_RUNS-2, Joined-is_printed_ascii-2, then-is_printed_ascii-2, else-is_printed_ascii-2+then-IN_RUNS-3+then-byte-ge160+then-is_lead, else-is_printed_ascii-2+then-IN_RUNS-3+then-byte-ge160+else-is_lead, else-is_printed_ascii-2+else-IN_RUNS-3+then-is_lead-2+else-this-ne0}
+use Rattle.vte_core.proofs.parser.machine.Machine.read_text.Goals.{Joined-IN_RUNS-2, then-IN_RUNS-2+then-is_printed_ascii+in-Some, else-IN_RUNS-2, Joined-is_printed_ascii-2, then-is_printed_ascii-2, else-is_printed_ascii-2+else-IN_RUNS-3+then-is_lead-2+else-this-ne0-2, then-is_lead+else-this-ne0, else-is_lead}
 use Rattle.vte_core.proofs.parser.machine.Machine.read_text.Goals.{else-is_printed_ascii-2+else-IN_RUNS-3+else-is_lead-2+else-byte-eq-ESCAPE}
 use Rattle.vte_core.proofs.parser.machine.Machine.read_text.Goals as goal
 
@@ -88,14 +88,13 @@ loop-position-2-preserved-in-None g c =
     }
 
 -- The three functions that read on begin where the call stands.
-pub read_longer-next-requires-clause-may_read : goal.read_longer-next-requires-clause-may_read
-read_longer-next-requires-clause-may_read g c = at g
-    (goal.at.read_longer-next-requires-clause-may_read g c).Joined-IN_RUNS-2
+pub read_longer-position-requires-clause-may_read : goal.read_longer-position-requires-clause-may_read
+read_longer-position-requires-clause-may_read g c = at g
+    (goal.at.read_longer-position-requires-clause-may_read g c).Joined-IN_RUNS-2
 
-pub read_longer-next-requires-then-is_lead-2-clause-may_read
-    : goal.read_longer-next-requires-then-is_lead-2-clause-may_read
-read_longer-next-requires-then-is_lead-2-clause-may_read g c = at g
-    (goal.at.read_longer-next-requires-then-is_lead-2-clause-may_read g c).Joined-IN_RUNS-2
+pub read_character-next-requires-clause-may_read : goal.read_character-next-requires-clause-may_read
+read_character-next-requires-clause-may_read g c = at g
+    (goal.at.read_character-next-requires-clause-may_read g c).Joined-IN_RUNS-2
 
 pub read_sequence-requires-clause-may_read : goal.read_sequence-requires-clause-may_read
 read_sequence-requires-clause-may_read g c =
@@ -118,19 +117,9 @@ read g c here = elim c.if-is_printed_ascii-2.branch [
       let printed = sym c.is_printed_ascii-in-loop-position-2.ensures ∙ w.if-is_printed_ascii-2.true in
       rw (w.self-is, w.performer-is, w.position-is) (advances-part (advances-byte here.within here.is here.may_go_on
       (performs-printed here.begun printed w.from.ensures w.print_char.ensures.value) (settled-by _ _ here.begun tt)))
-  -- In runs, from A0: a byte that begins a longer character, or a single one.
-  | else-is_printed_ascii-2+then-IN_RUNS-3+then-byte-ge160+then-is_lead w ↦
-      let read = w.read_longer-next.ensures in
-      rw (w.self-is, w.performer-is, w.position-is)
-      (advances-moved (omega (arith, read.moves.progress here.within)) (advances-part read.advances))
-  | else-is_printed_ascii-2+then-IN_RUNS-3+then-byte-ge160+else-is_lead w ↦
-      let told = w.tell_single.ensures in
-      rw (w.self-is, w.performer-is, w.position-is) (advances-part (advances-byte here.within here.is here.may_go_on
-      (performs-single here.begun (grind (arith, w.if-byte-ge160.true))
-      (sym w.is_lead.ensures ∙ w.if-is_lead.false) told.control told.malformed) (settled-by _ _ here.begun tt)))
   -- Any other byte, but ESC: the same two.
-  | else-is_printed_ascii-2+else-IN_RUNS-3+then-is_lead-2+else-this-ne0 w ↦
-      let read = w.read_longer-next-then-is_lead-2.ensures in
+  | else-is_printed_ascii-2+else-IN_RUNS-3+then-is_lead-2+else-this-ne0-2 w ↦
+      let read = w.read_character-next.ensures in
       rw (w.self-is, w.performer-is, w.position-is)
       (advances-moved (omega (arith, read.moves.progress here.within)) (advances-part read.advances))
   | else-is_printed_ascii-2+else-IN_RUNS-3+else-is_lead-2+else-byte-eq-ESCAPE w ↦
@@ -148,23 +137,28 @@ returns-then-byte-eq-ESCAPE-clause-advances g c =
     (advances-part c.read_sequence.ensures.advances)
 
 -- A stop after a byte: the run and the byte.
-pub returns-then-terminated-2-clause-advances : goal.returns-then-terminated-2-clause-advances
-returns-then-terminated-2-clause-advances g c =
-    let places = goal.at.returns-then-terminated-2-clause-advances g c in
+pub returns-then-terminated-3-clause-advances : goal.returns-then-terminated-3-clause-advances
+returns-then-terminated-3-clause-advances g c =
+    let places = goal.at.returns-then-terminated-3-clause-advances g c in
     advances-then (reached g places.Joined-IN_RUNS-2)
     (read g places.Joined-is_printed_ascii-2 (at g places.Joined-IN_RUNS-2))
 
--- A stop after a longer character, in a call that asks.
+-- A stop after what begins with a lead byte, in runs and else.
 pub returns-then-terminated-clause-advances : goal.returns-then-terminated-clause-advances
 returns-then-terminated-clause-advances g c =
     advances-then (reached g (goal.at.returns-then-terminated-clause-advances g c).Joined-IN_RUNS-2)
-    (advances-part c.read_longer-next-then-is_lead-2.ensures.advances)
+    (advances-part c.read_longer-position.ensures.advances)
+
+pub returns-then-terminated-2-clause-advances : goal.returns-then-terminated-2-clause-advances
+returns-then-terminated-2-clause-advances g c =
+    advances-then (reached g (goal.at.returns-then-terminated-2-clause-advances g c).Joined-IN_RUNS-2)
+    (advances-part c.read_character-next.ensures.advances)
 
 -- Without a stop after a longer character, the next round begins after the character.
-pub loop-position-2-preserved-then-not-IN_RUNS : goal.loop-position-2-preserved-then-not-IN_RUNS
-loop-position-2-preserved-then-not-IN_RUNS g c =
-    let places = goal.at.loop-position-2-preserved-then-not-IN_RUNS g c in
-    let read = c.read_longer-next-then-is_lead-2.ensures in
+pub loop-position-2-preserved-then-this-ne0-2 : goal.loop-position-2-preserved-then-this-ne0-2
+loop-position-2-preserved-then-this-ne0-2 g c =
+    let places = goal.at.loop-position-2-preserved-then-this-ne0-2 g c in
+    let read = c.read_character-next.ensures in
     record {
       advances = advances-then (reached g places.Joined-IN_RUNS-2) (advances-part read.advances);
       may_go_on = search rules;
@@ -180,6 +174,44 @@ loop-position-2-preserved-then-not-IN_RUNS g c =
       memory = search rules;
     }
 
+-- In runs, from A0 on: what a lead byte begins, which may be a control, or U+FFFD, which is a character.
+pub loop-position-2-preserved-then-byte-ge160 : goal.loop-position-2-preserved-then-byte-ge160
+loop-position-2-preserved-then-byte-ge160 g c =
+    let places = goal.at.loop-position-2-preserved-then-byte-ge160 g c in
+    let here = at g places.Joined-IN_RUNS-2 in
+    let runs : g.G.Grain.IN_RUNS ≡ true = sym c.IN_RUNS-else-is_printed_ascii-2.ensures ∙ c.if-IN_RUNS-3.true in
+    record {
+      advances = advances-then (reached g places.Joined-IN_RUNS-2) (elim c.if-is_lead.branch [
+        | then-is_lead+else-this-ne0 w ↦
+            rw (w.self-is, w.performer-is, w.position-is) (advances-part w.read_longer-position.ensures.advances)
+        | else-is_lead w ↦
+            let told = w.tell_single.ensures in
+            rw (w.self-is, w.performer-is, w.position-is) (advances-part (advances-byte here.within here.is here.may_go_on
+            (performs-single here.begun (grind (arith, c.if-byte-ge160.true)) (sym c.is_lead.ensures ∙ w.if-is_lead.false)
+            told.control told.malformed) (settled-by _ _ here.begun tt)))
+      ]);
+      may_go_on = elim c.if-is_lead.branch [
+        | then-is_lead+else-this-ne0 w ↦ search rules
+        | else-is_lead w ↦
+            rw w.performer-is (may_go_on-malformed g.P.CountedPerform.keeps g.P.CountedPerform.step
+            (c.requires.no_stop runs) here.may_go_on c.if-byte-ge160.true
+            (w.tell_single.ensures.malformed (omega (arith, c.if-byte-ge160.true))))
+      ];
+      between = elim c.if-is_lead.branch [
+        | then-is_lead+else-this-ne0 w ↦ rw (w.self-is, w.position-is) w.read_longer-position.ensures.text
+        | else-is_lead w ↦ rw w.self-is (λ _. here.begun)
+      ];
+      low = search rules;
+      high = search rules;
+      moves = search rules;
+      progress = search rules;
+      count = λ singly. absurd (false≢true (sym singly ∙ runs));
+      escape = λ singly. absurd (false≢true (sym singly ∙ runs));
+      near = search rules;
+      least = search rules;
+      memory = search rules;
+    }
+
 -- A round that goes on. Only a longer character can change the state, and does so only with the last bytes of the call.
 pub loop-position-2-preserved : goal.loop-position-2-preserved
 loop-position-2-preserved g c =
@@ -190,17 +222,11 @@ loop-position-2-preserved g c =
       may_go_on = search rules;
       between = elim c.if-is_printed_ascii-2.branch [
         | then-is_printed_ascii-2 w ↦ rw w.self-is (λ _. here.begun)
-        | else-is_printed_ascii-2+then-IN_RUNS-3+then-byte-ge160+then-is_lead w ↦
+        | else-is_printed_ascii-2+else-IN_RUNS-3+then-is_lead-2+else-this-ne0-2 w ↦
             rw (w.self-is, w.position-is)
             (λ inside.
-            w.read_longer-next.ensures.text
-            (omega (arith, inside, w.read_longer-next.ensures.moves.progress here.within)))
-        | else-is_printed_ascii-2+then-IN_RUNS-3+then-byte-ge160+else-is_lead w ↦ rw w.self-is (λ _. here.begun)
-        | else-is_printed_ascii-2+else-IN_RUNS-3+then-is_lead-2+else-this-ne0 w ↦
-            rw (w.self-is, w.position-is)
-            (λ inside.
-            w.read_longer-next-then-is_lead-2.ensures.text
-            (omega (arith, inside, w.read_longer-next-then-is_lead-2.ensures.moves.progress here.within)))
+            w.read_character-next.ensures.text
+            (omega (arith, inside, w.read_character-next.ensures.moves.progress here.within)))
         | else-is_printed_ascii-2+else-IN_RUNS-3+else-is_lead-2+else-byte-eq-ESCAPE w ↦
             rw w.self-is (λ _. here.begun)
       ];
@@ -216,13 +242,11 @@ loop-position-2-preserved g c =
     }
 
 -- The places and looks add up in each branch.
-pub returns-then-terminated-2-clause-moves : goal.returns-then-terminated-2-clause-moves
-returns-then-terminated-2-clause-moves g c =
-    let join = (goal.at.returns-then-terminated-2-clause-moves g c).Joined-is_printed_ascii-2 in
+pub returns-then-terminated-3-clause-moves : goal.returns-then-terminated-3-clause-moves
+returns-then-terminated-3-clause-moves g c =
+    let join = (goal.at.returns-then-terminated-3-clause-moves g c).Joined-is_printed_ascii-2 in
     elim join.if-is_printed_ascii-2.branch [
       | then-is_printed_ascii-2 w ↦ search rules
-      | else-is_printed_ascii-2+then-IN_RUNS-3+then-byte-ge160+then-is_lead w ↦ search rules
-      | else-is_printed_ascii-2+then-IN_RUNS-3+then-byte-ge160+else-is_lead w ↦ search rules
-      | else-is_printed_ascii-2+else-IN_RUNS-3+then-is_lead-2+else-this-ne0 w ↦ search rules
+      | else-is_printed_ascii-2+else-IN_RUNS-3+then-is_lead-2+else-this-ne0-2 w ↦ search rules
       | else-is_printed_ascii-2+else-IN_RUNS-3+else-is_lead-2+else-byte-eq-ESCAPE w ↦ search rules
     ]

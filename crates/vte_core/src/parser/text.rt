@@ -99,8 +99,8 @@ impl<B: Buffer> Machine<B> {
                 if is_printed_ascii(byte) {
                     performer.print_char(looks, char::from(byte));
                 } else if G::IN_RUNS && byte >= 0xa0 {
-                    // One comparison tells lead bytes and malformed ones from ESC and controls. A lead
-                    // byte may begin a control, which may stop the call; U+FFFD doesn't.
+                    // One comparison tells lead bytes and malformed ones from ESC and controls. A
+                    // lead byte may begin a control, which may stop the call; U+FFFD doesn't.
                     if is_lead(byte) {
                         position = self.read_longer::<P, G, ASKS>(
                             looks, performer, input, position, byte,

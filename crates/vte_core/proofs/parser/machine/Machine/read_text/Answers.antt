@@ -186,9 +186,11 @@ loop-position-2-preserved-then-byte-ge160 g c =
             rw (w.self-is, w.performer-is, w.position-is) (advances-part w.read_longer-position.ensures.advances)
         | else-is_lead w ↦
             let told = w.tell_single.ensures in
-            rw (w.self-is, w.performer-is, w.position-is) (advances-part (advances-byte here.within here.is here.may_go_on
-            (performs-single here.begun (grind (arith, c.if-byte-ge160.true)) (sym c.is_lead.ensures ∙ w.if-is_lead.false)
-            told.control told.malformed) (settled-by _ _ here.begun tt)))
+            rw (w.self-is, w.performer-is, w.position-is) (advances-part
+            (advances-byte here.within here.is here.may_go_on
+            (performs-single here.begun (grind (arith, c.if-byte-ge160.true))
+            (sym c.is_lead.ensures ∙ w.if-is_lead.false) told.control told.malformed)
+            (settled-by _ _ here.begun tt)))
       ]);
       may_go_on = elim c.if-is_lead.branch [
         | then-is_lead+else-this-ne0 w ↦ search rules

@@ -9,7 +9,7 @@ from concurrent.futures import ThreadPoolExecutor
 from pathlib import Path
 
 sys.path.insert(0, str(Path(__file__).resolve().parent.parent / "tools"))
-import building
+from building import builder
 from generating import streams
 
 # The sides: ours as rt proves and builds it, the same text in the crates of rust/, and the crate,
@@ -55,12 +55,12 @@ class Programs:
     def peers(self, side):
         """The program of a side of IN_RUST, once for each placement of its code. It has the default
         features of the crate, and so of rust/vte: commands have no limit."""
-        return building.placed_peers(side in OURS_IN_RUST, self.folder / side, IN_RUST[side],
+        return builder.placed_peers(side in OURS_IN_RUST, self.folder / side, IN_RUST[side],
                                      self.placements)
 
     @functools.cached_property
     def proved(self):
-        return building.proved_program("race", ["parser", "1", "1"])
+        return builder.proved_program("race", ["parser", "1", "1"])
 
     def commands(self, kind):
         """The commands of each side: one for each placement of its code. Rattle's build has one."""
@@ -93,7 +93,7 @@ def run(words, place):
     with open(place, "rb") as stream:
         done = subprocess.run(words, stdin=stream, capture_output=True, text=True)
     if done.returncode != 0:
-        building.stop(f"{' '.join(map(str, words))}: status {done.returncode}: {done.stderr}")
+        builder.stop(f"{' '.join(map(str, words))}: status {done.returncode}: {done.stderr}")
     return done.stdout, done.stderr
 
 
@@ -126,7 +126,7 @@ def compare_checksums(name, sides, place):
     size = str(place.stat().st_size)
     told = {side: run([*commands[0], size, "1"], place)[0] for side, commands in sides.items()}
     if len(set(told.values())) > 1:
-        building.stop(f"the checksums of {name} differ: {told}")
+        builder.stop(f"the checksums of {name} differ: {told}")
 
 
 def rows(race, programs, given):

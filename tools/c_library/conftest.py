@@ -1,8 +1,8 @@
 import shutil
 from functools import cache
 
-import building
 import pytest
+from building import builder
 from tests.missing import miss
 
 from c_library.library import Library
@@ -49,4 +49,4 @@ def whole(built):
 @pytest.fixture(scope="session")
 def vtlog(request):
     """The proved program, or None with --short."""
-    return None if request.config.option.short else building.proved_program("vtlog")
+    return None if request.config.option.short else builder.proved_program("vtlog")

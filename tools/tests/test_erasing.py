@@ -4,8 +4,8 @@ import re
 import subprocess
 from dataclasses import fields, replace
 
-import building
 import pytest
+from building import builder
 from erasing import wording
 from erasing.crate import Failure, erase, write_crate
 from erasing.patterns import rewrite
@@ -228,7 +228,7 @@ def test_which_files_are_written():
 def test_what_the_benchmark_shares_compiles(tmp_path):
     if "2024" not in subprocess.check_output(["rustc", "--help"], text=True):
         pytest.skip("with an older Rust")
-    building.placed_peers(True, tmp_path, "checked", 1)
+    builder.placed_peers(True, tmp_path, "checked", 1)
 
 
 def test_failures_name_file_and_line():

@@ -24,7 +24,7 @@ use test_lines::Answers;
 pub(crate) enum Kind {
     /// Its bytes make its calls, however they are cut.
     Stream,
-    /// The same for prints and attributes only, with a stop at the cut.
+    /// Its bytes make its prints and attributes, with a stop at the cut.
     Stops,
     /// Its bytes make its calls of the handler and the timeout, in this order, in pieces of every
     /// length.

@@ -67,7 +67,7 @@ pub(crate) struct RepeatedBytes {
     pub(crate) back: &'static [u8],
 }
 
-/// The same for text: all lines, each with its LF.
+/// `front`, then `times` times `unit`, then `back`: all lines, each with its LF.
 pub(crate) struct RepeatedText {
     pub(crate) front: &'static str,
     pub(crate) unit: &'static str,

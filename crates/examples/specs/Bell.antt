@@ -2,7 +2,7 @@
 use Rattle.std.specs.Prelude.{ℕ, Bool, true, ◌||◌, ◌==◌}
 use Rattle.vte_core.specs.Event.{Event, Execute}
 
--- The same after one more event.
+-- The answer after one more event.
 abbrev pub rung_after : Bool → Event → Bool
 rung_after has_rung (Execute byte) = has_rung || (byte == 0x07)
 rung_after has_rung event = has_rung

@@ -7,7 +7,7 @@ abbrev pub text_length : List (List ℕ) → ℕ
 text_length (number ∷ text ∷ more) = length text
 text_length pieces = 0
 
--- The same for the last command, after one more event.
+-- The length of the last command's text, after one more event.
 abbrev pub length_after : ℕ → Event → ℕ
 length_after last (OscDispatch pieces bell_terminated) = text_length pieces
 length_after last event = last

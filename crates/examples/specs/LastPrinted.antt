@@ -6,7 +6,7 @@ use Rattle.vte_core.specs.Parser.{HasRead}
 use Rattle.vte_core.specs.Perform.{after}
 use Rattle.vte_core.specs.Stream.{events}
 
--- The same after one more event.
+-- The last character after one more event.
 abbrev pub last_after : Option ℕ → Event → Option ℕ
 last_after last (Print c) = Some c
 last_after last event = last

@@ -1,4 +1,4 @@
-//! A performer that notes how long the text of a command is, behind a parser without a limit.
+//! A performer that notes how long the text of a command is, for a parser without a limit.
 ghost use Rattle.examples.specs.CommandText.{length_after};
 ghost use Rattle.std.specs.Prelude.{◌≡◌, IfOk, None};
 ghost use Rattle.vte_core.specs.Perform.{after};
@@ -59,7 +59,7 @@ impl Perform for TextLength {
 ///
 /// # Errors
 ///
-/// `Refused` where there is no memory for it.
+/// `Refused` if there is no memory for it.
 pub fn last_text_length<A: Allocator>(alloc: A, stream: &[u8]) -> Result<usize, Refused>
     ensures { IfOk result (λ length. length ≡ after length_after 0 (events None stream.now)) }
 {

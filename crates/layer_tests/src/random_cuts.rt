@@ -23,7 +23,7 @@ fn events_of(alloc: Global, pieces: &[&[u8]]) -> EventLines {
     lines
 }
 
-/// The same with text in runs.
+/// The lines of the events of a stream in pieces, with text in runs.
 fn events_in_runs_of(alloc: Global, pieces: &[&[u8]]) -> EventLines {
     let mut lines = EventLines::new(alloc, Stop::Never);
     let mut parser = Parser::<1024>::new();
@@ -33,7 +33,7 @@ fn events_in_runs_of(alloc: Global, pieces: &[&[u8]]) -> EventLines {
     lines
 }
 
-/// The same by a parser without a limit on operating system commands.
+/// The lines of the events of a stream in pieces, by a parser without a limit on commands.
 fn unlimited_events_of(
     rt: &(impl Abort + AllocGlobal),
     pieces: &[&[u8]],
@@ -46,7 +46,7 @@ fn unlimited_events_of(
     Ok(lines)
 }
 
-/// The same in runs.
+/// The lines of the events of a stream in pieces, by a parser without a limit, in runs.
 fn unlimited_events_in_runs_of(
     rt: &(impl Abort + AllocGlobal),
     pieces: &[&[u8]],

@@ -13,7 +13,7 @@ fn parsed(stream: &[u8]) -> Screen {
     screen
 }
 
-/// The same with text in runs, in calls of `piece` bytes.
+/// The screen of a stream whose text comes in runs, in calls of `piece` bytes.
 fn parsed_in_runs(stream: &[u8], piece: usize) -> Screen {
     let mut screen = Screen::new();
     let mut parser = Parser::new();
@@ -23,7 +23,7 @@ fn parsed_in_runs(stream: &[u8], piece: usize) -> Screen {
     screen
 }
 
-/// The same by a processor, unless memory runs out.
+/// The screen of a stream by a processor, unless memory runs out.
 fn processed(alloc: Global, stream: &[u8]) -> Option<Screen> {
     let mut handler = ByCall(Screen::new());
     match Processor::new(alloc, TestTimeout::new(Answers::Never)) {
@@ -33,7 +33,7 @@ fn processed(alloc: Global, stream: &[u8]) -> Option<Screen> {
     Some(handler.0)
 }
 
-/// The same by a processor, with text in runs, in calls of `piece` bytes.
+/// The screen of a stream by a processor, with text in runs, in calls of `piece` bytes.
 fn processed_in_runs(alloc: Global, stream: &[u8], piece: usize) -> Option<Screen> {
     let mut handler = ByCall(Screen::new());
     match Processor::new(alloc, TestTimeout::new(Answers::Never)) {
@@ -69,7 +69,7 @@ fn runs_show_the_same(alloc: Global, stream: &[u8], piece: usize) -> bool {
     }
 }
 
-/// The same whole and byte by byte.
+/// Whether runs of text show what characters show, in one call and byte by byte.
 fn runs_agree(alloc: Global, stream: &[u8]) -> bool {
     runs_show_the_same(alloc, stream, stream.len()) && runs_show_the_same(alloc, stream, 1)
 }

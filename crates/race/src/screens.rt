@@ -42,7 +42,7 @@ impl<const IN_RUNS: bool> Racer for ScreenRacer<IN_RUNS> {
     }
 }
 
-/// The same of a processor.
+/// A processor with a screen. Text comes in runs or character by character.
 #[derive(Drop)]
 pub(crate) struct TerminalRacer<const IN_RUNS: bool> {
     processor: Processor<UntilCleared, Global>,

@@ -83,7 +83,7 @@ module _ (keeps_all : Bool) (pieces : List (Bor (List ℕ))) (i : ℕ) (d : Bor 
     );
   }
 
-  -- or has none
+  -- a piece has no text
   pub joins-same : None ≡ text_in keeps_all piece → Joins keeps_all room text is_first left all
   joins-same none =
       record {

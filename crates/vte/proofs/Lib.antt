@@ -1,5 +1,5 @@
--- From events to calls (`performing`), held bytes (`updates`), turns (`turns`) and runs (`runs`); `Common` passes on
--- words. docs/PROOFS.md leads from the headline down.
+-- From events to calls (`performing`), held bytes (`updates`), turns (`turns`) and lists of calls (`replays`). `Common`
+-- passes on words. docs/PROOFS.md leads from the headline down.
 pub mod Common
 pub mod performing
 pub mod replays

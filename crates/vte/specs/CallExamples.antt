@@ -323,7 +323,7 @@ link_examples =
     ∷ makes_one (codes "\u{1b}]8;a=b:id=x:id=y;u\u{7}") (links (Some (codes "x")) (codes "u"))
     ∷ makes_one (codes "\u{1b}]8;id=;u\u{7}") (links (Some []) (codes "u"))
     ∷ makes_one (codes "\u{1b}]8;aid=x;u\u{7}") (links None (codes "u"))
-    -- an id that isn't UTF-8 is dropped, and such a piece of the URI is left empty
+    -- an id that isn't UTF-8 is dropped, and a piece of the URI that isn't is left empty
     ∷ makes_one (codes "\u{1b}]8;id=" ++ 0xff ∷ codes ":id=y;u\u{7}") (links None (codes "u"))
     ∷ makes_one (codes "\u{1b}]8;;a;" ++ 0xff ∷ codes ";b\u{7}") (links None (codes "a;;b"))
     ∷ makes (codes "\u{1b}]8;;\u{7}\u{1b}]8;id=x;\u{7}\u{1b}]8;;" ++ 0xff ∷ bell)

@@ -48,7 +48,7 @@ pub record IsCopyOfLong {T A W : Type 0} (is_clone : T → T → Type 0) (timeou
   pub memory : KeepsMemory (HasMemory (unlimited timeout_of) processor.turns)
       (HasMemory (unlimited timeout_of) copy.turns)
 
--- `reserve`: memory for the held bytes and for `more`
+-- `reserve`: memory for the held bytes and `more` others
 pub record ReservesRoom {P J T A W : Type 0} (w : TurnsMeaning P J T W) (old new : Turns P J T A)
     (more : ℕ) (result : Bool) : Type 0 where
   pub same : (parsed held : List ℕ) (timeout : W) → TurnsStandAt w old parsed held timeout
@@ -95,7 +95,9 @@ pub record ReadsSome {P J T A V W : Type 0} (w : TurnsMeaning P J T W) (m : Mean
 pub record AdvancesLong {T A V W : Type 0} (timeout_of : T → W) (m : Meaning V W)
     (old new : LongProcessor T A) (before value : V) (bytes : List ℕ)
     (result : Result (Unit {0}) Refused) : Type 0 where
+  -- The bytes read are those that the first turns of the call read.
   pub reads : ReadsSome (unlimited timeout_of) m old.turns new.turns before value bytes result
+  -- If no memory is refused, all bytes are read.
   pub all : IfOk result (λ all. ReadsInTurns m (HasParsedAndHoldsLong timeout_of old)
       (HasParsedAndHoldsLong timeout_of new) before value bytes)
   -- If there was memory for all bytes, none is refused.

@@ -12,15 +12,16 @@ use Rattle.vte.specs.declared.ansi.titles.TheConstants.{SEPARATORS}
 use Rattle.vte.specs.declared.ansi.turns.TheConstants.{SLICE}
 use Rattle.vte.specs.declared.ansi.turns.Turns.{Turns}
 
--- After a stream the parser has memory to keep `count` more bytes with an open command, and a text
--- of `size` bytes holds what is joined from them.
+-- After the stream the parser has memory for `count` bytes besides those of an open command, and a
+-- text of `size` bytes, which can be counted, holds what is joined from all.
 pub record HasRoom {A : Type 0} (parser : LongParser A) (size : ℕ) (stream : List ℕ)
     (count : ℕ) : Type 0 where
   pub kept : open_size stream + count ≤ memory_of parser
   pub joined : open_size stream + count + SEPARATORS ≤ size
   pub counted : open_size stream + count + SEPARATORS < 2 ^ 64
 
--- It doesn't keep these bytes, or the text is too small, or they are too many to be counted.
+-- The opposite of `HasRoom`: the parser lacks memory, or the text is too small, or its size can't
+-- be counted.
 abbrev pub LacksRoom : {A : Type 0} → LongParser A → ℕ → List ℕ → ℕ → Type 0
 LacksRoom parser size stream count =
     (memory_of parser < open_size stream + count)
@@ -73,7 +74,7 @@ HasNoMemory processor =
     (memory_of processor.turns.parser ≡ 0) × (string_capacity processor.turns.state.text.text ≡ 0)
 
 -- `count` bytes are held or left. Memory is lacking for the `held` ones and the first `more` of
--- those left: at most a slice, unless all fit the hold.
+-- those left: at most a slice, unless both together fit the hold.
 pub record LacksPart (lacks : ℕ → Type 0) (held count : ℕ) : Type 0 where
   pub more : ℕ
   pub within : held + more ≤ count

@@ -120,8 +120,8 @@ hold_turn m s bytes = let t = extend m s bytes in keep m t (kept_of t.held)
 abbrev pub is_held : {H W : Type 0} → Bool → State H W → List ℕ → Bool
 is_held answer s bytes = answer && nat_le (length (s.held ++ bytes)) most_held
 
--- Otherwise they are parsed. If the timeout is pending, or bytes are held whose update has expired,
--- the update is stopped first.
+-- Bytes that aren't held are parsed. If the timeout is pending, or bytes are held whose update has
+-- expired, the update is stopped first.
 abbrev pub is_stopped : {H W : Type 0} → Bool → State H W → Bool
 is_stopped answer s = answer || nat_lt 0 (length s.held)
 

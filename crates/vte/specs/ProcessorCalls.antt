@@ -36,7 +36,7 @@ pub record HasParsedAndHolds {T A W : Type 0} (timeout_of : T → W) (processor 
 abbrev pub Standing : Type 0 → Type 1
 Standing W = List ℕ → List ℕ → W → Type 0
 
--- A processor that stands so and the handler's value are as the state says.
+-- A processor of which `standing` is true, and the handler's value, are as the state says.
 pub record IsAt {V W : Type 0} (standing : Standing W) (value : V) (s : State V W) : Type 0 where
   pub stands : standing s.parsed s.held s.timeout
   pub handler_is : value ≡ s.handler
@@ -51,7 +51,7 @@ pub record Advanced {V W : Type 0} (m : Meaning V W) (s : State V W) (bytes : Li
   pub holds_well : HoldsWellAt m s → HoldsWellAt m next
   pub is_at : there next
 
--- The calls led to a state, and are there. Each given byte is parsed or held, once and in order.
+-- Calls led to a state, and are there. Each given byte is parsed or held, once and in order.
 -- The facts about the hold stay true. If the timeout is kept, they lead to no other state.
 pub record Replayed {V W : Type 0} (m : Meaning V W) (s : State V W) (steps : List Step)
     (there : State V W → Type 0) : Type 0 where
@@ -120,12 +120,13 @@ pub record CountsHeld (held : List ℕ) (result : ℕ) : Type 0 where
   pub fits : result ≤ most_held
   pub no_end : after_last_end held ≡ None
 
--- `stop_sync` and `stop_sync_text`, of a processor and a handler that stood so and stand so now
+-- `stop_sync` and `stop_sync_text`: `old` and `before` say where the processor and the handler
+-- stood, `new` and `value` where they stand now
 abbrev pub StopsSync : {V W : Type 0} → Meaning V W → Standing W → Standing W → V → V → Type 0
 StopsSync m old new before value =
     (s : State _ _) → IsAt old before s → IsAt new value (stop m s)
 
--- `advance` and `advance_text`, that read all bytes
+-- `advance` and `advance_text`, which read all bytes
 pub record ReadsInTurns {V W : Type 0} (m : Meaning V W) (old new : Standing W) (before value : V)
     (bytes : List ℕ) : Type 0 where
   pub advances : (s : State V W) → IsAt old before s → Advanced m s bytes (IsAt new value)

@@ -20,7 +20,8 @@ pub record OpenTurnHalts {H W : Type 0} (m : Meaning H W) (s : State H W) (bytes
   pub none_begin : begin_count (added m.limit s.parsed front) ≡ 0
   pub state_is : t ≡ parse m s front
 
--- The same of a turn, by the timeout's answer. A turn that holds bytes takes its memory before.
+-- A turn was refused memory, by the timeout's answer: an open one, since a turn that holds bytes
+-- takes its memory before.
 abbrev pub TurnHalts : {H W : Type 0} → Meaning H W → Bool → State H W → List ℕ → State H W
     → List ℕ → Type 0
 TurnHalts m answer s bytes t left =
@@ -34,7 +35,7 @@ pub data TakesSome {H W : Type 0} (m : Meaning H W) (s : State H W) (bytes : Lis
       → m.timeout.allows u.timeout answer
       → TurnHalts m answer u rest t left → TakesSome m s bytes t left
 
--- A call has read so many of its bytes, by turns, of which the last may have been refused memory on
+-- A call has read `read` of its bytes, by turns, of which the last may have been refused memory on
 -- the way, and is at the state to which they led. Each byte that was read is parsed or held, once
 -- and in order. The facts about the hold stay true.
 pub record HasTaken {V W : Type 0} (m : Meaning V W) (s : State V W) (bytes : List ℕ) (read : ℕ)
@@ -45,7 +46,7 @@ pub record HasTaken {V W : Type 0} (m : Meaning V W) (s : State V W) (bytes : Li
   pub holds_well : HoldsWellAt m s → HoldsWellAt m next
   pub is_at : there next
 
--- A refused `Advance` has read so many bytes, by its first turns. `StopSync` is never refused.
+-- A refused `Advance` has read `read` bytes, by its first turns. `StopSync` is never refused.
 abbrev pub IsRefused : {V W : Type 0} → Meaning V W → State V W → Step → ℕ
     → (State V W → Type 0) → Type 0
 IsRefused m s (Advance bytes) read there =

@@ -11,7 +11,7 @@ clock_in timeout = timeout.clock
 abbrev pub expiry_in : {C : Type 0} → StdSyncHandler C → Option Duration
 expiry_in timeout = timeout.expiry
 
--- Its value as a timeout: whether it is pending.
+-- The value of a timeout over a clock: whether it is pending.
 abbrev pub is_pending : {C : Type 0} → StdSyncHandler C → Bool
 is_pending timeout = is_some timeout.expiry
 

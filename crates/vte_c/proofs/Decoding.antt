@@ -135,7 +135,7 @@ loss_plain event command =
     let flag : (event.flag % 2 + 2) % 2 ≡ event.flag % 2 = omega arith in
     rw (command, flag) refl
 
--- Writing it later doesn't change what is read.
+-- Writing whether a command lost data later doesn't change what is read.
 pub loss_unseen : (records : List VteEvent) (count place : ℕ) (default : VteEvent)
     → (get_or records place default).kind ≡ 5
     → map without_loss (take count (set records place (with_loss (get_or records place default))))

@@ -182,7 +182,7 @@ paused_after room event kept =
 
 -- ---- events of the parser
 
--- There is room for so many events and so much data.
+-- There is room for `count` events and `size` bytes of data.
 pub record HasRoomFor (room : Room) (count size : ℕ) : Type 0 where
   pub events : room.count + count ≤ room.most
   pub data_fits : room.used + size ≤ room.size

@@ -43,12 +43,12 @@ pub record Feeds (kinds stops : ℕ) (parser next : Saved) (bytes : List ℕ)
       HasTold kinds parser told stream (bytes ++ rest) →
       4 ≤ length old_events → 2112 ≤ length old_area →
       HaveOtherKinds stops (kinds_in counts.events events) → 0 < length bytes → 0 < result
-  -- If a record among the stops is written, at most one follows it ..
+  -- If a record among the stops is written, at most one follows it.
   pub first : (told : List Event) (stream rest : List ℕ) →
       HasTold kinds parser told stream (bytes ++ rest) →
       StopsAtKind stops (kinds_in counts.events events)
-  -- .. and unless text or data stop, it came with the last byte that was read: no shorter front of
-  -- the bytes adds one.
+  -- Unless text or data stop, a record among the stops came with the last byte that was read: no
+  -- shorter front of the bytes adds one.
   pub until : (stream : List ℕ) → HasReadSaved parser stream → is_stop kinds stops 0 ≡ false →
       is_stop kinds stops 3 ≡ false → (i : ℕ) → i < fed_count result →
       AreOthers (is_stop kinds stops) (added (Some 1024) stream (take i bytes))

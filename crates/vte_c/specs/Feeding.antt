@@ -41,7 +41,7 @@ HaveOtherRecords stops records = HaveOtherKinds stops (kinds_of records)
 abbrev pub AreOthersIn : Room → List Event → Type 0
 AreOthersIn room events = AreOthers (is_stop room.kinds room.stops) events
 
--- .. of text or data
+-- Neither text nor data stop a call into this room.
 abbrev pub StopsAtNone : Room → Type 0
 StopsAtNone room =
     (is_stop room.kinds room.stops 0 ≡ false) × (is_stop room.kinds room.stops 3 ≡ false)

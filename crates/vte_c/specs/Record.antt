@@ -38,7 +38,7 @@ data_of (Put byte) = byte ∷ []
 data_of (OscDispatch pieces bell) = flat_map piece_bytes pieces
 data_of _ = []
 
--- So many pieces, or so many data bytes with their lengths, that a command may have lost data.
+-- A command with so many pieces, or data of this size, may have lost data.
 abbrev pub has_most : ℕ → ℕ → Bool
 has_most pieces size = nat_le 16 pieces || nat_le 1024 size
 
@@ -176,17 +176,17 @@ item_events input (InInput run start size) = run_events run (take size (drop sta
 
 -- ---- how a record and an area are read
 
--- This many numbers of two bytes each.
+-- The first numbers of an area, of two bytes each: as many as the first argument says.
 abbrev pub numbers_in : ℕ → List ℕ → List ℕ
 numbers_in (suc n) (low ∷ high ∷ area) = (low + 256 * high) ∷ numbers_in n area
 numbers_in _ _ = []
 
--- This many groups.
+-- The first groups of an area.
 abbrev pub groups_in : ℕ → List ℕ → List (List ℕ)
 groups_in (suc n) (count ∷ area) = numbers_in count area ∷ groups_in n (drop (2 * count) area)
 groups_in _ _ = []
 
--- This many pieces.
+-- The first pieces of an area.
 abbrev pub pieces_in : ℕ → List ℕ → List (List ℕ)
 pieces_in (suc n) (a ∷ b ∷ c ∷ d ∷ area) =
     let size : ℕ = a + 256 * b + 65536 * c + 16777216 * d in

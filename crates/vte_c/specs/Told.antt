@@ -83,7 +83,7 @@ AreReadable input (Single event ∷ items) = IsBounded (Some 1024) event × AreR
 AreReadable input (InInput run start size ∷ items) =
     IsRunAt input run start size × AreReadable input items
 
--- These events are encoded, and nothing else: by so many records, one for each item, and so many
+-- These events are encoded, and nothing else: by `count` records, one for each item, and `used`
 -- bytes of data, which begin in the area where the record says. A run in the input has no data.
 -- That the record of a command says whether data were lost is only tested.
 pub record AreEncoded (events : List Event) (count used : ℕ) (records : List VteEvent)
@@ -113,7 +113,7 @@ pub record HasFed (old new : Events) (parser : Saved) (told : List Event)
       (told ++ events_in new.count new.events.now (bytes ++ more) new.area.now)
       stream (drop n bytes ++ rest)
 
--- The same for text.
+-- A call read the first n bytes and wrote their text into the caller's buffer.
 pub record StripsMore (old new : Text) (parser : Saved) (text stream bytes rest : List ℕ)
     (n : ℕ) : Type 0 where
   pub name : new.room.ghost_name ≡ old.room.ghost_name

@@ -44,8 +44,8 @@ pub(crate) struct Events<'a> {
     // whether a command came of which the parser wasn't asked yet, and the place of its record
     paused: bool,
     command: usize,
-    // The room is full with at least so many events: with any number once one that stops was
-    // written, in a pause, and if the area has little room left.
+    // From how many events on the room is full: from none on once one that stops was written, in a
+    // pause, and if the area has little room left.
     full_count: usize,
     ghost size_limit: { size ≡ min (length area.now) (2 ^ 32 - 1) },
     ghost used_limit: { used ≤ size },

@@ -24,7 +24,7 @@ taken_bytes Nothing = []
 abbrev pub run_bytes : Run → List ℕ
 run_bytes run = taken_bytes run.taken
 
--- What they add to a stream: that the characters are printed, or the data put.
+-- The events of a run: its characters are printed, or its data put.
 abbrev pub taken_events : Taken → List Event
 taken_events (Text text) = map Print (chars text.now)
 taken_events (Data those) = map Put those.now
@@ -55,20 +55,20 @@ pub record IsRunIn (bytes : List ℕ) (run : Run) : Type 0 where
   pub is : run_bytes run ≡ take (length (run_bytes run)) (drop run.start bytes)
   pub whole : IsWhole bytes run.end run.taken
 
--- A call of a parser that has read such streams returned the run.
+-- A call returned the run. `HasReadBefore` says which streams the parser had read.
 pub record ReturnsRun {V : Type 0} (step : V → Event → V) (is_terminated : V → Bool) (old new : V)
     (limit : Option ℕ) (HasReadBefore : List ℕ → Type 0)
     (bytes : List ℕ) (run : Run) : Type 0 where
   pub stands : IsRunIn bytes run
-  -- The performer takes what is told before the run, and nothing of the run ..
+  -- The performer takes what is told before the run, and nothing of the run.
   pub comes : (stream : List ℕ) → HasReadBefore stream
       → ComesTo step is_terminated old new limit stream bytes run.start
-  -- .. whose characters would be printed, or its data put.
+  -- A call that performs the run would add its events.
   pub adds : (stream : List ℕ) → HasReadBefore stream
       → added limit (stream_at stream bytes run.start) (run_bytes run) ≡ run_events run
-  -- There is a run only if the performer isn't terminated ..
+  -- There is a run only if the performer isn't terminated.
   pub may_go_on : run.start < run.end → is_terminated new ≡ false
-  -- .. and if there is none, the performer is terminated or all bytes were read.
+  -- If there is no run, the performer is terminated or all bytes were read.
   pub stops : run.end ≡ run.start → run.start < length bytes → is_terminated new ≡ true
 
 -- `advance_to_run` of a `Parser`
@@ -82,6 +82,6 @@ pub record ReadsToRun {V : Type 0} {N : ℕ} (step : V → Event → V) (is_term
   -- Characters and data are left to the run.
   pub others : (stream : List ℕ) → HasRead parser stream
       → TellsOthers (Some N) stream bytes run.start
-  -- Looks and events are few for the bytes read, and no byte is read without a look.
+  -- At most 7 looks per byte read and 8 more, and at least one per byte read.
   pub count : looks next ≤ looks parser + 7 * run.end + 8
   pub least : looks parser + run.end ≤ looks next

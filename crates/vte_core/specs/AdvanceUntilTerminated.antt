@@ -12,12 +12,11 @@ pub record ReadsUntilTerminated {V : Type 0} {N : ℕ} (step : V → Event → V
     → Bool) (old new : V) (bytes : List ℕ) (n : ℕ)
     (parser next : Parser N) : Type 0 where
   pub within : n ≤ length bytes
-  -- The call ends at the first start where the performer is terminated, with what was told before
-  -- it ..
+  -- The call ends at the first start where the performer is terminated, or else after all bytes.
   pub stops : (stream : List ℕ) → HasRead parser stream
       → StopsExactly step is_terminated old new (Some N) stream bytes n
-  -- .. and the parser goes on from there.
+  -- The parser goes on after the bytes read.
   pub reads : (stream : List ℕ) → HasRead parser stream → HasRead next (stream_at stream bytes n)
-  -- Looks and events are few for the bytes read, and no byte is read without a look.
+  -- At most 5 looks per byte read and 8 more, and at least one per byte read.
   pub count : looks next ≤ looks parser + 5 * n + 8
   pub least : looks parser + n ≤ looks next

@@ -117,7 +117,7 @@ is_data Control = true
 is_data Final = true
 is_data k = is_head k
 
--- The byte is such data, which is put.
+-- Among the data of a device control string, the byte is put.
 abbrev pub IsPut : ℕ → Type 0
 IsPut b = is_data (class_of b) ≡ true
 

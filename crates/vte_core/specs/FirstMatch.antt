@@ -1,12 +1,12 @@
 -- A list of bytes, cut before the first byte that passes a test.
 use Rattle.std.specs.Prelude.{ℕ, Bool, List, [], ◌∷◌, if◌then◌else◌}
 
--- The bytes before it, or all bytes if none passes.
+-- The bytes before the first that passes, or all bytes if none does.
 abbrev pub before_first : (ℕ → Bool) → List ℕ → List ℕ
 before_first passes [] = []
 before_first passes (b ∷ bytes) = if passes b then [] else b ∷ before_first passes bytes
 
--- That byte and all that follow, or none.
+-- The first byte that passes and all that follow, or none.
 abbrev pub from_first : (ℕ → Bool) → List ℕ → List ℕ
 from_first passes [] = []
 from_first passes (b ∷ bytes) = if passes b then b ∷ bytes else from_first passes bytes

@@ -12,34 +12,34 @@ use Rattle.vte_core.specs.Others.{TellsOthers}
 use Rattle.vte_core.specs.Perform.{after}
 use Rattle.vte_core.specs.Stream.{added}
 
--- A call read so many bytes, and the parser has then read these of each stream. If memory is
--- refused, it stops there.
+-- A call read n of its bytes. A parser that had read `stream` has then read `later stream`. If
+-- memory is refused, the call ends there.
 pub record GoesOnLong {A Answer : Type 0} (rate : ℕ) (bytes : List ℕ)
     (result : Result Answer Refused) (n : ℕ) (later : List ℕ → List ℕ)
     (parser next : LongParser A) : Type 0 where
   pub reads : (stream : List ℕ) → HasReadLong parser stream → HasReadLong next (later stream)
-  -- Of a command that is open then it stores the pieces alone.
+  -- Of a command that is open then, the parser stores the bytes of its pieces and no others.
   pub stores : (stream : List ℕ) → HasReadLong parser stream → StoresPieces next (later stream)
-  -- Memory is refused before a byte ..
+  -- Memory is refused before a byte of the call.
   pub within : IfErr result (λ refused. refused.read < length bytes)
-  -- .. that is a data byte of an open operating system command with fewer than 16 `;`.
+  -- That byte is data of an open operating system command with fewer than 16 `;`.
   pub meets : IfErr result (λ refused. (stream : List ℕ) → HasReadLong parser stream
       → MeetsData (later stream) (slice_index bytes refused.read))
-  -- For the data bytes that stand there it has no memory.
+  -- The memory doesn't suffice for the data bytes that begin there.
   pub lacks : IfErr result (λ refused. LacksMemory next bytes refused.read)
-  -- Memory that was there stays ..
+  -- Memory that was there stays.
   pub memory : memory_of parser ≤ memory_of next
-  -- .. and if there was enough for all bytes, none is refused.
+  -- If there was enough for all bytes, none is refused.
   pub enough : (stream : List ℕ) → HasReadLong parser stream
       → open_size stream + length bytes ≤ memory_of parser → IsOk result
-  -- Looks and events are few, for the bytes read too if no memory is refused, and no byte is read
-  -- without a look.
+  -- At most `rate` looks per byte of the call and 8 more; if no memory is refused, per byte read.
+  -- At least one look per byte read.
   pub count : looks_long next ≤ looks_long parser + rate * length bytes + 8
   pub paid : IfOk result (λ _. looks_long next ≤ looks_long parser + rate * n + 8)
   pub least : looks_long parser + n ≤ looks_long next
 
--- A call that may stop early has passed these bytes if memory is refused: the performer has what
--- they add, and was terminated at no start up to there.
+-- If memory is refused to a call that may stop early, the performer has what the bytes read add,
+-- and was terminated at no start up to there.
 pub record PassesLong {V Answer : Type 0} (step : V → Event → V) (is_terminated : V → Bool)
     (old new : V) (HasReadBefore : List ℕ → Type 0)
     (bytes : List ℕ) (result : Result Answer Refused) : Type 0 where
@@ -51,10 +51,10 @@ pub record PassesLong {V Answer : Type 0} (step : V → Event → V) (is_termina
 pub record ReadsBytesLong {V A : Type 0} (step : V → Event → V) (old new : V) (bytes : List ℕ)
     (result : Result (Unit {0}) Refused)
     (parser next : LongParser A) : Type 0 where
-  -- Whatever the parser has read, the performer takes what the bytes that are read add to it ..
+  -- Whatever the parser has read, the performer takes what the bytes that are read add to it.
   pub performs : (stream : List ℕ) → HasReadLong parser stream
       → new ≡ after step old (added None stream (bytes_read result bytes))
-  -- .. and the parser has then read both.
+  -- The parser has then read these bytes too.
   pub goes_on : GoesOnLong 5 bytes result (length (bytes_read result bytes))
       (λ stream. stream ++ bytes_read result bytes) parser next
 
@@ -62,15 +62,14 @@ pub record ReadsBytesLong {V A : Type 0} (step : V → Event → V) (old new : V
 pub record ReadsUntilTerminatedLong {V A : Type 0} (step : V → Event → V) (is_terminated : V → Bool)
     (old new : V) (bytes : List ℕ)
     (result : Result ℕ Refused) (parser next : LongParser A) : Type 0 where
-  -- Of the bytes so many were read ..
+  -- `read_count result` of the bytes were read.
   pub within : read_count result ≤ length bytes
-  -- .. the call ends at the first start where the performer is terminated, with what was told
-  -- before it ..
+  -- The call ends at the first start where the performer is terminated, or else after all bytes.
   pub stops : IfOk result (λ read. (stream : List ℕ) → HasReadLong parser stream
       → StopsExactly step is_terminated old new None stream bytes read)
-  -- .. or before it, if memory is refused ..
+  -- If memory is refused, it ends before that.
   pub refuses : PassesLong step is_terminated old new (HasReadLong parser) bytes result
-  -- .. and the parser goes on from there.
+  -- The parser goes on after the bytes read.
   pub goes_on : GoesOnLong 5 bytes result (read_count result)
       (λ stream. stream_at stream bytes (read_count result)) parser next
 
@@ -79,12 +78,12 @@ abbrev pub read_to_run : Result Run Refused → List ℕ → List ℕ → List �
 read_to_run (Ok run) stream bytes = stream_at stream bytes run.start ++ run_bytes run
 read_to_run (Err refused) stream bytes = stream_at stream bytes refused.read
 
--- .. and how many bytes.
+-- How many bytes a call of `advance_to_run` read, with the run.
 abbrev pub run_count : Result Run Refused → ℕ
 run_count (Ok run) = run.end
 run_count (Err refused) = refused.read
 
--- How many bytes were performed.
+-- How many bytes a call of `advance_to_run` performed: those before the run.
 abbrev pub performed_count : Result Run Refused → ℕ
 performed_count (Ok run) = run.start
 performed_count (Err refused) = refused.read

@@ -13,26 +13,26 @@ use Rattle.vte_core.specs.SystemCommand.{IsCommandData, most_pieces}
 abbrev pub HasReadLong : {A : Type 0} → LongParser A → List ℕ → Type 0
 HasReadLong parser stream = HasReadUnder None parser.machine stream
 
--- Whether it lost data of the operating system command that is open, or else ended last.
+-- Whether a parser lost data of the operating system command that is open, or else ended last.
 abbrev pub lost_data_long : {A : Type 0} → LongParser A → Bool
 lost_data_long parser = parser.machine.command.dropped
 
--- How many data bytes fit into its allocated memory.
+-- How many data bytes fit into the memory that a parser has allocated.
 abbrev pub memory_of : {A : Type 0} → LongParser A → ℕ
 memory_of parser = parser.machine.command.capacity
 
--- It continues as the other does: it has read the same, and lost data of the same command. It has
--- as much memory.
+-- The copy continues as the parser does: it has read the same, and lost data of the same command.
+-- It has as much memory.
 pub record IsCopyOfLong {A : Type 0} (parser copy : LongParser A) : Type 0 where
   pub reads : (stream : List ℕ) → HasReadLong parser stream → HasReadLong copy stream
   pub lost : lost_data_long copy ≡ lost_data_long parser
   pub memory : memory_of parser ≤ memory_of copy
 
--- Its memory doesn't suffice for the data bytes at `from`.
+-- A parser's memory doesn't suffice for what it stores and the data bytes that begin at `from`.
 abbrev pub LacksMemory : {A : Type 0} → LongParser A → List ℕ → ℕ → Type 0
 LacksMemory parser bytes from = LacksMemoryAt parser.machine.command bytes from
 
--- .. nor for so many after those that it stores.
+-- A parser's memory doesn't suffice for what it stores and `more` data bytes.
 abbrev pub LacksMemoryForMore : {A : Type 0} → LongParser A → ℕ → Type 0
 LacksMemoryForMore parser more = memory_of parser < length parser.machine.command.bytes + more
 

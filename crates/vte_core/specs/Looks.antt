@@ -27,6 +27,6 @@ looked looks = look_count looks.trail.value
 abbrev pub looks : {N : ℕ} → Parser N → ℕ
 looks parser = looked parser.looks
 
--- .. and of one without a limit.
+-- The count of a parser without a limit since it was created.
 abbrev pub looks_long : {A : Type 0} → LongParser A → ℕ
 looks_long parser = looked parser.looks

@@ -21,7 +21,7 @@ IsWide _ = Unit {0}
 -- earlier call began, if one was open.
 pub record TellsOthers (limit : Option ℕ) (stream bytes : List ℕ) (n : ℕ) : Type 0 where
   pub others : open_end stream ≡ [] → All IsOther (told limit stream bytes n)
-  -- That character isn't ASCII.
+  -- The character that an earlier call began isn't ASCII.
   pub opened : All IsWide (told limit stream bytes n)
 
 -- What is told between two places of a call belongs into no run.

@@ -33,11 +33,11 @@ pub record Outcome : Type 0 where
   -- what is open at the end
   pub left : Open
 
--- No event, and this is left open.
+-- An outcome without events, which leaves this open.
 abbrev pub leaves : Open → Outcome
 leaves left = record { told = []; left = left }
 
--- These events, then the rest.
+-- An outcome with these events before its own.
 abbrev pub tell : List Event → Outcome → Outcome
 tell events rest = record { told = events ++ rest.told; left = rest.left }
 

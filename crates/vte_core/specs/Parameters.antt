@@ -31,7 +31,7 @@ is_separator b = b == colon || b == semicolon
 abbrev pub number_of : List ℕ → ℕ
 number_of digits = min greatest_number (digits_value 10 digits)
 
--- Zips the two lists.
+-- The numbers with these values, each joined or not.
 abbrev pub numbers_of : List Bool → List ℕ → List Number
 numbers_of (joined ∷ more) (value ∷ values) =
     record { joined = joined; value = value } ∷ numbers_of more values

@@ -9,11 +9,11 @@ use Rattle.vte_core.specs.machine.Parser.{HasReadUnder}
 abbrev pub HasRead : {N : ℕ} → Parser N → List ℕ → Type 0
 HasRead {N} parser stream = HasReadUnder (Some N) parser.machine stream
 
--- Whether it lost data of the operating system command that is open, or else ended last.
+-- Whether a parser lost data of the operating system command that is open, or else ended last.
 abbrev pub lost_data : {N : ℕ} → Parser N → Bool
 lost_data parser = parser.machine.command.dropped
 
--- It continues as the other does: it has read the same, and lost data of the same command.
+-- The copy continues as the parser does: it has read the same, and lost data of the same command.
 pub record IsCopyOf {N : ℕ} (parser copy : Parser N) : Type 0 where
   pub reads : (stream : List ℕ) → HasRead parser stream → HasRead copy stream
   pub lost : lost_data copy ≡ lost_data parser

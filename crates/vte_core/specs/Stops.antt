@@ -29,7 +29,7 @@ pub record TellsUnit (limit : Option ℕ) (stream bytes : List ℕ) (i : ℕ) : 
   pub brief : IsBrief limit unit
   pub begun : (before ≡ []) ⊎ AreToldAtStart limit stream bytes i before
 
--- So a performer that is asked at each start is asked after each unit.
+-- `TellsUnit` for each place: a performer that is asked at each start is asked after each unit.
 abbrev pub TellsUnits : Option ℕ → Type 0
 TellsUnits limit = (stream bytes : List ℕ) (i : ℕ) → i ≤ length bytes
     → TellsUnit limit stream bytes i

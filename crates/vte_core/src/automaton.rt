@@ -1,6 +1,6 @@
 //! The automaton of text in runs.
 //!
-//! It is based on shifts: a byte's row in the table holds for each state the one that comes next,
+//! It is a shift-based DFA: a byte's row in the table holds for each state the one that comes next,
 //! in six bits at the place that the state's number gives. So a step is a load and a shift, without
 //! a branch. But the block in which a run ends is read in vain, so only long runs come here.
 ghost use Rattle.std.specs.Prelude.{◌≡◌, ◌+◌, ◌*◌, ◌%◌, ◌<◌, ◌≤◌, IsTrue, false, drop, length};

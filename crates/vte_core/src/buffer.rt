@@ -27,8 +27,8 @@ pub(crate) trait Buffer {
     fn is_full(&self) -> bool
         ensures { result ≡ not (has_room limit (length (held self.now))) };
 
-    /// Takes memory for this many more bytes, and returns whether it is there. Where there is a
-    /// limit, it always is.
+    /// Takes memory for this many more bytes, and returns whether it is there. With a limit, it
+    /// always is.
     fn reserve(&mut self, more: usize) -> bool
         ensures same { held self.new ≡ held self.old }
         ensures reserves { ReservesCapacity limit (length (held self.new)) more (capacity self.old)

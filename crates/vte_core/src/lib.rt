@@ -2,11 +2,12 @@
 //! control sequences, device control strings and operating system commands (ECMA-48, ECMA-35, the
 //! VT500 parser).
 //!
-//! [`Parser`] reads a stream in chunks of any length and hands its events to a [`Perform`], whose
-//! meaning is one function from a value and an event to a value. What the events of a stream are is
-//! defined in specs/, without states; the contract of [`Parser::advance`] says that the performer
-//! takes exactly these. [`LongParser`] is such a parser without a limit on the text of operating
-//! system commands. [`laws`] has what holds of all streams.
+//! [`Parser`] reads a stream in chunks of any length and calls a [`Perform`] for each of its
+//! events. [`LongParser`] is a parser without a limit on the text of operating system commands.
+//!
+//! The meaning of a performer is one function from a value and an event to a value. What the events
+//! of a stream are is defined in specs/, without states; the contract of [`Parser::advance`] says
+//! that the performer takes exactly these. [`laws`] has what holds of all streams.
 #![tactic(auto)]
 
 mod automaton;

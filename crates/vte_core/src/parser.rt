@@ -99,7 +99,7 @@ impl<const OSC_RAW_BUF_SIZE: usize> Default for Parser<OSC_RAW_BUF_SIZE> {
 impl<const OSC_RAW_BUF_SIZE: usize> Clone for Parser<OSC_RAW_BUF_SIZE> {
     ghost is_clone = { λ parser clone. IsCopyOf parser clone };
 
-    // It takes no memory.
+    // A clone takes no memory.
     ghost is_infallible = { λ _. ⊤ };
 
     fn clone(&self) -> Result<Self, AllocError> {
@@ -177,7 +177,7 @@ impl<const OSC_RAW_BUF_SIZE: usize> Parser<OSC_RAW_BUF_SIZE> {
         // If not, it goes on as a new parser, and more bytes give what they give on their own.
         ensures closed { result ≡ false → (stream : List ℕ) → HasRead self.now stream
             → HasRead self.now [] × IsFinished (Some OSC_RAW_BUF_SIZE) stream }
-        // Otherwise they don't.
+        // If so, more bytes give something else than on their own.
         ensures opens { result ≡ true → (stream : List ℕ) → HasRead self.now stream
             → IsUnfinished (Some OSC_RAW_BUF_SIZE) stream }
     {

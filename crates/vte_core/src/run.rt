@@ -1,7 +1,7 @@
 //! Where a run of printed text ends.
 //!
-//! A word is eight bytes and counts eight looks. So printed ASCII begins with bytes that are read
-//! one by one, and only then takes words: they pay for the bytes that the word has after its end.
+//! A word is eight bytes. None is tried before a run has begun with single bytes, so that no byte
+//! is read often.
 ghost use Rattle.std.specs.Prelude.{◌≡◌, ◌+◌, ◌*◌, ◌<◌, ◌≤◌, ◌↔◌, true, false, None, MatchOption, IfSome, IsTrue, length, slice_index};
 ghost use Rattle.vte_core.specs.machine.Words.{ArePrinted, EndsRun, IsPrinted, IsRange, IsRun, Scans, TakesFew, is_in, looked, from_to};
 
@@ -9,8 +9,8 @@ use crate::automaton::is_layout;
 use crate::scan::{CountedPerform, Grain, Input, Looks};
 use crate::utf8::{is_continuation, is_lead, is_printed_ascii, may_begin_four, may_begin_three};
 
-/// After how many bytes a run is left to the automaton. So many have saved the looks for a block
-/// that is read in vain.
+/// Longer runs go on in blocks. By then single bytes have taken fewer looks than they may, enough
+/// to pay for one wasted block.
 const LONG: usize = 48;
 
 impl<B> Looks<B> {
@@ -134,7 +134,7 @@ impl<B> Looks<B> {
         requires range { IsRange input.bytes.now from to }
         ensures scans { Scans (IsRun keeps) input.entry.bytes.now from result self.old self.new }
         ensures ended { result < to → EndsRun keeps input.entry.bytes.now result }
-        // A look less in three bytes than a run may take: they pay for the automaton.
+        // One look per three bytes fewer than a run may take: these pay for the automaton.
         ensures count { 3 * looked self.new + 11 * from ≤ 3 * looked self.old + 11 * result + 12 }
         ensures saved { to ≤ result
             → 3 * looked self.new + 11 * from ≤ 3 * looked self.old + 11 * result }
@@ -166,8 +166,8 @@ impl<B> Looks<B> {
         self.find_end_before(input, end, input.len(), keeps)
     }
 
-    /// Finds where the character ends that stands at a place and is no printed ASCII, whose byte
-    /// was looked at, if a run may hold it.
+    /// Finds where the character ends that stands at a place and is no printed ASCII, if a run may
+    /// hold it. Its first byte was looked at.
     #[inline(always)]
     fn find_other_end(
         &mut self,

@@ -3,8 +3,8 @@
 //! Nothing else reads a byte of a call or tells a performer an event: an [`Input`] has no other way
 //! to its bytes, and a [`CountedPerform`] takes events with the count alone. Bytes leave it one by
 //! one, in blocks, as a copy in a buffer, or as text or data: for a performer, or in a [`Run`] for
-//! the caller. Whoever is generic in the buffer `B` has no count but the one it was lent, for a
-//! `Looks<B>` is made for the buffers of the two parsers alone.
+//! the caller. A function generic in the buffer `B` can't make a `Looks<B>`: only `limited` and
+//! `unlimited` do. So it can't lose a look.
 ghost use Rattle.std.specs.Prelude.{◌≡◌, ◌+◌, ◌-◌, ◌<◌, ◌≤◌, ℕ, [], ◌∷◌, ◌++◌, false, length, drop, map, take, slice_index, vec_capacity, MatchOption, IsUtf8};
 ghost use Rattle.vte_core.specs.machine.Words.{AreOfKind, ArePut, IsRange, IsRun, IsTaken, PrintsRun, Put, Tells, after, character_event, is_in, looked, malformed_event, from_to};
 
@@ -83,7 +83,7 @@ impl<'a, B> Input<'a, B> {
         }
     }
 
-    /// Returns the text from one place to another, whose bytes were looked at.
+    /// Returns the text from one place to another, which is whole characters.
     #[inline(always)]
     fn text(self, from: usize, to: usize) -> &'a str
         requires range { IsRange self.bytes.now from to }
@@ -94,7 +94,7 @@ impl<'a, B> Input<'a, B> {
         unsafe { str::from_utf8_unchecked(bytes) }
     }
 
-    /// Returns the data from one place to another, whose bytes were looked at.
+    /// Returns the data from one place to another.
     #[inline(always)]
     fn data(self, from: usize, to: usize) -> &'a [u8]
         requires range { IsRange self.bytes.now from to }

@@ -58,7 +58,7 @@ named_or number None = mode.Unknown number
 abbrev pub mode_of : ℕ → Mode
 mode_of number = named_or number (entry_of named_modes number)
 
--- The same for private modes.
+-- The named private mode with this number, or an unknown one.
 abbrev pub private_named_or : ℕ → Option NamedPrivateMode → PrivateMode
 private_named_or number (Some named) = private.Named named
 private_named_or number None = private.Unknown number

@@ -139,7 +139,7 @@ pub halted_nothing : {V W : Type 0} (m : Meaning V W) {s : State V W} {bytes : L
     → there s → Halted m s bytes 0 there
 halted_nothing m {s} at = record { next = s; takes = between done; is_at = at }
 
--- ---- turns of a call, with such a turn after them
+-- ---- turns of a call, and one after them that is refused memory
 
 module _ {V W : Type 0} (m : Meaning V W) where
   pub one_taken : {s : State V W} {bytes : List ℕ} (answer : Bool) → 0 < length bytes

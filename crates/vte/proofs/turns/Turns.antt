@@ -139,7 +139,7 @@ pub rest_size : (bytes : List ℕ) (read : ℕ) → read ≤ length bytes
 rest_size bytes read inside = rw (rest_is bytes read inside, length-drop)
 
 module _ {V W : Type 0} (m : Meaning V W) (s : State V W) (bytes : List ℕ) where
-  -- So many bytes were read, by so many turns at most.
+  -- `count` turns have read `read` bytes, at least one each.
   pub record HasReached (count read : ℕ) (there : State V W → Type 0) : Type 0 where
     pub here : State V W
     pub enough : count ≤ read

@@ -67,7 +67,7 @@ neither_before text place escape before near inside here =
 begins_one : (text : List ℕ) → begins_with begin_update text ≡ true → after_word end_update text ≡ None
 begins_one text e = rw (begins_is begin_update text e) refl
 
--- what is after a place, of a text of which so many bytes are new
+-- what follows the place `unread` of a text, of which the last `new` bytes are new
 pub record HasSeen (text : List ℕ) (new unread begin begins : ℕ) : Type 0 where
   pub no_end : after_last_end (drop unread text) ≡ None
   pub begin_is : begin ≡ length text - length (from_begin (drop unread text))

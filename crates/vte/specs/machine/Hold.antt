@@ -9,13 +9,13 @@ use Rattle.vte.specs.declared.ansi.release.Added.{Added}
 abbrev pub released_of : {A : Type 0} → Hold A → List ℕ
 released_of hold = take hold.released hold.bytes.items
 
--- The end of a hold, from a place on, to whose bytes others were added: these, and at most seven
+-- The end of a hold, from `start` on, to whose bytes others were added: these, and at most seven
 -- before them.
 pub record IsEnd (held more text : List ℕ) (start : ℕ) : Type 0 where
   pub start_is : start ≡ length held - 7
   pub is : text ≡ drop start (held ++ more)
 
--- What adding so many of these bytes results in.
+-- The result of adding the last `new` of these bytes to the others.
 pub record Adds (bytes : List ℕ) (new : ℕ) (added : Added) : Type 0 where
   pub begins : added.begins ≡ begins_among new (last_part bytes)
   pub released : added.released ≡ length bytes - length (kept_of bytes)

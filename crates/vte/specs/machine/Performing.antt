@@ -48,8 +48,8 @@ with_private_modes step timeout lent groups = record lent {
   terminated = lent.terminated || nat_lt 0 (update_groups groups);
 }
 
--- A parser has read bytes after a stream, and performed what they add. It still has memory for so
--- many.
+-- A parser has read bytes after a stream, and performed what they add. It still has memory for n
+-- others.
 pub record HasPerformed {P V W : Type 0} (reading : ParserMeaning P) (limit : Option ℕ)
     (step : PerformerValue V W → Event → PerformerValue V W) (next : P)
     (old new : PerformerValue V W)
@@ -59,7 +59,8 @@ pub record HasPerformed {P V W : Type 0} (reading : ParserMeaning P) (limit : Op
   pub reads : reading.has_read next (stream ++ bytes)
   pub room : reading.has_room next old.room (stream ++ bytes) n
 
--- It has read so many, up to an event that terminates the performer.
+-- A parser has read `read` of the bytes after a stream: up to an event that terminates the
+-- performer, or all.
 pub record HasStopped {P V W : Type 0} (reading : ParserMeaning P) (limit : Option ℕ)
     (step : PerformerValue V W → Event → PerformerValue V W) (next : P)
     (old new : PerformerValue V W)
@@ -68,8 +69,8 @@ pub record HasStopped {P V W : Type 0} (reading : ParserMeaning P) (limit : Opti
   pub fits : All (FitsText old.room) (added limit stream bytes)
   pub reads : reading.has_read next (stream_at stream bytes read)
 
--- So it does after each stream that it has read, if it has memory for all bytes. Memory that was
--- there stays.
+-- After each stream that the parser has read, it performs all bytes if it has memory for them.
+-- Memory that was there stays.
 pub record PerformsAll {P V W : Type 0} (reading : ParserMeaning P) (limit : Option ℕ)
     (step : PerformerValue V W → Event → PerformerValue V W) (parser next : P)
     (old new : PerformerValue V W)

@@ -17,13 +17,13 @@ pub record IsParsed {P J T V W : Type 0} (w : TurnsMeaning P J T W) (parser : P)
   pub has_parsed : HasParsed w parser lent s.parsed s.timeout
   pub handler_is : value ≡ s.handler
 
--- There is also memory for so many bytes.
+-- `IsParsed`, and there is memory for `count` bytes.
 pub record IsParsedWithRoom {P J T V W : Type 0} (w : TurnsMeaning P J T W) (parser : P)
     (lent : ProcessorState T J) (value : V) (s : State V W) (count : ℕ) : Type 0 where
   pub is_parsed : IsParsed w parser lent value s
   pub room : w.reading.has_room parser (w.room_of lent.text) s.parsed count
 
--- They are at a state, with the memory that was there before.
+-- `IsParsed`, with the memory that was there before.
 pub record IsParsedOn {P J T V W : Type 0} (w : TurnsMeaning P J T W) (parser : P)
     (lent : ProcessorState T J) (next : P) (back : ProcessorState T J) (value : V) (s : State V W)
     : Type 0 where
@@ -42,13 +42,14 @@ pub record AreNextAt {P J T A V W : Type 0} (w : TurnsMeaning P J T W) (old new 
   pub are_at : AreAt w new value s
   pub memory : KeepsMemory (HasMemory w old) (HasMemory w new)
 
--- From each state that the turns are at, they lead on as it says.
+-- From each state that the turns are at, they lead on as `ends` says.
 abbrev pub LeadOn : {P J T A V W : Type 0} → TurnsMeaning P J T W → Turns P J T A → Turns P J T A
     → V → V → (State V W → (State V W → Type 0) → Type 0) → Type 0
 LeadOn w old new before value ends =
     (s : State _ _) → AreAt w old before s → ends s (AreNextAt w old new value)
 
--- The bytes up to the one that begins an update, so many, were parsed, or all if none begins.
+-- The first `read` bytes were parsed: those up to the one that begins an update, or all if none
+-- begins.
 pub record IsAtBegin {V W : Type 0} (m : Meaning V W) (s : State V W) (bytes : List ℕ) (read : ℕ)
     (begins : Bool) (there : State V W → Type 0) : Type 0 where
   pub count : read ≡ length (begin_front m.limit s.parsed bytes)
@@ -56,8 +57,8 @@ pub record IsAtBegin {V W : Type 0} (m : Meaning V W) (s : State V W) (bytes : L
       ≡ nat_lt 0 (begin_count (added m.limit s.parsed (begin_front m.limit s.parsed bytes)))
   pub is_at : there (parse m s (begin_front m.limit s.parsed bytes))
 
--- One turn has read this many bytes, and at least one if there were any. It is at the state to
--- which it leads.
+-- One turn has read `read` bytes, and at least one if there were any. It is at the state to which
+-- it leads.
 pub record Turned {V W : Type 0} (m : Meaning V W) (s : State V W) (bytes : List ℕ) (read : ℕ)
     (there : State V W → Type 0) : Type 0 where
   pub answer : Bool
@@ -66,32 +67,33 @@ pub record Turned {V W : Type 0} (m : Meaning V W) (s : State V W) (bytes : List
   pub rest : (turn m answer s bytes).rest ≡ drop read bytes
   pub is_at : there (turn m answer s bytes).state
 
--- An open turn has read this many bytes.
+-- An open turn has read `read` bytes, and at least one if there were any.
 pub record Opened {V W : Type 0} (m : Meaning V W) (s : State V W) (bytes : List ℕ) (read : ℕ)
     (there : State V W → Type 0) : Type 0 where
   pub progress : 0 < length bytes → 0 < read
   pub rest : (open_turn m s bytes).rest ≡ drop read bytes
   pub is_at : there (open_turn m s bytes).state
 
--- An open turn has parsed this many bytes, and no update begins in them.
+-- An open turn has parsed the first `read` bytes, and no update begins in them.
 pub record IsOpenAt {V W : Type 0} (m : Meaning V W) (s : State V W) (bytes : List ℕ) (read : ℕ)
     (there : State V W → Type 0) : Type 0 where
   pub none_begin : begin_count (added m.limit s.parsed (take read bytes)) ≡ 0
   pub is_at : there (parse m s (take read bytes))
 
--- A turn that was refused memory has read this many bytes.
+-- A turn that was refused memory has read `read` bytes.
 pub record Halted {V W : Type 0} (m : Meaning V W) (s : State V W) (bytes : List ℕ) (read : ℕ)
     (there : State V W → Type 0) : Type 0 where
   pub next : State V W
   pub takes : TakesSome m s bytes next (drop read bytes)
   pub is_at : there next
 
--- How a turn and an open turn end, if memory for them may be refused.
+-- How a turn ends, if memory for it may be refused.
 pub record EndsTurn {V W : Type 0} (m : Meaning V W) (s : State V W) (bytes : List ℕ)
     (result : Result ℕ Refused) (there : State V W → Type 0) : Type 0 where
   pub turned : IfOk result (λ read. Turned m s bytes read there)
   pub halted : IfErr result (λ refused. Halted m s bytes refused.read there)
 
+-- How an open turn ends, if memory for it may be refused.
 pub record EndsOpen {V W : Type 0} (m : Meaning V W) (s : State V W) (bytes : List ℕ)
     (result : Result ℕ Refused) (there : State V W → Type 0) : Type 0 where
   pub opened : IfOk result (λ read. Opened m s bytes read there)

@@ -6,7 +6,7 @@ ghost use Rattle.vte.specs.machine.ColorReader.{component_at_front};
 use crate::ansi::numbers::NumberIterator;
 use vte_types::{Color, Rgb};
 
-/// The next number, if it is a component of a colour.
+/// Takes the next number, and returns it if it can be a component of a colour.
 fn next_component<I: NumberIterator>(numbers: &mut I) -> Option<u8>
     ensures component { result ≡ component_at_front (map I.number (I.left numbers.old)) }
     ensures rest { I.left numbers.new ≡ drop 1 (I.left numbers.old) }

@@ -55,7 +55,7 @@ pub(crate) fn perform_system_command<H: Handler, J: TextBuffer>(
     }
 }
 
-/// Whether a text asks for a value.
+/// Returns whether a text asks for a value.
 fn is_question(text: &[u8]) -> bool
     ensures { result ≡ bytes_eq text.now (codes "?") }
 {
@@ -184,7 +184,7 @@ fn set_pointer<H: Handler>(handler: &mut H, texts: &[&[u8]])
     }
 }
 
-/// The icon of a keyword.
+/// Returns the icon of a keyword.
 fn icon_named(name: &[u8]) -> Option<CursorIcon>
     ensures { result ≡ icon_of name.now }
 {

@@ -133,7 +133,7 @@ fn perform_plain<H: InputAs<G>, G>(
     }
 }
 
-/// Passes a character on this many times.
+/// Passes the last printed character on `count` times, if there is one.
 #[tactic(auto, using(crate::proofs::Calling::one_less))]
 fn repeat<H: InputAs<G>, G>(handler: &mut H, last: Option<char>, count: u16)
     ensures { H.value_of handler.new ≡ after H.step (H.value_of handler.old)

@@ -45,8 +45,8 @@ pub fn stops_lose_nothing<H: Handler, T: Timeout>()
 {}
 
 /// Where the rest of a refused call of a [`LongProcessor`](crate::ansi::LongProcessor) leads to,
-/// the whole call leads to: where it was refused between turns, and with a kept timeout within a
-/// turn too, although the timeout is asked once more.
+/// the whole call leads to: if it was refused between turns, and with a kept timeout within a turn
+/// too, although the timeout is asked once more.
 #[tactic(auto, using(crate::proofs::turns::Slices::taken_on))]
 pub fn refused_calls_go_on<H: Handler, T: Timeout>()
     ensures between { (s t end : State H.Value T.Value) (bytes rest : List ℕ)

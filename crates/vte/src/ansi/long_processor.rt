@@ -94,7 +94,7 @@ impl<T: Timeout + Drop, A: Allocator> LongProcessor<T, A> {
         ensures same { (parsed held : List ℕ) (timeout : T.Value)
             → HasParsedAndHoldsLong T.value_of self.old parsed held timeout
             → HasParsedAndHoldsLong T.value_of self.new parsed held timeout }
-        // It keeps none if no command is open.
+        // No memory is kept if no command is open.
         ensures frees { (parsed : List ℕ) (timeout : T.Value)
             → HasParsedAndHoldsLong T.value_of self.old parsed [] timeout → open_size parsed ≡ 0
             → HasNoMemory self.new }

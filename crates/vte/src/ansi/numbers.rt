@@ -4,7 +4,7 @@ ghost use Rattle.vte.specs.Numbers.{first_number as first_of_group, first_of, fi
 
 use vte_core::ParamsIter;
 
-/// An iterator of numbers whose contracts state what is left of them.
+/// An iterator of numbers.
 pub(crate) trait NumberIterator {
     ghost Left: { Type 0 };
 

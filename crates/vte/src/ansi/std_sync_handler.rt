@@ -33,7 +33,7 @@ impl<C: Clock + Drop> StdSyncHandler<C> {
     /// Creates a timeout that isn't pending.
     pub fn new(clock: C) -> Self
         ensures none { expiry_in result ≡ None }
-        // It stays pending until it is cleared, whatever the clock tells.
+        // A timeout stays pending until it is cleared, whatever the clock tells.
         ensures kept { IsKept pending_meaning }
         ensures not_pending { AllowsAlone pending_meaning (is_pending result) false }
     {

@@ -13,7 +13,7 @@ pub(crate) trait TextBuffer {
     fn capacity(&self) -> usize
         ensures { result ≡ room self.now };
 
-    /// Makes room for so many bytes in all, and returns whether it is there.
+    /// Makes room for `size` bytes in all, and returns whether it is there.
     fn reserve(&mut self, size: usize) -> bool
         ensures room { result ≡ true → size ≤ room self.new }
         ensures kept { room self.old ≤ room self.new }

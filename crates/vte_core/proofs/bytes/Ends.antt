@@ -115,7 +115,7 @@ module _ (keeps : Bool) (bytes : List ℕ) (from a : ℕ) (within : from < lengt
       rw (p.parts, one.same, number)
       (left_out b (grind (arith, nat_tests, control.1, bounds.0)) (λ _. grind (arith, nat_tests, bounds.0)))
 
-  -- no sequence of three
+  -- a run ends at a byte E0..EF without a sequence of three
   pub ends-three : 0xe0 ≤ a → a < 0xf0
       → (from + 2 < length bytes → is_in (second_range a) (slice_index bytes (from + 1)) ≡ true
       → is_in continuation (slice_index bytes (from + 2)) ≡ true → ⊥) → EndsRun keeps bytes from
@@ -127,7 +127,7 @@ module _ (keeps : Bool) (bytes : List ℕ) (from a : ℕ) (within : from < lengt
       let e : from + 1 + 1 ≡ from + 2 = omega arith in
       absurd (none (rw e at those.2.0) those.1 (rw e at those.2.1))
 
-  -- .. and none of four
+  -- a run ends at a byte F0..F4 without a sequence of four
   pub ends-four : 0xf0 ≤ a → is_in (from_to 0xc2 0xf4) a ≡ true
       → (from + 3 < length bytes → is_in (second_range a) (slice_index bytes (from + 1)) ≡ true
       → is_in continuation (slice_index bytes (from + 2)) ≡ true

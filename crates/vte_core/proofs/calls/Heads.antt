@@ -209,7 +209,7 @@ module _ {V : Type 0} {asks : Bool} {step : V → Event → V} {is_terminated : 
             (λ does. absurd (false≢true does)) here)));
       }
 
-  -- .. and a byte after it, of which the caller says what it does there
+  -- a part of a head and a byte after it, of which the caller says what it does there
   pub advances-past : {quiet B : Type 0} {old new : V} {i j b : ℕ} {reached part : HeadPart} {parser next : Machine B}
       {held : Collected} (shape : Shape) → parser.state ≡ state_of shape reached
       → ReadsHead bytes i j reached part parser.collected held → (j < length bytes) × (b ≡ slice_index bytes j)

@@ -49,7 +49,7 @@ passes parser result refuses = record {
 
 module _ {A V : Type 0} {step : V → Event → V} {is_terminated : V → Bool} {old new : V} {bytes : List ℕ}
     {parser next : LongParser A} where
-  -- `advance`, if memory is refused ..
+  -- `advance`, if memory is refused
   pub reads_refused : (refused : Refused) {drove : Result ℕ Refused}
       → RefusesAt false step is_terminated old new None bytes refused.read parser.machine next.machine
       → Costs 5 bytes drove refused.read parser.machine next.machine parser.looks next.looks
@@ -61,7 +61,7 @@ module _ {A V : Type 0} {step : V → Event → V} {is_terminated : V → Bool} 
         (λ stream h. inside-reads (refuses-inside refuses stream h)) refuses costs.memory costs.count tt (search rules);
   }
 
-  -- .. and if not
+  -- `advance`, if no memory is refused
   pub reads_bytes : {read : ℕ} → ReadsUpTo false step is_terminated old new None bytes read parser.machine next.machine
       → Costs 5 bytes (Ok read) read parser.machine next.machine parser.looks next.looks
       → ReadsBytesLong step old new bytes (Ok tt) parser next
@@ -93,7 +93,7 @@ module _ {A V : Type 0} {step : V → Event → V} {is_terminated : V → Bool} 
         refuses costs.memory costs.count costs.paid costs.least;
   }
 
-  -- `advance_to_run`, if memory is refused ..
+  -- `advance_to_run`, if memory is refused
   pub to_run-refused : (refused : Refused)
       {drove : Result RunPlace Refused}
       → RefusesAt true step is_terminated old new None bytes refused.read parser.machine next.machine
@@ -109,7 +109,7 @@ module _ {A V : Type 0} {step : V → Event → V} {is_terminated : V → Bool} 
         (λ stream h. ends-reads (refuses.stands_at stream h)) refuses costs.memory costs.count tt costs.least;
   }
 
-  -- .. and if not
+  -- `advance_to_run`, if no memory is refused
   pub to_run-read : (run : Run) {place : RunPlace}
       → ComesToRun step is_terminated old new None bytes place parser.machine next.machine → run.start ≡ place.start
       → run.end ≡ place.end

@@ -11,7 +11,7 @@ use Rattle.vte_core.proofs.streams.Performing.{events-empty}
 use Rattle.vte_core.proofs.streams.StreamLemmas.{reads-byte, waits-byte}
 use Rattle.vte_core.specs.Stream.{IsFinished, IsUnfinished}
 
--- of a digit ..
+-- the byte is a digit
 record IsDigit (b : ℕ) : Type 0 where
   class : class_of b ≡ Digit
   key : key_of b ≡ Dispatch
@@ -23,7 +23,7 @@ zero_digit : IsDigit 0x30
 unfolding class_of key_of
 zero_digit = record { class = refl; key = refl; low = omega arith; high = omega arith; other = refl }
 
--- .. what it gives after the stream
+-- what a digit gives after a stream
 gives : (limit : Option ℕ) (stream : List ℕ) {place next : Place} {b : ℕ} {told : List Event}
     → IsDigit b → IsAfter limit stream place → Leads limit place b told next → IsPlace next
     → added limit stream (b ∷ []) ≡ told

@@ -246,7 +246,7 @@ module _ {V : Type 0} {asks : Bool} {step : V → Event → V} {is_terminated : 
             ∙ sym (goes_on_from limit stream bytes [] n) ∙ ap (added limit stream) (append-nil bytes));
       }
 
-  -- .. and of one that reads all bytes
+  -- the public clause of a call that reads all bytes
   pub come-performs : {value : V} {n : ℕ} {place : Place} → n ≡ length bytes
       → CameTo asks step is_terminated old value limit stream bytes n place
       → value ≡ after step old (added limit stream bytes)

@@ -49,7 +49,7 @@ meets_data {parser = parser} {stream = stream} {bytes = bytes} {from = from} ref
 
 -- ---- where a call ends
 
--- whatever a call answers, it has read so many bytes
+-- what is true of the bytes read, whatever a call answers
 pub by_count : {P : ℕ → Type 0} {Q : Refused → Type 0} {R : ℕ → Type 0} (result : Result ℕ Refused) → IfOk result P
     → IfErr result Q
     → ((read : ℕ) → P read → R read) → ((refused : Refused) → Q refused → R refused.read) → R (read_count result)
@@ -128,7 +128,7 @@ pub open_is_stored : {B : Type 0} (parser : Machine B) (stream : List ℕ) → H
 open_is_stored parser stream h =
     by_left (outcome None stream).left (length parser.command.bytes) (stores_pieces parser stream h)
 
--- .. and none outside a command
+-- outside a command no data bytes are open
 pub none_is_open : {B : Type 0} (parser : Machine B) (stream : List ℕ) → (parser.state ≡ SystemCommand → ⊥)
     → HasReadUnder None parser stream → open_size stream ≡ 0
 none_is_open parser stream other h =
@@ -138,7 +138,7 @@ none_is_open parser stream other h =
           (λ pieces dropped e. absurd (other (in_state parser stream h pieces dropped e))),
     )
 
--- .. nor in a store that was cleared
+-- a store that was cleared has no data bytes
 pub nothing_stored : {held : Stored} → Keeps None held [] → length held.bytes ≡ 0
 unfolding pieces_of Rattle.vte_core.specs.SystemCommand.kept_items
 nothing_stored {held = held} keeps = pieces_stored None held [] keeps

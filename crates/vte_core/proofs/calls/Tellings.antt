@@ -32,7 +32,7 @@ tells-open {limit = limit} {stream = stream} {bytes = bytes} {j = j} a opened =
       ]);
     }
 
--- and more
+-- what is told up to place i, and what follows up to place j
 pub tells-more : {limit : Option ℕ} {stream bytes : List ℕ} {i j : ℕ} → TellsOthers limit stream bytes i
     → AddsOthers limit stream bytes i j → TellsOthers limit stream bytes j
 tells-more {limit = limit} {stream = stream} {bytes = bytes} {i = i} t a = record {

@@ -150,7 +150,7 @@ module _ {V B : Type 0} {step : V → Event → V} {is_terminated : V → Bool} 
     stops = λ none. absurd (omega (arith, none, some));
   }
 
-  -- .. or ends without one
+  -- the call ends without a run
   pub comes-nowhere : {from : ℕ} → from ≤ length bytes → place.start ≡ from → place.end ≡ from → place.kind ≡ Empty
       → ((stream : List ℕ) → HasReadUnder limit before stream
       → StandsAt true step is_terminated old new limit stream bytes from parser)
@@ -224,7 +224,7 @@ stands-run {bytes = bytes} {run = run} {place = place} h starts ends taken =
       whole = rw ends these.whole;
     }
 
--- .. in the words of its callers
+-- a call that comes to a run, as its callers see it
 module _ {V B : Type 0} {step : V → Event → V} {is_terminated : V → Bool} {old new : V} {limit : Option ℕ}
     {bytes : List ℕ} (run : Run) {place : RunPlace} {before parser : Machine B}
     (c : ComesToRun step is_terminated old new limit bytes place before parser) (starts : run.start ≡ place.start)

@@ -44,7 +44,7 @@ allowed_length_stands row more (b ∷ bytes) none =
         (ap (λ (left : List (List Range)). rows_after_bytes (take (allowed_length (first ∷ rows) bytes) bytes) left)
         (sym same) ∙ none)
 
--- and none after more
+-- no row still stands after more bytes than the rows allow
 allowed_length_longest : (rows : List (List Range)) (bytes : List ℕ) (n : ℕ) → allowed_length rows bytes < n
     → n ≤ length bytes
     → rows_after_bytes (take n bytes) rows ≡ []

@@ -11,7 +11,7 @@ segments_after-drop zero bytes = refl
 segments_after-drop (suc skip) [] = refl
 segments_after-drop (suc skip) (b ∷ bytes) = segments_after-drop skip bytes
 
--- a front of the text is so many of its bytes
+-- a front of the bytes is what `take` gives for its length
 front_of : (u rest bytes : List ℕ) → u ++ rest ≡ bytes → (u ≡ take (length u) bytes) × (length u ≤ length bytes)
 front_of u rest bytes same = rw (← same) (sym (take-append_seam u rest), omega (arith, length-append u rest))
 

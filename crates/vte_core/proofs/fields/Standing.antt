@@ -5,14 +5,14 @@ use Rattle.vte_core.specs.IgnoredString.{ignored_string_outcome}
 use Rattle.vte_core.specs.machine.Place.{control_sequence_from, device_control_from, escape_from, system_command_from}
 use Rattle.vte_core.proofs.shapes.TextLemmas.{text_end, text_nothing}
 
--- a parser in a state by name: what that state says of the place
+-- what a state says of the place, if the parser is in it
 pub stands-in : {B : Type 0} {limit : Option ℕ} {state : State} {parser : Machine B} {place : Place}
     → parser.state ≡ state → Stands limit parser place
     → StandsBy limit state parser place
 stands-in {limit = limit} {parser = parser} {place = place} e s =
     subst (λ state. StandsBy limit state parser place) e s.by
 
--- .. and back
+-- a parser in a state stands at the place of which that state says so
 pub stands-by : {B : Type 0} {limit : Option ℕ} {state : State} {parser : Machine B} {place : Place}
     → parser.state ≡ state → StandsBy limit state parser place
     → Stands limit parser place

@@ -145,8 +145,8 @@ count-end : (items : List ℕ)
     → length (filter is_data_byte (items ++ semicolon ∷ [])) ≡ length (filter is_data_byte items)
 count-end items = rw (filter-append is_data_byte items (semicolon ∷ []), append-nil (filter is_data_byte items)) refl
 
--- The flag of a store that held so many of so many data bytes, and now holds more after n more
--- came.
+-- The flag of a store that held `before` of `count` data bytes, and holds `after` of them when n
+-- more have come.
 drops-more : (before after count n : ℕ) (old new : Bool) → before ≤ count → before ≤ after → after ≤ before + n
     → old ≡ nat_lt before count
     → new ≡ (old || nat_lt (after - before) n) → new ≡ nat_lt after (count + n)
@@ -185,7 +185,7 @@ none-counts : (limit : Option ℕ) (held : Stored) (items more : List ℕ) → I
 none-counts limit held items more done keeps later =
     rw (append_assoc items more later) (keeps.goes_on (more ++ later) ∙ done (more ++ later) ∙ sym (done later))
 
--- then data bytes are dropped
+-- after 16 ends, data bytes are dropped
 pub keeps-later : (limit : Option ℕ) (old new : Stored) (items run : List ℕ) → length old.ends ≡ most_pieces
     → All (λ b. b ≢ semicolon) run
     → new.bytes ≡ old.bytes → new.ends ≡ old.ends
@@ -203,7 +203,7 @@ keeps-later limit old new items run complete none bytes ends dropped keeps = rec
       keeps.fewer (omega arith) (omega arith) keeps.dropped (rw bytes at dropped));
 }
 
--- .. and so is a `;`
+-- if no more items count, a `;` changes nothing
 pub keeps-done : (limit : Option ℕ) (held : Stored) (items : List ℕ) → IsDone limit held → Keeps limit held items
     → Keeps limit held (items ++ semicolon ∷ [])
 keeps-done limit held items done keeps = record {
@@ -264,7 +264,7 @@ pub pieces_stored : (limit : Option ℕ) (held : Stored) (items : List ℕ) → 
 pieces_stored limit held items keeps =
     rw (pieces_held limit held items keeps) (omega (arith, ends-stored most_pieces 0 held.bytes held.ends keeps.end))
 
--- .. and whether others were dropped
+-- a store knows whether data bytes were dropped
 pub drops_held : (limit : Option ℕ) (held : Stored) (items : List ℕ) → Keeps limit held items
     → drops_data limit items ≡ held.dropped
 unfolding drops_data

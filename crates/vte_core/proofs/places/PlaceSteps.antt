@@ -1,5 +1,5 @@
--- After every place every byte reports at most two events, of which the second is short, and leads to a place (`steps`):
--- by cases of the place and of the byte's class, each by a lemma of `PlaceLeads`.
+-- After every place every byte reports at most two events, of which the second is short, and leads to a place
+-- (`steps`): by cases of the place and of the byte's class, each by a lemma of `PlaceLeads`.
 use Rattle.vte_core.proofs.Common.{◌≡◌, ℕ, inl, inr, false, eqb, Option, List, refl, arith, cases_Bool, nat_tests, Class, Control, Cancel, Intermediate, Final, Delete, High, class_of, ends_all, Key, Dispatch, key_of, IsBrief, Event, head_of, is_well_shaped, Leads, Place, InText, AtEscape, InEscape, InControlSequence, InDeviceControl, InData, InSystemCommand, InIgnoredString, closing_events_at, escape, bell, pieces_of}
 use Rattle.vte_core.proofs.Common.{kept_items, data_left, left_at, breaks, open_at, sym, false≢true, ◌∙◌, [], ◌∷◌, ◌++◌, Execute, is_data, true}
 use Rattle.vte_core.proofs.bytes.FirstBytes.{Tests, ascii_breaks}
@@ -30,7 +30,7 @@ sequenced other closed none = leads_on (λ text. absurd (other text)) (inl close
 pub plain : (b : ℕ) (k : Class) → class_of b ≡ k → ends_all k ≡ false → eqb b escape ≡ false
 plain b k e o = no_escape b (rw e o)
 
--- .. that tells nothing
+-- a byte outside text, by its class, that tells nothing
 silent : {limit : Option ℕ} {place next : Place} {b : ℕ} {k : Class} → class_of b ≡ k → ends_all k ≡ false
     → (IsText place → ⊥) → open_at next ≡ [] → data_left (left_at limit next) ≡ 0 → Leads limit place b [] next
     → IsPlace next → Steps limit place b

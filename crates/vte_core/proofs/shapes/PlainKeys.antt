@@ -9,7 +9,7 @@ is_dropped Delete = true
 is_dropped High = true
 is_dropped _ = false
 
--- .. and in the head of a device control string
+-- a class of bytes that are dropped in the head of a device control string
 abbrev pub is_dropped_in_head : Class → Bool
 is_dropped_in_head Control = true
 is_dropped_in_head k = is_dropped k

@@ -71,7 +71,7 @@ added-after limit stream bytes place a =
     ap (drop (length (events limit stream))) (after-events limit stream bytes place a)
     ∙ drop-append_seam (events limit stream) (events_from limit place bytes)
 
--- .. and of bytes that lead to a place, what they tell
+-- what bytes that lead to a place add is what they tell
 pub added-reads : (limit : Option ℕ) (stream bytes : List ℕ) (place next : Place) (these : List Event)
     → IsAfter limit stream place → Reads limit place bytes these next → IsPlace next
     → added limit stream bytes ≡ these

@@ -63,7 +63,8 @@ abbrev pub state_after : AutomatonState → List ℕ → AutomatonState
 state_after state [] = state
 state_after state (b ∷ bytes) = state_after (next_state state b) bytes
 
--- It has read the bytes before `at`, which led to the state with this code, and may go on.
+-- The automaton has read the bytes before `at`, which led to the state with this code, and may go
+-- on.
 pub record HasScanned (text : List ℕ) (at state : ℕ) : Type 0 where
   pub within : at ≤ length text
   pub is : state ≡ state_code (state_after Between (take at text))

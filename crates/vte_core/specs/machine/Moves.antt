@@ -8,8 +8,8 @@ use Rattle.vte_core.specs.Looks.{looked}
 use Rattle.vte_core.specs.machine.Progress.{IsRefusedAt, IsSettled, MayGoOn}
 
 -- The bounds of each state's function, which reads from place i to place j, and gives back no
--- memory. It takes at least one look for each byte and at most so many, of which the caller took
--- those seen.
+-- memory. It takes at least one look per byte and at most `rate`; the caller has taken `seen` of
+-- them.
 pub record Moves (rate seen : ℕ) {B : Type 0} (bytes : List ℕ) (i j : ℕ) (parser next : Machine B)
     (before after : Looks B) : Type 0 where
   pub low : i ≤ j
@@ -19,7 +19,8 @@ pub record Moves (rate seen : ℕ) {B : Type 0} (bytes : List ℕ) (i j : ℕ) (
   pub least : looked before + j ≤ looked after + i + seen
   pub memory : parser.command.capacity ≤ next.command.capacity
 
--- .. of one that may read nothing, as its loop, and may have looked at so many bytes ahead
+-- The same bounds for a function that may read nothing; `ahead` of its looks may be at bytes left
+-- unread.
 pub record Spends (rate seen ahead : ℕ) {B : Type 0} (bytes : List ℕ) (i j : ℕ)
     (parser next : Machine B) (before after : Looks B) : Type 0 where
   pub low : i ≤ j
@@ -28,8 +29,8 @@ pub record Spends (rate seen ahead : ℕ) {B : Type 0} (bytes : List ℕ) (i j :
   pub least : looked before + j ≤ looked after + i + seen
   pub memory : parser.command.capacity ≤ next.command.capacity
 
--- .. of one that handles a byte which was looked at: no character is open then, and it counts so
--- many at most
+-- The bounds of a function that handles a byte at which its caller looked: no character is open
+-- afterwards, and it takes at most `most` looks.
 pub record HandlesByte (most : ℕ) {V B : Type 0} (step : V → Event → V) (old new : V)
     (parser next : Machine B) (before after : Looks B) : Type 0 where
   pub settled : IsSettled next.state
@@ -37,8 +38,8 @@ pub record HandlesByte (most : ℕ) {V B : Type 0} (step : V → Event → V) (o
   pub least : looked before ≤ looked after
   pub memory : parser.command.capacity ≤ next.command.capacity
 
--- .. of a whole call with this result, which read n of its bytes. If memory was refused, only all
--- bytes bound the looks.
+-- The bounds of a call with this result, which read n of its bytes: at most `rate` looks per byte
+-- read and 8 more. If memory was refused, the bytes left unread count too.
 pub record Costs (rate : ℕ) {Answer B : Type 0} (bytes : List ℕ) (result : Result Answer Refused)
     (n : ℕ) (parser next : Machine B) (before after : Looks B) : Type 0 where
   pub count : looked after ≤ looked before + rate * length bytes + 8
@@ -46,8 +47,8 @@ pub record Costs (rate : ℕ) {Answer B : Type 0} (bytes : List ℕ) (result : R
   pub least : looked before + n ≤ looked after
   pub memory : parser.command.capacity ≤ next.command.capacity
 
--- .. of one that reads nothing at place i, because memory was refused. It searched for the end of
--- the data.
+-- The bounds of a function that reads nothing at place i, because memory was refused. It searched
+-- for the end of the data: it took at least one look, and at most one for each byte from there on.
 pub record Refuses {V B : Type 0} (asks : Bool) (is_terminated : V → Bool) (value : V)
     (limit : Option ℕ) (bytes : List ℕ) (i read : ℕ)
     (parser next : Machine B) (before after : Looks B) : Type 0 where

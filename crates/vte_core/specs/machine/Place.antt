@@ -38,7 +38,7 @@ abbrev pub IsBetween : Place → Type 0
 IsBetween (InText bytes) = bytes ≡ []
 IsBetween _ = Unit {0}
 
--- The outcome of bytes after the intermediates of an escape sequence ..
+-- The outcome of bytes after the intermediates of an escape sequence.
 unfoldable pub escape_from : List ℕ → List ℕ → Outcome
 escape_from intermediates bytes =
     let inside = before_first (λ b. ends_escape (class_of b)) bytes in
@@ -46,7 +46,7 @@ escape_from intermediates bytes =
     tell (executed_events inside)
     (escape_rest all (from_first (λ b. ends_escape (class_of b)) bytes))
 
--- .. after the head of a control sequence ..
+-- The outcome of bytes after the head of a control sequence.
 unfoldable pub control_sequence_from : List ℕ → List ℕ → Outcome
 control_sequence_from head bytes =
     let inside = before_first (λ b. ends_head (class_of b)) bytes in
@@ -54,13 +54,13 @@ control_sequence_from head bytes =
     (control_sequence_rest (head ++ head_bytes inside)
     (from_first (λ b. ends_head (class_of b)) bytes))
 
--- .. after that of a device control string ..
+-- The outcome of bytes after the head of a device control string.
 unfoldable pub device_control_from : List ℕ → List ℕ → Outcome
 device_control_from head bytes =
     device_control_rest (head ++ head_bytes (before_first (λ b. ends_head (class_of b)) bytes))
     (from_first (λ b. ends_head (class_of b)) bytes)
 
--- .. and after the items of an operating system command
+-- The outcome of bytes after the items of an operating system command.
 unfoldable pub system_command_from : Option ℕ → List ℕ → List ℕ → Outcome
 system_command_from limit items bytes =
     let all = items ++ items_of (before_first ends_command bytes) in

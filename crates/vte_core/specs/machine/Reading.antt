@@ -16,7 +16,7 @@ with_open_number collected number = record {
   joined = collected.joined;
 }
 
--- The bytes from place i to place j are read as part of a head, in all shapes alike.
+-- The bytes from place i to place j are read as part of a head, whatever its shape.
 pub record ReadsHead (bytes : List ℕ) (i j : ℕ) (reached part : HeadPart)
     (old new : Collected) : Type 0 where
   pub low : i ≤ j
@@ -25,7 +25,7 @@ pub record ReadsHead (bytes : List ℕ) (i j : ℕ) (reached part : HeadPart)
   pub stands : (head : List ℕ) → StandsInHead old reached head
       → StandsInHead new part (head ++ take (j - i) (drop i bytes))
 
--- They are read up to this end, and the byte there, if any, was looked at.
+-- A head is read from place i up to `end`, and the byte there, if there is one, was looked at.
 pub record ReadsHeadUpTo (bytes : List ℕ) (i : ℕ) (reached : HeadPart) (end : HeadEnd)
     (old new : Collected) : Type 0 where
   pub head : ReadsHead bytes i end.position reached end.part old new

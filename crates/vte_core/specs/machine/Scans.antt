@@ -18,8 +18,8 @@ pub record Scans {B : Type 0} (Are : List ℕ → ℕ → ℕ → Type 0) (bytes
   pub are : Are bytes from to
   pub least : looked before + to ≤ looked after + from
 
--- A search from one place ends at another: at the first byte that isn't such a one, or with the
--- bytes. It looks once at each byte up to there, and at the byte there.
+-- A search from one place ends at another: at the first byte that `Is` doesn't hold of, or with
+-- the bytes. It looks once at each byte up to there, and at the byte there.
 pub record FindsEnd {B : Type 0} (Is : ℕ → Type 0) (bytes : List ℕ) (from to : ℕ)
     (before after : Looks B) : Type 0 where
   pub low : from ≤ to
@@ -28,7 +28,7 @@ pub record FindsEnd {B : Type 0} (Is : ℕ → Type 0) (bytes : List ℕ) (from 
   pub ended : to < length bytes → Is (slice_index bytes to) → ⊥
   pub count : looked after + from ≡ looked before + min (to + 1) (length bytes)
 
--- The count of looks grew by so many at most.
+-- The count of looks grew by at most `most`.
 pub record TakesFew {B : Type 0} (most : ℕ) (before after : Looks B) : Type 0 where
   pub few : looked after ≤ looked before + most
   pub grows : looked before ≤ looked after

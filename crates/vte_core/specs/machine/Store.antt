@@ -25,13 +25,13 @@ abbrev pub fitting : Option ℕ → ℕ → List ℕ → List ℕ
 fitting None count run = run
 fitting (Some limit) count run = take (limit - count) run
 
--- Memory can be lacking only if there is no limit.
+-- There is memory for `more` bytes after `count` of them. With a limit there always is.
 abbrev pub HasCapacity : Option ℕ → ℕ → ℕ → ℕ → Type 0
 HasCapacity None capacity count more = count + more ≤ capacity
 HasCapacity (Some limit) capacity count more = Unit {0}
 
--- The answer of what takes memory for more bytes after `count` of them, if there had been so much
--- memory, and now is.
+-- The answer of a function that takes memory for `more` bytes after `count` of them. There was
+-- memory for `had` bytes, and now is for `has`.
 pub record ReservesCapacity (limit : Option ℕ) (count more had has : ℕ)
     (answer : Bool) : Type 0 where
   pub grows : had ≤ has
@@ -54,8 +54,8 @@ pieces_from limit bytes ends more =
     let kept = kept_after limit (length bytes) more in
     cut_pieces (bytes ++ filter is_data_byte kept) (ends ++ ends_after (length bytes) kept)
 
--- The ends of at most `left` pieces of `count` bytes, in order, from `start` on. If there are so
--- many, no byte follows the last.
+-- The ends of at most `left` pieces of `count` bytes, in order, from `start` on. If `left` pieces
+-- end, no byte follows the last.
 abbrev pub PiecesEnd : ℕ → ℕ → List ℕ → ℕ → Type 0
 PiecesEnd zero start [] count = start ≡ count
 PiecesEnd zero start (end ∷ ends) count = ⊥
@@ -71,7 +71,7 @@ pub record Keeps (limit : Option ℕ) (held : Stored) (items : List ℕ) : Type 
   pub fewer : length held.bytes ≤ length (filter is_data_byte items)
   pub dropped : held.dropped ≡ nat_lt (length held.bytes) (length (filter is_data_byte items))
 
--- The memory doesn't suffice for the data bytes at `from`.
+-- The memory doesn't suffice for what is held and the data bytes that begin at `from`.
 pub record LacksMemoryAt (held : Stored) (bytes : List ℕ) (from : ℕ) : Type 0 where
   pub to : ℕ
   pub within : to ≤ length bytes

@@ -11,7 +11,7 @@ pub record Tells {V B : Type 0} (step : V → Event → V) (old new : V) (event 
   pub value : new ≡ step old event
   pub count : looked after ≡ looked before + 1
 
--- The performer received the events, which count so many looks.
+-- The performer received the events, which count `many` looks.
 pub record TellsAll {V B : Type 0} (step : V → Event → V) (old new : V) (events : List Event)
     (many : ℕ) (earlier later : Looks B) : Type 0 where
   pub value : new ≡ after step old events

@@ -15,14 +15,14 @@ IsPrinted b = (0x20 ≤ b) × (b < 0x80)
 abbrev pub ArePrinted : List ℕ → ℕ → ℕ → Type 0
 ArePrinted = Each IsPrinted
 
--- The character of a well-formed sequence at the place, if one stands there, isn't one of a run.
+-- No run goes on at the place: a well-formed sequence there is a control that ends it.
 abbrev pub EndsRun : Bool → List ℕ → ℕ → Type 0
 EndsRun keeps bytes place =
     (n : ℕ) → place + n ≤ length bytes → is_well_formed (take n (drop place bytes)) ≡ true
     → is_left_out keeps (scalar_of (take n (drop place bytes))) ≡ true
 
--- The bytes are characters, and none of these is a control, but for HT, LF and CR if these are
--- kept.
+-- The bytes are characters, and none of these is a control, but for HT, LF and CR if it `keeps`
+-- these.
 pub record AreRun (keeps : Bool) (bytes : List ℕ) : Type 0 where
   pub utf8 : IsUtf8 bytes
   pub plain : IsRunText keeps bytes
@@ -32,7 +32,7 @@ pub record IsTextRun (keeps : Bool) (text : List ℕ) : Type 0 where
   pub some : 0 < length text
   pub plain : IsRunText keeps text
 
--- From `from` up to `to` stand such characters.
+-- The bytes from `from` up to `to` are a run.
 abbrev pub IsRun : Bool → List ℕ → ℕ → ℕ → Type 0
 IsRun keeps bytes from to = AreRun keeps (take (to - from) (drop from bytes))
 

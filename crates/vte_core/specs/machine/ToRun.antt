@@ -18,7 +18,7 @@ use Rattle.vte_core.specs.machine.TextRun.{AreRun, EndsRun}
 use Rattle.vte_core.specs.machine.Scans.{IsRange}
 use Rattle.vte_core.specs.Stream.{added}
 
--- Neither in a text nor in data.
+-- The state is neither in a text nor in data.
 abbrev pub IsOutside : State → Type 0
 IsOutside (Text _) = ⊥
 IsOutside DeviceData = ⊥
@@ -39,14 +39,14 @@ abbrev pub AreOfKind : RunKind → List ℕ → Type 0
 AreOfKind OfText bytes = AreRun false bytes
 AreOfKind _ bytes = Unit {0}
 
--- These bytes were taken.
+-- What was taken is a run of this kind, with these bytes.
 abbrev pub IsTaken : RunKind → List ℕ → Taken → Type 0
 IsTaken OfText bytes (TakenText text) = text.now ≡ bytes
 IsTaken OfData bytes (Data those) = those.now ≡ bytes
 IsTaken Empty bytes Nothing = Unit {0}
 IsTaken _ bytes _ = ⊥
 
--- What they add to a stream.
+-- What the bytes of a run add to a stream.
 abbrev pub kind_events : RunKind → List ℕ → List Event
 kind_events OfText bytes = map Print (chars bytes)
 kind_events OfData bytes = map Put bytes
@@ -80,12 +80,12 @@ pub record ComesToRun {V B : Type 0} (step : V → Event → V) (is_terminated :
   pub may_go_on : place.start < place.end → is_terminated new ≡ false
   pub stops : place.end ≡ place.start → place.start < length bytes → is_terminated new ≡ true
 
--- How many bytes the call performed ..
+-- How many bytes a call with this result performed.
 abbrev pub start_count : Result RunPlace Refused → ℕ
 start_count (Ok place) = place.start
 start_count (Err refused) = refused.read
 
--- .. and how many it read.
+-- How many bytes a call with this result read.
 abbrev pub place_count : Result RunPlace Refused → ℕ
 place_count (Ok place) = place.end
 place_count (Err refused) = refused.read

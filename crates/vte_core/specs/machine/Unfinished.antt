@@ -23,17 +23,17 @@ Carries u b (StillUnfinished v) = (bytes_of v ≡ u ++ b ∷ []) × (is_truncate
 Carries u b (Whole c) = (is_well_formed (u ++ b ∷ []) ≡ true) × (c ≡ scalar_of (u ++ b ∷ []))
 Carries u b Broken = (is_well_formed (u ++ b ∷ []) ≡ false) × (is_truncated (u ++ b ∷ []) ≡ false)
 
--- The first byte of a sequence of two bytes ..
+-- The first byte of a sequence of two bytes.
 pub record BeginsTwo (b : ℕ) : Type 0 where
   pub low : 0xc2 ≤ b
   pub high : b < 0xe0
 
--- .. of three ..
+-- The first byte of a sequence of three bytes.
 pub record BeginsThree (b : ℕ) : Type 0 where
   pub low : 0xe0 ≤ b
   pub high : b < 0xf0
 
--- .. and of four.
+-- The first byte of a sequence of four bytes.
 pub record BeginsFour (b : ℕ) : Type 0 where
   pub low : 0xf0 ≤ b
   pub high : b < 0xf5

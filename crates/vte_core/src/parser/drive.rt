@@ -93,7 +93,7 @@ impl<B: Buffer> Machine<B> {
             Refuses ASKS P.is_terminated (P.value_of performer.new) B.limit input.entry.bytes.now
             from refused.read self.old self.new looks.old looks.new) }
     {
-        // By a comparison, because the table of the match is a jump that is hard to predict.
+        // A comparison, because the match jumps by a table, which is hard to predict.
         if let State::Text(_) = self.state {
             return Ok(self.read_text::<P, G, ASKS>(looks, performer, input, from));
         }

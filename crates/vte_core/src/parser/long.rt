@@ -100,7 +100,7 @@ impl<A: Allocator> LongParser<A> {
             → open_size stream + more ≤ memory_of self.new }
         ensures memory { memory_of self.old ≤ memory_of self.new }
         ensures lacks { result ≡ false → LacksMemoryForMore self.new more }
-        // It is refused only where they don't fit: of a command that has ended nothing counts.
+        // Memory is refused only if the bytes don't fit: of a command that has ended none count.
         ensures lacks_open { result ≡ false → (stream : List ℕ) → HasReadLong self.new stream
             → memory_of self.new < open_size stream + more }
         ensures count { looks_long self.new ≡ looks_long self.old }
@@ -116,7 +116,7 @@ impl<A: Allocator> LongParser<A> {
     pub fn shrink(&mut self)
         ensures reads { (stream : List ℕ) → HasReadLong self.old stream
             → HasReadLong self.new stream }
-        // It keeps none if no data byte is stored.
+        // No memory is kept if no data byte is stored.
         ensures frees { (stream : List ℕ) → HasReadLong self.old stream → open_size stream ≡ 0
             → memory_of self.new ≡ 0 }
         ensures count { looks_long self.new ≡ looks_long self.old }
@@ -211,7 +211,7 @@ impl<A: Allocator> LongParser<A> {
         // If not, it goes on as a new parser, and more bytes give what they give on their own.
         ensures closed { result ≡ false → (stream : List ℕ) → HasReadLong self.now stream
             → HasReadLong self.now [] × IsFinished None stream }
-        // Otherwise they don't.
+        // If so, more bytes give something else than on their own.
         ensures opens { result ≡ true → (stream : List ℕ) → HasReadLong self.now stream
             → IsUnfinished None stream }
     {

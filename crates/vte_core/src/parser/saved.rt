@@ -177,7 +177,7 @@ impl Parser<MAX_OSC_RAW> {
 
     /// Returns the parser that was saved.
     pub fn restored(saved: &Saved) -> Self
-        // It has read what was saved.
+        // The parser has read what was saved.
         ensures { (stream : List ℕ) → HasReadSaved saved.now stream → HasRead result stream }
     {
         let mut parser = Parser::new();

@@ -76,8 +76,8 @@ impl<B: Buffer> Machine<B> {
             looks.old looks.new }
     {
         let mut position = from;
-        // Its length bounds the place, so that the loop has no test of the index. Runs are read by
-        // words, which find an ESC too.
+        // The length of `front` bounds the place, so that the loop has no test of the index. Runs
+        // are read by words, which find an ESC too.
         let mut front = if G::IN_RUNS {
             input
         } else {
@@ -94,12 +94,13 @@ impl<B: Buffer> Machine<B> {
                         None => continue,
                     }
                 }
-                // The place of the last byte that was read: one increment serves all.
+                // Branches that meet again below leave `position` at the last byte they read: one
+                // `+= 1` steps past it.
                 if is_printed_ascii(byte) {
                     performer.print_char(looks, char::from(byte));
                 } else if G::IN_RUNS && byte >= 0xa0 {
-                    // One comparison tells these from ESC and controls. A lead byte may begin a
-                    // control, which may stop the call; U+FFFD doesn't.
+                    // One comparison tells lead bytes and malformed ones from ESC and controls. A
+                    // lead byte may begin a control, which may stop the call; U+FFFD doesn't.
                     if is_lead(byte) {
                         position = self.read_longer::<P, G, ASKS>(
                             looks, performer, input, position, byte,

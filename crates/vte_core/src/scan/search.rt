@@ -1,7 +1,7 @@
 //! Searches for the byte that ends data, a text or a string.
 //!
-//! Ignored strings may hold megabytes, so blocks are taken. A block counts 16 looks, and a short
-//! string can't pay for one: the first bytes are read one by one.
+//! Ignored strings may hold megabytes, so blocks are taken. None is tried before a string has begun
+//! with single bytes, so that no byte is read often.
 ghost use Rattle.std.specs.Prelude.{◌≡◌, ◌≢◌, ◌+◌, ◌*◌, ◌<◌, ◌≤◌, ℕ, IsTrue, true, length, min, slice_index};
 ghost use Rattle.vte_core.specs.machine.Words.{AreIgnored, FindsEnd, IsCommandData, IsPut, IsRange, Scans, class_of, ends_all, looked};
 
@@ -10,8 +10,8 @@ use crate::scan::{Input, Looks};
 use memchr::memchr;
 
 impl<B> Looks<B> {
-    /// Finds where the data bytes of an operating system command end that stand at a place: at `;`,
-    /// at a control or with the bytes. It looks at each byte up to there.
+    /// Finds where the data bytes of an operating system command end that start at a place: before
+    /// `;` or a control, or with the input.
     pub(crate) fn find_data_end(&mut self, input: Input<'_, B>, from: usize) -> usize
         requires { from ≤ length input.bytes.now }
         ensures { FindsEnd IsCommandData input.entry.bytes.now from result self.old self.new }
@@ -24,8 +24,8 @@ impl<B> Looks<B> {
         end
     }
 
-    /// Finds where the data of a device control string end that stand at a place: at a byte that
-    /// isn't put or with the bytes. It looks at each byte up to there.
+    /// Finds where the data of a device control string end that start at a place: before a byte
+    /// that isn't put, or with the input.
     pub(crate) fn find_put_end(&mut self, input: Input<'_, B>, from: usize) -> usize
         requires { from ≤ length input.bytes.now }
         ensures { FindsEnd IsPut input.entry.bytes.now from result self.old self.new }

@@ -1,7 +1,7 @@
 // Written by tools/erase from crates/vte_core/src/automaton.rt: edit that one.
 //! The automaton of text in runs.
 //!
-//! It is based on shifts: a byte's row in the table holds for each state the one that comes next,
+//! It is a shift-based DFA: a byte's row in the table holds for each state the one that comes next,
 //! in six bits at the place that the state's number gives. So a step is a load and a shift, without
 //! a branch. But the block in which a run ends is read in vain, so only long runs come here.
 

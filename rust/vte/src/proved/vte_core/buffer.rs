@@ -14,8 +14,8 @@ pub(crate) trait Buffer {
     /// Returns whether the limit is reached.
     fn is_full(&self) -> bool;
 
-    /// Takes memory for this many more bytes, and returns whether it is there. Where there is a
-    /// limit, it always is.
+    /// Takes memory for this many more bytes, and returns whether it is there. With a limit, it
+    /// always is.
     fn reserve(&mut self, more: usize) -> bool;
 
     /// Adds the bytes of an input from one place to another, up to the limit.

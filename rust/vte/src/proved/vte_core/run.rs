@@ -1,8 +1,8 @@
 // Written by tools/erase from crates/vte_core/src/run.rt: edit that one.
 //! Where a run of printed text ends.
 //!
-//! A word is eight bytes. None is tried before a run has begun with single bytes, so that no
-//! byte is read often.
+//! A word is eight bytes. None is tried before a run has begun with single bytes, so that no byte
+//! is read often.
 
 use crate::proved::vte_core::automaton::{is_layout, skip_run_blocks};
 use crate::proved::vte_core::scan::grain::PerformAs;
@@ -11,7 +11,7 @@ use crate::proved::vte_core::utf8::{
     is_continuation, is_lead, is_printed_ascii, may_begin_four, may_begin_three,
 };
 
-/// After how many bytes a run is left to the automaton.
+/// Longer runs go on in blocks.
 const LONG: usize = 48;
 
 /// Returns whether printed ASCII begins a run at a place: four bytes of it, of which the first
@@ -115,8 +115,8 @@ fn find_long_end(input: &[u8], from: usize, keeps: bool) -> usize {
     find_end_before(input, end, input.len(), keeps)
 }
 
-/// Finds where the character ends that stands at a place and is no printed ASCII, whose byte
-/// was looked at, if a run may hold it.
+/// Finds where the character ends that stands at a place and is no printed ASCII, if a run may
+/// hold it. Its first byte was looked at.
 #[inline(always)]
 fn find_other_end(input: &[u8], from: usize, first: u8, keeps: bool) -> Option<usize> {
     if !is_lead(first) {

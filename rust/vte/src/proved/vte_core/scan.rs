@@ -19,7 +19,7 @@ pub(crate) fn up_to(input: &[u8], to: usize) -> &[u8] {
     &input[..to]
 }
 
-/// Returns the text from one place to another, which is one or more whole characters.
+/// Returns the text from one place to another, which is whole characters.
 #[inline(always)]
 #[allow(unsafe_code)]
 pub(crate) fn text(input: &[u8], from: usize, to: usize) -> &str {

@@ -92,7 +92,7 @@ pub(crate) fn is_continuation(byte: u8) -> bool {
 }
 
 // A remainder takes off the bits that only mark a byte as the first or a further one; what is left
-// are the digits of the character's number, six bits a further byte.
+// are the digits of the character's number, six bits per further byte.
 
 fn number_of_two(first: u8, second: u8) -> u32 {
     (first % 32) as u32 * 0x40 + (second % 64) as u32

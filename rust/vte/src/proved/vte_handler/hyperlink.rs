@@ -3,8 +3,8 @@
 
 /// A link of the characters that follow (OSC 8).
 ///
-/// Characters with the same URI and the same id belong to one link, wherever they are. Without
-/// an id, each link is separate.
+/// Characters with the same URI and the same id belong to one link, wherever they are. Without an
+/// id, each link is separate.
 #[derive(Debug, Eq, PartialEq, Hash, Clone, Copy)]
 pub struct Hyperlink<'a> {
     /// Distinguishes links with the same URI.

@@ -37,8 +37,8 @@ pub(crate) struct Events<'a> {
     // whether a command came of which the parser wasn't asked yet, and the place of its record
     paused: bool,
     command: usize,
-    // The room is full with at least so many events: with any number once one that stops was
-    // written, in a pause, and if the area has little room left.
+    // From how many events on the room is full: from none on once one that stops was written, in a
+    // pause, and if the area has little room left.
     full_count: usize,
 }
 

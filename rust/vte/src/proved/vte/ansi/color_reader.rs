@@ -4,7 +4,7 @@
 use crate::proved::vte::ansi::numbers::NumberIterator;
 use crate::proved::vte_types::{Color, Rgb};
 
-/// The next number, if it is a component of a colour.
+/// Takes the next number, and returns it if it can be a component of a colour.
 fn next_component<I: NumberIterator>(numbers: &mut I) -> Option<u8> {
     u8::try_from(numbers.next_number()?).ok()
 }

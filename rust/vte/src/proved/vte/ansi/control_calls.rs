@@ -120,7 +120,7 @@ fn perform_plain<H: InputAs<G>, G>(
     }
 }
 
-/// Passes a character on this many times.
+/// Passes the last printed character on `count` times, if there is one.
 fn repeat<H: InputAs<G>, G>(handler: &mut H, last: Option<char>, count: u16) {
     if let Some(c) = last {
         for _ in 0..count {

@@ -8,7 +8,7 @@ pub(crate) trait TextBuffer {
     /// Returns how many bytes there is room for, in all.
     fn capacity(&self) -> usize;
 
-    /// Makes room for so many bytes in all, and returns whether it is there.
+    /// Makes room for `size` bytes in all, and returns whether it is there.
     fn reserve(&mut self, size: usize) -> bool;
 
     fn clear(&mut self);

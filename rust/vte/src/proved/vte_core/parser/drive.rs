@@ -51,7 +51,7 @@ impl<B: Buffer> Machine<B> {
         input: &[u8],
         from: usize,
     ) -> Result<usize, Refused> {
-        // By a comparison, because the table of the match is a jump that is hard to predict.
+        // A comparison, because the match jumps by a table, which is hard to predict.
         if let State::Text(_) = self.state {
             return Ok(self.read_text::<P, G, ASKS>(performer, input, from));
         }

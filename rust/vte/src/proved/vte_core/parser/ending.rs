@@ -1,5 +1,5 @@
 // Written by tools/erase from crates/vte_core/src/parser/ending.rt: edit that one.
-//! ESC, CAN and SUB, which end whatever is open, in all states alike.
+//! ESC, CAN and SUB, which end whatever is open, in every state.
 
 use crate::proved::vte_core::buffer::Buffer;
 use crate::proved::vte_core::class::ESCAPE;

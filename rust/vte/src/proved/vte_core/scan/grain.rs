@@ -6,7 +6,7 @@ use crate::proved::vte_core::perform::{Perform, PerformText};
 
 /// How a performer takes what is printed.
 pub(crate) trait Grain {
-    /// Is true if it takes runs.
+    /// Whether it takes runs.
     const IN_RUNS: bool;
 }
 
@@ -66,14 +66,14 @@ impl<P: Perform> PerformAs<Singly> for P {
         Perform::put(self, byte);
     }
 
-    // The machine gives such a performer no text.
+    // The machine tells a performer that takes single characters no text.
     fn print_text(&mut self, text: &str) {
         for c in text.chars() {
             Perform::print(self, c);
         }
     }
 
-    // The machine gives such a performer no slice.
+    // The machine tells a performer that takes single bytes no slice.
     fn put_slice(&mut self, bytes: &[u8]) {
         for byte in bytes {
             Perform::put(self, *byte);

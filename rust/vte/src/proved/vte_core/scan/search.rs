@@ -1,15 +1,15 @@
 // Written by tools/erase from crates/vte_core/src/scan/search.rt: edit that one.
 //! Searches for the byte that ends data, a text or a string.
 //!
-//! Ignored strings may hold megabytes, so blocks are taken. Most strings are short: the first
-//! bytes are read one by one.
+//! Ignored strings may hold megabytes, so blocks are taken. None is tried before a string has begun
+//! with single bytes, so that no byte is read often.
 
 use crate::prelude::memchr;
 use crate::proved::vte_core::class::{cannot_end, ends_all, is_data, ESCAPE};
 use crate::proved::vte_core::scan::{get_block, up_to};
 
-/// Finds where the data bytes of an operating system command end that start at a place:
-/// before `;` or a control, or with the input.
+/// Finds where the data bytes of an operating system command end that start at a place: before
+/// `;` or a control, or with the input.
 pub(crate) fn find_data_end(input: &[u8], from: usize) -> usize {
     let mut end = from;
     while end < input.len() && input[end] >= 0x20 && input[end] != b';' {

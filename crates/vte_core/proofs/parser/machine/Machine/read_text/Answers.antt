@@ -32,7 +32,7 @@ reached g c =
       | else-IN_RUNS-2 w ↦ rw (w.performer-is, w.position-is) v.advances
     ]
 
--- .. and stands before this byte
+-- After the first part of the loop's body, the call stands before the byte to be read.
 at : (g : Over) (c : Joined-IN_RUNS-2 g) → MayReadByte (not (eqb g.row.ASKS 0)) g.P.CountedPerform.is_terminated
     (g.P.CountedPerform.value_of c.if-IN_RUNS-2.performer)
     (Text Nothing) c.loop-position-2.self c.args.input.bytes.now c.if-IN_RUNS-2.position c.if-IN_RUNS-2.byte
@@ -101,7 +101,7 @@ read_sequence-requires-clause-may_read g c =
     let here = at g (goal.at.read_sequence-requires-clause-may_read g c).Joined-IN_RUNS-2 in
     record { begun = here.begun; may_go_on = here.may_go_on; within = here.within }
 
--- .. which it reads
+-- The call reads the byte before which it stands.
 read : (g : Over) (c : Joined-is_printed_ascii-2 g)
     → MayReadByte (not (eqb g.row.ASKS 0)) g.P.CountedPerform.is_terminated
     (g.P.CountedPerform.value_of c.if-IN_RUNS-2.performer) (Text Nothing) c.loop-position-2.self
@@ -154,7 +154,7 @@ returns-then-terminated-2-clause-advances g c =
     advances-then (reached g (goal.at.returns-then-terminated-2-clause-advances g c).Joined-IN_RUNS-2)
     (advances-part c.read_character-next.ensures.advances)
 
--- .. and without a stop: the next round begins after the character.
+-- Without a stop after a longer character, the next round begins after the character.
 pub loop-position-2-preserved-then-this-ne0-2 : goal.loop-position-2-preserved-then-this-ne0-2
 loop-position-2-preserved-then-this-ne0-2 g c =
     let places = goal.at.loop-position-2-preserved-then-this-ne0-2 g c in
@@ -186,9 +186,11 @@ loop-position-2-preserved-then-byte-ge160 g c =
             rw (w.self-is, w.performer-is, w.position-is) (advances-part w.read_longer-position.ensures.advances)
         | else-is_lead w ↦
             let told = w.tell_single.ensures in
-            rw (w.self-is, w.performer-is, w.position-is) (advances-part (advances-byte here.within here.is here.may_go_on
-            (performs-single here.begun (grind (arith, c.if-byte-ge160.true)) (sym c.is_lead.ensures ∙ w.if-is_lead.false)
-            told.control told.malformed) (settled-by _ _ here.begun tt)))
+            rw (w.self-is, w.performer-is, w.position-is) (advances-part
+            (advances-byte here.within here.is here.may_go_on
+            (performs-single here.begun (grind (arith, c.if-byte-ge160.true))
+            (sym c.is_lead.ensures ∙ w.if-is_lead.false) told.control told.malformed)
+            (settled-by _ _ here.begun tt)))
       ]);
       may_go_on = elim c.if-is_lead.branch [
         | then-is_lead+else-this-ne0 w ↦ search rules

@@ -1,0 +1,114 @@
+"""Builds programs to measure or compare: by rt those of crates/, by cargo programs over the crate
+`vte` 0.15.0, or over ours in rust/vte.
+
+Crates come from Debian's next release, by tools/next_release. Two profiles: `fat` has link-time
+optimization over everything and one codegen unit, which is what a terminal ships with; `release`
+is cargo's default release profile.
+"""
+import functools
+import os
+import re
+import shutil
+import subprocess
+import sys
+from pathlib import Path
+
+from erasing.crate import erase
+from erasing.plans.peer import PEER
+
+TOOLS = Path(__file__).resolve().parent.parent
+OURS = TOOLS.parent / "rust" / "vte"
+PROFILES = {
+    "fat": {"LTO": "fat", "CODEGEN_UNITS": "1"},
+    "release": {"LTO": "false", "CODEGEN_UNITS": "16"},
+    "checked": {"OPT_LEVEL": "1", "DEBUG_ASSERTIONS": "true"},
+}
+MANIFEST = """\
+[package]
+name = "peer"
+version = "0.0.0"
+edition = "2024"
+[workspace]
+[dependencies]
+arrayvec = "*"
+vte = { SOURCE, default-features = false, features = ["ansi", "std"] }
+"""
+# where the code of a placed program begins, and the bytes that its functions are aligned to
+CODE_START, ALIGNMENT = 0x200000, 16
+CRATES = ["arrayvec", "bitflags", "cursor-icon", "log", "memchr", "serde", "serde-derive", "vte"]
+# what tools/peer shares with crates/: the files of each crate
+SHARED = {
+    "test_lines": ["variant", "visitor"],
+    "examples": ["cell", "handler", "performer", "screen"],
+    "race": ["call_checksum", "checksum", "screens", "until_cleared"],
+    "vte_handler": ["by_call", "hyperlink"],
+}
+
+
+def stop(message):
+    sys.exit(f"{Path(sys.argv[0]).name}: {message}")
+
+
+def proved_program(crate, words=()):
+    """A program of crates/, proved and built now. The build runs it with these words."""
+    folder = TOOLS.parent / "crates" / crate
+    print(f"proving and building {crate} (a first build takes minutes) ..", file=sys.stderr)
+    run(["rt", "run", *["--"] * bool(words), *words], crate, folder=folder)
+    return folder / "out" / crate
+
+
+@functools.cache
+def crates():
+    """The environment in which cargo finds CRATES."""
+    cache = Path(os.environ.get("XDG_CACHE_HOME") or Path.home() / ".cache") / "naqshuve"
+    packages = [f"librust-{name}-dev" for name in CRATES]
+    said = run([TOOLS / "next_release", cache, *packages], "crates of Debian's next release")
+    home = re.search(r"CARGO_HOME=(\S+)", said.decode())
+    return {"CARGO_HOME": home[1]} if home else {}
+
+
+def environment(folder, profile):
+    """The environment in which cargo builds into a folder."""
+    return {**os.environ, **crates(), "CARGO_TARGET_DIR": str(folder / "target"),
+            **{f"CARGO_PROFILE_RELEASE_{name}": value for name, value in PROFILES[profile].items()}}
+
+
+def placed_peers(is_ours, folder, profile, count):
+    """Builds tools/peer over the crate, or over ours, in a folder, without warnings: so many times,
+    each with its code at another place."""
+    folder = Path(folder)
+    copy_sources(folder / "src")
+    source = f'path = "{OURS}"' if is_ours else 'version = "=0.15.0"'
+    (folder / "Cargo.toml").write_text(MANIFEST.replace("SOURCE", source))
+    # only ours has runs of text
+    flags = ["--cap-lints", "allow", *["--cfg", "runs"] * is_ours]
+    programs = []
+    # four places take each function once to each part of a line of 64 bytes that it can begin at
+    for place in range(count):
+        start = f"link-arg=-Wl,-Ttext={CODE_START + ALIGNMENT * place:#x}"
+        words = ["cargo", "rustc", "--release", "--manifest-path", folder / "Cargo.toml", "--"]
+        run([*words, *flags, "-C", start], "tools/peer", environment(folder, profile))
+        programs.append(shutil.copy(folder / "target/release/peer", folder / f"peer_{place}"))
+    return programs
+
+
+def copy_sources(folder):
+    """The sources of tools/peer, with what they share with crates/, erased."""
+    shutil.copytree(TOOLS / "peer" / "src", folder, dirs_exist_ok=True)
+    for crate, name in ((crate, name) for crate, names in SHARED.items() for name in names):
+        text = (TOOLS.parent / "crates" / crate / "src" / f"{name}.rt").read_text()
+        (folder / f"{name}.rs").write_text(erase(text, crate, f"{crate}/{name}", PEER)[0])
+
+
+def run(words, what, environment=None, folder=None):
+    """Runs a command and returns what it prints, or ends the program with that if it fails."""
+    try:
+        done = subprocess.run(words, cwd=folder, stdin=subprocess.DEVNULL, capture_output=True,
+                              env=environment)
+    except FileNotFoundError:
+        stop(f"{words[0]} isn't installed, or isn't in the PATH")
+    if done.returncode != 0:
+        sys.stderr.buffer.write(done.stderr[-6000:])
+        sys.stderr.buffer.write(done.stdout[-6000:])
+        stop(f"{what}: {words[0]} failed with status {done.returncode}")
+    return done.stdout

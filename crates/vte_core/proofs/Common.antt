@@ -43,7 +43,7 @@ pub use Rattle.vte_core.specs.Parameters.{AreGroups, Number, colon, count_of, gr
 unfoldable pub use Rattle.vte_core.specs.Parameters.{groups_of, has_too_many_numbers, numbers, shown}
 pub use Rattle.vte_core.specs.Perform.{after}
 pub use Rattle.vte_core.specs.FirstMatch.{from_first}
-pub use Rattle.vte_core.specs.Stream.{added, cut_at_escape, escape, with_bodies}
+pub use Rattle.vte_core.specs.Stream.{added, cut_at_escape, escape, with_bodies, usual_limit}
 unfoldable pub use Rattle.vte_core.specs.Stream.{events, open_end, outcome}
 pub use Rattle.vte_core.specs.SystemCommand.{IsCommandData, bell, ends_command, has_room, is_data_byte, kept_after, most_pieces, system_command_rest}
 unfoldable pub use Rattle.vte_core.specs.SystemCommand.{drops_data, kept_items, pieces_of, system_command_outcome}

@@ -4,6 +4,7 @@ use Rattle.std.specs.Prelude.{◌≡◌, ℕ, ◌<◌, ◌≤◌, true, false, L
 use Rattle.std.specs.List.{concat}
 use Rattle.vte_core.specs.Class.{class_of, is_data}
 use Rattle.vte_core.specs.Event.{Event, Print, Execute, Hook, Put, Unhook, OscDispatch, CsiDispatch, EscDispatch}
+use Rattle.vte_core.specs.Intermediates.{most_intermediates}
 use Rattle.vte_core.specs.Parameters.{AreGroups}
 use Rattle.vte_core.specs.SystemCommand.{most_pieces}
 use Rattle.vte_core.specs.Text.{is_control_character}
@@ -24,7 +25,7 @@ IsExecuted byte = is_control_character byte ≡ true
 -- A control sequence or a device control string: at least one group, and a final byte among 40..7E.
 abbrev pub IsSequence : List (List ℕ) → List ℕ → ℕ → Type 0
 IsSequence groups intermediates final =
-    AreGroups groups × (length intermediates ≤ 2) × (final < 0x7f) × (0x40 ≤ final)
+    AreGroups groups × (length intermediates ≤ most_intermediates) × (final < 0x7f) × (0x40 ≤ final)
     × (0 < length groups)
 
 -- The limits of an event. The final byte of an escape sequence is among 30..7E.
@@ -39,7 +40,7 @@ IsBounded limit (OscDispatch pieces bell) =
 IsBounded limit (CsiDispatch groups intermediates ignore final) =
     IsSequence groups intermediates final
 IsBounded limit (EscDispatch intermediates ignore final) =
-    (length intermediates ≤ 2) × (final < 0x7f) × (0x30 ≤ final)
+    (length intermediates ≤ most_intermediates) × (final < 0x7f) × (0x30 ≤ final)
 
 -- A printed character or an executed byte.
 abbrev pub IsShort : Event → Type 0

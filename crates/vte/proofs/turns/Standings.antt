@@ -1,5 +1,5 @@
 -- A processor stands where its turns do: with a limit there is always memory. So what the turns ensure is true of it.
-use Rattle.vte.proofs.Common.{◌<◌, ◌≤◌, ℕ, List, None, Some, length, Bool, Result, Ok, Err, arith, Bor, Refused, LongParser, TurnsMeaning, Meaning, State}
+use Rattle.vte.proofs.Common.{◌<◌, ◌≤◌, ℕ, List, None, length, Bool, Result, Ok, Err, arith, Bor, Refused, LongParser, TurnsMeaning, Meaning, State, usual_limit}
 use Rattle.vte.proofs.Common.{Advanced, HasParsedAndHolds, HasParsedAndHoldsLong, HasTaken, HaveTaken, IsAt, ReadsInTurns, ReadsSome, Reserves, ReservesRoom, Standing, StopsSync, StopsSyncLong}
 use Rattle.vte.proofs.Common.{StopsUpdate, ◌≡◌, refl, stop, long_meaning, short_meaning, of_turns}
 use Rattle.vte_core.specs.declared.parser.Parser.{Parser}
@@ -11,7 +11,7 @@ use Rattle.vte.specs.declared.ansi.processor.Processor.{Processor}
 use Rattle.vte.specs.declared.ansi.titles.TheConstants.{TEXT_ROOM}
 
 abbrev pub limited : {N : ℕ} {J T W : Type 0} → (T → W) → TurnsMeaning (Parser N) J T W
-limited timeout_of = of_turns (Some 1024) short_meaning (λ text. TEXT_ROOM) timeout_of
+limited timeout_of = of_turns usual_limit short_meaning (λ text. TEXT_ROOM) timeout_of
 
 abbrev pub unlimited : {A T W : Type 0} → (T → W) → TurnsMeaning (LongParser A) (GrowingText A) T W
 unlimited timeout_of = of_turns None long_meaning (λ text. text.size) timeout_of

@@ -1,11 +1,12 @@
 //! The parser, together with what a processor lends it. The references are separate parameters, not
 //! fields of one struct, so that the performer can borrow each.
-ghost use Rattle.std.specs.Prelude.{◌≡◌, ◌≤◌, ◌+◌, ◌++◌, ℕ, List, Option, Some, true, false, length};
+ghost use Rattle.std.specs.Prelude.{◌≡◌, ◌≤◌, ◌+◌, ◌++◌, ℕ, List, Option, true, false, length};
 ghost use Rattle.vte.specs.machine.Performing.{PerformsAll, PerformsUntilStop, performer_value};
 ghost use Rattle.vte.specs.Processor.{State, meaning, parse, timeout_meaning};
 ghost use Rattle.vte.specs.machine.Performer.{with_event};
 ghost use Rattle.vte.specs.machine.Turns.{IsAtBegin, IsParsedOn, IsParsedWithRoom};
 ghost use Rattle.vte.specs.machine.TurnsMeaning.{KeepsRoom, ParserMeaning, short_meaning, of_turns};
+ghost use Rattle.vte_core.specs.Stream.{usual_limit};
 
 use crate::ansi::performer::{Performer, ProcessorState};
 use crate::ansi::text_buffer::TextBuffer;
@@ -43,7 +44,7 @@ pub(crate) trait EventParser {
 }
 
 impl EventParser for ProcessorParser {
-    ghost limit = { Some 1024 };
+    ghost limit = { usual_limit };
 
     ghost reading = { short_meaning };
 

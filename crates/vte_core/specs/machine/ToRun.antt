@@ -14,9 +14,10 @@ use Rattle.vte_core.specs.Class.{IsPut, class_of, is_data}
 use Rattle.vte_core.specs.Event.{Event, Print, Put}
 use Rattle.vte_core.specs.machine.Parser.{HasReadUnder}
 use Rattle.vte_core.specs.machine.Progress.{StandsAt}
-use Rattle.vte_core.specs.machine.TextRun.{AreRun, EndsRun}
+use Rattle.vte_core.specs.machine.TextRun.{AreRun}
 use Rattle.vte_core.specs.machine.Scans.{IsRange}
 use Rattle.vte_core.specs.Stream.{added}
+use Rattle.vte_core.specs.Text.{EndsRun}
 
 -- Neither in a text nor in data.
 abbrev pub IsOutside : State → Type 0

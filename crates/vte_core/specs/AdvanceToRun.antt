@@ -1,5 +1,5 @@
 -- What `advance_to_run` ensures.
-use Rattle.std.specs.Prelude.{◌≡◌, ℕ, ◌+◌, ◌*◌, ◌<◌, ◌≤◌, Bool, true, false, Option, Some, List, [], ◌++◌, length, take, drop, map, slice_index}
+use Rattle.std.specs.Prelude.{◌≡◌, ℕ, ◌+◌, ◌*◌, ◌<◌, ◌≤◌, Bool, true, false, Option, Some, List, [], ◌++◌, length, take, drop, map, slice_index, ⊤}
 use Rattle.std.specs.Str.{chars}
 use Rattle.vte_core.specs.declared.scan.taken.Run.{Run}
 use Rattle.vte_core.specs.declared.scan.taken.Taken.{Taken}
@@ -39,7 +39,7 @@ IsWhole bytes end (Text text) =
     (0 < length text.now) × HasNoControls text.now × EndsRun false bytes end
 IsWhole bytes end (Data those) =
     (0 < length those.now) × (end < length bytes → IsPut (slice_index bytes end) → ⊥)
-IsWhole bytes end Nothing = Unit {0}
+IsWhole bytes end Nothing = ⊤
 
 -- The run stands in the bytes at its place.
 pub record IsRunIn (bytes : List ℕ) (run : Run) : Type 0 where

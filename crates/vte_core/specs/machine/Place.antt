@@ -1,5 +1,5 @@
 -- Places in a text or a body at which a stream may end, and what more bytes give there.
-use Rattle.std.specs.Prelude.{◌≡◌, ℕ, List, [], ◌∷◌, ◌++◌, Option}
+use Rattle.std.specs.Prelude.{◌≡◌, ℕ, List, [], ◌∷◌, ◌++◌, Option, ⊤}
 use Rattle.std.specs.List.{filter}
 use Rattle.vte_core.specs.Body.{body_outcome}
 use Rattle.vte_core.specs.Class.{class_of, ends_escape, ends_head, is_intermediate}
@@ -36,7 +36,7 @@ pub data Place : Type 0 where
 -- No character is open.
 abbrev pub IsBetween : Place → Type 0
 IsBetween (InText bytes) = bytes ≡ []
-IsBetween _ = Unit {0}
+IsBetween _ = ⊤
 
 -- The outcome of bytes after the intermediates of an escape sequence ..
 unfoldable pub escape_from : List ℕ → List ℕ → Outcome

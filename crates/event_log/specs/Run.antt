@@ -1,5 +1,5 @@
 -- What a run reads and writes.
-use Rattle.std.specs.Prelude.{◌≡◌, ◌≤◌, ◌⊎◌, ◌^◌, ◌-◌, ℕ, Bool, true, List, [], ◌++◌, length, Option, Some, Ok, Err, Result, IfSome}
+use Rattle.std.specs.Prelude.{◌≡◌, ◌≤◌, ◌⊎◌, ◌^◌, ◌-◌, ℕ, Bool, true, List, [], ◌++◌, length, Option, Some, Ok, Err, Result, IfSome, ⊤}
 use Rattle.vte_core.specs.Stream.{events, usual_limit}
 use Rattle.event_log.specs.Lines.{lines_of}
 use Rattle.event_log.specs.Plain.{plain_text}
@@ -44,7 +44,7 @@ WritesExactly meaning (Ok _) input held to_come taken failed =
     WritesAll meaning input held to_come taken
 WritesExactly meaning (Err Read) input held to_come taken failed =
     WritesFront meaning input held to_come taken failed
-WritesExactly meaning (Err Write) input held to_come taken failed = Unit {0}
+WritesExactly meaning (Err Write) input held to_come taken failed = ⊤
 
 abbrev pub LogsExactly : Result (Unit {0}) Fault → (input held : List ℕ) → Option (List ℕ)
     → Option (List ℕ) → Bool

@@ -1,6 +1,6 @@
 -- What calls of a processor ensure: where it stands in what `Processor` defines, and how each call
 -- leads on from there.
-use Rattle.std.specs.Prelude.{◌≡◌, ℕ, List, ◌++◌, length, take, drop, [], ◌∷◌, Bool, false, ◌≤◌, None}
+use Rattle.std.specs.Prelude.{◌≡◌, ℕ, List, ◌++◌, length, take, drop, [], ◌∷◌, Bool, false, ◌≤◌, None, ⊤}
 use Rattle.vte_core.specs.Parser.{HasRead}
 use Rattle.vte_core.specs.Stream.{events, usual_limit}
 use Rattle.vte_handler.specs.Handler.{after}
@@ -87,7 +87,7 @@ pub record HasParsedAll {W : Type 0} (standing : Standing W) (stream : List ℕ)
 
 -- All steps are calls of `advance`.
 abbrev pub AreAdvances : List Step → Type 0
-AreAdvances [] = Unit {0}
+AreAdvances [] = ⊤
 AreAdvances (Advance bytes ∷ steps) = AreAdvances steps
 AreAdvances (StopSync ∷ steps) = ⊥
 

@@ -1,5 +1,5 @@
 -- What was reported of a stream to a caller.
-use Rattle.std.specs.Prelude.{◌≡◌, ◌+◌, ◌-◌, ◌^◌, ◌<◌, ◌≤◌, ℕ, Bool, false, ◌&&◌, List, [], ◌∷◌, ◌++◌, length, drop, map, take, if◌then◌else◌, ◌==◌}
+use Rattle.std.specs.Prelude.{◌≡◌, ◌+◌, ◌-◌, ◌^◌, ◌<◌, ◌≤◌, ℕ, Bool, false, ◌&&◌, List, [], ◌∷◌, ◌++◌, length, drop, map, take, if◌then◌else◌, ◌==◌, ⊤}
 use Rattle.std.specs.List.{flat_map}
 use Rattle.std.specs.Str.{IsUtf8}
 use Rattle.event_log.specs.Plain.{plain_text}
@@ -48,12 +48,12 @@ is_stop kinds stops kind = has kinds kind && has stops kind
 
 -- No event has a kind that stops.
 abbrev pub AreOthers : (ℕ → Bool) → List Event → Type 0
-AreOthers stops [] = Unit {0}
+AreOthers stops [] = ⊤
 AreOthers stops (event ∷ events) = (stops (kind_of event) ≡ false) × AreOthers stops events
 
 -- None of these is among the stops.
 abbrev pub HaveOtherKinds : ℕ → List ℕ → Type 0
-HaveOtherKinds stops [] = Unit {0}
+HaveOtherKinds stops [] = ⊤
 HaveOtherKinds stops (kind ∷ kinds) = (has stops kind ≡ false) × HaveOtherKinds stops kinds
 
 -- A call stops after the first record that is among the stops: at most one follows it.
@@ -68,7 +68,7 @@ pub record StopsAtKind (stops : ℕ) (kinds : List ℕ) : Type 0 where
 -- these.
 abbrev pub IsRunOfKind : Run → List ℕ → Type 0
 IsRunOfKind TextRun bytes = IsUtf8 bytes × HasNoControls bytes
-IsRunOfKind DataRun bytes = Unit {0}
+IsRunOfKind DataRun bytes = ⊤
 
 -- A part of the input that is a run, of one byte or more.
 pub record IsRunAt (input : List ℕ) (run : Run) (start size : ℕ) : Type 0 where
@@ -78,7 +78,7 @@ pub record IsRunAt (input : List ℕ) (run : Run) (start size : ℕ) : Type 0 wh
 
 -- The items can be read: an event is within the limits, and what is in the input is a run.
 abbrev pub AreReadable : List ℕ → List Item → Type 0
-AreReadable input [] = Unit {0}
+AreReadable input [] = ⊤
 AreReadable input (Single event ∷ items) = IsBounded usual_limit event × AreReadable input items
 AreReadable input (InInput run start size ∷ items) =
     IsRunAt input run start size × AreReadable input items

@@ -24,7 +24,7 @@ unfoldable pub use Rattle.vte_core.specs.Parameters.{shown}
 pub use Rattle.vte_core.specs.Parser.{HasRead}
 pub use Rattle.vte_core.specs.Perform.{after}
 pub use Rattle.vte_core.specs.Stops.{GoesOnFromPlaces, TellsUnits}
-pub use Rattle.vte_core.specs.Stream.{added, events}
+pub use Rattle.vte_core.specs.Stream.{added, events, usual_limit}
 pub use Rattle.vte_core.specs.Text.{is_layout, run_event}
 pub use Rattle.vte_core.specs.declared.parser.Parser.{Parser}
 pub use Rattle.event_log.specs.Lines.{blank, line_feed}

@@ -1,6 +1,6 @@
 -- How long the text of an event is, part by part, and how many events bytes add: at most two each. So the text of bytes
 -- is at most eight times as long as they are.
-use Rattle.event_log.proofs.Common.{◌≡◌, ℕ, ◌+◌, ◌-◌, ◌*◌, ◌<◌, ◌≤◌, max, Bool, true, false, if◌then◌else◌, List, [], ◌∷◌, ◌++◌, length, map, Some, refl}
+use Rattle.event_log.proofs.Common.{◌≡◌, ℕ, ◌+◌, ◌-◌, ◌*◌, ◌<◌, ◌≤◌, max, Bool, true, false, if◌then◌else◌, List, [], ◌∷◌, ◌++◌, length, map, refl, usual_limit}
 use Rattle.event_log.proofs.Common.{length-append, arith, All, flat_map, concat, join_with_byte, decimal, length-decimal-le, All-head, All-tail, length-encode, len_utf8_bounds, IsBounded, IsBrief}
 use Rattle.event_log.proofs.Common.{Event, Print, Execute, Hook, OscDispatch, CsiDispatch, EscDispatch, AreGroups, semicolon, count_of, greatest_number, shown, added, is_layout, group_text}
 use Rattle.event_log.proofs.Common.{hex_byte, hex_character, six_hex_digits, hex_length, hex_field, flag_field, pieces_fields, sequence_fields, line_of, plain_text_of}
@@ -74,7 +74,7 @@ length_line_of_character : (c : ℕ) → length (line_of (Print c)) ≤ 13
 unfolding line_of
 length_line_of_character c = simp length-append (omega (arith, length_hex_character 4 c))
 
-length_line : (event : Event) → IsBounded (Some 1024) event → length (line_of event) ≤ 2200
+length_line : (event : Event) → IsBounded usual_limit event → length (line_of event) ≤ 2200
 unfolding line_of hex_byte sequence_fields pieces_fields
 length_line (Print c) h = omega (arith, length_line_of_character c)
 length_line (Hook groups intermediates ignore final) h =
@@ -133,26 +133,26 @@ length_texts (event ∷ events) = simp length-append (omega (arith, length_text 
 -- ---- what bytes add
 
 abbrev pub AreBrief : Type 0
-AreBrief = (stream : List ℕ) (byte : ℕ) → IsBrief (Some 1024) (added (Some 1024) stream (byte ∷ []))
+AreBrief = (stream : List ℕ) (byte : ℕ) → IsBrief usual_limit (added usual_limit stream (byte ∷ []))
 
-at_most_two : (events : List Event) → IsBrief (Some 1024) events → length events ≤ 2
+at_most_two : (events : List Event) → IsBrief usual_limit events → length events ≤ 2
 at_most_two [] h = omega arith
 at_most_two (event ∷ []) h = omega arith
 at_most_two (event ∷ last ∷ []) h = omega arith
 at_most_two (event ∷ last ∷ more ∷ events) h = absurd h
 
-events_grow_slowly : AreBrief → (stream bytes : List ℕ) → length (added (Some 1024) stream bytes) ≤ 2 * length bytes
+events_grow_slowly : AreBrief → (stream bytes : List ℕ) → length (added usual_limit stream bytes) ≤ 2 * length bytes
 events_grow_slowly brief stream [] = rw added-nothing (omega arith)
 events_grow_slowly brief stream (b ∷ bytes) =
-    rw (added_both (Some 1024) stream (b ∷ []) bytes) (simp length-append
+    rw (added_both usual_limit stream (b ∷ []) bytes) (simp length-append
     (omega (
       arith,
-      at_most_two (added (Some 1024) stream (b ∷ [])) (brief stream b),
+      at_most_two (added usual_limit stream (b ∷ [])) (brief stream b),
       events_grow_slowly brief (stream ++ b ∷ []) bytes,
     )))
 
 -- The text of what bytes add has at most eight bytes for each of them.
 pub text_grows_slowly : AreBrief → (stream bytes : List ℕ)
-    → length (flat_map plain_text_of (added (Some 1024) stream bytes)) ≤ 8 * length bytes
+    → length (flat_map plain_text_of (added usual_limit stream bytes)) ≤ 8 * length bytes
 text_grows_slowly brief stream bytes =
-    omega (arith, length_texts (added (Some 1024) stream bytes), events_grow_slowly brief stream bytes)
+    omega (arith, length_texts (added usual_limit stream bytes), events_grow_slowly brief stream bytes)

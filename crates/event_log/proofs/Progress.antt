@@ -1,6 +1,6 @@
 -- From what a collector holds to what a run has written: what was collected is appended, and each read that gives
 -- something takes a piece off the input (`HasCome`), until one fails or gives nothing.
-use Rattle.event_log.proofs.Common.{◌≡◌, ℕ, ◌+◌, ◌<◌, ◌≤◌, ◌⊎◌, Bool, true, List, [], ◌++◌, length, Option, Some, None, IfSome, inl, inr, refl, sym, ap, ◌∙◌}
+use Rattle.event_log.proofs.Common.{◌≡◌, ℕ, ◌+◌, ◌<◌, ◌≤◌, ◌⊎◌, Bool, true, List, [], ◌++◌, length, Option, Some, None, IfSome, inl, inr, refl, sym, ap, ◌∙◌, usual_limit}
 use Rattle.event_log.proofs.Common.{append_assoc, append-nil, length-append, arith, flat_map, Event, HasRead, events, Parser, AddsUpTo, HasWritten}
 use Rattle.std.specs.Io.KnownBytes.{Appends, Consumes, IsAtEnd, Keeps}
 use Rattle.event_log.specs.Device.{KeepsWhereTold}
@@ -81,7 +81,7 @@ written_kept {taken_then = taken_then} h keeps =
 -- ---- a run
 
 abbrev pub means : (Event → List ℕ) → List ℕ → List ℕ
-means text_of stream = flat_map text_of (events (Some 1024) stream)
+means text_of stream = flat_map text_of (events usual_limit stream)
 
 -- A run has made this many reads, and each gave something.
 pub record HasCome (text_of : Event → List ℕ) (input held : List ℕ) (reads : ℕ) (parser : Parser 1024)
@@ -96,7 +96,7 @@ pub record HasCome (text_of : Event → List ℕ) (input held : List ℕ) (reads
   pub many : reads ≤ length stream
 
 module _ {text_of : Event → List ℕ} {input held : List ℕ} {parser : Parser 1024} {to_come taken : Option (List ℕ)} where
-  pub come_first : events (Some 1024) [] ≡ [] → to_come ≡ Some input → taken ≡ Some held → HasRead parser []
+  pub come_first : events usual_limit [] ≡ [] → to_come ≡ Some input → taken ≡ Some held → HasRead parser []
       → HasCome text_of input held 0 parser to_come taken
   come_first none e f parsed = record {
     stream = [];
@@ -138,7 +138,7 @@ module _ {text_of : Event → List ℕ} {input held : List ℕ} {parser : Parser
       let w = h.written in
       w.told
       ∙ ap Some
-      (sym (rw (added-nothing (Some 1024) w.adds_up.since) (append-nil w.written)) ∙ w.adds_up.goes_on [] ∙ h.is []
+      (sym (rw (added-nothing usual_limit w.adds_up.since) (append-nil w.written)) ∙ w.adds_up.goes_on [] ∙ h.is []
       ∙ rw append-nil refl)
 
   -- A read that fails ends a run, and so do as many reads as there may be.

@@ -1,6 +1,6 @@
 -- The text of a run is its bytes, so a run is taken as its characters are, one after another. A chunk is so short that
 -- all of its text fits.
-use Rattle.event_log.proofs.Common.{◌≡◌, ℕ, ◌+◌, ◌*◌, ◌≤◌, Bool, true, false, List, [], ◌∷◌, ◌++◌, length, map, Some, refl, sym, ap, ◌∙◌, append_assoc}
+use Rattle.event_log.proofs.Common.{◌≡◌, ℕ, ◌+◌, ◌*◌, ◌≤◌, Bool, true, false, List, [], ◌∷◌, ◌++◌, length, map, refl, sym, ap, ◌∙◌, append_assoc, usual_limit}
 use Rattle.event_log.proofs.Common.{arith, encode_ascii, encodes-chars, flat_map, IsUtf8, chars, HasRead, after, added, is_layout, run_event, Parser, plain_text_of, Record}
 use Rattle.event_log.proofs.Common.{most_bytes, with_event, with_text, HasKept}
 use Rattle.std.proofs.Math.Utf8.{encodes}
@@ -45,16 +45,16 @@ pub kept_text : {whole : List ℕ → List ℕ} {unread : List ℕ} {parser pars
     (chunk rest : List ℕ)
     → AreBrief → (h : HasKept plain_text_of whole held parser unread) → chunk ++ rest ≡ unread
     → length held.bytes + 8 * length chunk ≤ most_bytes
-    → held_then ≡ after (with_event plain_text_of) held (added (Some 1024) h.adds_up.since chunk)
+    → held_then ≡ after (with_event plain_text_of) held (added usual_limit h.adds_up.since chunk)
     → HasRead parser_then (h.adds_up.since ++ chunk)
     → HasKept plain_text_of whole held_then parser_then rest
 kept_text {held = held} chunk rest brief h parts room performed parsed =
     let since = h.adds_up.since in
-    let reported = added (Some 1024) since chunk in
+    let reported = added usual_limit since chunk in
     let taken =
     all_taken plain_text_of held.bytes held.lost reported
     (omega (arith, room, text_grows_slowly brief since chunk)) in
     kept_by reported (since ++ chunk) h
-    (λ more. rw (← parts, append_assoc chunk rest more) (added_both (Some 1024) since chunk (rest ++ more)))
+    (λ more. rw (← parts, append_assoc chunk rest more) (added_both usual_limit since chunk (rest ++ more)))
     parsed
     (performed ∙ taken ∙ ap (record_of (held.bytes ++ flat_map plain_text_of reported)) h.kept)

@@ -3,7 +3,7 @@ use Rattle.std.specs.Prelude.{◌≡◌, ℕ, false, List, ◌++◌, Option, Som
 use Rattle.std.specs.List.{flat_map}
 use Rattle.vte_core.specs.Event.{Event}
 use Rattle.vte_core.specs.Parser.{HasRead}
-use Rattle.vte_core.specs.Stream.{added}
+use Rattle.vte_core.specs.Stream.{added, usual_limit}
 use Rattle.vte_core.specs.declared.parser.Parser.{Parser}
 use Rattle.event_log.specs.Record.{Record}
 
@@ -19,7 +19,7 @@ pub record AddsUpTo (text_of : Event → List ℕ) (whole : List ℕ → List �
   pub since : List ℕ
   pub parsed : HasRead parser since
   pub goes_on : (more : List ℕ)
-      → text ++ flat_map text_of (added (Some 1024) since (unread ++ more)) ≡ whole more
+      → text ++ flat_map text_of (added usual_limit since (unread ++ more)) ≡ whole more
 
 -- The text is what a record holds, and nothing was lost.
 pub record HasKept (text_of : Event → List ℕ) (whole : List ℕ → List ℕ) (held : Record)

@@ -1,6 +1,6 @@
 -- What a run reads and writes.
-use Rattle.std.specs.Prelude.{◌≡◌, ◌≤◌, ◌⊎◌, ◌^◌, ◌-◌, ℕ, Bool, true, List, [], ◌++◌, length, Option, Some, Ok, Err, Result, IfSome}
-use Rattle.vte_core.specs.Stream.{events}
+use Rattle.std.specs.Prelude.{◌≡◌, ◌≤◌, ◌⊎◌, ◌^◌, ◌-◌, ℕ, Bool, true, List, [], ◌++◌, length, Option, Some, Ok, Err, Result, IfSome, ⊤}
+use Rattle.vte_core.specs.Stream.{events, usual_limit}
 use Rattle.event_log.specs.Lines.{lines_of}
 use Rattle.event_log.specs.Plain.{plain_text}
 use Rattle.event_log.specs.declared.fault.Fault.{Fault}
@@ -8,11 +8,11 @@ use Rattle.event_log.specs.declared.fault.Fault.TheVariants.{Read, Write}
 
 -- The lines of a stream's events, with a buffer of 1,024 bytes for operating system commands.
 abbrev pub log_of : List ℕ → List ℕ
-log_of stream = lines_of (events (Some 1024) stream)
+log_of stream = lines_of (events usual_limit stream)
 
 -- The text of a stream without its sequences.
 abbrev pub stripped_text : List ℕ → List ℕ
-stripped_text stream = plain_text (events (Some 1024) stream)
+stripped_text stream = plain_text (events usual_limit stream)
 
 -- The maximum number of reads of a run.
 abbrev pub most_reads : ℕ
@@ -44,7 +44,7 @@ WritesExactly meaning (Ok _) input held to_come taken failed =
     WritesAll meaning input held to_come taken
 WritesExactly meaning (Err Read) input held to_come taken failed =
     WritesFront meaning input held to_come taken failed
-WritesExactly meaning (Err Write) input held to_come taken failed = Unit {0}
+WritesExactly meaning (Err Write) input held to_come taken failed = ⊤
 
 abbrev pub LogsExactly : Result (Unit {0}) Fault → (input held : List ℕ) → Option (List ℕ)
     → Option (List ℕ) → Bool

@@ -2,7 +2,7 @@
 ghost use Rattle.std.specs.Prelude.{◌≡◌, ◌<◌, ℕ, List, [], ◌++◌, false, true, Some, Err, IfOk, OnOk, is_err, length};
 ghost use Rattle.std.specs.Io.KnownBytes.{Appends};
 ghost use Rattle.std.specs.List.{flat_map};
-ghost use Rattle.vte_core.specs.Stream.{events};
+ghost use Rattle.vte_core.specs.Stream.{events, usual_limit};
 ghost use Rattle.event_log.specs.Progress.{HasReadSome, HasWritten};
 ghost use Rattle.event_log.specs.Record.{empty_record};
 ghost use Rattle.event_log.specs.Run.{LogsExactly, StripsExactly, WritesExactly};
@@ -60,7 +60,7 @@ fn run_with<C: Collector, R: Source, W: Sink>(
     requires empty { C.record_of collector.old ≡ empty_record }
     ensures texts { (input held : List ℕ) → R.to_come reader.old ≡ Some input
         → W.taken writer.old ≡ Some held →
-        WritesExactly (λ stream. flat_map C.text_of (events (Some 1024) stream)) result input held
+        WritesExactly (λ stream. flat_map C.text_of (events usual_limit stream)) result input held
         (R.to_come reader.new) (W.taken writer.new) (R.has_failed reader.new) }
     ensures read_to_the_end { OnOk result (R.has_failed reader.new ≡ false) }
     ensures write_failed { result ≡ Err Fault.Write → W.has_failed writer.new ≡ true }

@@ -4,7 +4,7 @@ use Rattle.examples.specs.declared.last_printed.Watcher.{Watcher}
 use Rattle.vte_core.specs.Event.{Event, Print}
 use Rattle.vte_core.specs.Parser.{HasRead}
 use Rattle.vte_core.specs.Perform.{after}
-use Rattle.vte_core.specs.Stream.{events}
+use Rattle.vte_core.specs.Stream.{events, usual_limit}
 
 -- The last character after one more event.
 abbrev pub last_after : Option ℕ → Event → Option ℕ
@@ -14,4 +14,4 @@ last_after last event = last
 -- The watcher has read the stream, and knows its last character.
 pub record Watches (watcher : Watcher) (stream : List ℕ) : Type 0 where
   pub reads : HasRead watcher.parser stream
-  pub knows : watcher.last.c ≡ after last_after None (events (Some 1024) stream)
+  pub knows : watcher.last.c ≡ after last_after None (events usual_limit stream)

@@ -1,8 +1,8 @@
 //! A performer that asks for an early stop where the bell rings.
 ghost use Rattle.examples.specs.Bell.{rung_after};
-ghost use Rattle.std.specs.Prelude.{◌≡◌, Some, false};
+ghost use Rattle.std.specs.Prelude.{◌≡◌, false};
 ghost use Rattle.vte_core.specs.Perform.{after};
-ghost use Rattle.vte_core.specs.Stream.{events};
+ghost use Rattle.vte_core.specs.Stream.{events, usual_limit};
 
 use vte_core::{Params, Parser, Perform, laws};
 
@@ -55,7 +55,7 @@ impl Perform for Bell {
 
 /// Whether a stream rings the bell. What stands after the first bell isn't read.
 pub fn rings(stream: &[u8]) -> bool
-    ensures { result ≡ after rung_after false (events (Some 1024) stream.now) }
+    ensures { result ≡ after rung_after false (events usual_limit stream.now) }
 {
     laws::empty_stream();
     let mut bell = Bell { has_rung: false };

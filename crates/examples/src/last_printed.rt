@@ -1,8 +1,8 @@
 //! A struct that keeps a parser, and knows over several calls which character was printed last.
 ghost use Rattle.examples.specs.LastPrinted.{Watches, last_after};
-ghost use Rattle.std.specs.Prelude.{◌≡◌, ◌++◌, ℕ, List, [], None, Some};
+ghost use Rattle.std.specs.Prelude.{◌≡◌, ◌++◌, ℕ, List, [], None};
 ghost use Rattle.vte_core.specs.Perform.{after};
-ghost use Rattle.vte_core.specs.Stream.{events};
+ghost use Rattle.vte_core.specs.Stream.{events, usual_limit};
 
 use vte_core::{Params, Parser, Perform, laws};
 
@@ -82,7 +82,7 @@ impl Watcher {
     /// The character that the stream printed last.
     pub fn last(&self) -> Option<char>
         ensures { (stream : List ℕ) → Watches self.now stream →
-            result ≡ after last_after None (events (Some 1024) stream) }
+            result ≡ after last_after None (events usual_limit stream) }
     {
         self.last.c
     }

@@ -1,9 +1,9 @@
 //! A handler of a few calls: keeps the text of a stream and its titles, and whether it rings.
 ghost use Rattle.examples.specs.Page.{rung_after};
-ghost use Rattle.std.specs.Prelude.{◌≡◌, IfOk, Some, false};
+ghost use Rattle.std.specs.Prelude.{◌≡◌, IfOk, false};
 ghost use Rattle.vte.specs.Calls.{calls};
 ghost use Rattle.vte.specs.Handler.{after};
-ghost use Rattle.vte.specs.Stream.{events};
+ghost use Rattle.vte.specs.Stream.{events, usual_limit};
 
 use std::alloc::{AllocError, Allocator, Global};
 use std::time::Duration;
@@ -123,7 +123,7 @@ impl Timeout for NeverPending {
 /// `AllocError` if there is no memory for the processor.
 pub fn rings(alloc: Global, stream: &[u8]) -> Result<bool, AllocError>
     ensures { IfOk result
-        (λ rung. rung ≡ after rung_after false (calls (events (Some 1024) stream.now))) }
+        (λ rung. rung ≡ after rung_after false (calls (events usual_limit stream.now))) }
 {
     laws::empty_stream();
     let mut page = ByCall(Page {

@@ -26,7 +26,7 @@ pub use Rattle.vte_core.proofs.streams.CommandSizes.{counts_data}
 pub use Rattle.vte_core.proofs.streams.StreamSteps.{events_are_bounded, events_grow, opens_silently}
 pub use Rattle.vte_core.specs.EarlyStop.{StopsExactly, breaks_at, stream_at, told}
 pub use Rattle.vte_core.specs.Event.{Event, OscDispatch, Print, replacement}
-pub use Rattle.vte_core.specs.Stream.{added, open_end}
+pub use Rattle.vte_core.specs.Stream.{added, open_end, usual_limit}
 unfoldable pub use Rattle.vte_core.specs.Stream.{events, outcome}
 pub use Rattle.vte_core.specs.declared.parser.long.LongParser.{LongParser}
 pub use Rattle.vte_core.specs.declared.parser.refused.Refused.{Refused}

@@ -2,7 +2,7 @@
 -- definitions, not with code.
 use Rattle.std.specs.Prelude.{◌≡◌, ℕ, pos, true, false, List, [], ◌∷◌, ◌++◌, map, Option, Some, None, codes}
 use Rattle.std.specs.List.{range_with_len}
-use Rattle.vte_core.specs.Stream.{events}
+use Rattle.vte_core.specs.Stream.{events, usual_limit}
 use Rattle.vte_handler.specs.Call.{Call}
 use Rattle.vte_handler.specs.Call as call
 use Rattle.vte_types.specs.Keyboard.{modes_of_bits}
@@ -46,7 +46,7 @@ makes_one stream made = record { stream = stream; made = made ∷ [] }
 -- Each example makes exactly its calls.
 abbrev pub AreMade : List CallExample → Type 0
 AreMade examples =
-    map (λ example. calls (events (Some 1024) example.stream)) examples
+    map (λ example. calls (events usual_limit example.stream)) examples
     ≡ map (λ example. example.made) examples
 
 abbrev pub executed_examples : List CallExample

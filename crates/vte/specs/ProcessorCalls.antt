@@ -1,8 +1,8 @@
 -- What calls of a processor ensure: where it stands in what `Processor` defines, and how each call
 -- leads on from there.
-use Rattle.std.specs.Prelude.{◌≡◌, ℕ, Some, List, ◌++◌, length, drop, [], ◌∷◌, Bool, false, ◌≤◌, None}
+use Rattle.std.specs.Prelude.{◌≡◌, ℕ, List, ◌++◌, length, drop, [], ◌∷◌, Bool, false, ◌≤◌, None, ⊤}
 use Rattle.vte_core.specs.Parser.{HasRead}
-use Rattle.vte_core.specs.Stream.{events}
+use Rattle.vte_core.specs.Stream.{events, usual_limit}
 use Rattle.vte_handler.specs.Handler.{after}
 use Rattle.vte_handler.specs.Timeout.{IsKept}
 use Rattle.vte.specs.Calls.{last_printed, calls}
@@ -27,7 +27,7 @@ timeout_in processor = processor.turns.state.timeout
 pub record HasParsedAndHolds {T A W : Type 0} (timeout_of : T → W) (processor : Processor T A)
     (parsed held : List ℕ) (timeout : W) : Type 0 where
   pub has_read : HasRead processor.turns.parser parsed
-  pub last : processor.turns.state.preceding_char ≡ last_printed (events (Some 1024) parsed)
+  pub last : processor.turns.state.preceding_char ≡ last_printed (events usual_limit parsed)
   pub timeout_is : timeout_of (timeout_in processor) ≡ timeout
   pub holds : held_in processor ≡ held
 
@@ -91,7 +91,7 @@ pub record HasParsedAll {W : Type 0} (standing : Standing W) (stream : List ℕ)
 
 -- All steps are calls of `advance`.
 abbrev pub AreAdvances : List Step → Type 0
-AreAdvances [] = Unit {0}
+AreAdvances [] = ⊤
 AreAdvances (Advance bytes ∷ steps) = AreAdvances steps
 AreAdvances (StopSync ∷ steps) = ⊥
 

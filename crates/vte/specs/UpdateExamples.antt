@@ -10,12 +10,13 @@ use Rattle.vte_types.specs.declared.mode.NamedPrivateMode.TheVariants.{ShowCurso
 use Rattle.vte_types.specs.declared.mode.PrivateMode.TheVariants.{Named}
 use Rattle.vte.specs.Processor.{Meaning, State, stop, turn}
 use Rattle.vte.specs.Synchronized.{begin_update, end_update, update_ended}
+use Rattle.vte_core.specs.Stream.{usual_limit}
 
 -- The handler's value is the list of its calls; the timeout is pending from when it is set until it
 -- is cleared.
 abbrev pub plain_meaning : Meaning (List Call) Bool
 plain_meaning = record {
-  limit = Some 1024;
+  limit = usual_limit;
   step = λ told call. told ++ call ∷ [];
   timeout =
       record {

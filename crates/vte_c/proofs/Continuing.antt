@@ -1,6 +1,6 @@
 -- A parser that read a part of a call goes on as one that has read another stream (`Continues`), and so it does after
 -- the next part: what the parts add is joined.
-use Rattle.vte_c.proofs.Common.{AreFirst, Continues, Event, GoesOnFromPlaces, List, Print, Some, [], add_assoc, added, ap, append-nil, append_assoc, arith, breaks}
+use Rattle.vte_c.proofs.Common.{AreFirst, Continues, Event, GoesOnFromPlaces, List, Print, [], add_assoc, added, ap, append-nil, append_assoc, arith, breaks, usual_limit}
 use Rattle.vte_c.proofs.Common.{breaks_at, cases_Bool, drop, drop-drop, inl, inr, length, length-drop, open_end, refl, replacement, stream_at, suc, sym, take, take-add}
 use Rattle.vte_c.proofs.Common.{take-append-drop, told, true, zero, zero-add, ℕ, ◌++◌, ◌+◌, ◌∙◌, ◌∷◌, ◌≡◌, ◌≤◌}
 use Rattle.vte_core.proofs.stops.Units.{added_both}
@@ -43,10 +43,10 @@ continues-then {bytes = bytes} {n = n} {m = m} {told = told} {more = more} a b w
 -- ---- a text
 
 pub continues-added : (since bytes : List ℕ) (n : ℕ)
-    → Continues since (since ++ take n bytes) bytes n (added (Some 1024) since (take n bytes))
+    → Continues since (since ++ take n bytes) bytes n (added usual_limit since (take n bytes))
 continues-added since bytes n = record {
   goes_on = λ more.
-      let parts = added_both (Some 1024) since (take n bytes) (drop n bytes ++ more) in
+      let parts = added_both usual_limit since (take n bytes) (drop n bytes ++ more) in
       rw (← parts, ← append_assoc (take n bytes), take-append-drop) refl;
   fronts = λ k within. first_same (rw (take-add n k bytes, added_both) refl);
 }
@@ -59,32 +59,32 @@ breaks-next [] byte xs ys = refl
 breaks-next (a ∷ opened) byte xs ys = refl
 
 -- A call that stops before that byte has told U+FFFD, which no byte has added so far.
-broken_first : GoesOnFromPlaces (Some 1024) → (stream unread : List ℕ) (k : ℕ) → breaks (open_end stream) unread ≡ true
-    → AreFirst (added (Some 1024) stream (take k unread)) (Print replacement ∷ added (Some 1024) [] (take k unread))
+broken_first : GoesOnFromPlaces usual_limit → (stream unread : List ℕ) (k : ℕ) → breaks (open_end stream) unread ≡ true
+    → AreFirst (added usual_limit stream (take k unread)) (Print replacement ∷ added usual_limit [] (take k unread))
 unfolding told stream_at breaks_at
 broken_first goes_on stream unread zero broken =
-    record { others = Print replacement ∷ added (Some 1024) [] []; parts = rw (added-nothing (Some 1024) stream) refl }
+    record { others = Print replacement ∷ added usual_limit [] []; parts = rw (added-nothing usual_limit stream) refl }
 broken_first goes_on stream [] (suc k) broken =
-    record { others = Print replacement ∷ added (Some 1024) [] []; parts = rw (added-nothing (Some 1024) stream) refl }
+    record { others = Print replacement ∷ added usual_limit [] []; parts = rw (added-nothing usual_limit stream) refl }
 broken_first goes_on stream (byte ∷ unread) (suc k) broken =
     let front : List ℕ = byte ∷ take k unread in
     let breaks_it : breaks_at stream front 0 ≡ true =
     rw (append-nil stream) (breaks-next (open_end stream) byte (take k unread) unread ∙ broken) in
     first_same
     (sym
-    (rw (append-nil front, told, stream_at, breaks_it, added-nothing (Some 1024) stream) at
+    (rw (append-nil front, told, stream_at, breaks_it, added-nothing usual_limit stream) at
     (goes_on stream front [] 0)))
 
-pub continues-call : GoesOnFromPlaces (Some 1024) → (since bytes : List ℕ) (n : ℕ)
-    → Continues since (stream_at since bytes n) bytes n (told (Some 1024) since bytes n)
+pub continues-call : GoesOnFromPlaces usual_limit → (since bytes : List ℕ) (n : ℕ)
+    → Continues since (stream_at since bytes n) bytes n (told usual_limit since bytes n)
 unfolding told stream_at breaks_at
 continues-call goes_on since bytes n = elim (cases_Bool (breaks_at since bytes n)) [
   | inl broken ↦ rw broken (record {
     goes_on = λ more. rw broken at (goes_on since bytes more n);
     fronts = λ k within.
-        rw (take-add n k bytes, added_both, append_assoc (added (Some 1024) since (take n bytes)))
-        (first-after (added (Some 1024) since (take n bytes))
+        rw (take-add n k bytes, added_both, append_assoc (added usual_limit since (take n bytes)))
+        (first-after (added usual_limit since (take n bytes))
         (broken_first goes_on (since ++ take n bytes) (drop n bytes) k broken));
   })
-  | inr whole ↦ rw (whole, append-nil (added (Some 1024) since (take n bytes))) (continues-added since bytes n)
+  | inr whole ↦ rw (whole, append-nil (added usual_limit since (take n bytes))) (continues-added since bytes n)
 ]

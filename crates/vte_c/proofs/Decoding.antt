@@ -1,7 +1,7 @@
 -- Records and their data stand for the events that they were written for: each field is read back, by cases of the
 -- event.
-use Rattle.vte_c.proofs.Common.{AreGroups, AreReadable, Bool, CsiDispatch, DataRun, EscDispatch, Event, Hook, InInput, IsBounded, Item, List, OscDispatch, Print, Put, Run}
-use Rattle.vte_c.proofs.Common.{Single, Some, TextRun, VteEvent, [], add-zero, ap, append_assoc, arith, cases_Bool, concat, count_byte}
+use Rattle.vte_c.proofs.Common.{AreGroups, AreReadable, Bool, CsiDispatch, DataRun, EscDispatch, Event, Hook, InInput, IsBounded, Item, List, OscDispatch, Print, Put, Run, usual_limit}
+use Rattle.vte_c.proofs.Common.{Single, TextRun, VteEvent, [], add-zero, ap, append_assoc, arith, cases_Bool, concat, count_byte}
 use Rattle.vte_c.proofs.Common.{count_of, data_of, drop, drop-append_seam, drop-drop, eqb-true, event_in, events_of, false, flag_byte, flat_map, get_or, group_bytes, groups_in}
 use Rattle.vte_c.proofs.Common.{inl, inr, intermediates_in, item_data, item_events, kinds_of, length, length-append, map, map-set_same, min, numbers_in, piece_bytes, pieces_in}
 use Rattle.vte_c.proofs.Common.{record_at, records_from, refl, run_events, run_kind, run_record, set, sum_by-cons, sym, take, take-append-drop, take-append_seam, take-map, true}
@@ -70,7 +70,7 @@ read_intermediates event (a ∷ b ∷ []) few = refl
 read_intermediates event (a ∷ b ∷ c ∷ more) few = absurd (omega arith)
 
 -- An event is read back if its data is at its place in the area.
-read_single : (input area back : List ℕ) (place : ℕ) (event : Event) → IsBounded (Some 1024) event
+read_single : (input area back : List ℕ) (place : ℕ) (event : Event) → IsBounded usual_limit event
     → drop place area ≡ data_of event ++ back
     → events_of input area (record_at place (Single event)) ≡ event ∷ []
 unfolding events_of event_in

@@ -1,7 +1,7 @@
 -- A call goes on (`ReadsOn`) by calls of the parser, whose events are written as long as there is room, and by the runs
 -- that these return. One step after another is a longer one (`goes-then`).
-use Rattle.vte_c.proofs.Common.{AreCharacters, Bool, ComesTo, DataRun, Event, ReadsOn, GoesOnFromPlaces, HasReadOn, HasItems, HasRead, HaveOtherRecords, InInput, IsRunOfKind}
-use Rattle.vte_c.proofs.Common.{IsRunAt, List, OpensSilently, Parser, Print, Put, Room, Run, Single, Some, Starts, StopsAtNone, TellsUnits, TextRun, [], added, after, ap}
+use Rattle.vte_c.proofs.Common.{AreCharacters, Bool, ComesTo, DataRun, Event, ReadsOn, GoesOnFromPlaces, HasReadOn, HasItems, HasRead, HaveOtherRecords, InInput, IsRunOfKind, usual_limit}
+use Rattle.vte_c.proofs.Common.{IsRunAt, List, OpensSilently, Parser, Print, Put, Room, Run, Single, Starts, StopsAtNone, TellsUnits, TextRun, [], added, after, ap}
 use Rattle.vte_c.proofs.Common.{append-nil, arith, breaks_at, cases_Bool, cases_lt, chars, data_of, drop, drop-drop, false, false≢true, filter-append, flat_map, flat_map-append}
 use Rattle.vte_c.proofs.Common.{has, if◌then◌else◌, inl, inr, is_full, is_stop, item_events, kind_of, len_utf8_bounds, length, length-append, length-drop, length-encode, map}
 use Rattle.vte_c.proofs.Common.{nat_tests, refl, replacement, reported, resumed, run_events, run_kind, run_record, stream_at, subst, sym, take, told, true, with_event}
@@ -37,7 +37,7 @@ run_stops room DataRun none = none.1
 
 goes-run : {old new : Room} {since bytes : List ℕ} (run : Run) {from size : ℕ} → is_full old ≡ false
     → new ≡ with_wanted old (run_record (run_kind run) from size) → IsRunAt bytes run from size
-    → added (Some 1024) since (take size (drop from bytes)) ≡ run_events run (take size (drop from bytes))
+    → added usual_limit since (take size (drop from bytes)) ≡ run_events run (take size (drop from bytes))
     → ReadsOn old new since (since ++ take size (drop from bytes)) bytes from size
 goes-run {old} {new} {since = since} {bytes = bytes} run {from = from} {size = size} free is stands adds =
     let part : List ℕ = take size (drop from bytes) in
@@ -99,14 +99,14 @@ goes_on_at_first old true starts others =
 
 -- The code cites these laws of the parser.
 pub record Laws : Type 0 where
-  pub units : TellsUnits (Some 1024)
-  pub goes_on : GoesOnFromPlaces (Some 1024)
-  pub silent : OpensSilently (Some 1024)
+  pub units : TellsUnits usual_limit
+  pub goes_on : GoesOnFromPlaces usual_limit
+  pub silent : OpensSilently usual_limit
 
 module _ (old new : Room) (since bytes : List ℕ) (from n : ℕ) (laws : Laws) (free : is_full old ≡ false)
-    (s : ComesTo with_event is_full old new (Some 1024) since (drop from bytes) n) where
+    (s : ComesTo with_event is_full old new usual_limit since (drop from bytes) n) where
   abbrev told_at : ℕ → List Event
-  told_at i = told (Some 1024) since (drop from bytes) i
+  told_at i = told usual_limit since (drop from bytes) i
 
   -- All that was told is written, since the room wasn't full at any start that the call came to.
   told_written : (i : ℕ) → i ≤ n
@@ -178,7 +178,7 @@ goes-then {old} {mid} {since = since} {bytes = bytes} {from = from} {n = n} {m =
             (rw a.shows at (items_others old.stops bytes old.used a.items (unmet a.holds free))) in
             let more = rw (kinds, stops, rest) at (b.before (rw (kinds, stops) none) k (omega arith)) in
             rw (← place)
-            (others_front stop (added (Some 1024) since (take (n + k) unread)) front.others
+            (others_front stop (added usual_limit since (take (n + k) unread)) front.others
             (rw front.parts at (others_append stop _ _ told_others more)))
       ];
     }
@@ -206,7 +206,7 @@ no_run bytes end Nothing whole none room start = refl
 
 module _ (old mid new : Room) (since bytes : List ℕ) (from : ℕ) (run : Returned) {HasReadBefore : List ℕ → Type 0}
     (laws : Laws) (free : is_full old ≡ false) (begins : from ≤ length bytes)
-    (r : ReturnsRun with_event is_full old mid (Some 1024) HasReadBefore (drop from bytes) run)
+    (r : ReturnsRun with_event is_full old mid usual_limit HasReadBefore (drop from bytes) run)
     (before : HasReadBefore since) where
   abbrev after_call : List ℕ
   after_call = stream_at since (drop from bytes) run.start
@@ -261,7 +261,7 @@ module _ (old mid new : Room) (since bytes : List ℕ) (from : ℕ) (run : Retur
         let empty : length (run_bytes run) ≡ 0 = omega (arith, none, r.stands.end) in
         let same : new ≡ resumed mid =
         is ∙ no_run unread run.end run.taken r.stands.whole empty mid (from + run.start) in
-        let performed = rw (start, added-nothing (Some 1024) since) at (r.comes since before).performed in
+        let performed = rw (start, added-nothing usual_limit since) at (r.comes since before).performed in
         let goes_on = goes_on_at_first old (breaks_at since unread 0) starts (rw (same, performed) at others) in
         absurd
         (false≢true

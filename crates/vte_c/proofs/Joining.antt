@@ -1,6 +1,6 @@
 -- From calls to streams, for events and for text (`HasGiven`): what a call gives comes after what was given, and once
 -- nothing is unread, all is given.
-use Rattle.vte_c.proofs.Common.{CsiDispatch, EscDispatch, Event, Execute, HasGiven, HasReadSaved, Hook, List, OscDispatch, Print, Put, Saved, Some, Unhook, [], added, append-nil}
+use Rattle.vte_c.proofs.Common.{CsiDispatch, EscDispatch, Event, Execute, HasGiven, HasReadSaved, Hook, List, OscDispatch, Print, Put, Saved, Unhook, [], added, append-nil, usual_limit}
 use Rattle.vte_c.proofs.Common.{append_assoc, arith, drop, events, has, kind_of, nat_tests, no_room, fed_count, refl, reported, true, ℕ, ◌++◌, ◌<◌, ◌∷◌, ◌≡◌}
 use Rattle.vte_core.proofs.streams.After.{added-nothing}
 
@@ -25,7 +25,7 @@ all_reported [] = refl
 all_reported (event ∷ events) = rw (is_reported event, all_reported events) refl
 
 module _ {A : Type 0} {of : List Event → List A} where
-  pub given_first : {parser : Saved} → events (Some 1024) [] ≡ [] → HasReadSaved parser [] → HasGiven of parser [] [] []
+  pub given_first : {parser : Saved} → events usual_limit [] ≡ [] → HasReadSaved parser [] → HasGiven of parser [] [] []
   given_first none reads = record { since = []; reads = reads; goes_on = λ more. rw none refl }
 
   pub given_before : (parser : Saved) (given : List A) (stream unread bytes : List ℕ)
@@ -42,7 +42,7 @@ module _ {A : Type 0} {of : List Event → List A} where
       (n : ℕ) (h : HasGiven of old before stream (bytes ++ rest))
       → HasReadSaved new next
       → ((more : List ℕ)
-      → now ++ of (added (Some 1024) next (drop n bytes ++ more)) ≡ of (added (Some 1024) h.since (bytes ++ more)))
+      → now ++ of (added usual_limit next (drop n bytes ++ more)) ≡ of (added usual_limit h.since (bytes ++ more)))
       → HasGiven of new (before ++ now) stream (drop n bytes ++ rest)
   given_more {before = before} {next = next} now bytes rest n h reads goes_on = record {
     since = next;
@@ -53,6 +53,6 @@ module _ {A : Type 0} {of : List Event → List A} where
   }
 
   pub given_all : of [] ≡ [] → (parser : Saved) (given : List A) (stream : List ℕ) → HasGiven of parser given stream []
-      → given ≡ of (events (Some 1024) stream)
+      → given ≡ of (events usual_limit stream)
   given_all none parser given stream h =
-      rw (added-nothing (Some 1024) h.since, none, append-nil given, append-nil stream) at (h.goes_on [])
+      rw (added-nothing usual_limit h.since, none, append-nil given, append-nil stream) at (h.goes_on [])

@@ -1,7 +1,7 @@
 -- No event that stops a call is told before the last byte that it reads: a byte before that ends at a start, where the
 -- call would have stopped, or adds nothing that stops.
-use Rattle.vte_c.proofs.Common.{AreOthers, Bool, DataRun, Event, HaveOtherKinds, HaveOtherRecords, InInput, IsStart, Item, List, OpensSilently, Print, Put, Run, Single}
-use Rattle.vte_c.proofs.Common.{Some, TextRun, VteEvent, [], add-one, added, append_assoc, arith, breaks_at, cases_Bool, chars, drop, false, flat_map, get_or, has, has_kind}
+use Rattle.vte_c.proofs.Common.{AreOthers, Bool, DataRun, Event, HaveOtherKinds, HaveOtherRecords, InInput, IsStart, Item, List, OpensSilently, Print, Put, Run, Single, usual_limit}
+use Rattle.vte_c.proofs.Common.{TextRun, VteEvent, [], add-one, added, append_assoc, arith, breaks_at, cases_Bool, chars, drop, false, flat_map, get_or, has, has_kind}
 use Rattle.vte_c.proofs.Common.{if◌then◌else◌, inl, inr, is_stop, item_data, item_events, kind_of, length, map, open_end, or_parts, records_from, refl, replacement, reported}
 use Rattle.vte_c.proofs.Common.{run_events, run_kind, suc, take, take-add, take_more, told, zero, ℕ, ◌++◌, ◌+◌, ◌-◌, ◌<◌, ◌∷◌, ◌≡◌, ◌≤◌}
 use Rattle.vte_core.proofs.stops.Units.{added_both}
@@ -67,30 +67,30 @@ others_reported kinds stops (event ∷ events) h = elim (cases_Bool (has kinds (
 
 -- If nothing that bytes add stops, neither does what fewer add.
 pub others_earlier : (stop : ℕ → Bool) (stream bytes : List ℕ) (i n : ℕ) → i ≤ n
-    → AreOthers stop (added (Some 1024) stream (take n bytes))
-    → AreOthers stop (added (Some 1024) stream (take i bytes))
+    → AreOthers stop (added usual_limit stream (take n bytes))
+    → AreOthers stop (added usual_limit stream (take i bytes))
 others_earlier stop stream bytes i n earlier h =
     let parts : i + (n - i) ≡ n = omega arith in
-    others_front stop (added (Some 1024) stream (take i bytes))
-    (added (Some 1024) (stream ++ take i bytes) (take (n - i) (drop i bytes)))
+    others_front stop (added usual_limit stream (take i bytes))
+    (added usual_limit (stream ++ take i bytes) (take (n - i) (drop i bytes)))
     (rw (← parts, take-add i (n - i) bytes, added_both) at h)
 
 -- ---- what the bytes before the last add
 
 module _ (stop : ℕ → Bool) (no_text : stop 0 ≡ false) (stream bytes : List ℕ) (n : ℕ) (within : n ≤ length bytes)
-    (silent : OpensSilently (Some 1024))
-    (asked : (i : ℕ) → i < n → IsStart stream bytes i → AreOthers stop (told (Some 1024) stream bytes i)) where
+    (silent : OpensSilently usual_limit)
+    (asked : (i : ℕ) → i < n → IsStart stream bytes i → AreOthers stop (told usual_limit stream bytes i)) where
   at_start : (i : ℕ) → i < n → open_end (stream ++ take i bytes) ≡ []
-      → AreOthers stop (added (Some 1024) stream (take i bytes))
+      → AreOthers stop (added usual_limit stream (take i bytes))
   unfolding told
   at_start i earlier closed =
-      others_front stop (added (Some 1024) stream (take i bytes))
+      others_front stop (added usual_limit stream (take i bytes))
       (if breaks_at stream bytes i then Print replacement ∷ [] else [])
       (asked i earlier (record { within = omega arith; starts = inl closed }))
 
   -- A byte after which no character is open ends at a start, and any other adds nothing that stops.
-  pub others_before : (i : ℕ) → i < n → AreOthers stop (added (Some 1024) stream (take i bytes))
-  others_before zero earlier = rw (added-nothing (Some 1024) stream) tt
+  pub others_before : (i : ℕ) → i < n → AreOthers stop (added usual_limit stream (take i bytes))
+  others_before zero earlier = rw (added-nothing usual_limit stream) tt
   others_before (suc i) earlier =
       let byte : ℕ = get_or bytes i 0 in
       let here : List ℕ = stream ++ take i bytes in
@@ -98,9 +98,9 @@ module _ (stop : ℕ → Bool) (no_text : stop 0 ≡ false) (stream bytes : List
       let before = others_before i (omega arith) in
       elim (silent here byte) [
         | inl closed ↦ at_start (suc i) earlier (rw (one, ← append_assoc) closed)
-        | inr opens ↦ rw (one, added_both (Some 1024) stream (take i bytes) (byte ∷ []))
-            (others_append stop (added (Some 1024) stream (take i bytes))
-            (added (Some 1024) here (byte ∷ [])) before (elim opens [
+        | inr opens ↦ rw (one, added_both usual_limit stream (take i bytes) (byte ∷ []))
+            (others_append stop (added usual_limit stream (take i bytes))
+            (added usual_limit here (byte ∷ [])) before (elim opens [
               | inl none ↦ rw none tt
               | inr broken ↦ rw broken (no_text, tt)
             ]))

@@ -1,5 +1,5 @@
 -- An event has at most 1,088 data bytes, and the second one that a byte adds has at most four: by cases of the event.
-use Rattle.vte_c.proofs.Common.{All, All-head, All-tail, AreGroups, CsiDispatch, Event, Execute, Hook, IsBounded, IsShort, List, OscDispatch, Print, Some, [], arith, concat}
+use Rattle.vte_c.proofs.Common.{All, All-head, All-tail, AreGroups, CsiDispatch, Event, Execute, Hook, IsBounded, IsShort, List, OscDispatch, Print, [], arith, concat, usual_limit}
 use Rattle.vte_c.proofs.Common.{count_of, data_of, flat_map, group_bytes, len_utf8_bounds, length, length-append, length-encode, piece_bytes, refl, sum_by-cons}
 use Rattle.vte_c.proofs.Common.{two_bytes, ℕ, ◌*◌, ◌+◌, ◌<◌, ◌∷◌, ◌≡◌, ◌≤◌}
 
@@ -40,7 +40,7 @@ groups_size groups h = omega (arith, length_groups groups, few_groups groups h, 
 abbrev most_data : ℕ
 most_data = 1088
 
-pub data_most : (event : Event) → IsBounded (Some 1024) event → length (data_of event) ≤ most_data
+pub data_most : (event : Event) → IsBounded usual_limit event → length (data_of event) ≤ most_data
 data_most (Print c) h = omega (arith, length-encode c, (len_utf8_bounds c).1)
 data_most (Hook groups ints ignore final) h = omega (arith, groups_size groups h.0)
 data_most (OscDispatch pieces bell) h = omega (arith, length_pieces pieces, h.0, h.1)

@@ -1,6 +1,6 @@
 -- Calls of the parser write the text of what they read: a run is written as its characters are, and a chunk that is
 -- short enough has room for its text.
-use Rattle.vte_c.proofs.Common.{Event, HasRead, IsUtf8, List, Parser, Some, TextRoom, [], add-zero, add_assoc, added, after, ap, append-nil, append_assoc, arith}
+use Rattle.vte_c.proofs.Common.{Event, HasRead, IsUtf8, List, Parser, TextRoom, [], add-zero, add_assoc, added, after, ap, append-nil, append_assoc, arith, usual_limit}
 use Rattle.vte_c.proofs.Common.{cases_Bool, chars, encodes-chars, false, flat_map-append, inl, inr, le-leb, length, length-append, map, nat_le, nat_tests, plain_text}
 use Rattle.vte_c.proofs.Common.{plain_text_of, refl, sym, take, true, with_text, with_text_of, ℕ, ◌&&◌, ◌*◌, ◌++◌, ◌+◌, ◌<◌, ◌∙◌, ◌∷◌, ◌≡◌, ◌≤◌}
 use Rattle.vte_core.specs.Text.{run_event}
@@ -68,7 +68,7 @@ writes_run room text utf8 some =
 -- The first n bytes were read, and the room has all of their text.
 pub record HasTextOf (old new : TextRoom) (stream bytes : List ℕ) (n : ℕ) (parser : Parser 1024) : Type 0 where
   pub parsed : HasRead parser (stream ++ take n bytes)
-  pub holds : new ≡ with_all old (plain_text (added (Some 1024) stream (take n bytes)))
+  pub holds : new ≡ with_all old (plain_text (added usual_limit stream (take n bytes)))
 
 pub written_nothing : {stream : List ℕ} {parser : Parser 1024} (room : TextRoom) (bytes : List ℕ)
     → HasRead parser stream
@@ -76,23 +76,23 @@ pub written_nothing : {stream : List ℕ} {parser : Parser 1024} (room : TextRoo
 written_nothing {stream} room bytes parsed =
     record {
       parsed = rw (append-nil stream) parsed;
-      holds = rw (added-nothing (Some 1024) stream) (simp (append-nil, add-zero));
+      holds = rw (added-nothing usual_limit stream) (simp (append-nil, add-zero));
     }
 
 pub written_more : {old new later : TextRoom} {stream bytes : List ℕ} {n : ℕ} {parser parser_later : Parser 1024}
     (chunk : List ℕ) → old.fits ≡ true
-    → length (plain_text (added (Some 1024) (stream ++ take n bytes) chunk)) ≤ 8 * length chunk
+    → length (plain_text (added usual_limit (stream ++ take n bytes) chunk)) ≤ 8 * length chunk
     → HasTextOf old new stream bytes n parser
     → take (n + length chunk) bytes ≡ take n bytes ++ chunk → new.used + 8 * length chunk ≤ new.size
-    → later ≡ after with_text_of new (added (Some 1024) (stream ++ take n bytes) chunk)
+    → later ≡ after with_text_of new (added usual_limit (stream ++ take n bytes) chunk)
     → HasRead parser_later ((stream ++ take n bytes) ++ chunk)
     → HasTextOf old later stream bytes (n + length chunk) parser_later
 written_more {old} {new} {stream = stream} {bytes = bytes} {n = n} chunk kept slow h parts fits performed parsed =
-    let before = added (Some 1024) stream (take n bytes) in
-    let more = added (Some 1024) (stream ++ take n bytes) chunk in
+    let before = added usual_limit stream (take n bytes) in
+    let more = added usual_limit (stream ++ take n bytes) chunk in
     record {
       parsed = rw (parts, ← append_assoc) parsed;
-      holds = rw (parts, added_both (Some 1024) stream (take n bytes) chunk, flat_map-append plain_text_of before more)
+      holds = rw (parts, added_both usual_limit stream (take n bytes) chunk, flat_map-append plain_text_of before more)
           (performed ∙ all_written new more (ap (λ (r : TextRoom). r.fits) h.holds ∙ kept) (omega (arith, fits, slow))
           ∙ ap (λ (r : TextRoom). with_all r (plain_text more)) h.holds
           ∙ with_all-append old (plain_text before) (plain_text more));

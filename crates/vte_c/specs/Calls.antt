@@ -1,8 +1,8 @@
 -- What the calls of the library ensure.
-use Rattle.std.specs.Prelude.{◌≡◌, ◌<◌, ◌≤◌, ℕ, false, List, ◌++◌, length, drop, take, Some}
+use Rattle.std.specs.Prelude.{◌≡◌, ◌<◌, ◌≤◌, ℕ, false, List, ◌++◌, length, drop, take}
 use Rattle.vte_core.specs.Event.{Event}
 use Rattle.vte_core.specs.Saved.{HasReadSaved}
-use Rattle.vte_core.specs.Stream.{added}
+use Rattle.vte_core.specs.Stream.{added, usual_limit}
 use Rattle.vte_core.specs.declared.parser.saved.Saved.{Saved}
 use Rattle.vte_c.specs.Record.{events_in, kinds_in}
 use Rattle.vte_c.specs.Told.{AreEncoded, AreOthers, HasStripped, HasTold, HaveOtherKinds, StopsAtKind, is_stop, no_room, fed_count}
@@ -51,7 +51,7 @@ pub record Feeds (kinds stops : ℕ) (parser next : Saved) (bytes : List ℕ)
   -- shorter front of the bytes adds one.
   pub until : (stream : List ℕ) → HasReadSaved parser stream → is_stop kinds stops 0 ≡ false →
       is_stop kinds stops 3 ≡ false → (i : ℕ) → i < fed_count result →
-      AreOthers (is_stop kinds stops) (added (Some 1024) stream (take i bytes))
+      AreOthers (is_stop kinds stops) (added usual_limit stream (take i bytes))
 
 -- `vte_strip`
 pub record Strips (parser next : Saved) (bytes old_text text : List ℕ)

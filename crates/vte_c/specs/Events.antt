@@ -1,5 +1,5 @@
 -- The caller's buffers for events, and how an event changes them.
-use Rattle.std.specs.Prelude.{◌≡◌, ◌≤◌, ℕ, ◌+◌, ◌-◌, ◌^◌, Bool, false, ◌&&◌, ◌||◌, List, [], ◌∷◌, ◌++◌, length, map, min, take, if◌then◌else◌, nat_le, nat_lt}
+use Rattle.std.specs.Prelude.{◌≡◌, ◌≤◌, ℕ, ◌+◌, ◌-◌, ◌^◌, Bool, false, ◌&&◌, ◌||◌, List, [], ◌∷◌, ◌++◌, length, map, min, take, if◌then◌else◌, nat_le, nat_lt, ⊤}
 use Rattle.std.specs.Str.{IsUtf8}
 use Rattle.vte_core.specs.Event.{Event}
 use Rattle.vte_core.specs.declared.scan.taken.Run.{Run}
@@ -109,7 +109,7 @@ with_run room from run = with_taken room (from + run.start) run.taken
 -- A text is well-formed.
 abbrev pub AreCharacters : Taken → Type 0
 AreCharacters (Text text) = IsUtf8 text.now
-AreCharacters _ = Unit {0}
+AreCharacters _ = ⊤
 
 -- There may be no room for what one byte adds, or a stop or a pause has come.
 abbrev pub is_full : Room → Bool

@@ -1,9 +1,9 @@
 -- How far a call has come.
-use Rattle.std.specs.Prelude.{◌≡◌, ◌+◌, ◌<◌, ◌≤◌, ℕ, Bool, false, ◌||◌, List, ◌++◌, length, drop, map, take, Some}
+use Rattle.std.specs.Prelude.{◌≡◌, ◌+◌, ◌<◌, ◌≤◌, ℕ, Bool, false, ◌||◌, List, ◌++◌, length, drop, map, take}
 use Rattle.std.specs.List.{flat_map, list_any}
 use Rattle.vte_core.specs.Event.{Event}
 use Rattle.vte_core.specs.Parser.{HasRead}
-use Rattle.vte_core.specs.Stream.{added}
+use Rattle.vte_core.specs.Stream.{added, usual_limit}
 use Rattle.vte_core.specs.declared.parser.Parser.{Parser}
 use Rattle.vte_c.specs.Events.{Room}
 use Rattle.vte_c.specs.Record.{Item, has, item_data, item_events, records_from, reported}
@@ -19,12 +19,12 @@ pub record AreFirst (events all : List Event) : Type 0 where
 -- as one that has read another.
 pub record Continues (since next bytes : List ℕ) (n : ℕ) (told : List Event) : Type 0 where
   pub goes_on : (more : List ℕ) →
-      added (Some 1024) since (bytes ++ more)
-      ≡ told ++ added (Some 1024) next (drop n bytes ++ more)
+      added usual_limit since (bytes ++ more)
+      ≡ told ++ added usual_limit next (drop n bytes ++ more)
   -- what a front of the bytes adds, beyond the first n
   pub fronts : (k : ℕ) → n + k ≤ length bytes →
-      AreFirst (added (Some 1024) since (take (n + k) bytes))
-      (told ++ added (Some 1024) next (take k (drop n bytes)))
+      AreFirst (added usual_limit since (take (n + k) bytes))
+      (told ++ added usual_limit next (take k (drop n bytes)))
 
 -- Whether a record is of the kinds.
 abbrev pub has_kind : ℕ → List VteEvent → Bool
@@ -72,7 +72,7 @@ pub record ReadsOn (old new : Room) (since next bytes : List ℕ) (from n : ℕ)
   pub shows : flat_map (item_events bytes) items ≡ reported old.kinds told
   pub holds : HasItems old new bytes items
   pub before : StopsAtNone old → (i : ℕ) → i < n →
-      AreOthersIn old (added (Some 1024) since (take i (drop from bytes)))
+      AreOthersIn old (added usual_limit since (take i (drop from bytes)))
 
 -- A call that had read bytes up to a place has read n more.
 pub record HasReadOn (old new : Room) (parser : Parser 1024) (since bytes : List ℕ)

@@ -1,12 +1,12 @@
 -- What was reported of a stream to a caller.
-use Rattle.std.specs.Prelude.{◌≡◌, ◌+◌, ◌-◌, ◌^◌, ◌<◌, ◌≤◌, ℕ, Bool, false, ◌&&◌, List, [], ◌∷◌, ◌++◌, length, drop, map, take, Some, if◌then◌else◌, ◌==◌}
+use Rattle.std.specs.Prelude.{◌≡◌, ◌+◌, ◌-◌, ◌^◌, ◌<◌, ◌≤◌, ℕ, Bool, false, ◌&&◌, List, [], ◌∷◌, ◌++◌, length, drop, map, take, if◌then◌else◌, ◌==◌, ⊤}
 use Rattle.std.specs.List.{flat_map}
 use Rattle.std.specs.Str.{IsUtf8}
 use Rattle.event_log.specs.Plain.{plain_text}
 use Rattle.vte_core.specs.Brief.{IsBounded}
 use Rattle.vte_core.specs.Event.{Event}
 use Rattle.vte_core.specs.Saved.{HasReadSaved}
-use Rattle.vte_core.specs.Stream.{added, events}
+use Rattle.vte_core.specs.Stream.{added, events, usual_limit}
 use Rattle.vte_core.specs.Text.{HasNoControls}
 use Rattle.vte_core.specs.declared.parser.saved.Saved.{Saved}
 use Rattle.vte_c.specs.Events.{room_of}
@@ -23,8 +23,8 @@ pub record HasGiven {A : Type 0} (of : List Event → List A) (parser : Saved) (
   pub since : List ℕ
   pub reads : HasReadSaved parser since
   pub goes_on : (more : List ℕ) →
-      given ++ of (added (Some 1024) since (unread ++ more))
-      ≡ of (events (Some 1024) (stream ++ more))
+      given ++ of (added usual_limit since (unread ++ more))
+      ≡ of (events usual_limit (stream ++ more))
 
 -- The events of these kinds were reported.
 abbrev pub HasTold : ℕ → Saved → List Event → List ℕ → List ℕ → Type 0
@@ -48,12 +48,12 @@ is_stop kinds stops kind = has kinds kind && has stops kind
 
 -- No event has a kind that stops.
 abbrev pub AreOthers : (ℕ → Bool) → List Event → Type 0
-AreOthers stops [] = Unit {0}
+AreOthers stops [] = ⊤
 AreOthers stops (event ∷ events) = (stops (kind_of event) ≡ false) × AreOthers stops events
 
 -- None of these is among the stops.
 abbrev pub HaveOtherKinds : ℕ → List ℕ → Type 0
-HaveOtherKinds stops [] = Unit {0}
+HaveOtherKinds stops [] = ⊤
 HaveOtherKinds stops (kind ∷ kinds) = (has stops kind ≡ false) × HaveOtherKinds stops kinds
 
 -- A call stops after the first record that is among the stops: at most one follows it.
@@ -68,7 +68,7 @@ pub record StopsAtKind (stops : ℕ) (kinds : List ℕ) : Type 0 where
 -- these.
 abbrev pub IsRunOfKind : Run → List ℕ → Type 0
 IsRunOfKind TextRun bytes = IsUtf8 bytes × HasNoControls bytes
-IsRunOfKind DataRun bytes = Unit {0}
+IsRunOfKind DataRun bytes = ⊤
 
 -- A part of the input that is a run, of one byte or more.
 pub record IsRunAt (input : List ℕ) (run : Run) (start size : ℕ) : Type 0 where
@@ -78,8 +78,8 @@ pub record IsRunAt (input : List ℕ) (run : Run) (start size : ℕ) : Type 0 wh
 
 -- The items can be read: an event is within the limits, and what is in the input is a run.
 abbrev pub AreReadable : List ℕ → List Item → Type 0
-AreReadable input [] = Unit {0}
-AreReadable input (Single event ∷ items) = IsBounded (Some 1024) event × AreReadable input items
+AreReadable input [] = ⊤
+AreReadable input (Single event ∷ items) = IsBounded usual_limit event × AreReadable input items
 AreReadable input (InInput run start size ∷ items) =
     IsRunAt input run start size × AreReadable input items
 

@@ -1,9 +1,9 @@
 //! From bytes to events.
-ghost use Rattle.std.specs.Prelude.{◌≡◌, ◌<◌, ◌≤◌, ◌+◌, ◌^◌, ◌++◌, ℕ, false, List, Some, length, take};
+ghost use Rattle.std.specs.Prelude.{◌≡◌, ◌<◌, ◌≤◌, ◌+◌, ◌^◌, ◌++◌, ℕ, false, List, length, take};
 ghost use Rattle.vte_core.specs.Parser.{HasRead};
 ghost use Rattle.vte_core.specs.Event.{Event};
 ghost use Rattle.vte_core.specs.Saved.{HasReadSaved};
-ghost use Rattle.vte_core.specs.Stream.{added};
+ghost use Rattle.vte_core.specs.Stream.{added, usual_limit};
 ghost use Rattle.vte_c.specs.Calls.{Feeds};
 ghost use Rattle.vte_c.specs.Events.{Starts, is_full, room_of};
 ghost use Rattle.vte_c.specs.Feeding.{AreOthersIn, HasReadOn, HaveOtherRecords, StopsAtNone};
@@ -69,7 +69,7 @@ fn read_into(saved: &mut Saved, bytes: &[u8], room: &mut Events<'_>) -> usize
     ensures within { result ≤ length bytes.now }
     ensures stops { (stream : List ℕ) → HasReadSaved saved.old stream →
         StopsAtNone (room_of room.old) → (i : ℕ) → i < result →
-        AreOthersIn (room_of room.old) (added (Some 1024) stream (take i bytes.now)) }
+        AreOthersIn (room_of room.old) (added usual_limit stream (take i bytes.now)) }
     ensures feeds { (told : List Event) (stream rest : List ℕ) →
         HasTold (room_of room.old).kinds saved.old told stream (bytes.now ++ rest) →
         HasFed room.old room.new saved.new told stream bytes.now rest result }

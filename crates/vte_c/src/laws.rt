@@ -1,9 +1,9 @@
 //! Laws of what is reported to a caller. The functions do nothing: their contracts are the laws.
 ghost use Rattle.event_log.specs.Plain.{plain_text};
-ghost use Rattle.std.specs.Prelude.{◌≡◌, ◌++◌, ℕ, List, [], Some};
+ghost use Rattle.std.specs.Prelude.{◌≡◌, ◌++◌, ℕ, List, []};
 ghost use Rattle.vte_core.specs.Event.{Event};
 ghost use Rattle.vte_core.specs.Saved.{IsZero};
-ghost use Rattle.vte_core.specs.Stream.{events};
+ghost use Rattle.vte_core.specs.Stream.{events, usual_limit};
 ghost use Rattle.vte_core.specs.declared.parser.saved.Saved.{Saved};
 ghost use Rattle.vte_c.specs.Record.{reported};
 ghost use Rattle.vte_c.specs.Told.{HasStripped, HasTold};
@@ -22,7 +22,7 @@ pub fn events_are_told()
     // bytes of a command.
     ensures all { (kinds : ℕ) (parser : Saved) (told : List Event) (stream : List ℕ) →
         HasTold kinds parser told stream [] →
-        told ≡ reported kinds (events (Some 1024) stream) }
+        told ≡ reported kinds (events usual_limit stream) }
     // Eight kinds are all.
     ensures every { (events : List Event) → reported 255 events ≡ events }
 {
@@ -37,7 +37,7 @@ pub fn text_is_stripped()
         HasStripped parser text stream unread →
         HasStripped parser text (stream ++ bytes) (unread ++ bytes) }
     ensures all { (parser : Saved) (text stream : List ℕ) → HasStripped parser text stream [] →
-        text ≡ plain_text (events (Some 1024) stream) }
+        text ≡ plain_text (events usual_limit stream) }
 {
     vte_core::laws::empty_stream();
     let _ = Saved::new();

@@ -6,9 +6,9 @@
 //! anything else that is passed.
 #![tactic(auto)]
 
-ghost use Rattle.std.specs.Prelude.{◌≡◌, ℕ, List, Some};
+ghost use Rattle.std.specs.Prelude.{◌≡◌, ℕ, List};
 ghost use Rattle.vte_core.specs.Saved.{HasReadSaved};
-ghost use Rattle.vte_core.specs.Stream.{IsFinished, IsUnfinished};
+ghost use Rattle.vte_core.specs.Stream.{IsFinished, IsUnfinished, usual_limit};
 ghost use Rattle.vte_c.specs.Calls.{Feeds, Strips};
 
 mod event;
@@ -76,10 +76,10 @@ pub extern "C" fn vte_strip(
 pub extern "C" fn vte_is_open(parser: &Saved) -> u8
     // If not, more bytes give what they give on their own.
     ensures closed { result ≡ 0 → (stream : List ℕ) → HasReadSaved parser.now stream
-        → IsFinished (Some 1024) stream }
+        → IsFinished usual_limit stream }
     // If one is, they don't.
     ensures opens { result ≡ 1 → (stream : List ℕ) → HasReadSaved parser.now stream
-        → IsUnfinished (Some 1024) stream }
+        → IsUnfinished usual_limit stream }
 {
     if Parser::restored(parser).is_open() {
         1

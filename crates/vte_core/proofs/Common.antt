@@ -43,11 +43,11 @@ pub use Rattle.vte_core.specs.Parameters.{AreGroups, Number, colon, count_of, gr
 unfoldable pub use Rattle.vte_core.specs.Parameters.{groups_of, has_too_many_numbers, numbers, shown}
 pub use Rattle.vte_core.specs.Perform.{after}
 pub use Rattle.vte_core.specs.FirstMatch.{from_first}
-pub use Rattle.vte_core.specs.Stream.{added, cut_at_escape, escape, with_bodies}
+pub use Rattle.vte_core.specs.Stream.{added, cut_at_escape, escape, with_bodies, usual_limit}
 unfoldable pub use Rattle.vte_core.specs.Stream.{events, open_end, outcome}
 pub use Rattle.vte_core.specs.SystemCommand.{IsCommandData, bell, ends_command, has_room, is_data_byte, kept_after, most_pieces, system_command_rest}
 unfoldable pub use Rattle.vte_core.specs.SystemCommand.{drops_data, kept_items, pieces_of, system_command_outcome}
-pub use Rattle.vte_core.specs.Text.{is_control_character, is_layout, is_left_out, segments_outcome, run_event}
+pub use Rattle.vte_core.specs.Text.{EndsRun, is_control_character, is_layout, is_left_out, segments_outcome, run_event}
 unfoldable pub use Rattle.vte_core.specs.Text.{character_event, executed_events, malformed_event, segment_event, text_outcome}
 pub use Rattle.vte_core.specs.Utf8.{Range, allowed_length, is_in, scalar_of, segments, segments_after, from_to, rows_after_bytes, rows_after_byte, is_complete}
 unfoldable pub use Rattle.vte_core.specs.Utf8.{trailing_count, is_truncated, is_well_formed, utf8_rows}
@@ -68,7 +68,7 @@ pub use Rattle.vte_core.specs.machine.Place.{AtEscape, InControlSequence, InData
 unfoldable pub use Rattle.vte_core.specs.machine.Place.{outcome_from}
 pub use Rattle.vte_core.specs.machine.Progress.{Advances, CameTo, CameInside, IsRefusedAt, IsSettled, MayGoOn, ReadsUpTo, RefusesAt, StandsAt, StandsInside}
 pub use Rattle.vte_core.specs.machine.Reading.{ReadsHead}
-pub use Rattle.vte_core.specs.machine.TextRun.{ArePrinted, AreRun, EndsRun, IsPrinted, IsRun, PrintsRun}
+pub use Rattle.vte_core.specs.machine.TextRun.{ArePrinted, AreRun, IsPrinted, IsRun, PrintsRun}
 pub use Rattle.vte_core.specs.machine.Scans.{IsRange, Scans}
 pub use Rattle.vte_core.specs.machine.Store.{Stored, Keeps, PiecesEnd, SameItems, cut_data, cut_pieces, ends_after, fitting, pieces_from}
 pub use Rattle.vte_core.specs.machine.Takes.{TakesBytes, TakesByte}

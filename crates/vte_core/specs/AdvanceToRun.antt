@@ -1,5 +1,5 @@
 -- What `advance_to_run` ensures.
-use Rattle.std.specs.Prelude.{◌≡◌, ℕ, ◌+◌, ◌*◌, ◌<◌, ◌≤◌, Bool, true, false, Option, Some, List, [], ◌++◌, length, take, drop, map, slice_index}
+use Rattle.std.specs.Prelude.{◌≡◌, ℕ, ◌+◌, ◌*◌, ◌<◌, ◌≤◌, Bool, true, false, Option, Some, List, [], ◌++◌, length, take, drop, map, slice_index, ⊤}
 use Rattle.std.specs.Str.{chars}
 use Rattle.vte_core.specs.declared.scan.taken.Run.{Run}
 use Rattle.vte_core.specs.declared.scan.taken.Taken.{Taken}
@@ -12,8 +12,7 @@ use Rattle.vte_core.specs.Looks.{looks}
 use Rattle.vte_core.specs.Others.{TellsOthers}
 use Rattle.vte_core.specs.Parser.{HasRead}
 use Rattle.vte_core.specs.Stream.{added}
-use Rattle.vte_core.specs.Text.{HasNoControls, is_control_character}
-use Rattle.vte_core.specs.Utf8.{is_well_formed, scalar_of}
+use Rattle.vte_core.specs.Text.{EndsRun, HasNoControls}
 
 -- The bytes of a run: those of its text, or its data.
 abbrev pub taken_bytes : Taken → List ℕ
@@ -33,20 +32,14 @@ taken_events Nothing = []
 abbrev pub run_events : Run → List Event
 run_events run = taken_events run.taken
 
--- No character that is printed begins at the place: a well-formed sequence there is a control.
-abbrev pub BeginsNoCharacter : List ℕ → ℕ → Type 0
-BeginsNoCharacter bytes place =
-    (n : ℕ) → place + n ≤ length bytes → is_well_formed (take n (drop place bytes)) ≡ true
-    → is_control_character (scalar_of (take n (drop place bytes))) ≡ true
-
 -- A text has a character and no control, and no character that is printed follows. Data have a
 -- byte, and no byte that is put follows.
 abbrev pub IsWhole : List ℕ → ℕ → Taken → Type 0
 IsWhole bytes end (Text text) =
-    (0 < length text.now) × HasNoControls text.now × BeginsNoCharacter bytes end
+    (0 < length text.now) × HasNoControls text.now × EndsRun false bytes end
 IsWhole bytes end (Data those) =
     (0 < length those.now) × (end < length bytes → IsPut (slice_index bytes end) → ⊥)
-IsWhole bytes end Nothing = Unit {0}
+IsWhole bytes end Nothing = ⊤
 
 -- The run stands in the bytes at its place.
 pub record IsRunIn (bytes : List ℕ) (run : Run) : Type 0 where

@@ -10,7 +10,7 @@ use Rattle.vte_core.specs.Event.{Execute}
 use Rattle.vte_core.specs.IgnoredString.{ignored_string_outcome}
 use Rattle.vte_core.specs.Key.{key_of}
 use Rattle.vte_core.specs.Outcome.{Outcome, NothingOpen, leaves, tell}
-use Rattle.vte_core.specs.FirstMatch.{before_first, from_first}
+use Rattle.vte_core.specs.FirstMatch.{cut_before}
 use Rattle.vte_core.specs.SystemCommand.{system_command_outcome}
 use Rattle.vte_core.specs.Text.{text_outcome, executed_events}
 
@@ -34,5 +34,5 @@ body_rest limit (key ∷ bytes) =
 -- else is dropped.
 unfoldable pub body_outcome : Option ℕ → List ℕ → Outcome
 body_outcome limit bytes =
-    tell (executed_events (before_first (λ b. is_key (class_of b)) bytes))
-    (body_rest limit (from_first (λ b. is_key (class_of b)) bytes))
+    let cut = cut_before (λ b. is_key (class_of b)) bytes in
+    tell (executed_events cut.inside) (body_rest limit cut.rest)

@@ -1,16 +1,17 @@
 -- One byte adds at most two events to a stream, and only the first of them may be long.
 use Rattle.std.specs.Char.{IsScalar}
-use Rattle.std.specs.Prelude.{◌≡◌, ℕ, ◌<◌, ◌≤◌, true, false, List, [], ◌∷◌, length, Option, Some, None}
+use Rattle.std.specs.Prelude.{◌≡◌, ℕ, ◌<◌, ◌≤◌, true, false, List, [], ◌∷◌, length, Option, Some, None, ⊤}
 use Rattle.std.specs.List.{concat}
-use Rattle.vte_core.specs.Class.{class_of, is_data}
+use Rattle.vte_core.specs.Class.{IsPut}
 use Rattle.vte_core.specs.Event.{Event, Print, Execute, Hook, Put, Unhook, OscDispatch, CsiDispatch, EscDispatch}
+use Rattle.vte_core.specs.Intermediates.{most_intermediates}
 use Rattle.vte_core.specs.Parameters.{AreGroups}
 use Rattle.vte_core.specs.SystemCommand.{most_pieces}
 use Rattle.vte_core.specs.Text.{is_control_character}
 
 -- The pieces fit into a buffer of this size.
 abbrev pub FitsStore : Option ℕ → List (List ℕ) → Type 0
-FitsStore None pieces = Unit {0}
+FitsStore None pieces = ⊤
 FitsStore (Some limit) pieces = length (concat pieces) ≤ limit
 
 -- A character that is printed: a scalar value of Unicode, and no control.
@@ -24,7 +25,7 @@ IsExecuted byte = is_control_character byte ≡ true
 -- A control sequence or a device control string: at least one group, and a final byte among 40..7E.
 abbrev pub IsSequence : List (List ℕ) → List ℕ → ℕ → Type 0
 IsSequence groups intermediates final =
-    AreGroups groups × (length intermediates ≤ 2) × (final < 0x7f) × (0x40 ≤ final)
+    AreGroups groups × (length intermediates ≤ most_intermediates) × (final < 0x7f) × (0x40 ≤ final)
     × (0 < length groups)
 
 -- The limits of an event. The final byte of an escape sequence is among 30..7E.
@@ -32,14 +33,14 @@ abbrev pub IsBounded : Option ℕ → Event → Type 0
 IsBounded limit (Print c) = IsPrintable c
 IsBounded limit (Execute byte) = IsExecuted byte
 IsBounded limit (Hook groups intermediates ignore final) = IsSequence groups intermediates final
-IsBounded limit (Put byte) = is_data (class_of byte) ≡ true
-IsBounded limit Unhook = Unit {0}
+IsBounded limit (Put byte) = IsPut byte
+IsBounded limit Unhook = ⊤
 IsBounded limit (OscDispatch pieces bell) =
     (length pieces ≤ most_pieces) × FitsStore limit pieces × (0 < length pieces)
 IsBounded limit (CsiDispatch groups intermediates ignore final) =
     IsSequence groups intermediates final
 IsBounded limit (EscDispatch intermediates ignore final) =
-    (length intermediates ≤ 2) × (final < 0x7f) × (0x30 ≤ final)
+    (length intermediates ≤ most_intermediates) × (final < 0x7f) × (0x30 ≤ final)
 
 -- A printed character or an executed byte.
 abbrev pub IsShort : Event → Type 0
@@ -48,7 +49,7 @@ IsShort (Execute byte) = IsExecuted byte
 IsShort _ = ⊥
 
 abbrev pub IsBrief : Option ℕ → List Event → Type 0
-IsBrief limit [] = Unit {0}
+IsBrief limit [] = ⊤
 IsBrief limit (event ∷ []) = IsBounded limit event
 IsBrief limit (event ∷ last ∷ []) = IsBounded limit event × IsShort last
 IsBrief limit _ = ⊥

@@ -1,5 +1,5 @@
 -- The classes of bytes outside text (ECMA-48, VT500 parser).
-use Rattle.std.specs.Prelude.{◌≡◌, ℕ, List, [], ◌∷◌, Bool, true, false, if◌then◌else◌, ◌==◌, nat_lt}
+use Rattle.std.specs.Prelude.{◌≡◌, ℕ, List, [], ◌∷◌, Bool, true, false, if◌then◌else◌, ◌==◌, nat_lt, ⊤}
 
 pub data Class : Type 0 where
   -- 00..17, 19, 1C..1F: C0 except CAN, SUB and ESC
@@ -123,5 +123,5 @@ IsPut b = is_data (class_of b) ≡ true
 
 -- Each byte is in the class.
 abbrev pub AreInClass : (Class → Bool) → List ℕ → Type 0
-AreInClass has [] = Unit {0}
+AreInClass has [] = ⊤
 AreInClass has (b ∷ bytes) = (has (class_of b) ≡ true) × AreInClass has bytes

@@ -4,7 +4,7 @@ use Rattle.vte_core.specs.Class.{class_of, is_cancel, ends_head}
 use Rattle.vte_core.specs.Event.{Event, Execute, CsiDispatch}
 use Rattle.vte_core.specs.Head.{head_of, head_bytes, is_well_shaped, sequence_event}
 use Rattle.vte_core.specs.Outcome.{Outcome, NothingOpen, leaves, tell}
-use Rattle.vte_core.specs.FirstMatch.{before_first, from_first}
+use Rattle.vte_core.specs.FirstMatch.{cut_before}
 use Rattle.vte_core.specs.Text.{text_outcome, executed_events}
 
 -- CAN and SUB are executed. A final byte dispatches a well-shaped head, and gives nothing after any
@@ -24,6 +24,5 @@ control_sequence_rest head (end ∷ text) = tell (control_sequence_end head end)
 -- the rest is dropped.
 unfoldable pub control_sequence_outcome : List ℕ → Outcome
 control_sequence_outcome bytes =
-    let inside = before_first (λ b. ends_head (class_of b)) bytes in
-    tell (executed_events inside)
-    (control_sequence_rest (head_bytes inside) (from_first (λ b. ends_head (class_of b)) bytes))
+    let cut = cut_before (λ b. ends_head (class_of b)) bytes in
+    tell (executed_events cut.inside) (control_sequence_rest (head_bytes cut.inside) cut.rest)

@@ -6,7 +6,7 @@ use Rattle.vte_core.specs.Event.{Event, Execute, Hook, Put, Unhook}
 use Rattle.vte_core.specs.Head.{head_of, head_bytes, is_well_shaped, sequence_event}
 use Rattle.vte_core.specs.IgnoredString.{ignored_string_outcome}
 use Rattle.vte_core.specs.Outcome.{Outcome, NothingOpen, OpenData, leaves, tell}
-use Rattle.vte_core.specs.FirstMatch.{before_first, from_first}
+use Rattle.vte_core.specs.FirstMatch.{cut_before}
 use Rattle.vte_core.specs.Text.{text_outcome}
 
 -- ST as a single byte. It is the only 8-bit control that is recognised outside text, and only in
@@ -30,8 +30,8 @@ data_rest (end ∷ text) = tell (data_end end) (text_outcome text)
 -- is dropped.
 unfoldable pub data_outcome : List ℕ → Outcome
 data_outcome bytes =
-    tell (map Put (filter (λ b. is_data (class_of b)) (before_first ends_data bytes)))
-    (data_rest (from_first ends_data bytes))
+    let cut = cut_before ends_data bytes in
+    tell (map Put (filter (λ b. is_data (class_of b)) cut.inside)) (data_rest cut.rest)
 
 -- CAN and SUB are executed. A final byte hooks if the head is well shaped; otherwise the string is
 -- ignored.
@@ -50,5 +50,5 @@ device_control_rest head (end ∷ bytes) = device_control_end head end bytes
 -- The head ends as that of a control sequence does, but C0 in it is dropped.
 unfoldable pub device_control_outcome : List ℕ → Outcome
 device_control_outcome bytes =
-    device_control_rest (head_bytes (before_first (λ b. ends_head (class_of b)) bytes))
-    (from_first (λ b. ends_head (class_of b)) bytes)
+    let cut = cut_before (λ b. ends_head (class_of b)) bytes in
+    device_control_rest (head_bytes cut.inside) cut.rest

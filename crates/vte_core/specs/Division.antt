@@ -1,6 +1,6 @@
 -- The right division of a text: each segment is the well-formed sequence that starts there; failing
 -- that, the longest truncated one; failing that, one byte.
-use Rattle.std.specs.Prelude.{◌≡◌, ◌⊎◌, ℕ, ◌≤◌, true, List, [], ◌∷◌, ◌++◌, length}
+use Rattle.std.specs.Prelude.{◌≡◌, ◌⊎◌, ℕ, ◌≤◌, true, List, [], ◌∷◌, ◌++◌, length, ⊤}
 use Rattle.std.specs.List.{concat}
 use Rattle.vte_core.specs.Utf8.{is_well_formed, is_truncated, segments}
 
@@ -24,6 +24,6 @@ pub record IsRightSegment (segment later : List ℕ) : Type 0 where
 
 -- Each segment is the right one if the others follow it.
 abbrev pub AreRightSegments : List (List ℕ) → Type 0
-AreRightSegments [] = Unit {0}
+AreRightSegments [] = ⊤
 AreRightSegments (segment ∷ more) =
     IsRightSegment segment (concat more) × AreRightSegments more

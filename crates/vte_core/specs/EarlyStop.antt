@@ -37,13 +37,19 @@ told limit stream bytes i =
 unfoldable pub stream_at : List ℕ → List ℕ → ℕ → List ℕ
 stream_at stream bytes n = if breaks_at stream bytes n then [] else stream ++ take n bytes
 
+-- The performer was terminated at no start before i.
+abbrev pub NeverStopsBefore : {V : Type 0} → (V → Event → V) → (V → Bool) → V → Option ℕ → List ℕ
+    → List ℕ → ℕ → Type 0
+NeverStopsBefore step is_terminated old limit stream bytes i =
+    (start : ℕ) → start < i → IsStart stream bytes start
+    → is_terminated (after step old (told limit stream bytes start)) ≡ false
+
 -- The performer has received the events of the first i bytes, and was terminated at no start before
 -- i.
 pub record HasPassed {V : Type 0} (step : V → Event → V) (is_terminated : V → Bool) (old value : V)
     (limit : Option ℕ) (stream bytes : List ℕ) (i : ℕ) : Type 0 where
   pub performed : value ≡ after step old (added limit stream (take i bytes))
-  pub earlier : (j : ℕ) → j < i → IsStart stream bytes j
-      → is_terminated (after step old (told limit stream bytes j)) ≡ false
+  pub earlier : NeverStopsBefore step is_terminated old limit stream bytes i
 
 -- The call came to place n: the performer took what is told before it, and was terminated at no
 -- start before it.
@@ -51,8 +57,7 @@ pub record ComesTo {V : Type 0} (step : V → Event → V) (is_terminated : V �
     (limit : Option ℕ) (stream bytes : List ℕ) (n : ℕ) : Type 0 where
   pub within : n ≤ length bytes
   pub performed : new ≡ after step old (told limit stream bytes n)
-  pub earlier : (i : ℕ) → i < n → IsStart stream bytes i
-      → is_terminated (after step old (told limit stream bytes i)) ≡ false
+  pub earlier : NeverStopsBefore step is_terminated old limit stream bytes n
   pub starts : n < length bytes → IsStart stream bytes n
   -- The bytes from there on in a further call leave the performer as one call with all bytes would.
   pub goes_on : after step new (added limit (stream_at stream bytes n) (drop n bytes))

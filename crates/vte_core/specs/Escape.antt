@@ -5,7 +5,7 @@ use Rattle.vte_core.specs.Class.{class_of, is_cancel, is_intermediate, ends_esca
 use Rattle.vte_core.specs.Event.{Event, Execute, EscDispatch}
 use Rattle.vte_core.specs.Intermediates.{first_two, are_too_many}
 use Rattle.vte_core.specs.Outcome.{Outcome, NothingOpen, leaves, tell}
-use Rattle.vte_core.specs.FirstMatch.{before_first, from_first}
+use Rattle.vte_core.specs.FirstMatch.{cut_before}
 use Rattle.vte_core.specs.Text.{text_outcome, executed_events}
 
 -- CAN and SUB are executed. A final byte dispatches the sequence.
@@ -24,7 +24,6 @@ escape_rest intermediates (end ∷ text) =
 -- intermediates.
 unfoldable pub escape_outcome : List ℕ → Outcome
 escape_outcome bytes =
-    let inside = before_first (λ b. ends_escape (class_of b)) bytes in
-    tell (executed_events inside)
-    (escape_rest (filter (λ b. is_intermediate (class_of b)) inside)
-    (from_first (λ b. ends_escape (class_of b)) bytes))
+    let cut = cut_before (λ b. ends_escape (class_of b)) bytes in
+    tell (executed_events cut.inside)
+    (escape_rest (filter (λ b. is_intermediate (class_of b)) cut.inside) cut.rest)

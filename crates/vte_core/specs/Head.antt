@@ -6,7 +6,7 @@ use Rattle.vte_core.specs.Class.{class_of, is_head, is_intermediate, is_marker, 
 use Rattle.vte_core.specs.Intermediates.{first_two, are_too_many}
 use Rattle.vte_core.specs.Event.{Event}
 use Rattle.vte_core.specs.Parameters.{groups_of, has_too_many_numbers}
-use Rattle.vte_core.specs.FirstMatch.{before_first, from_first}
+use Rattle.vte_core.specs.FirstMatch.{cut_before}
 
 -- A head: an optional private marker, then parameter bytes, then the rest, which should be
 -- intermediates.
@@ -17,11 +17,9 @@ pub record Head : Type 0 where
 
 -- The head after its marker.
 abbrev pub head_after : List ℕ → List ℕ → Head
-head_after marker bytes = record {
-  marker = marker;
-  parameters = before_first (λ b. not (is_parameter_text (class_of b))) bytes;
-  intermediates = from_first (λ b. not (is_parameter_text (class_of b))) bytes;
-}
+head_after marker bytes =
+    let cut = cut_before (λ b. not (is_parameter_text (class_of b))) bytes in
+    record { marker = marker; parameters = cut.inside; intermediates = cut.rest }
 
 unfoldable pub head_of : List ℕ → Head
 head_of [] = head_after [] []

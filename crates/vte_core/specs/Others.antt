@@ -1,5 +1,5 @@
 -- Events other than those of runs.
-use Rattle.std.specs.Prelude.{◌≡◌, ℕ, ◌≤◌, Option, List, [], ◌++◌}
+use Rattle.std.specs.Prelude.{◌≡◌, ℕ, ◌≤◌, Option, List, [], ◌++◌, ⊤}
 use Rattle.std.specs.List.{All}
 use Rattle.vte_core.specs.EarlyStop.{told}
 use Rattle.vte_core.specs.Event.{Event, Print, Put, replacement}
@@ -9,13 +9,13 @@ use Rattle.vte_core.specs.Stream.{open_end}
 abbrev pub IsOther : Event → Type 0
 IsOther (Print c) = c ≡ replacement
 IsOther (Put byte) = ⊥
-IsOther _ = Unit {0}
+IsOther _ = ⊤
 
 -- Neither a printed character of ASCII nor data.
 abbrev pub IsWide : Event → Type 0
 IsWide (Print c) = 0x80 ≤ c
 IsWide (Put byte) = ⊥
-IsWide _ = Unit {0}
+IsWide _ = ⊤
 
 -- Before place n of a call nothing is told that belongs into a run: only the character that an
 -- earlier call began, if one was open.

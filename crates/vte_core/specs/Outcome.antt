@@ -1,5 +1,5 @@
 -- The outcome of a text, a body or a stream: its events, and what it leaves open at its end.
-use Rattle.std.specs.Prelude.{◌≡◌, ℕ, Bool, false, List, [], ◌∷◌, ◌++◌}
+use Rattle.std.specs.Prelude.{◌≡◌, ℕ, Bool, false, List, [], ◌∷◌, ◌++◌, ⊤}
 use Rattle.vte_core.specs.Event.{Event, Print, Unhook, OscDispatch, replacement}
 
 pub data Open : Type 0 where
@@ -21,7 +21,7 @@ closing_events (OpenCommand pieces dropped) = OscDispatch pieces false ∷ []
 -- If a command is open, the flag says whether data bytes of it are in no piece.
 abbrev pub IsLoss : Open → Bool → Type 0
 IsLoss (OpenCommand pieces dropped) lost = lost ≡ dropped
-IsLoss _ lost = Unit {0}
+IsLoss _ lost = ⊤
 
 abbrev pub unfinished : Open → List ℕ
 unfinished (OpenCharacter bytes) = bytes

@@ -1,5 +1,5 @@
 -- The events of a stream, which is cut at each ESC.
-use Rattle.std.specs.Prelude.{◌≡◌, ◌≢◌, ℕ, List, [], ◌∷◌, ◌++◌, length, drop, Option, None}
+use Rattle.std.specs.Prelude.{◌≡◌, ◌≢◌, ℕ, List, [], ◌∷◌, ◌++◌, length, drop, Option, Some, None}
 use Rattle.std.specs.Prelude.{if◌then◌else◌, ◌==◌}
 use Rattle.vte_core.specs.Body.{body_outcome}
 use Rattle.vte_core.specs.Event.{Event, Print}
@@ -26,6 +26,10 @@ abbrev pub with_bodies : Option ℕ → Outcome → List (List ℕ) → Outcome
 with_bodies limit part [] = part
 with_bodies limit part (body ∷ bodies) =
     tell (closed_events part) (with_bodies limit (body_outcome limit body) bodies)
+
+-- The limit of `Parser::new`.
+abbrev pub usual_limit : Option ℕ
+usual_limit = Some 1024
 
 -- `limit` is how many data bytes of an operating system command are kept.
 unfoldable pub outcome : Option ℕ → List ℕ → Outcome

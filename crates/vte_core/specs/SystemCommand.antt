@@ -5,7 +5,7 @@ use Rattle.vte_core.specs.Class.{class_of, is_cancel}
 use Rattle.vte_core.specs.Event.{Event, Execute, OscDispatch}
 use Rattle.vte_core.specs.Outcome.{Outcome, OpenCommand, leaves, tell}
 use Rattle.vte_core.specs.Parameters.{semicolon}
-use Rattle.vte_core.specs.FirstMatch.{before_first, from_first}
+use Rattle.vte_core.specs.FirstMatch.{cut_before}
 use Rattle.vte_core.specs.Text.{text_outcome}
 
 abbrev pub bell : ℕ
@@ -70,6 +70,6 @@ system_command_rest pieces dropped (end ∷ text) = tell (command_end pieces end
 -- The end is the first of BEL, CAN and SUB.
 unfoldable pub system_command_outcome : Option ℕ → List ℕ → Outcome
 system_command_outcome limit bytes =
-    let items = items_of (before_first ends_command bytes) in
-    system_command_rest (pieces_of limit items) (drops_data limit items)
-    (from_first ends_command bytes)
+    let cut = cut_before ends_command bytes in
+    let items = items_of cut.inside in
+    system_command_rest (pieces_of limit items) (drops_data limit items) cut.rest

@@ -1,5 +1,5 @@
 -- The events of a text.
-use Rattle.std.specs.Prelude.{◌≡◌, ℕ, Bool, false, not, ◌&&◌, ◌||◌, List, [], ◌∷◌, map, if◌then◌else◌, ◌==◌, nat_lt, nat_le}
+use Rattle.std.specs.Prelude.{◌≡◌, ℕ, ◌+◌, ◌≤◌, Bool, true, false, not, ◌&&◌, ◌||◌, List, [], ◌∷◌, length, map, take, drop, if◌then◌else◌, ◌==◌, nat_lt, nat_le}
 use Rattle.std.specs.List.{All, filter}
 use Rattle.std.specs.Str.{chars}
 use Rattle.vte_core.specs.Class.{class_of, is_control}
@@ -22,6 +22,12 @@ is_left_out keeps c = not (keeps && is_layout c) && is_control_character c
 -- No character of the text ends a run.
 abbrev pub IsRunText : Bool → List ℕ → Type 0
 IsRunText keeps text = All (λ c. is_left_out keeps c ≡ false) (chars text)
+
+-- No character of a run begins at the place: a well-formed sequence there is left out.
+abbrev pub EndsRun : Bool → List ℕ → ℕ → Type 0
+EndsRun keeps bytes place =
+    (n : ℕ) → place + n ≤ length bytes → is_well_formed (take n (drop place bytes)) ≡ true
+    → is_left_out keeps (scalar_of (take n (drop place bytes))) ≡ true
 
 -- No character of a text is a control.
 abbrev pub HasNoControls : List ℕ → Type 0

@@ -10,7 +10,7 @@ ghost use Rattle.vte_core.specs.Examples.{AreLeft, open_command_examples};
 ghost use Rattle.vte_core.specs.Laws.{AreParameters, AreWellFormed, Resyncs, CountsData, DispatchesShown, GivesCharacters, Grows, IsDecoded, IsEncoding, OpensSilently};
 ghost use Rattle.vte_core.specs.Perform.{after};
 ghost use Rattle.vte_core.specs.Stops.{GoesOnFromPlaces, TellsUnits};
-ghost use Rattle.vte_core.specs.Stream.{added, events};
+ghost use Rattle.vte_core.specs.Stream.{added, events, usual_limit};
 ghost use Rattle.vte_core.specs.Utf8.{is_well_formed, segments};
 
 use crate::parser::Parser;
@@ -124,9 +124,9 @@ pub fn worked_examples()
     ensures escape { (limit : Option ℕ) → AreRight limit escape_examples }
     ensures control_sequence { (limit : Option ℕ) → AreRight limit control_sequence_examples }
     ensures device_control { (limit : Option ℕ) → AreRight limit device_control_examples }
-    ensures system_command { AreRight (Some 1024) system_command_examples }
+    ensures system_command { AreRight usual_limit system_command_examples }
     ensures no_limit { AreRight None system_command_examples }
-    ensures full_store { AreRight (Some 1024) full_store_examples }
+    ensures full_store { AreRight usual_limit full_store_examples }
     ensures store_of_five { AreRight (Some 5) store_of_five_examples }
     ensures store_of_two { AreRight (Some 2) store_of_two_examples }
     ensures open_commands { AreLeft (Some 2) open_command_examples }

@@ -1,6 +1,6 @@
 -- With room for all bytes, a parser reads them all, and each command's joined text fits. No command has more data than
 -- was stored and read, nor more separators than 16; so the contracts of both parsers become those of one.
-use Rattle.vte.proofs.Common.{◌≡◌, ℕ, ◌+◌, ◌≤◌, true, All, Option, Some, None, List, [], ◌∷◌, ◌++◌, length, Result, Ok, Err, refl, arith, concat, take-append_seam}
+use Rattle.vte.proofs.Common.{◌≡◌, ℕ, ◌+◌, ◌≤◌, true, All, Option, Some, None, List, [], ◌∷◌, ◌++◌, length, Result, Ok, Err, refl, arith, concat, take-append_seam, usual_limit}
 use Rattle.vte.proofs.Common.{false≢true, nat_tests, All-cons, All-drop, All-head, All-nil, All-tail, All-take, Event, OscDispatch}
 use Rattle.vte.proofs.Common.{added, events, LongParser, Refused, added_both, counts_data, events_are_bounded, PerformsAll, PerformsUntilStop, FitsText, PerformerValue, HasRoom, KeepsMemory, fits_room, short_meaning}
 use Rattle.vte.proofs.Common.{long_meaning}
@@ -44,17 +44,17 @@ front_fits size limit p front rest all =
 -- ---- the parser that keeps 1,024 bytes
 
 pub short_fits : (size : ℕ) (stream bytes : List ℕ) → TEXT_ROOM ≤ size
-    → All (FitsText size) (added (Some 1024) stream bytes)
+    → All (FitsText size) (added usual_limit stream bytes)
 short_fits size stream bytes room =
-    events_fit size 1024 (added (Some 1024) stream bytes) (omega (arith, room))
-    (All-drop (IsBounded (Some 1024)) (length (events (Some 1024) stream)) (events (Some 1024) (stream ++ bytes))
-    (events_are_bounded (Some 1024) (stream ++ bytes)))
+    events_fit size 1024 (added usual_limit stream bytes) (omega (arith, room))
+    (All-drop (IsBounded usual_limit) (length (events usual_limit stream)) (events usual_limit (stream ++ bytes))
+    (events_are_bounded usual_limit (stream ++ bytes)))
 
 module _ {V W : Type 0} {step : PerformerValue V W → Event → PerformerValue V W}
     {old new : PerformerValue V W} {bytes : List ℕ}
     {parser next : Parser 1024} where
   pub short_parses : ReadsBytes step old new bytes parser next
-      → PerformsAll short_meaning (Some 1024) step parser next old new bytes
+      → PerformsAll short_meaning usual_limit step parser next old new bytes
   short_parses r = record {
     parses =
         λ stream n read room. record {
@@ -67,7 +67,7 @@ module _ {V W : Type 0} {step : PerformerValue V W → Event → PerformerValue 
   }
 
   pub short_stops : {read : ℕ} → ReadsUntilTerminated step (λ lent. lent.terminated) old new bytes read parser next
-      → PerformsUntilStop short_meaning (Some 1024) step parser next old new bytes read
+      → PerformsUntilStop short_meaning usual_limit step parser next old new bytes read
   short_stops r = record {
     within = r.within;
     stops =

@@ -1,5 +1,5 @@
 -- A processor with a limit stands where its turns do: there is always memory. So what the turns ensure is true of it.
-use Rattle.vte.proofs.Common.{◌<◌, ◌≤◌, ℕ, List, Some, length, Result, Ok, Err, arith, Bor, Refused, TurnsMeaning, Meaning, State}
+use Rattle.vte.proofs.Common.{◌<◌, ◌≤◌, ℕ, List, length, Result, Ok, Err, arith, Bor, Refused, TurnsMeaning, Meaning, State, usual_limit}
 use Rattle.vte.proofs.Common.{Advanced, HasParsedAndHolds, HasTaken, IsAt, ReadsInTurns, ReadsSome, Standing, TurnsStandAt}
 use Rattle.vte.proofs.Common.{◌≡◌, refl, short_meaning, of_turns}
 use Rattle.vte_core.specs.declared.parser.Parser.{Parser}
@@ -9,7 +9,7 @@ use Rattle.vte.specs.declared.ansi.processor.Processor.{Processor}
 use Rattle.vte.specs.declared.ansi.titles.TheConstants.{TEXT_ROOM}
 
 abbrev pub limited : {N : ℕ} {J T W : Type 0} → (T → W) → TurnsMeaning (Parser N) J T W
-limited timeout_of = of_turns (Some 1024) short_meaning (λ text. TEXT_ROOM) timeout_of
+limited timeout_of = of_turns usual_limit short_meaning (λ text. TEXT_ROOM) timeout_of
 
 module _ {T A V W : Type 0} {timeout_of : T → W} {processor : Processor T A} {value : V} (s : State V W) where
   turns_at : IsAt (HasParsedAndHolds timeout_of processor) value s

@@ -1,6 +1,6 @@
 //! The parser, together with what a processor lends it. The references are separate parameters, not
 //! fields of one struct, so that the performer can borrow each.
-ghost use Rattle.std.specs.Prelude.{◌≡◌, ◌≤◌, ◌+◌, ◌++◌, ℕ, List, Option, Some, true, false, length};
+ghost use Rattle.std.specs.Prelude.{◌≡◌, ◌≤◌, ◌+◌, ◌++◌, ℕ, List, Option, true, false, length};
 ghost use Rattle.vte.specs.machine.Performing.{PerformsAll, PerformsUntilStop, performer_value};
 ghost use Rattle.vte.specs.Processor.{State, meaning, parse};
 ghost use Rattle.vte.specs.machine.Performer.{with_event};
@@ -8,6 +8,7 @@ ghost use Rattle.vte.specs.machine.Turns.{IsAtBegin, IsParsedOn, IsParsedWithRoo
 ghost use Rattle.vte.specs.machine.ShortMeaning.{short_meaning};
 ghost use Rattle.vte.specs.Memory.{KeepsMemory, ParserMeaning, of_turns};
 ghost use Rattle.vte_handler.specs.Timeout.{timeout_meaning};
+ghost use Rattle.vte_core.specs.Stream.{usual_limit};
 
 use crate::ansi::performer::{Performer, ProcessorState};
 use crate::ansi::text_buffer::TextBuffer;
@@ -45,7 +46,7 @@ pub(crate) trait EventParser {
 }
 
 impl EventParser for ProcessorParser {
-    ghost limit = { Some 1024 };
+    ghost limit = { usual_limit };
 
     ghost reading = { short_meaning };
 

@@ -1,11 +1,12 @@
 -- A machine that is made of what was saved of another is at the place where that one was: by cases of the state.
-use Rattle.vte_core.proofs.Common.{◌≡◌, ℕ, Option, Some, List, take, arith, refl, subst, ◌∙◌, Machine, State, Text, Escape, EscapeIntermediate, ControlSequence, DeviceControl, DeviceData, SystemCommand, IgnoredString, HoldsIntermediates, HasReadUnder, StandsBy, StandsInHead, Place, InText, AtEscape, InEscape, InControlSequence, InDeviceControl, InData, InSystemCommand, InIgnoredString, SameItems}
+use Rattle.vte_core.proofs.Common.{◌≡◌, ℕ, Option, List, take, arith, refl, subst, ◌∙◌, Machine, State, Text, Escape, EscapeIntermediate, ControlSequence, DeviceControl, DeviceData, SystemCommand, IgnoredString, HoldsIntermediates, HasReadUnder, StandsBy, StandsInHead, Place, InText, AtEscape, InEscape, InControlSequence, InDeviceControl, InData, InSystemCommand, InIgnoredString, SameItems}
 use Rattle.vte_core.specs.declared.parser.saved.Saved.{Saved}
 use Rattle.vte_core.specs.machine.Saved.{IsInHead, IsRestored, flag_of, state_bytes}
 use Rattle.vte_core.specs.machine.Groups.{AreParts}
 use Rattle.vte_core.specs.machine.Store.{ArePieceEnds}
 use Rattle.vte_core.specs.Saved.{HasReadSaved}
 use Rattle.vte_core.proofs.fields.Standing.{keeps-same, stands-by}
+use Rattle.vte_core.proofs.Common.{usual_limit}
 
 -- Everything that counts of a machine is saved: in a head the numbers, in a command its pieces.
 pub record HasSaved {B : Type 0} (saved : Saved) (machine : Machine B) : Type 0 where
@@ -65,7 +66,7 @@ by_saved limit _ old new _ h r o n s = absurd s
 
 -- what was saved has read what the machine has
 pub reads_saved : {B : Type 0} (saved : Saved) (machine : Machine B) → HasSaved saved machine
-    → (stream : List ℕ) → HasReadUnder (Some 1024) machine stream → HasReadSaved saved stream
+    → (stream : List ℕ) → HasReadUnder usual_limit machine stream → HasReadSaved saved stream
 reads_saved saved machine h stream has_read = record {
   reads = λ parser r. record {
     place = has_read.place;

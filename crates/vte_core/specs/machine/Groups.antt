@@ -1,6 +1,6 @@
 -- Groups as they are stored: all numbers in one list, and the length of each group.
 use Rattle.std.specs.Prelude.{◌≡◌, ℕ, ◌<◌, ◌≤◌, List, [], ◌∷◌, length, take, drop, sum, All, Bool, true, false, ◌++◌, Option, None, option_to_list}
-use Rattle.vte_core.specs.Parameters.{greatest_number}
+use Rattle.vte_core.specs.Parameters.{greatest_number, most_numbers}
 
 -- The numbers, cut into groups of these lengths.
 abbrev pub cut_by_lengths : List ℕ → List ℕ → List (List ℕ)
@@ -27,5 +27,5 @@ pub record AreStored (lengths numbers : List ℕ) : Type 0 where
 pub record AreParts (lengths numbers : List ℕ) (groups : List (List ℕ)) : Type 0 where
   pub stored : AreStored lengths numbers
   pub cut : groups ≡ cut_by_lengths lengths numbers
-  pub few_groups : length lengths ≤ 32
-  pub few_numbers : length numbers ≤ 32
+  pub few_groups : length lengths ≤ most_numbers
+  pub few_numbers : length numbers ≤ most_numbers

@@ -1,5 +1,5 @@
 -- The place at which a parser stands, and what it has read.
-use Rattle.std.specs.Prelude.{◌≡◌, ℕ, ◌<◌, Bool, true, false, if◌then◌else◌, Option, List, [], ◌∷◌, ◌++◌, length, take}
+use Rattle.std.specs.Prelude.{◌≡◌, ℕ, ◌<◌, Bool, true, false, if◌then◌else◌, Option, List, [], ◌∷◌, ◌++◌, length, take, ⊤}
 use Rattle.vte_core.specs.declared.head.Collected.{Collected}
 use Rattle.vte_core.specs.declared.head.HeadPart.{HeadPart}
 use Rattle.vte_core.specs.declared.head.HeadPart.TheVariants.{Entry, Parameters, Intermediates, Malformed}
@@ -55,7 +55,7 @@ pub record KeepsIntermediates (old new : Collected) : Type 0 where
 
 -- One private marker, or none.
 abbrev pub IsMarker : List ℕ → Type 0
-IsMarker [] = Unit {0}
+IsMarker [] = ⊤
 IsMarker (b ∷ []) = AreInClass is_marker (b ∷ [])
 IsMarker _ = ⊥
 
@@ -100,9 +100,9 @@ StandsBy limit (ControlSequence part) parser (InControlSequence head) =
     StandsInHead parser.collected part head
 StandsBy limit (DeviceControl part) parser (InDeviceControl head) =
     StandsInHead parser.collected part head
-StandsBy limit DeviceData parser InData = Unit {0}
+StandsBy limit DeviceData parser InData = ⊤
 StandsBy limit SystemCommand parser (InSystemCommand items) = Keeps limit parser.command items
-StandsBy limit IgnoredString parser InIgnoredString = Unit {0}
+StandsBy limit IgnoredString parser InIgnoredString = ⊤
 StandsBy limit _ parser _ = ⊥
 
 pub record Stands {B : Type 0} (limit : Option ℕ) (parser : Machine B)

@@ -1,5 +1,5 @@
 -- Places in a text or a body at which a stream may end, and what more bytes give there.
-use Rattle.std.specs.Prelude.{◌≡◌, ℕ, List, [], ◌∷◌, ◌++◌, Option}
+use Rattle.std.specs.Prelude.{◌≡◌, ℕ, List, [], ◌∷◌, ◌++◌, Option, ⊤}
 use Rattle.std.specs.List.{filter}
 use Rattle.vte_core.specs.Body.{body_outcome}
 use Rattle.vte_core.specs.Class.{class_of, ends_escape, ends_head, is_intermediate}
@@ -10,7 +10,7 @@ use Rattle.vte_core.specs.Event.{Event}
 use Rattle.vte_core.specs.Head.{head_bytes}
 use Rattle.vte_core.specs.IgnoredString.{ignored_string_outcome}
 use Rattle.vte_core.specs.Outcome.{Open, NothingOpen, OpenCharacter, OpenData, OpenCommand, Outcome, closing_events, tell}
-use Rattle.vte_core.specs.FirstMatch.{before_first, from_first}
+use Rattle.vte_core.specs.FirstMatch.{cut_before}
 use Rattle.vte_core.specs.Stream.{cut_at_escape, events, outcome, with_bodies}
 use Rattle.vte_core.specs.SystemCommand.{drops_data, ends_command, items_of, pieces_of, system_command_rest}
 use Rattle.vte_core.specs.Text.{executed_events, text_outcome}
@@ -36,35 +36,34 @@ pub data Place : Type 0 where
 -- No character is open.
 abbrev pub IsBetween : Place → Type 0
 IsBetween (InText bytes) = bytes ≡ []
-IsBetween _ = Unit {0}
+IsBetween _ = ⊤
 
 -- The outcome of bytes after the intermediates of an escape sequence.
 unfoldable pub escape_from : List ℕ → List ℕ → Outcome
 escape_from intermediates bytes =
-    let inside = before_first (λ b. ends_escape (class_of b)) bytes in
-    let all = intermediates ++ filter (λ b. is_intermediate (class_of b)) inside in
-    tell (executed_events inside)
-    (escape_rest all (from_first (λ b. ends_escape (class_of b)) bytes))
+    let cut = cut_before (λ b. ends_escape (class_of b)) bytes in
+    let all = intermediates ++ filter (λ b. is_intermediate (class_of b)) cut.inside in
+    tell (executed_events cut.inside) (escape_rest all cut.rest)
 
 -- The outcome of bytes after the head of a control sequence.
 unfoldable pub control_sequence_from : List ℕ → List ℕ → Outcome
 control_sequence_from head bytes =
-    let inside = before_first (λ b. ends_head (class_of b)) bytes in
-    tell (executed_events inside)
-    (control_sequence_rest (head ++ head_bytes inside)
-    (from_first (λ b. ends_head (class_of b)) bytes))
+    let cut = cut_before (λ b. ends_head (class_of b)) bytes in
+    tell (executed_events cut.inside)
+    (control_sequence_rest (head ++ head_bytes cut.inside) cut.rest)
 
 -- The outcome of bytes after the head of a device control string.
 unfoldable pub device_control_from : List ℕ → List ℕ → Outcome
 device_control_from head bytes =
-    device_control_rest (head ++ head_bytes (before_first (λ b. ends_head (class_of b)) bytes))
-    (from_first (λ b. ends_head (class_of b)) bytes)
+    let cut = cut_before (λ b. ends_head (class_of b)) bytes in
+    device_control_rest (head ++ head_bytes cut.inside) cut.rest
 
 -- The outcome of bytes after the items of an operating system command.
 unfoldable pub system_command_from : Option ℕ → List ℕ → List ℕ → Outcome
 system_command_from limit items bytes =
-    let all = items ++ items_of (before_first ends_command bytes) in
-    system_command_rest (pieces_of limit all) (drops_data limit all) (from_first ends_command bytes)
+    let cut = cut_before ends_command bytes in
+    let all = items ++ items_of cut.inside in
+    system_command_rest (pieces_of limit all) (drops_data limit all) cut.rest
 
 -- The outcome of the rest of the text or body.
 abbrev pub rest_outcome : Option ℕ → Place → List ℕ → Outcome

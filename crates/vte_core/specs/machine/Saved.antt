@@ -1,5 +1,5 @@
 -- A parser saved as plain data.
-use Rattle.std.specs.Prelude.{◌≡◌, ℕ, Bool, not, ◌==◌, List, [], ◌∷◌, take, replicate}
+use Rattle.std.specs.Prelude.{◌≡◌, ℕ, Bool, not, ◌==◌, List, [], ◌∷◌, take, replicate, ⊤}
 use Rattle.vte_core.specs.declared.head.HeadPart.TheVariants.{Entry, Parameters, Intermediates, Malformed}
 use Rattle.vte_core.specs.declared.parser.machine.Machine.{Machine}
 use Rattle.vte_core.specs.declared.parser.State.{State}
@@ -35,8 +35,8 @@ flag_of byte = not (byte == 0)
 
 -- The state is one in which numbers count.
 abbrev pub IsInHead : State → Type 0
-IsInHead (ControlSequence part) = Unit {0}
-IsInHead (DeviceControl part) = Unit {0}
+IsInHead (ControlSequence part) = ⊤
+IsInHead (DeviceControl part) = ⊤
 IsInHead _ = ⊥
 
 -- The machine was restored from `saved`.

@@ -1,5 +1,5 @@
 -- The stored part of an operating system command.
-use Rattle.std.specs.Prelude.{◌≡◌, ℕ, zero, suc, ◌+◌, ◌-◌, ◌<◌, ◌≤◌, List, [], ◌∷◌, ◌++◌, length, take, drop, Option, Some, None}
+use Rattle.std.specs.Prelude.{◌≡◌, ℕ, zero, suc, ◌+◌, ◌-◌, ◌<◌, ◌≤◌, List, [], ◌∷◌, ◌++◌, length, take, drop, Option, Some, None, ⊤}
 use Rattle.std.specs.Prelude.{Bool, true, false, slice_index, if◌then◌else◌, ◌==◌, nat_lt}
 use Rattle.std.specs.List.{All, filter, slice_range}
 use Rattle.std.specs.List.Sorted.{IsNonDecreasing}
@@ -28,7 +28,7 @@ fitting (Some limit) count run = take (limit - count) run
 -- There is memory for `more` bytes after `count` of them. With a limit there always is.
 abbrev pub HasCapacity : Option ℕ → ℕ → ℕ → ℕ → Type 0
 HasCapacity None capacity count more = count + more ≤ capacity
-HasCapacity (Some limit) capacity count more = Unit {0}
+HasCapacity (Some limit) capacity count more = ⊤
 
 -- The answer of a function that takes memory for `more` bytes after `count` of them. There was
 -- memory for `had` bytes, and now is for `has`.

@@ -1,11 +1,10 @@
 -- Text that is printed: bytes of ASCII, and characters.
-use Rattle.std.specs.Prelude.{◌≡◌, ℕ, ◌+◌, ◌-◌, ◌<◌, ◌≤◌, Bool, true, List, length, map, take, drop}
+use Rattle.std.specs.Prelude.{◌≡◌, ℕ, ◌-◌, ◌<◌, ◌≤◌, Bool, List, length, map, take, drop}
 use Rattle.std.specs.Str.{IsUtf8, chars}
 use Rattle.vte_core.specs.Event.{Event}
 use Rattle.vte_core.specs.machine.Between.{Each}
 use Rattle.vte_core.specs.Perform.{after}
-use Rattle.vte_core.specs.Text.{IsRunText, is_left_out, run_event}
-use Rattle.vte_core.specs.Utf8.{is_well_formed, scalar_of}
+use Rattle.vte_core.specs.Text.{IsRunText, run_event}
 
 -- 20..7F. DEL is printed.
 abbrev pub IsPrinted : ℕ → Type 0
@@ -14,12 +13,6 @@ IsPrinted b = (0x20 ≤ b) × (b < 0x80)
 -- From `from` up to `to` each byte is printed.
 abbrev pub ArePrinted : List ℕ → ℕ → ℕ → Type 0
 ArePrinted = Each IsPrinted
-
--- No run goes on at the place: a well-formed sequence there is a control that ends it.
-abbrev pub EndsRun : Bool → List ℕ → ℕ → Type 0
-EndsRun keeps bytes place =
-    (n : ℕ) → place + n ≤ length bytes → is_well_formed (take n (drop place bytes)) ≡ true
-    → is_left_out keeps (scalar_of (take n (drop place bytes))) ≡ true
 
 -- The bytes are characters, and none of these is a control, but for HT, LF and CR if it `keeps`
 -- these.

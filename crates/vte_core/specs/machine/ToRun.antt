@@ -1,5 +1,5 @@
 -- How far a call has come that returns a run.
-use Rattle.std.specs.Prelude.{◌≡◌, ℕ, ◌-◌, ◌<◌, Bool, true, false, List, [], ◌++◌, length, map, take, drop, Option, Result, Ok, Err, slice_index}
+use Rattle.std.specs.Prelude.{◌≡◌, ℕ, ◌-◌, ◌<◌, Bool, true, false, List, [], ◌++◌, length, map, take, drop, Option, Result, Ok, Err, slice_index, ⊤}
 use Rattle.std.specs.Str.{chars}
 use Rattle.vte_core.specs.declared.scan.taken.RunKind.{RunKind}
 use Rattle.vte_core.specs.declared.scan.taken.RunKind.TheVariants.{OfText, OfData, Empty}
@@ -14,21 +14,22 @@ use Rattle.vte_core.specs.Class.{IsPut, class_of, is_data}
 use Rattle.vte_core.specs.Event.{Event, Print, Put}
 use Rattle.vte_core.specs.machine.Parser.{HasReadUnder}
 use Rattle.vte_core.specs.machine.Progress.{StandsAt}
-use Rattle.vte_core.specs.machine.TextRun.{AreRun, EndsRun}
+use Rattle.vte_core.specs.machine.TextRun.{AreRun}
 use Rattle.vte_core.specs.machine.Scans.{IsRange}
 use Rattle.vte_core.specs.Stream.{added}
+use Rattle.vte_core.specs.Text.{EndsRun}
 
 -- The state is neither in a text nor in data.
 abbrev pub IsOutside : State → Type 0
 IsOutside (Text _) = ⊥
 IsOutside DeviceData = ⊥
-IsOutside _ = Unit {0}
+IsOutside _ = ⊤
 
 -- A byte is read in a sequence or a string, and isn't put.
 abbrev pub IsQuietIn : State → ℕ → Type 0
 IsQuietIn (Text _) b = ⊥
 IsQuietIn DeviceData b = is_data (class_of b) ≡ false
-IsQuietIn _ b = Unit {0}
+IsQuietIn _ b = ⊤
 
 -- The bytes that stand at the place.
 abbrev pub bytes_at : List ℕ → RunPlace → List ℕ
@@ -37,13 +38,13 @@ bytes_at bytes place = take (place.end - place.start) (drop place.start bytes)
 -- Text consists of characters, none of which is a control.
 abbrev pub AreOfKind : RunKind → List ℕ → Type 0
 AreOfKind OfText bytes = AreRun false bytes
-AreOfKind _ bytes = Unit {0}
+AreOfKind _ bytes = ⊤
 
 -- What was taken is a run of this kind, with these bytes.
 abbrev pub IsTaken : RunKind → List ℕ → Taken → Type 0
 IsTaken OfText bytes (TakenText text) = text.now ≡ bytes
 IsTaken OfData bytes (Data those) = those.now ≡ bytes
-IsTaken Empty bytes Nothing = Unit {0}
+IsTaken Empty bytes Nothing = ⊤
 IsTaken _ bytes _ = ⊥
 
 -- What the bytes of a run add to a stream.

@@ -13,7 +13,7 @@ pub use Rattle.vte_core.specs.Stream.{IsFinished, IsUnfinished}
 unfoldable pub use Rattle.vte_core.specs.Stream.{outcome}
 unfoldable pub use Rattle.vte_core.specs.SystemCommand.{drops_data}
 pub use Rattle.vte_core.specs.SystemCommand.{IsCommandData, has_room, most_pieces}
-pub use Rattle.vte_core.specs.Text.{character_event, is_control_character, is_layout, malformed_event, run_event}
+pub use Rattle.vte_core.specs.Text.{EndsRun, character_event, is_control_character, is_layout, malformed_event, run_event}
 pub use Rattle.vte_core.specs.Utf8.{is_in, is_truncated, scalar_of, from_to}
 pub use Rattle.vte_core.specs.declared.scan.taken.RunKind.TheVariants.{Empty}
 pub use Rattle.vte_core.specs.declared.parser.State.TheVariants.{DeviceData, Escape, EscapeIntermediate, IgnoredString, SystemCommand, Text}
@@ -28,7 +28,7 @@ pub use Rattle.vte_core.specs.machine.Place.{AtEscape, InControlSequence, InDevi
 pub use Rattle.vte_core.specs.machine.Progress.{Advances, IsSettled, ReadsUpTo, RefusesAt, StandsAt}
 pub use Rattle.vte_core.specs.machine.Reading.{ReadsHeadUpTo, with_open_number}
 pub use Rattle.vte_core.specs.machine.Ready.{IsReady}
-pub use Rattle.vte_core.specs.machine.TextRun.{ArePrinted, EndsRun, IsPrinted, IsRun, IsTextRun, PrintsRun}
+pub use Rattle.vte_core.specs.machine.TextRun.{ArePrinted, IsPrinted, IsRun, IsTextRun, PrintsRun}
 pub use Rattle.vte_core.specs.machine.Scans.{FindsEnd, IsRange, Scans, TakesFew}
 pub use Rattle.vte_core.specs.machine.Store.{ArePieceEnds, HasCapacity, Stored, Keeps, ReservesCapacity, SameItems, cut_pieces, fitting}
 pub use Rattle.vte_core.specs.machine.Takes.{Dispatches, TakesBytes, TakesByte}

@@ -1,5 +1,5 @@
 //! Control sequences.
-ghost use Rattle.std.specs.Prelude.{◌≡◌, ◌+◌, ◌<◌, ℕ, true, List};
+ghost use Rattle.std.specs.Prelude.{◌≡◌, ◌+◌, ◌<◌, ℕ, true, List, ⊤};
 ghost use Rattle.vte_core.specs.machine.Words.{Advances, CsiDispatch, Dispatches, HandlesByte, InControlSequence, MayRead, Moves, StandsInHead, TakesByte, class_of, is_final};
 
 use crate::buffer::Buffer;
@@ -25,7 +25,7 @@ impl<B: Buffer> Machine<B> {
     ) -> usize
         requires { MayRead ASKS P.is_terminated (P.value_of performer.old)
             (State.ControlSequence reached) self.old input.bytes.now from }
-        ensures advances { Advances (Unit {0}) ASKS P.step P.is_terminated
+        ensures advances { Advances ⊤ ASKS P.step P.is_terminated
             (P.value_of performer.old)
             (P.value_of performer.new) B.limit input.entry.bytes.now from result self.old self.new }
         ensures moves { Moves 5 0 input.entry.bytes.now from result self.old self.new
@@ -61,7 +61,7 @@ impl<B: Buffer> Machine<B> {
     ) -> usize
         requires { MayRead ASKS P.is_terminated (P.value_of performer.old)
             (State.ControlSequence reached) self.old input.bytes.now from }
-        ensures advances { Advances (Unit {0}) ASKS P.step P.is_terminated
+        ensures advances { Advances ⊤ ASKS P.step P.is_terminated
             (P.value_of performer.old)
             (P.value_of performer.new) B.limit input.entry.bytes.now from result self.old self.new }
         ensures moves { Moves 3 0 input.entry.bytes.now from result self.old self.new

@@ -1,5 +1,5 @@
 //! Device control strings.
-ghost use Rattle.std.specs.Prelude.{◌≡◌, ℕ, true, false, List};
+ghost use Rattle.std.specs.Prelude.{◌≡◌, ℕ, true, false, List, ⊤};
 ghost use Rattle.vte_core.specs.machine.Words.{Advances, DeviceData, HandlesByte, InDeviceControl, MayRead, MayReadByte, Moves, StandsInHead, TakesByte, class_of, is_data, is_final};
 
 use crate::buffer::Buffer;
@@ -24,7 +24,7 @@ impl<B: Buffer> Machine<B> {
     ) -> usize
         requires { MayRead ASKS P.is_terminated (P.value_of performer.old)
             (State.DeviceControl reached) self.old input.bytes.now from }
-        ensures advances { Advances (Unit {0}) ASKS P.step P.is_terminated
+        ensures advances { Advances ⊤ ASKS P.step P.is_terminated
             (P.value_of performer.old)
             (P.value_of performer.new) B.limit input.entry.bytes.now from result self.old self.new }
         ensures moves { Moves 5 0 input.entry.bytes.now from result self.old self.new
@@ -115,7 +115,7 @@ impl<B: Buffer> Machine<B> {
         requires may_read { MayReadByte ASKS P.is_terminated
             (P.value_of performer.old) DeviceData self.old input.bytes.now from byte }
         requires other { is_data (class_of byte) ≡ false }
-        ensures advances { Advances (Unit {0}) ASKS P.step P.is_terminated
+        ensures advances { Advances ⊤ ASKS P.step P.is_terminated
             (P.value_of performer.old)
             (P.value_of performer.new) B.limit input.entry.bytes.now from result self.old self.new }
         ensures moves { Moves 5 1 input.entry.bytes.now from result self.old self.new

@@ -1,5 +1,5 @@
 //! ESC, CAN and SUB, which end whatever is open, in every state.
-ghost use Rattle.std.specs.Prelude.{◌≡◌, true, [], ◌∷◌};
+ghost use Rattle.std.specs.Prelude.{◌≡◌, true, [], ◌∷◌, ⊤};
 ghost use Rattle.vte_core.specs.machine.Words.{Advances, Escape, HandlesByte, IsBetween, IsQuietIn, MayReadByte, Moves, TakesBytes, Place, Stands, TakesFew, after, class_of, closing_events_at, ends_all};
 
 use crate::buffer::Buffer;
@@ -47,7 +47,7 @@ impl<B: Buffer> Machine<B> {
             (P.value_of performer.old) self.old.state self.old input.bytes.now from byte }
         requires ends { ends_all (class_of byte) ≡ true }
         requires quiet { IsQuietIn self.old.state byte }
-        ensures advances { Advances (Unit {0}) ASKS P.step P.is_terminated
+        ensures advances { Advances ⊤ ASKS P.step P.is_terminated
             (P.value_of performer.old)
             (P.value_of performer.new) B.limit input.entry.bytes.now from result self.old self.new }
         ensures moves { Moves 3 1 input.entry.bytes.now from result self.old self.new

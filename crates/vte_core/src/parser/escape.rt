@@ -1,5 +1,5 @@
 //! Escape sequences, and what ESC begins.
-ghost use Rattle.std.specs.Prelude.{◌≡◌, ◌≢◌, ◌+◌, ◌*◌, ◌<◌, ◌≤◌, true, [], ◌∷◌, slice_index};
+ghost use Rattle.std.specs.Prelude.{◌≡◌, ◌≢◌, ◌+◌, ◌*◌, ◌<◌, ◌≤◌, true, [], ◌∷◌, slice_index, ⊤};
 ghost use Rattle.vte_core.specs.machine.Words.{Advances, AtEscape, Dispatches, EscDispatch, Escape, EscapeIntermediate, HandlesByte, IsBetween, MayRead, MayReadAt, Moves, Nothing, TakesBytes, Place};
 ghost use Rattle.vte_core.specs.machine.Words.{Stands, TakesByte, Text, class_of, is_final, looked};
 
@@ -26,7 +26,7 @@ impl<B: Buffer> Machine<B> {
         requires may_read { MayReadAt ASKS P.is_terminated (P.value_of performer.old)
             (Text Nothing) self.old input.bytes.now from }
         requires is { slice_index input.bytes.now from ≡ 0x1b }
-        ensures advances { Advances (Unit {0}) ASKS P.step P.is_terminated
+        ensures advances { Advances ⊤ ASKS P.step P.is_terminated
             (P.value_of performer.old)
             (P.value_of performer.new) B.limit input.entry.bytes.now from result self.old self.new }
         ensures moves { Moves 5 1 input.entry.bytes.now from result self.old self.new
@@ -64,7 +64,7 @@ impl<B: Buffer> Machine<B> {
     ) -> usize
         requires { MayRead ASKS P.is_terminated
             (P.value_of performer.old) Escape self.old input.bytes.now from }
-        ensures advances { Advances (Unit {0}) ASKS P.step P.is_terminated
+        ensures advances { Advances ⊤ ASKS P.step P.is_terminated
             (P.value_of performer.old)
             (P.value_of performer.new) B.limit input.entry.bytes.now from result self.old self.new }
         ensures moves { Moves 3 0 input.entry.bytes.now from result self.old self.new
@@ -165,7 +165,7 @@ impl<B: Buffer> Machine<B> {
     ) -> usize
         requires { MayRead ASKS P.is_terminated
             (P.value_of performer.old) EscapeIntermediate self.old input.bytes.now from }
-        ensures advances { Advances (Unit {0}) ASKS P.step P.is_terminated
+        ensures advances { Advances ⊤ ASKS P.step P.is_terminated
             (P.value_of performer.old)
             (P.value_of performer.new) B.limit input.entry.bytes.now from result self.old self.new }
         ensures moves { Moves 5 0 input.entry.bytes.now from result self.old self.new

@@ -1,4 +1,5 @@
 //! Ignored strings: SOS, PM, APC, and device control strings with a malformed head.
+ghost use Rattle.std.specs.Prelude.{⊤};
 ghost use Rattle.vte_core.specs.machine.Words.{Advances, IgnoredString, MayReadAt, Moves};
 
 use crate::buffer::Buffer;
@@ -16,7 +17,7 @@ impl<B: Buffer> Machine<B> {
     ) -> usize
         requires { MayReadAt ASKS P.is_terminated
             (P.value_of performer.old) IgnoredString self.old input.bytes.now from }
-        ensures advances { Advances (Unit {0}) ASKS P.step P.is_terminated
+        ensures advances { Advances ⊤ ASKS P.step P.is_terminated
             (P.value_of performer.old)
             (P.value_of performer.new) B.limit input.entry.bytes.now from result self.old self.new }
         ensures moves { Moves 5 0 input.entry.bytes.now from result self.old self.new

@@ -1,5 +1,5 @@
 //! Operating system commands.
-ghost use Rattle.std.specs.Prelude.{IfErr, IfOk};
+ghost use Rattle.std.specs.Prelude.{IfErr, IfOk, ⊤};
 ghost use Rattle.vte_core.specs.machine.Words.{Advances, MayReadAt, Moves, Refuses, SystemCommand, read_count};
 
 use crate::buffer::Buffer;
@@ -21,7 +21,7 @@ impl<B: Buffer> Machine<B> {
     ) -> Result<usize, Refused>
         requires { MayReadAt ASKS P.is_terminated
             (P.value_of performer.old) SystemCommand self.old input.bytes.now from }
-        ensures advances { Advances (Unit {0}) ASKS P.step P.is_terminated
+        ensures advances { Advances ⊤ ASKS P.step P.is_terminated
             (P.value_of performer.old) (P.value_of performer.new) B.limit
             input.entry.bytes.now from (read_count result) self.old self.new }
         ensures moves { IfOk result

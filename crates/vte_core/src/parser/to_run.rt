@@ -1,5 +1,5 @@
 //! Runs of text and data in the input, for callers that take them from there.
-ghost use Rattle.std.specs.Prelude.{◌≡◌, ◌+◌, ◌*◌, ◌≤◌, true, false, ℕ, List, IfErr, IfOk};
+ghost use Rattle.std.specs.Prelude.{◌≡◌, ◌+◌, ◌*◌, ◌≤◌, true, false, ℕ, List, IfErr, IfOk, ⊤};
 ghost use Rattle.vte_core.specs.AdvanceToRun.{ReadsToRun};
 ghost use Rattle.vte_core.specs.machine.Words.{Advances, ComesToRun, Costs, EndsRun, HasReadUnder, MayReadAt, Moves, Nothing, RefusesAt, TellsOthers, Text, looked, place_count, start_count};
 
@@ -108,7 +108,7 @@ impl<B: Buffer> Machine<B> {
         requires may_read { MayReadAt true P.is_terminated (P.value_of performer.old)
             (Text Nothing) self.old input.bytes.now from }
         requires other { EndsRun false input.bytes.now from }
-        ensures advances { Advances (Unit {0}) true P.step P.is_terminated
+        ensures advances { Advances ⊤ true P.step P.is_terminated
             (P.value_of performer.old) (P.value_of performer.new) B.limit
             input.entry.bytes.now from result self.old self.new }
         ensures moves { Moves 7 0 input.entry.bytes.now from result self.old self.new

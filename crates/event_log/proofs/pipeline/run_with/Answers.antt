@@ -1,6 +1,6 @@
 -- All that was read is written (`HasCome`), so a run that ends has written the text of a front of the input, or of all
 -- of it (`Progress`).
-use Rattle.event_log.proofs.Common.{◌≡◌, ◌<◌, inl, inr, refl, Ok, Err, Some, false, is_err, OnOk, Result, length, take, sym, ◌∙◌, arith, length-take-le}
+use Rattle.event_log.proofs.Common.{◌≡◌, ◌<◌, inl, inr, refl, Ok, Err, false, is_err, OnOk, Result, length, take, sym, ◌∙◌, arith, length-take-le, usual_limit}
 use Rattle.event_log.proofs.Progress.{come_first, come_more, come_to_front, come_to_end}
 use Rattle.event_log.proofs.pipeline.run_with.Goals as goal
 
@@ -14,7 +14,7 @@ pub loop-init : goal.loop-init
 loop-init g c = record {
   reads = record { since = _; parsed = c.new-parser.ensures };
   empty = c.requires.empty;
-  come = λ input held e f. come_first (c.empty_stream.ensures (Some 1024)) e f c.new-parser.ensures;
+  come = λ input held e f. come_first (c.empty_stream.ensures usual_limit) e f c.new-parser.ensures;
 }
 
 -- A read has failed.

@@ -1,10 +1,10 @@
 -- The call may stop early, but only once the bell has rung, and no further event changes that.
-use Rattle.std.proofs.Common.{◌≡◌, ℕ, Bool, true, false, List, [], ◌∷◌, length, drop, Some, refl, sym, ◌∙◌, ap, arith}
+use Rattle.std.proofs.Common.{◌≡◌, ℕ, Bool, true, false, List, [], ◌∷◌, length, drop, refl, sym, ◌∙◌, ap, arith}
 use Rattle.examples.specs.Bell.{rung_after}
 use Rattle.vte_core.specs.EarlyStop.{StopsExactly, stream_at}
 use Rattle.vte_core.specs.Event.{Event, Execute}
 use Rattle.vte_core.specs.Perform.{after}
-use Rattle.vte_core.specs.Stream.{added, events}
+use Rattle.vte_core.specs.Stream.{added, events, usual_limit}
 use Rattle.examples.proofs.bell.rings.Goals as goal
 
 stays : (event : Event) → rung_after true event ≡ true
@@ -18,9 +18,9 @@ stays_all (event ∷ events) = ap (λ rung. after rung_after rung events) (stays
 
 -- If the call stopped early, the bell has rung, and the bytes that follow can't change that. Otherwise all was read.
 as_all : (rung : Bool) (n : ℕ) (bytes : List ℕ)
-    → StopsExactly rung_after (λ has_rung. has_rung) false rung (Some 1024) [] bytes n
-    → rung ≡ after rung_after false (added (Some 1024) [] bytes)
-as_all true n bytes s = sym (stays_all (added (Some 1024) (stream_at [] bytes n) (drop n bytes))) ∙ s.comes.goes_on
+    → StopsExactly rung_after (λ has_rung. has_rung) false rung usual_limit [] bytes n
+    → rung ≡ after rung_after false (added usual_limit [] bytes)
+as_all true n bytes s = sym (stays_all (added usual_limit (stream_at [] bytes n) (drop n bytes))) ∙ s.comes.goes_on
 as_all false n bytes s = s.all (grind (arith, s.comes.within, s.stops))
 
 pub returns : goal.returns
@@ -28,5 +28,5 @@ returns c =
     let bytes = c.args.stream.now in
     as_all c.advance_until_terminated.new.performer.has_rung c.advance_until_terminated.result bytes
     (c.advance_until_terminated.ensures.stops [] c.new.ensures)
-    ∙ ap (λ nothing. after rung_after false (drop (length nothing) (events (Some 1024) bytes)))
-    (c.empty_stream.ensures (Some 1024))
+    ∙ ap (λ nothing. after rung_after false (drop (length nothing) (events usual_limit bytes)))
+    (c.empty_stream.ensures usual_limit)

@@ -1,10 +1,11 @@
 //! Lists of a processor's calls.
-ghost use Rattle.std.specs.Prelude.{Some, None, IfOk, IfErr};
+ghost use Rattle.std.specs.Prelude.{None, IfOk, IfErr};
 ghost use Rattle.vte.specs.LongProcessor.{HasParsedAndHoldsLong};
 ghost use Rattle.vte.specs.Memory.{LacksMemoryOnTheWay};
 ghost use Rattle.vte.specs.Processor.{State, meaning};
 ghost use Rattle.vte.specs.ProcessorCalls.{HasParsedAndHolds, IsAt, Replays};
 ghost use Rattle.vte.specs.Refusal.{ReplayedUntil, left_by};
+ghost use Rattle.vte_core.specs.Stream.{usual_limit};
 
 use crate::ansi::long_processor::LongProcessor;
 use crate::ansi::processor::Processor;
@@ -39,7 +40,7 @@ pub fn replay<H: Handler, T: Timeout + Drop, A: Allocator>(
     handler: &mut H,
     steps: &[Step<'_>],
 )
-    ensures { Replays (meaning (Some 1024) H.step T.set T.clear T.allows)
+    ensures { Replays (meaning usual_limit H.step T.set T.clear T.allows)
         (HasParsedAndHolds T.value_of processor.old) (HasParsedAndHolds T.value_of processor.new)
         (H.value_of handler.old) (H.value_of handler.new) steps.now }
 {

@@ -1,6 +1,6 @@
 -- A call of the parser goes on to the run that it returns, and by this run (`goes-to-run`), and reads a byte if it can
 -- (`further`).
-use Rattle.vte_c.proofs.Common.{List, Some, arith, drop, length, length-drop, room_of, stream_at, take, take_all, ℕ, ◌++◌, ◌-◌, ◌≡◌, ◌≤◌}
+use Rattle.vte_c.proofs.Common.{List, arith, drop, length, length-drop, room_of, stream_at, take, take_all, ℕ, ◌++◌, ◌-◌, ◌≡◌, ◌≤◌, usual_limit}
 use Rattle.vte_core.specs.AdvanceToRun.{run_bytes}
 use Rattle.vte_c.proofs.Going.{Laws, further, goes-to-run}
 use Rattle.vte_c.proofs.feed.read_more.Goals as goal
@@ -17,9 +17,9 @@ returns c =
     let returned = rw unread at call.ensures.returns in
     let begins : c.args.from ≤ length bytes = omega (arith, c.requires.within) in
     let laws : Laws = record {
-      units = c.early_stops.ensures.units (Some 1024);
-      goes_on = c.early_stops.ensures.goes_on (Some 1024);
-      silent = c.opens_silently.ensures (Some 1024);
+      units = c.early_stops.ensures.units usual_limit;
+      goes_on = c.early_stops.ensures.goes_on usual_limit;
+      silent = c.opens_silently.ensures usual_limit;
     } in
     let written = c.add_run.ensures.written in
     record {

@@ -1,13 +1,13 @@
 -- A saved parser of zeros is a new one, which has read nothing. What calls give is joined, and in the end nothing is
 -- unread (`Joining`).
-use Rattle.vte_c.proofs.Common.{Some, refl, sym, ◌∙◌}
+use Rattle.vte_c.proofs.Common.{refl, sym, ◌∙◌, usual_limit}
 use Rattle.vte_c.proofs.Joining.{given_all, given_before, given_first}
 use Rattle.vte_c.proofs.laws.text_is_stripped.Goals as goal
 
 pub returns-clause-starts : goal.returns-clause-starts
 returns-clause-starts c =
     λ parser zero.
-    given_first (c.empty_stream.ensures (Some 1024)) (rw (c.new.ensures.zeros ∙ sym zero) at c.new.ensures.reads)
+    given_first (c.empty_stream.ensures usual_limit) (rw (c.new.ensures.zeros ∙ sym zero) at c.new.ensures.reads)
 
 pub returns-clause-more : goal.returns-clause-more
 returns-clause-more c = given_before

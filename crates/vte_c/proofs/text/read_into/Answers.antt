@@ -1,6 +1,6 @@
 -- The text of a chunk has at most eight bytes for each of its own, so there is room for it (`written_more`). All chunks
 -- together have the text of all bytes read.
-use Rattle.vte_c.proofs.Common.{Some, TextRoom, added, ap, arith, drop, flat_map-append, length, length-drop, length-take, plain_text, plain_text_of, refl, sym, take, take-add}
+use Rattle.vte_c.proofs.Common.{TextRoom, added, ap, arith, drop, flat_map-append, length, length-drop, length-take, plain_text, plain_text_of, refl, sym, take, take-add, usual_limit}
 use Rattle.vte_c.proofs.Common.{take_all, text_room_of, ◌*◌, ◌++◌, ◌+◌, ◌-◌, ◌<◌, ◌∙◌, ◌≡◌, ◌≤◌}
 use Rattle.vte_c.proofs.Joining.{given_more}
 use Rattle.vte_c.proofs.Continuing.{continues-added}
@@ -38,7 +38,7 @@ loop-count-preserved c =
       written = λ stream reads.
           let h = c.loop-count.invariant.written stream reads in
           written_more chunk c.requires.starts.fits
-          (text_grows_slowly (c.bytes_are_brief.ensures (Some 1024)) (stream ++ take n bytes) chunk) h
+          (text_grows_slowly (c.bytes_are_brief.ensures usual_limit) (stream ++ take n bytes) chunk) h
           (rw (size, unread) (take-add n m bytes)) fits
           (c.advance_text.ensures.performs (stream ++ take n bytes) h.parsed)
           (c.advance_text.ensures.reads (stream ++ take n bytes) h.parsed);
@@ -49,7 +49,7 @@ returns-clause-strips c = λ before stream rest h.
     let bytes = c.args.bytes.now in
     let n = c.loop-count.count in
     let there = c.loop-count.invariant.written h.since h.reads in
-    let text = plain_text (added (Some 1024) h.since (take n bytes)) in
+    let text = plain_text (added usual_limit h.since (take n bytes)) in
     let held = rw c.requires.starts.text at (ap (λ (r : TextRoom). r.text) there.holds) in
     let continues = continues-added h.since bytes n in
     record {

@@ -1,5 +1,5 @@
 -- The text of a chunk has at most eight bytes for each of its own, so there is room for all of it (`kept_text`).
-use Rattle.event_log.proofs.Common.{◌<◌, ◌∙◌, Some, length, ap, sym, arith, rules, take-append-drop, Record}
+use Rattle.event_log.proofs.Common.{◌<◌, ◌∙◌, length, ap, sym, arith, rules, take-append-drop, Record, usual_limit}
 use Rattle.event_log.proofs.TextInRuns.{kept_text}
 use Rattle.event_log.proofs.Records.{half_has_room}
 use Rattle.event_log.proofs.plain.PlainCollector.collect.Goals as goal
@@ -16,7 +16,7 @@ loop-self-preserved c =
       none = λ e. absurd (omega arith);
       keeps = λ whole before.
           let h = c.loop-self.invariant.keeps whole before in
-          kept_text chunk c.split_at.result.1.now (c.bytes_are_brief.ensures (Some 1024)) h
+          kept_text chunk c.split_at.result.1.now (c.bytes_are_brief.ensures usual_limit) h
           (rw (c.split_at.ensures.front, c.split_at.ensures.back)
           (take-append-drop c.min.result c.loop-self.unread.now)) (omega arith)
           (c.advance_text.ensures.performs h.adds_up.since h.adds_up.parsed)

@@ -1,5 +1,5 @@
 -- The call stops before a line could be lost (`kept_lines`), and not before its first byte (`reads_some`).
-use Rattle.event_log.proofs.Common.{Some, arith, length-drop}
+use Rattle.event_log.proofs.Common.{arith, length-drop, usual_limit}
 use Rattle.event_log.proofs.Collected.{cut_from}
 use Rattle.event_log.proofs.RecordedLines.{kept_lines, reads_some}
 use Rattle.event_log.proofs.recorder.RecorderCollector.collect.Goals as goal
@@ -14,6 +14,6 @@ pub returns-clause-collects : goal.returns-clause-collects
 returns-clause-collects c = λ whole before.
     let call = c.advance_until_terminated-read in
     rw cut_from
-    (kept_lines c.args.bytes.now (c.early_stops.ensures.goes_on (Some 1024)) (c.early_stops.ensures.units (Some 1024))
+    (kept_lines c.args.bytes.now (c.early_stops.ensures.goes_on usual_limit) (c.early_stops.ensures.units usual_limit)
     c.requires.empty before (call.ensures.stops before.since before.parsed)
     (call.ensures.reads before.since before.parsed))

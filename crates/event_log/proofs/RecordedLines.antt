@@ -1,6 +1,6 @@
 -- A recorder that is asked at each start loses no line: unless it is terminated, at most half of its room is in use,
 -- and the lines up to the next start fit into the rest.
-use Rattle.event_log.proofs.Common.{◌≡◌, inl, inr, ℕ, zero, suc, ◌<◌, false, List, [], length, drop, refl, ap, ◌∙◌, arith, cases_Bool, StopsExactly, breaks_at, told, stream_at, usual_limit}
+use Rattle.event_log.proofs.Common.{◌≡◌, inl, inr, ℕ, zero, suc, ◌<◌, false, List, [], length, drop, refl, ap, ◌∙◌, arith, cases_Bool, StopsExactly, breaks_at, told_before, stream_at, usual_limit}
 use Rattle.event_log.proofs.Common.{Print, replacement, HasRead, after, GoesOnFromPlaces, TellsUnits, Parser, line_of, hex_character, hex_length, six_hex_digits, hex_byte, hex_digit, AddsUpTo}
 use Rattle.event_log.proofs.Common.{HasKept, Record, empty_record, is_to_be_written, with_event, with_text}
 use Rattle.vte_core.proofs.streams.After.{added-nothing}

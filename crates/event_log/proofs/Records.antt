@@ -1,7 +1,7 @@
 -- What a record holds after texts. It holds the texts of all events if there is room at each start: by induction over
 -- the places, from one start to the next.
 use Rattle.event_log.proofs.Common.{◌≡◌, ℕ, zero, suc, ◌+◌, ◌<◌, ◌≤◌, Bool, false, List, [], ◌∷◌, ◌++◌, length, inl, inr, refl, sym, ap, subst, ◌∙◌, usual_limit}
-use Rattle.event_log.proofs.Common.{append_assoc, append-nil, length-append, arith, take-append_seam, cases_Bool, le-leb, nat_tests, flat_map-append, flat_map, IsBrief, IsStart, told, Event, after}
+use Rattle.event_log.proofs.Common.{append_assoc, append-nil, length-append, arith, take-append_seam, cases_Bool, le-leb, nat_tests, flat_map-append, flat_map, IsBrief, IsStart, told_before, Event, after}
 use Rattle.event_log.proofs.Common.{TellsUnits, Record, BeginsLine, ExtendsLine, EndsLine, has_room_after, record_in, is_to_be_written, most_bytes, with_event, with_text, Lines}
 use Rattle.vte_core.proofs.streams.Performing.{after-append}
 

@@ -11,9 +11,10 @@ update_mode = 2026
 abbrev pub is_update_group : List ℕ → Bool
 is_update_group group = first_number group == update_mode
 
-abbrev pub update_groups : List (List ℕ) → ℕ
-update_groups [] = 0
-update_groups (group ∷ groups) = (if is_update_group group then 1 else 0) + update_groups groups
+abbrev pub update_group_count : List (List ℕ) → ℕ
+update_group_count [] = 0
+update_group_count (group ∷ groups) =
+    (if is_update_group group then 1 else 0) + update_group_count groups
 
 -- The only intermediate is `?`.
 abbrev pub is_private : List ℕ → Bool
@@ -22,12 +23,12 @@ is_private _ = false
 
 -- How often an event begins an update: once per group of the mode, in a sequence `?h` that isn't
 -- ignored.
-abbrev pub begins_of : Event → ℕ
-begins_of (CsiDispatch groups intermediates ignore final) =
+abbrev pub begins_in_event : Event → ℕ
+begins_in_event (CsiDispatch groups intermediates ignore final) =
     if ignore then 0 else if final == 0x68 && is_private intermediates
-    then update_groups groups else 0
-begins_of _ = 0
+    then update_group_count groups else 0
+begins_in_event _ = 0
 
 abbrev pub begin_count : List Event → ℕ
 begin_count [] = 0
-begin_count (event ∷ events) = begins_of event + begin_count events
+begin_count (event ∷ events) = begins_in_event event + begin_count events

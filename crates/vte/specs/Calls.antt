@@ -45,5 +45,5 @@ abbrev pub calls : List Event → List Call
 calls events = calls_from None events
 
 -- The calls that more events add.
-abbrev pub added_calls : List Event → List Event → List Call
-added_calls before all = drop (length (calls before)) (calls all)
+abbrev pub calls_beyond : List Event → List Event → List Call
+calls_beyond before all = drop (length (calls before)) (calls all)

@@ -5,10 +5,10 @@ use Rattle.std.specs.Prelude.{ℕ, zero, suc, Bool, Option, ◌++◌, List, ◌�
 use Rattle.vte_core.specs.Stream.{events, added}
 use Rattle.vte_handler.specs.Call.{Call}
 use Rattle.vte_handler.specs.Handler.{after}
-use Rattle.vte_handler.specs.Timeout.{TimeoutMeaning, timeout_meaning, AllowsAlone, IsKept}
+use Rattle.vte_handler.specs.Timeout.{TimeoutMeaning, timeout_meaning, AllowsAlone, IsSteady}
 use Rattle.vte.specs.BeginUpdate.{begin_count}
-use Rattle.vte.specs.Calls.{added_calls}
-use Rattle.vte.specs.Synchronized.{begins_among, kept_of, last_part, update_ended, begin_update, begins_with, after_last_end}
+use Rattle.vte.specs.Calls.{calls_beyond}
+use Rattle.vte.specs.Synchronized.{begins_among, still_held, last_part, update_ended, begin_update, begins_with, after_last_end}
 use Rattle.vte.specs.declared.ansi.laws.replays.Step.{Step}
 use Rattle.vte.specs.declared.ansi.laws.replays.Step.TheVariants.{Advance, StopSync}
 
@@ -34,8 +34,8 @@ set_times m zero value = value
 set_times m (suc n) value = set_times m n (m.set value update_nanos)
 
 -- The calls that more bytes add to those of a stream.
-abbrev pub calls_added : Option ℕ → List ℕ → List ℕ → List Call
-calls_added limit stream more = added_calls (events limit stream) (events limit (stream ++ more))
+abbrev pub added_calls : Option ℕ → List ℕ → List ℕ → List Call
+added_calls limit stream more = calls_beyond (events limit stream) (events limit (stream ++ more))
 
 -- The state between calls: the bytes parsed so far, the places among them at which updates were
 -- stopped, the bytes held after them, and the values of the timeout and the handler.
@@ -59,7 +59,7 @@ abbrev pub parse : {H W : Type 0} → Meaning H W → State H W → List ℕ →
 parse m s bytes = record s {
   parsed = s.parsed ++ bytes;
   timeout = set_times m.timeout (begin_count (added m.limit s.parsed bytes)) s.timeout;
-  handler = after m.step s.handler (calls_added m.limit s.parsed bytes);
+  handler = after m.step s.handler (added_calls m.limit s.parsed bytes);
 }
 
 abbrev pub with_held : {H W : Type 0} → State H W → List ℕ → State H W
@@ -107,14 +107,14 @@ parse_held m s place = with_held (parse m s (take place s.held)) (drop place s.h
 
 -- Bytes at the end of the hold are kept, and those before them parsed. If none are kept, the update
 -- is stopped.
-abbrev pub keep : {H W : Type 0} → Meaning H W → State H W → List ℕ → State H W
-keep m s [] = stop m s
-keep m s (b ∷ kept) = parse_held m s (length s.held - length (b ∷ kept))
+abbrev pub release : {H W : Type 0} → Meaning H W → State H W → List ℕ → State H W
+release m s [] = stop m s
+release m s (b ∷ kept) = parse_held m s (length s.held - length (b ∷ kept))
 
 -- A hold turn. Without an end-update everything stays held; after the last one, what the next
 -- begin-update begins.
 abbrev pub hold_turn : {H W : Type 0} → Meaning H W → State H W → List ℕ → State H W
-hold_turn m s bytes = let t = extend m s bytes in keep m t (kept_of t.held)
+hold_turn m s bytes = let t = extend m s bytes in release m t (still_held t.held)
 
 -- While the timeout is pending, the bytes of a turn are held if there is room.
 abbrev pub is_held : {H W : Type 0} → Bool → State H W → List ℕ → Bool
@@ -169,13 +169,14 @@ pub record IsInsideUpdate {W : Type 0} (limit : Option ℕ) (m : TimeoutMeaning 
   pub pending : AllowsAlone m timeout true
   pub begun : EndsInBegin limit parsed ⊎ (begins_with begin_update held ≡ true)
 
--- The hold contains no end-update, and fits its room. If the timeout is kept, nothing is held
+-- The hold contains no end-update, and fits its room. If the timeout is steady, nothing is held
 -- outside an update.
 pub record HoldsWell {W : Type 0} (limit : Option ℕ) (m : TimeoutMeaning W) (parsed held : List ℕ)
     (timeout : W) : Type 0 where
   pub no_end : after_last_end held ≡ None
   pub fits : length held ≤ most_held
-  pub kept : IsKept m → IsOutsideUpdate m held timeout ⊎ IsInsideUpdate limit m parsed held timeout
+  pub kept : IsSteady m → IsOutsideUpdate m held timeout
+      ⊎ IsInsideUpdate limit m parsed held timeout
 
 -- The facts about the hold at a state.
 abbrev pub HoldsWellAt : {H W : Type 0} → Meaning H W → State H W → Type 0
@@ -198,7 +199,7 @@ given_bytes (StopSync ∷ steps) = given_bytes steps
 -- The calls that the bytes from one place of a stream to another make.
 abbrev pub calls_between : Option ℕ → List ℕ → ℕ → ℕ → List Call
 calls_between limit stream from to =
-    added_calls (events limit (take from stream)) (events limit (take to stream))
+    calls_beyond (events limit (take from stream)) (events limit (take to stream))
 
 -- The calls that the bytes of a stream make from a place on, if updates are stopped at these ones:
 -- after the calls of the bytes before a stop comes the one that reports the end of an update.

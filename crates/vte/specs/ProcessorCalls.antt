@@ -4,7 +4,7 @@ use Rattle.std.specs.Prelude.{◌≡◌, ℕ, List, ◌++◌, length, drop, [], 
 use Rattle.vte_core.specs.Parser.{HasRead}
 use Rattle.vte_core.specs.Stream.{events, usual_limit}
 use Rattle.vte_handler.specs.Handler.{after}
-use Rattle.vte_handler.specs.Timeout.{IsKept}
+use Rattle.vte_handler.specs.Timeout.{IsSteady}
 use Rattle.vte.specs.Calls.{last_printed, calls}
 use Rattle.vte.specs.Processor.{HoldsWellAt, Meaning, TakesSteps, State, TakesAllTurns, all_bytes, given_bytes, calls_with_stops, AreInOrder, most_held, stop}
 use Rattle.vte.specs.Synchronized.{after_last_end}
@@ -52,14 +52,15 @@ pub record Advanced {V W : Type 0} (m : Meaning V W) (s : State V W) (bytes : Li
   pub is_at : there next
 
 -- Calls led to a state, and are there. Each given byte is parsed or held, once and in order.
--- The facts about the hold stay true. If the timeout is kept, they lead to no other state.
+-- The facts about the hold stay true. If the timeout is steady, they lead to no other state.
 pub record Replayed {V W : Type 0} (m : Meaning V W) (s : State V W) (steps : List Step)
     (there : State V W → Type 0) : Type 0 where
   pub next : State V W
   pub takes : TakesSteps m s steps next
   pub each_once : all_bytes next ≡ all_bytes s ++ given_bytes steps
   pub holds_well : HoldsWellAt m s → HoldsWellAt m next
-  pub alone : IsKept m.timeout → HoldsWellAt m s → (other : State V W) → TakesSteps m s steps other
+  pub alone : IsSteady m.timeout → HoldsWellAt m s → (other : State V W)
+      → TakesSteps m s steps other
       → other ≡ next
   pub is_at : there next
 

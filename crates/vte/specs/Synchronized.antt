@@ -36,8 +36,8 @@ abbrev pub kept_part : List ℕ → Option (List ℕ) → List ℕ
 kept_part text (Some rest) = from_begin rest
 kept_part text None = text
 
-abbrev pub kept_of : List ℕ → List ℕ
-kept_of text = kept_part text (after_last_end text)
+abbrev pub still_held : List ℕ → List ℕ
+still_held text = kept_part text (after_last_end text)
 
 -- How many begin-updates have their last byte among the last n bytes of the text.
 abbrev pub begins_among : ℕ → List ℕ → ℕ

@@ -2,7 +2,7 @@
 -- the next part: what the parts add is joined.
 use Rattle.vte_c.proofs.Common.{AreFirst, Continues, Event, GoesOnFromPlaces, List, Print, [], add_assoc, added, ap, append-nil, append_assoc, arith, breaks, usual_limit}
 use Rattle.vte_c.proofs.Common.{breaks_at, cases_Bool, drop, drop-drop, inl, inr, length, length-drop, open_end, refl, replacement, stream_at, suc, sym, take, take-add}
-use Rattle.vte_c.proofs.Common.{take-append-drop, told, true, zero, zero-add, ℕ, ◌++◌, ◌+◌, ◌∙◌, ◌∷◌, ◌≡◌, ◌≤◌}
+use Rattle.vte_c.proofs.Common.{take-append-drop, told_before, true, zero, zero-add, ℕ, ◌++◌, ◌+◌, ◌∙◌, ◌∷◌, ◌≡◌, ◌≤◌}
 use Rattle.vte_core.proofs.stops.Units.{added_both}
 use Rattle.vte_core.proofs.streams.After.{added-nothing}
 

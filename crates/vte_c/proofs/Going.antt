@@ -4,7 +4,7 @@ use Rattle.vte_c.proofs.Common.{AreCharacters, Bool, ComesTo, DataRun, Event, Re
 use Rattle.vte_c.proofs.Common.{IsRunAt, List, OpensSilently, Parser, Print, Put, Room, Run, Single, Starts, StopsAtNone, TellsUnits, TextRun, [], added, after, ap}
 use Rattle.vte_c.proofs.Common.{append-nil, arith, breaks_at, cases_Bool, cases_lt, chars, data_of, drop, drop-drop, false, false≢true, filter-append, flat_map, flat_map-append}
 use Rattle.vte_c.proofs.Common.{has, if◌then◌else◌, inl, inr, is_full, is_stop, item_events, kind_of, len_utf8_bounds, length, length-append, length-drop, length-encode, map}
-use Rattle.vte_c.proofs.Common.{nat_tests, refl, replacement, reported, resumed, run_events, run_kind, run_record, stream_at, subst, sym, take, told, true, with_event}
+use Rattle.vte_c.proofs.Common.{nat_tests, refl, replacement, reported, resumed, run_events, run_kind, run_record, stream_at, subst, sym, take, told_before, true, with_event}
 use Rattle.vte_c.proofs.Common.{with_items, with_run, with_taken, with_wanted, zero-add, ℕ, ◌++◌, ◌+◌, ◌-◌, ◌<◌, ◌∙◌, ◌∷◌, ◌≡◌, ◌≤◌}
 use Rattle.vte_core.proofs.streams.After.{added-nothing}
 use Rattle.vte_core.specs.AdvanceToRun.{IsWhole, ReturnsRun, run_bytes, run_events as returned_events, taken_bytes}

@@ -3,7 +3,7 @@
 use Rattle.vte_c.proofs.Common.{AreOthers, Bool, DataRun, Event, HaveOtherKinds, HaveOtherRecords, InInput, IsStart, Item, List, OpensSilently, Print, Put, Run, Single, usual_limit}
 use Rattle.vte_c.proofs.Common.{TextRun, VteEvent, [], add-one, added, append_assoc, arith, breaks_at, cases_Bool, chars, drop, false, flat_map, get_or, has, has_kind}
 use Rattle.vte_c.proofs.Common.{if◌then◌else◌, inl, inr, is_stop, item_data, item_events, kind_of, length, map, open_end, or_parts, records_from, refl, replacement, reported}
-use Rattle.vte_c.proofs.Common.{run_events, run_kind, suc, take, take-add, take_more, told, zero, ℕ, ◌++◌, ◌+◌, ◌-◌, ◌<◌, ◌∷◌, ◌≡◌, ◌≤◌}
+use Rattle.vte_c.proofs.Common.{run_events, run_kind, suc, take, take-add, take_more, told_before, zero, ℕ, ◌++◌, ◌+◌, ◌-◌, ◌<◌, ◌∷◌, ◌≡◌, ◌≤◌}
 use Rattle.vte_core.proofs.stops.Units.{added_both}
 use Rattle.vte_core.proofs.streams.After.{added-nothing}
 

@@ -20,13 +20,13 @@ pub use Rattle.std.specs.Str.{IsAscii, IsUtf8, chars}
 pub use Rattle.vte_core.specs.Body.{body_rest, shape_outcome}
 unfoldable pub use Rattle.vte_core.specs.Body.{body_outcome}
 pub use Rattle.vte_core.specs.Brief.{FitsStore, IsBounded, IsBrief, IsExecuted, IsPrintable, IsShort}
-pub use Rattle.vte_core.specs.Class.{AreInClass, Cancel, Class, Colon, Control, Delete, Digit, Final, High, Intermediate, Marker, Semicolon, dispatches_escape, ends_all, ends_head, is_cancel, IsPut, is_control, is_data, is_final, is_head, is_intermediate, is_key, is_marker, is_parameter_text}
+pub use Rattle.vte_core.specs.Class.{AreInClass, Cancel, Class, Colon, Control, Delete, Digit, Final, High, Intermediate, Marker, Semicolon, dispatches_escape, ends_all, ends_head, is_cancel, IsPut, is_control, is_device_data, is_final, is_head, is_intermediate, is_key, is_marker, is_parameter_text}
 unfoldable pub use Rattle.vte_core.specs.Class.{class_of}
 unfoldable pub use Rattle.vte_core.specs.ControlSequence.{control_sequence_end, control_sequence_outcome}
 pub use Rattle.vte_core.specs.DeviceControl.{ends_data}
 unfoldable pub use Rattle.vte_core.specs.DeviceControl.{data_outcome, device_control_end, device_control_outcome}
 pub use Rattle.vte_core.specs.EarlyStop.{ComesTo, IsStart, NoCharacterStops, StopsExactly, breaks}
-unfoldable pub use Rattle.vte_core.specs.EarlyStop.{breaks_at, stream_at, told}
+unfoldable pub use Rattle.vte_core.specs.EarlyStop.{breaks_at, stream_at, told_before}
 unfoldable pub use Rattle.vte_core.specs.Escape.{escape_outcome}
 pub use Rattle.vte_core.specs.Event.{CsiDispatch, EscDispatch, Event, Execute, Hook, OscDispatch, Print, Put, Unhook, replacement}
 pub use Rattle.vte_core.specs.Head.{Head, head_after, reported_intermediates}
@@ -45,7 +45,7 @@ pub use Rattle.vte_core.specs.Perform.{after}
 pub use Rattle.vte_core.specs.FirstMatch.{from_first}
 pub use Rattle.vte_core.specs.Stream.{added, cut_at_escape, escape, with_bodies, usual_limit}
 unfoldable pub use Rattle.vte_core.specs.Stream.{events, open_end, outcome}
-pub use Rattle.vte_core.specs.SystemCommand.{IsCommandData, bell, ends_command, has_room, is_data_byte, kept_after, most_pieces, system_command_rest}
+pub use Rattle.vte_core.specs.SystemCommand.{IsCommandData, bell, ends_command, has_room, is_data_item, kept_after, most_pieces, system_command_rest}
 unfoldable pub use Rattle.vte_core.specs.SystemCommand.{drops_data, kept_items, pieces_of, system_command_outcome}
 pub use Rattle.vte_core.specs.Text.{EndsRun, is_control_character, is_layout, is_left_out, segments_outcome, run_event}
 unfoldable pub use Rattle.vte_core.specs.Text.{character_event, executed_events, malformed_event, segment_event, text_outcome}
@@ -53,7 +53,7 @@ pub use Rattle.vte_core.specs.Utf8.{Range, allowed_length, is_in, scalar_of, seg
 unfoldable pub use Rattle.vte_core.specs.Utf8.{trailing_count, is_truncated, is_well_formed, utf8_rows}
 pub use Rattle.vte_core.specs.declared.head.Collected.{Collected}
 pub use Rattle.vte_core.specs.declared.head.HeadPart.{HeadPart}
-pub use Rattle.vte_core.specs.declared.head.HeadPart.TheVariants.{Entry, Malformed, Intermediates, Parameters}
+pub use Rattle.vte_core.specs.declared.head.HeadPart.TheVariants.{Entry, IllShaped, Intermediates, Parameters}
 pub use Rattle.vte_core.specs.declared.parser.State.{State}
 pub use Rattle.vte_core.specs.declared.parser.State.TheVariants.{ControlSequence, DeviceControl, DeviceData, Escape, EscapeIntermediate, IgnoredString, SystemCommand, Text}
 pub use Rattle.vte_core.specs.declared.parser.machine.Machine.{Machine}
@@ -63,7 +63,7 @@ pub use Rattle.vte_core.specs.declared.utf8.Unfinished.TheVariants.{Nothing, One
 pub use Rattle.vte_core.specs.machine.Data.{AreIgnored, ArePut, IsIgnored}
 pub use Rattle.vte_core.specs.machine.Leads.{Leads, Reads}
 pub use Rattle.vte_core.specs.machine.Moves.{Spends}
-pub use Rattle.vte_core.specs.machine.Parser.{CountsNumbers, HoldsIntermediates, HoldsHead, HasReadUnder, IsMarker, KeepsIntermediates, KeepsNumbers, numbers_from, HoldsNumbers, Stands, StandsBy, StandsInHead, StaysMalformed}
+pub use Rattle.vte_core.specs.machine.Standing.{CountsNumbers, HoldsIntermediates, HoldsHead, HasReadUnder, IsMarker, KeepsIntermediates, KeepsNumbers, numbers_from, HoldsNumbers, Stands, StandsBy, StandsInHead, StaysIllShaped}
 pub use Rattle.vte_core.specs.machine.Place.{AtEscape, InControlSequence, InData, InDeviceControl, InEscape, InIgnoredString, InSystemCommand, InText, IsAfter, IsBetween, Place, closing_events_at, left_at, rest_outcome}
 unfoldable pub use Rattle.vte_core.specs.machine.Place.{outcome_from}
 pub use Rattle.vte_core.specs.machine.Progress.{Advances, CameTo, CameInside, IsRefusedAt, IsSettled, MayGoOn, ReadsUpTo, RefusesAt, StandsAt, StandsInside}

@@ -9,5 +9,5 @@ pub mod showing
 pub mod streams
 pub mod calls
 pub mod fields
-pub mod runs
+pub mod scanning
 pub mod stops

@@ -10,4 +10,4 @@ pub mod Scalars
 pub mod Scanning
 pub mod Utf8Lemmas
 pub mod Printable
-pub mod Words
+pub mod EightBytes

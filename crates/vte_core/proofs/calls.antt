@@ -1,7 +1,7 @@
 -- How a call goes on, from one place of its bytes to the next.
 pub mod Places
 pub mod States
-pub mod Runs
+pub mod Stretches
 pub mod Arms
 pub mod BetweenCharacters
 pub mod InsideCharacters
@@ -9,8 +9,8 @@ pub mod Characters
 pub mod LeadBytes
 pub mod TextRuns
 pub mod Sequences
-pub mod Telling
-pub mod Tellings
+pub mod AddedEvents
+pub mod BeforeRun
 pub mod Heads
 pub mod Data
 pub mod ToRun

@@ -8,5 +8,5 @@ pub mod OpenPieces
 pub mod Parameters
 pub mod PieceSlices
 pub mod Saved
-pub mod Standing
+pub mod PlaceOfState
 pub mod StoreLemmas

@@ -41,7 +41,7 @@ IsWhole bytes end (Data those) =
     (0 < length those.now) × (end < length bytes → IsPut (slice_index bytes end) → ⊥)
 IsWhole bytes end Nothing = ⊤
 
--- The run stands in the bytes at its place.
+-- The run stands in the bytes at its position.
 pub record IsRunIn (bytes : List ℕ) (run : Run) : Type 0 where
   pub end : run.end ≡ run.start + length (run_bytes run)
   pub within : run.end ≤ length bytes

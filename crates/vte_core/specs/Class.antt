@@ -112,14 +112,14 @@ ends_head Final = true
 ends_head _ = false
 
 -- C0 except CAN, SUB and ESC, and 20..7E: the data of a device control string
-abbrev pub is_data : Class → Bool
-is_data Control = true
-is_data Final = true
-is_data k = is_head k
+abbrev pub is_device_data : Class → Bool
+is_device_data Control = true
+is_device_data Final = true
+is_device_data k = is_head k
 
 -- Among the data of a device control string, the byte is put.
 abbrev pub IsPut : ℕ → Type 0
-IsPut b = is_data (class_of b) ≡ true
+IsPut b = is_device_data (class_of b) ≡ true
 
 -- Each byte is in the class.
 abbrev pub AreInClass : (Class → Bool) → List ℕ → Type 0

@@ -1,7 +1,7 @@
 -- Device control strings (ECMA-48, section 8.3.27), after ESC P.
 use Rattle.std.specs.Prelude.{ℕ, Bool, ◌||◌, List, [], ◌∷◌, map, if◌then◌else◌, ◌==◌}
 use Rattle.std.specs.List.{filter}
-use Rattle.vte_core.specs.Class.{class_of, is_cancel, is_data, ends_head}
+use Rattle.vte_core.specs.Class.{class_of, is_cancel, is_device_data, ends_head}
 use Rattle.vte_core.specs.Event.{Event, Execute, Hook, Put, Unhook}
 use Rattle.vte_core.specs.Head.{head_of, head_bytes, is_well_shaped, sequence_event}
 use Rattle.vte_core.specs.IgnoredString.{ignored_string_outcome}
@@ -31,7 +31,7 @@ data_rest (end ∷ text) = tell (data_end end) (text_outcome text)
 unfoldable pub data_outcome : List ℕ → Outcome
 data_outcome bytes =
     let cut = cut_before ends_data bytes in
-    tell (map Put (filter (λ b. is_data (class_of b)) cut.inside)) (data_rest cut.rest)
+    tell (map Put (filter (λ b. is_device_data (class_of b)) cut.inside)) (data_rest cut.rest)
 
 -- CAN and SUB are executed. A final byte hooks if the head is well shaped; otherwise the string is
 -- ignored.

@@ -19,16 +19,16 @@ breaks (a ∷ bytes) (b ∷ unread) =
 unfoldable pub breaks_at : List ℕ → List ℕ → ℕ → Bool
 breaks_at stream bytes i = breaks (open_end (stream ++ take i bytes)) (drop i bytes)
 
--- A start is a place before one of the bytes where no character is open, or where that byte breaks
--- the open one.
+-- A start is a position before one of the bytes where no character is open, or where that byte
+-- breaks the open one.
 pub record IsStart (stream bytes : List ℕ) (i : ℕ) : Type 0 where
   pub within : i < length bytes
   pub starts : (open_end (stream ++ take i bytes) ≡ []) ⊎ (breaks_at stream bytes i ≡ true)
 
--- The events reported before place i: those that the first i bytes add, and U+FFFD if the next byte
--- breaks a character.
-unfoldable pub told : Option ℕ → List ℕ → List ℕ → ℕ → List Event
-told limit stream bytes i =
+-- The events reported before position i: those that the first i bytes add, and U+FFFD if the next
+-- byte breaks a character.
+unfoldable pub told_before : Option ℕ → List ℕ → List ℕ → ℕ → List Event
+told_before limit stream bytes i =
     added limit stream (take i bytes)
     ++ (if breaks_at stream bytes i then Print replacement ∷ [] else [])
 
@@ -42,7 +42,7 @@ abbrev pub NeverStopsBefore : {V : Type 0} → (V → Event → V) → (V → Bo
     → List ℕ → ℕ → Type 0
 NeverStopsBefore step is_terminated old limit stream bytes i =
     (start : ℕ) → start < i → IsStart stream bytes start
-    → is_terminated (after step old (told limit stream bytes start)) ≡ false
+    → is_terminated (after step old (told_before limit stream bytes start)) ≡ false
 
 -- The performer has received the events of the first i bytes, and was terminated at no start before
 -- i.
@@ -51,12 +51,12 @@ pub record HasPassed {V : Type 0} (step : V → Event → V) (is_terminated : V 
   pub performed : value ≡ after step old (added limit stream (take i bytes))
   pub earlier : NeverStopsBefore step is_terminated old limit stream bytes i
 
--- The call came to place n: the performer took what is told before it, and was terminated at no
+-- The call came to position n: the performer took what is told before it, and was terminated at no
 -- start before it.
 pub record ComesTo {V : Type 0} (step : V → Event → V) (is_terminated : V → Bool) (old new : V)
     (limit : Option ℕ) (stream bytes : List ℕ) (n : ℕ) : Type 0 where
   pub within : n ≤ length bytes
-  pub performed : new ≡ after step old (told limit stream bytes n)
+  pub performed : new ≡ after step old (told_before limit stream bytes n)
   pub earlier : NeverStopsBefore step is_terminated old limit stream bytes n
   pub starts : n < length bytes → IsStart stream bytes n
   -- The bytes from there on in a further call leave the performer as one call with all bytes would.

@@ -1,7 +1,7 @@
 -- What a parser has read.
 use Rattle.std.specs.Prelude.{◌≡◌, ℕ, Bool, Some, List}
 use Rattle.vte_core.specs.declared.parser.Parser.{Parser}
-use Rattle.vte_core.specs.machine.Parser.{HasReadUnder}
+use Rattle.vte_core.specs.machine.Standing.{HasReadUnder}
 
 -- The parser continues as one that has read the stream: more bytes give the events that they add to
 -- it. A new parser has read the empty stream, and each call preserves the relation. Callers need to

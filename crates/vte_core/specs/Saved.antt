@@ -3,7 +3,7 @@ use Rattle.std.specs.Prelude.{◌≡◌, ℕ, List}
 use Rattle.vte_core.specs.declared.parser.saved.Saved.{Saved}
 use Rattle.vte_core.specs.declared.parser.Parser.{Parser}
 use Rattle.vte_core.specs.Parser.{HasRead}
-use Rattle.vte_core.specs.machine.Saved.{IsRestored, zeros}
+use Rattle.vte_core.specs.machine.SavedLayout.{IsRestored, zeros}
 
 -- Every parser restored from it continues as one that has read the stream.
 pub record HasReadSaved (saved : Saved) (stream : List ℕ) : Type 0 where

@@ -1,35 +1,36 @@
 -- Laws of early stops, which functions of `laws` state as contracts.
 use Rattle.std.specs.Prelude.{◌≡◌, ◌⊎◌, ℕ, ◌<◌, ◌≤◌, List, [], ◌++◌, length, drop, Option}
 use Rattle.vte_core.specs.Brief.{IsBrief}
-use Rattle.vte_core.specs.EarlyStop.{IsStart, told, stream_at}
+use Rattle.vte_core.specs.EarlyStop.{IsStart, told_before, stream_at}
 use Rattle.vte_core.specs.Event.{Event}
 use Rattle.vte_core.specs.Stream.{added}
 
--- What is reported before a place, and what the unread bytes and more add from there, is together
--- what all bytes add.
+-- What is reported before a position, and what the unread bytes and more add from there, is
+-- together what all bytes add.
 abbrev pub GoesOnFromPlaces : Option ℕ → Type 0
 GoesOnFromPlaces limit = (stream bytes more : List ℕ) (n : ℕ) →
     added limit stream (bytes ++ more)
-    ≡ told limit stream bytes n ++ added limit (stream_at stream bytes n) (drop n bytes ++ more)
+    ≡ told_before limit stream bytes n
+    ++ added limit (stream_at stream bytes n) (drop n bytes ++ more)
 
--- These events had been reported at a start before place i.
+-- These events had been reported at a start before position i.
 pub record AreToldAtStart (limit : Option ℕ) (stream bytes : List ℕ) (i : ℕ)
     (events : List Event) : Type 0 where
   pub start : ℕ
   pub earlier : start < i
   pub starts : IsStart stream bytes start
-  pub are : events ≡ told limit stream bytes start
+  pub are : events ≡ told_before limit stream bytes start
 
--- What is reported before a place is what was reported at an earlier start, if any, and one brief
--- unit.
+-- What is reported before a position is what was reported at an earlier start, if any, and one
+-- brief unit.
 pub record TellsUnit (limit : Option ℕ) (stream bytes : List ℕ) (i : ℕ) : Type 0 where
   pub before : List Event
   pub unit : List Event
-  pub parts : told limit stream bytes i ≡ before ++ unit
+  pub parts : told_before limit stream bytes i ≡ before ++ unit
   pub brief : IsBrief limit unit
   pub begun : (before ≡ []) ⊎ AreToldAtStart limit stream bytes i before
 
--- `TellsUnit` for each place: a performer that is asked at each start is asked after each unit.
+-- `TellsUnit` for each position: a performer that is asked at each start is asked after each unit.
 abbrev pub TellsUnits : Option ℕ → Type 0
 TellsUnits limit = (stream bytes : List ℕ) (i : ℕ) → i ≤ length bytes
     → TellsUnit limit stream bytes i

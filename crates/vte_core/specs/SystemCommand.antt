@@ -18,8 +18,8 @@ abbrev pub ends_command : ℕ → Bool
 ends_command b = is_cancel (class_of b) || b == bell
 
 -- Whether an item is data, not a separator.
-abbrev pub is_data_byte : ℕ → Bool
-is_data_byte b = not (b == semicolon)
+abbrev pub is_data_item : ℕ → Bool
+is_data_item b = not (b == semicolon)
 
 -- The byte is an item, and data.
 abbrev pub IsCommandData : ℕ → Type 0
@@ -35,7 +35,7 @@ abbrev pub kept_after : Option ℕ → ℕ → List ℕ → List ℕ
 kept_after limit count [] = []
 kept_after limit count (item ∷ items) =
     if has_room limit count
-    then item ∷ kept_after limit (if is_data_byte item then count + 1 else count) items else []
+    then item ∷ kept_after limit (if is_data_item item then count + 1 else count) items else []
 
 -- An item is kept exactly if there is room after the data bytes before it, even if it is a `;`.
 unfoldable pub kept_items : Option ℕ → List ℕ → List ℕ
@@ -54,7 +54,7 @@ pieces_of limit items =
 -- after the 16th piece.
 unfoldable pub drops_data : Option ℕ → List ℕ → Bool
 drops_data limit items =
-    nat_lt (length (concat (pieces_of limit items))) (length (filter is_data_byte items))
+    nat_lt (length (concat (pieces_of limit items))) (length (filter is_data_item items))
 
 -- BEL dispatches the command. CAN and SUB dispatch it and are executed.
 abbrev pub command_end : List (List ℕ) → ℕ → List Event

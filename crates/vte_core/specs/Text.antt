@@ -23,7 +23,7 @@ is_left_out keeps c = not (keeps && is_layout c) && is_control_character c
 abbrev pub IsRunText : Bool → List ℕ → Type 0
 IsRunText keeps text = All (λ c. is_left_out keeps c ≡ false) (chars text)
 
--- No character of a run begins at the place: a well-formed sequence there is left out.
+-- No character of a run begins at the position: a well-formed sequence there is left out.
 abbrev pub EndsRun : Bool → List ℕ → ℕ → Type 0
 EndsRun keeps bytes place =
     (n : ℕ) → place + n ≤ length bytes → is_well_formed (take n (drop place bytes)) ≡ true

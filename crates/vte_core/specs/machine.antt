@@ -9,8 +9,8 @@ pub mod Groups
 pub mod Leads
 pub mod MayRead
 pub mod Moves
-pub mod Parser
-pub mod Saved
+pub mod Standing
+pub mod SavedLayout
 pub mod Scans
 pub mod Place
 pub mod Progress
@@ -20,4 +20,4 @@ pub mod Tells
 pub mod ToRun
 pub mod Unfinished
 pub mod TextRun
-pub mod Words
+pub mod Prelude

@@ -1,11 +1,12 @@
 //! The automaton of text in runs.
 //!
 //! It is a shift-based DFA: a byte's row in the table holds for each state the one that comes next,
-//! in six bits at the place that the state's number gives. So a step is a load and a shift, without
-//! a branch. But the block in which a run ends is read in vain, so only long runs come here.
+//! in six bits at the position that the state's number gives. So a step is a load and a shift,
+//! without a branch. But the block in which a run ends is read in vain, so only long runs come
+//! here.
 ghost use Rattle.std.specs.Prelude.{◌≡◌, ◌+◌, ◌*◌, ◌%◌, ◌<◌, ◌≤◌, IsTrue, false, drop, length};
 ghost use Rattle.vte_core.specs.machine.Automaton.{AutomatonState, Between, state_code, next_between, next_state, state_after, HasScanned, LastEnd};
-ghost use Rattle.vte_core.specs.machine.Words.{Each, IsRun, Scans, is_layout, looked};
+ghost use Rattle.vte_core.specs.machine.Prelude.{Each, IsRun, Scans, is_layout, looked};
 
 use crate::scan::{Input, Looks};
 use crate::utf8::is_printed_ascii;
@@ -34,7 +35,7 @@ const AFTER_C2: u64 = 48;
 const FAILED: u64 = 54;
 
 // Rows of bytes that fit nowhere and of those that begin a character: these fit between two
-// characters alone, the state at place 0.
+// characters alone, the state at position 0.
 const FAIL: u64 = FAILED
     | FAILED << ONE
     | FAILED << TWO
@@ -144,7 +145,7 @@ impl<B> Looks<B> {
         from + self.last_end(input, from, at, state)
     }
 
-    /// Finds where the last character ended before a place.
+    /// Finds where the last character ended before a position.
     #[inline(always)]
     fn last_end(&mut self, input: Input<'_, B>, from: usize, at: usize, state: u64) -> usize
         requires in_order { from ≤ length input.bytes.now }

@@ -1,6 +1,6 @@
 //! The buffer for the data bytes of an operating system command.
 ghost use Rattle.std.specs.Prelude.{◌≡◌, ◌+◌, ◌-◌, ◌<◌, ◌≤◌, ◌++◌, ℕ, true, false, List, [], Option, Some, None, not, length, drop, take, vec_capacity};
-ghost use Rattle.vte_core.specs.machine.Words.{HasCapacity, IsRange, ReservesCapacity, TakesFew, fitting, has_room};
+ghost use Rattle.vte_core.specs.machine.Prelude.{HasCapacity, IsRange, ReservesCapacity, TakesFew, fitting, has_room};
 
 use crate::scan::{Input, Looks};
 use arrayvec::ArrayVec;
@@ -34,7 +34,7 @@ pub(crate) trait Buffer {
         ensures reserves { ReservesCapacity limit (length (held self.new)) more (capacity self.old)
             (capacity self.new) result };
 
-    /// Adds the bytes of an input from one place to another, up to the limit.
+    /// Adds the bytes of an input from one position to another, up to the limit.
     fn append<B>(&mut self, looks: &mut Looks<B>, input: Input<'_, B>, from: usize, to: usize)
         requires range { IsRange input.bytes.now from to }
         requires memory { HasCapacity limit (capacity self.old) (length (held self.old))

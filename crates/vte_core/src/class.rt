@@ -2,7 +2,7 @@
 #![tactic(auto, unfolding(crate::specs::Class::class_of))]
 
 ghost use Rattle.std.specs.Prelude.{◌≡◌, ◌-◌, ◌<◌, ◌≤◌, ◌↔◌, true, false, IsTrue, MatchOption};
-ghost use Rattle.vte_core.specs.machine.Words.{IsCommandData, begins_ignored_string, class_of, dispatches_escape, ends_all, is_control, is_data, is_final, is_head, is_intermediate, is_parameter_text, is_separator};
+ghost use Rattle.vte_core.specs.machine.Prelude.{IsCommandData, begins_ignored_string, class_of, dispatches_escape, ends_all, is_control, is_device_data, is_final, is_head, is_intermediate, is_parameter_text, is_separator};
 
 pub(crate) const ESCAPE: u8 = 0x1b;
 
@@ -28,8 +28,8 @@ pub(crate) fn cannot_end(byte: u8) -> bool
 }
 
 /// Returns whether a byte is one of the data of a device control string: C0 and 20..7E.
-pub(crate) fn is_data(byte: u8) -> bool
-    ensures { result ≡ is_data (class_of byte) }
+pub(crate) fn is_device_data(byte: u8) -> bool
+    ensures { result ≡ is_device_data (class_of byte) }
 {
     (byte >= 0x20 && byte < 0x7f) || is_control(byte)
 }

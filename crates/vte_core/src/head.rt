@@ -1,8 +1,8 @@
 //! What is collected of an escape sequence, and of the head of a control sequence or a device
 //! control string.
 ghost use Rattle.std.specs.Prelude.{◌≡◌, ◌<◌, ◌≤◌, ◌+◌, ◌*◌, ◌-◌, ◌↔◌, ◌⊎◌, min, IsTrue, List, ℕ, true, false, [], ◌∷◌, ◌++◌, length, slice_index, IfSome};
-ghost use Rattle.vte_core.specs.machine.Words.{CountsNumbers, HoldsIntermediates, HoldsHead, IsReady, KeepsIntermediates, KeepsNumbers, ReadsHeadUpTo, HoldsNumbers, StandsInHead, class_of, is_head, is_parameter_text};
-ghost use Rattle.vte_core.specs.machine.Words.{is_separator, looked, with_open_number};
+ghost use Rattle.vte_core.specs.machine.Prelude.{CountsNumbers, HoldsIntermediates, HoldsHead, IsReady, KeepsIntermediates, KeepsNumbers, ReadsHeadUpTo, HoldsNumbers, StandsInHead, class_of, is_head, is_parameter_text};
+ghost use Rattle.vte_core.specs.machine.Prelude.{is_separator, looked, with_open_number};
 
 use crate::class::{digit_of, is_head, is_intermediate, is_parameter_text, is_separator};
 use crate::params::Params;
@@ -19,7 +19,7 @@ pub(crate) enum HeadPart {
     /// An intermediate was last.
     Intermediates,
     /// It is malformed.
-    Malformed,
+    IllShaped,
 }
 
 impl HeadPart {
@@ -31,7 +31,7 @@ impl HeadPart {
     }
 }
 
-/// How far a head has been read, and up to which place. The byte there was looked at.
+/// How far a head has been read, and up to which position. The byte there was looked at.
 #[derive(Clone, Copy)]
 pub(crate) struct HeadEnd {
     pub(crate) part: HeadPart,
@@ -119,8 +119,8 @@ impl Collected {
         ensures { (head : List ℕ) → StandsInHead self.old part head
             → StandsInHead self.new result (head ++ byte ∷ []) }
     {
-        if let HeadPart::Malformed = part {
-            return HeadPart::Malformed;
+        if let HeadPart::IllShaped = part {
+            return HeadPart::IllShaped;
         }
         if is_intermediate(byte) {
             self.collect(byte);
@@ -131,10 +131,10 @@ impl Collected {
             self.collect(byte);
             return HeadPart::Parameters;
         }
-        HeadPart::Malformed
+        HeadPart::IllShaped
     }
 
-    /// Reads the digits at a place of a head, if any, and the separators too if there may be
+    /// Reads the digits at a position of a head, if any, and the separators too if there may be
     /// `several` numbers.
     #[inline(always)]
     pub(crate) fn read_numbers<B>(

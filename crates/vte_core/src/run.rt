@@ -3,7 +3,7 @@
 //! A word is eight bytes. None is tried before a run has begun with single bytes, so that no byte
 //! is read often.
 ghost use Rattle.std.specs.Prelude.{◌≡◌, ◌+◌, ◌*◌, ◌<◌, ◌≤◌, ◌↔◌, true, false, None, MatchOption, IfSome, IsTrue, length, slice_index};
-ghost use Rattle.vte_core.specs.machine.Words.{ArePrinted, EndsRun, IsPrinted, IsRange, IsRun, Scans, TakesFew, is_in, looked, from_to};
+ghost use Rattle.vte_core.specs.machine.Prelude.{ArePrinted, EndsRun, IsPrinted, IsRange, IsRun, Scans, TakesFew, is_in, looked, from_to};
 
 use crate::automaton::is_layout;
 use crate::scan::{CountedPerform, Grain, Input, Looks};
@@ -14,8 +14,8 @@ use crate::utf8::{is_continuation, is_lead, is_printed_ascii, may_begin_four, ma
 const LONG: usize = 48;
 
 impl<B> Looks<B> {
-    /// Returns whether printed ASCII begins a run at a place: four bytes of it, of which the first
-    /// was looked at, and `next` too.
+    /// Returns whether printed ASCII begins a run at a position: four bytes of it, of which the
+    /// first was looked at, and `next` too.
     #[inline(always)]
     pub(crate) fn begins_ascii(&mut self, input: Input<'_, B>, at: usize, next: Option<u8>) -> bool
         requires within { at < length input.bytes.now }
@@ -49,17 +49,17 @@ impl<B> Looks<B> {
         ensures grows { looked self.old ≤ looked self.new }
     {
         let end = self.find_end_by_words(input, from + 4);
-        self.find_rest_end(input, end, performer.keeps_layout())
+        self.find_run_end(input, end, performer.keeps_layout())
     }
 
-    /// Finds where the run ends that begins at a place with a character of two or three bytes,
-    /// whose first was looked at; at that place if none does.
+    /// Finds where the run ends that begins at a position with a character of two or three bytes,
+    /// whose first was looked at; at that position if none does.
     ///
     /// Two bytes are tested before anything else, because malformed text seldom has them: after a
     /// first byte of two, the second and that another character follows; after one of three, the
     /// second and the third.
     #[inline(always)]
-    pub(crate) fn find_longer_run_end<P: CountedPerform<B, G>, G: Grain>(
+    pub(crate) fn find_run_end_at_lead<P: CountedPerform<B, G>, G: Grain>(
         &mut self,
         performer: &P,
         input: Input<'_, B>,
@@ -80,14 +80,14 @@ impl<B> Looks<B> {
             Some(second) if is_continuation(second) => match self.get(input, from + 2) {
                 Some(third) if first < 0xe0 => {
                     if is_lead(third) && is_printed_pair(first, second) {
-                        self.find_run_end(performer, input, from + 2)
+                        self.find_run_end_for(performer, input, from + 2)
                     } else {
                         from
                     }
                 }
                 Some(third)
                     if first < 0xf0 && is_continuation(third) && may_begin_three(first, second) => {
-                    self.find_run_end(performer, input, from + 3)
+                    self.find_run_end_for(performer, input, from + 3)
                 }
                 _ => from,
             },
@@ -95,9 +95,9 @@ impl<B> Looks<B> {
         }
     }
 
-    /// Finds where the run ends that has come to a place, for a performer.
+    /// Finds where the run ends that has come to a position, for a performer.
     #[inline(never)]
-    pub(crate) fn find_run_end<P: CountedPerform<B, G>, G: Grain>(
+    pub(crate) fn find_run_end_for<P: CountedPerform<B, G>, G: Grain>(
         &mut self,
         performer: &P,
         input: Input<'_, B>,
@@ -107,13 +107,13 @@ impl<B> Looks<B> {
         ensures scans { Scans (IsRun P.keeps) input.entry.bytes.now from result self.old self.new }
         ensures count { looked self.new + 4 * from ≤ looked self.old + 4 * result + 4 }
     {
-        self.find_rest_end(input, from, performer.keeps_layout())
+        self.find_run_end(input, from, performer.keeps_layout())
     }
 
-    /// Finds where the run ends that has come to a place. If it `keeps` them, HT, LF and CR don't
-    /// end it.
+    /// Finds where the run ends that has come to a position. If it `keeps` them, HT, LF and CR
+    /// don't end it.
     #[inline(always)]
-    pub(crate) fn find_rest_end(&mut self, input: Input<'_, B>, from: usize, keeps: bool) -> usize
+    pub(crate) fn find_run_end(&mut self, input: Input<'_, B>, from: usize, keeps: bool) -> usize
         requires { from ≤ length input.bytes.now }
         ensures scans { Scans (IsRun keeps) input.entry.bytes.now from result self.old self.new }
         ensures ended { EndsRun keeps input.entry.bytes.now result }
@@ -124,11 +124,11 @@ impl<B> Looks<B> {
         if end < to || end == input.len() {
             end
         } else {
-            self.find_long_end(input, end, keeps)
+            self.find_long_run_end(input, end, keeps)
         }
     }
 
-    /// Finds where the run ends that has come to a place, or where it comes to or past another.
+    /// Finds where the run ends that has come to a position, or where it comes to or past another.
     #[inline(always)]
     fn find_end_before(&mut self, input: Input<'_, B>, from: usize, to: usize, keeps: bool) -> usize
         requires range { IsRange input.bytes.now from to }
@@ -145,7 +145,7 @@ impl<B> Looks<B> {
             if is_printed_ascii(byte) {
                 end = self.find_ascii_end(input, end + 1);
             } else {
-                match self.find_other_end(input, end, byte, keeps) {
+                match self.find_other_character_end(input, end, byte, keeps) {
                     Some(next) => end = next,
                     None => return end,
                 }
@@ -154,9 +154,9 @@ impl<B> Looks<B> {
         end
     }
 
-    /// Finds where a long run ends that has come to a place.
+    /// Finds where a long run ends that has come to a position.
     #[inline(never)]
-    fn find_long_end(&mut self, input: Input<'_, B>, from: usize, keeps: bool) -> usize
+    fn find_long_run_end(&mut self, input: Input<'_, B>, from: usize, keeps: bool) -> usize
         requires { from ≤ length input.bytes.now }
         ensures scans { Scans (IsRun keeps) input.entry.bytes.now from result self.old self.new }
         ensures ended { EndsRun keeps input.entry.bytes.now result }
@@ -166,10 +166,10 @@ impl<B> Looks<B> {
         self.find_end_before(input, end, input.len(), keeps)
     }
 
-    /// Finds where the character ends that stands at a place and is no printed ASCII, if a run may
-    /// hold it. Its first byte was looked at.
+    /// Finds where the character ends that stands at a position and is no printed ASCII, if a run
+    /// may hold it. Its first byte was looked at.
     #[inline(always)]
-    fn find_other_end(
+    fn find_other_character_end(
         &mut self,
         input: Input<'_, B>,
         from: usize,
@@ -210,7 +210,7 @@ impl<B> Looks<B> {
         None
     }
 
-    /// Finds where the printed ASCII ends that has come to a place by a byte. Two more are read
+    /// Finds where the printed ASCII ends that has come to a position by a byte. Two more are read
     /// alone, then words are taken.
     #[inline(always)]
     fn find_ascii_end(&mut self, input: Input<'_, B>, from: usize) -> usize
@@ -227,7 +227,7 @@ impl<B> Looks<B> {
         }
     }
 
-    /// Finds the first byte from a place on that is no printed ASCII, or where fewer than eight
+    /// Finds the first byte from a position on that is no printed ASCII, or where fewer than eight
     /// bytes are left.
     #[inline(always)]
     fn find_end_by_words(&mut self, input: Input<'_, B>, from: usize) -> usize
@@ -246,7 +246,8 @@ impl<B> Looks<B> {
     }
 }
 
-/// Returns the place of the first of eight bytes that is no printed ASCII, or of a space before it.
+/// Returns the position of the first of eight bytes that is no printed ASCII, or of a space before
+/// it.
 #[inline(always)]
 fn first_unprinted(word: &[u8; 8]) -> Option<usize>
     ensures { MatchOption result (ArePrinted word.now 0 8)

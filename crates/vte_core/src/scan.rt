@@ -6,7 +6,7 @@
 //! the caller. A function generic in the buffer `B` can't make a `Looks<B>`: only `limited` and
 //! `unlimited` do. So it can't lose a look.
 ghost use Rattle.std.specs.Prelude.{◌≡◌, ◌+◌, ◌-◌, ◌<◌, ◌≤◌, ℕ, [], ◌∷◌, ◌++◌, false, length, drop, map, take, slice_index, vec_capacity, MatchOption, IsUtf8};
-ghost use Rattle.vte_core.specs.machine.Words.{AreOfKind, ArePut, IsRange, IsRun, IsTaken, PrintsRun, Put, Tells, after, character_event, is_in, looked, malformed_event, from_to};
+ghost use Rattle.vte_core.specs.machine.Prelude.{AreOfKind, ArePut, IsRange, IsRun, IsTaken, PrintsRun, Put, Tells, after, character_event, is_in, looked, malformed_event, from_to};
 
 mod counted_perform;
 mod grain;
@@ -69,7 +69,7 @@ impl<'a, B> Input<'a, B> {
         self.bytes.len()
     }
 
-    /// Returns the bytes up to a place.
+    /// Returns the bytes up to a position.
     #[inline(always)]
     pub(crate) fn up_to(self, to: usize) -> Self
         requires { to ≤ length self.bytes.now }
@@ -83,7 +83,7 @@ impl<'a, B> Input<'a, B> {
         }
     }
 
-    /// Returns the text from one place to another, which is whole characters.
+    /// Returns the text from one position to another, which is whole characters.
     #[inline(always)]
     fn text(self, from: usize, to: usize) -> &'a str
         requires range { IsRange self.bytes.now from to }
@@ -94,7 +94,7 @@ impl<'a, B> Input<'a, B> {
         unsafe { str::from_utf8_unchecked(bytes) }
     }
 
-    /// Returns the data from one place to another.
+    /// Returns the data from one position to another.
     #[inline(always)]
     fn data(self, from: usize, to: usize) -> &'a [u8]
         requires range { IsRange self.bytes.now from to }
@@ -103,7 +103,7 @@ impl<'a, B> Input<'a, B> {
         &self.bytes[from..to]
     }
 
-    /// Returns the run that stands at a place, whose bytes were looked at.
+    /// Returns the run that stands at a position, whose bytes were looked at.
     pub(crate) fn take_run(self, place: RunPlace) -> Run<'a>
         requires range { IsRange self.bytes.now place.start place.end }
         requires kind { AreOfKind place.kind
@@ -186,7 +186,7 @@ impl<B> Looks<B> {
         Some(byte)
     }
 
-    /// Returns a copy of the `N` bytes from a place on, or `None` if there are fewer.
+    /// Returns a copy of the `N` bytes from a position on, or `None` if there are fewer.
     #[inline(always)]
     pub(crate) fn get_block<const N: usize>(
         &mut self,
@@ -236,7 +236,7 @@ impl<B> Looks<B> {
         }
     }
 
-    /// Tells the run of text that stands from one place to another, which counts its bytes.
+    /// Tells the run of text that stands from one position to another, which counts its bytes.
     #[inline(always)]
     pub(crate) fn tell_text<P: CountedPerform<B, G>, G>(
         &mut self,
@@ -255,7 +255,7 @@ impl<B> Looks<B> {
         performer.print_text(self, input.text(from, to));
     }
 
-    /// Tells the data that stand from one place to another, which counts them.
+    /// Tells the data that stand from one position to another, which counts them.
     #[inline(always)]
     pub(crate) fn tell_data<P: CountedPerform<B, G>, G>(
         &mut self,
@@ -275,7 +275,7 @@ impl<B> Looks<B> {
         performer.put_slice(self, input.data(from, to));
     }
 
-    /// Appends the bytes from one place to another to an array that has room for them.
+    /// Appends the bytes from one position to another to an array that has room for them.
     pub(crate) fn copy_to_array<const N: usize>(
         &mut self,
         input: Input<'_, B>,
@@ -293,7 +293,7 @@ impl<B> Looks<B> {
         array.try_extend_from_slice(&input.bytes[from..to])
     }
 
-    /// Appends the bytes from one place to another to a vector that has memory for them.
+    /// Appends the bytes from one position to another to a vector that has memory for them.
     pub(crate) fn copy_to_vec<A: Allocator>(
         &mut self,
         input: Input<'_, B>,

@@ -1,7 +1,7 @@
 //! The store of an operating system command.
 ghost use Rattle.std.specs.Prelude.{◌≡◌, ◌≢◌, ◌+◌, ◌-◌, ◌≤◌, ◌<◌, List, ℕ, [], ◌∷◌, ◌++◌, length, drop, map, take, false, ◌↔◌, IsTrue, All};
 ghost use Rattle.std.specs.List.Sorted.{IsNonDecreasing};
-ghost use Rattle.vte_core.specs.machine.Words.{ArePieceEnds, HasCapacity, Stored, IsRange, Keeps, OscDispatch, ReservesCapacity, SameItems, TakesFew, Tells, cut_pieces, most_pieces};
+ghost use Rattle.vte_core.specs.machine.Prelude.{ArePieceEnds, HasCapacity, Stored, IsRange, Keeps, OscDispatch, ReservesCapacity, SameItems, TakesFew, Tells, cut_pieces, most_pieces};
 
 use crate::buffer::Buffer;
 use crate::scan::{CountedPerform, Grain, Input, Looks};
@@ -103,7 +103,7 @@ impl<B: Buffer> Store<B> {
         }
     }
 
-    /// Adds the data bytes of an input from one place to another, as many as there is room for;
+    /// Adds the data bytes of an input from one position to another, as many as there is room for;
     /// none after 16 pieces.
     pub(crate) fn push_data(
         &mut self,
@@ -236,8 +236,8 @@ impl<A: Allocator + Clone> Clone for Store<Vec<u8, A>> {
     }
 }
 
-/// Returns whether pieces with this many bytes in all can end at these places, of which there are
-/// at most 16.
+/// Returns whether pieces with this many bytes in all can end at these positions, of which there
+/// are at most 16.
 fn are_piece_ends(ends: &[usize], count: usize) -> bool
     ensures { IsTrue result ↔ (IsNonDecreasing ends.now × All (λ end. end ≤ count) ends.now) }
 {

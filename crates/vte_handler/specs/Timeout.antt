@@ -1,4 +1,4 @@
--- What a timeout means, and when it is kept.
+-- What a timeout means, and when it is steady.
 use Rattle.std.specs.Prelude.{◌≡◌, ℕ, Bool, true, false}
 
 -- The value after it is set for this many nanoseconds and after it is cleared, and the answers that
@@ -17,7 +17,8 @@ abbrev pub AllowsAlone : {W : Type 0} → TimeoutMeaning W → W → Bool → Ty
 AllowsAlone m value answer =
     m.allows value answer × ((other : Bool) → m.allows value other → other ≡ answer)
 
--- A kept timeout is pending from when it is set until it is cleared, no matter what a clock shows.
-pub record IsKept {W : Type 0} (m : TimeoutMeaning W) : Type 0 where
+-- A steady timeout is pending from when it is set until it is cleared, no matter what a clock
+-- shows.
+pub record IsSteady {W : Type 0} (m : TimeoutMeaning W) : Type 0 where
   pub set : (value : W) (nanos : ℕ) → AllowsAlone m (m.set value nanos) true
   pub clear : (value : W) → AllowsAlone m (m.clear value) false

@@ -47,7 +47,7 @@ COUNTS = [
 ]
 
 # The functions that may stop: the others only pass this parameter on.
-ASKING = {"drive", "end_data", "read_by_state", "read_device_data", "read_end",
+ASKING = {"drive", "end_device_data", "read_by_state", "read_device_data", "read_end",
           "read_ignored_string", "read_system_command", "read_text", "read_until_terminated"}
 
 

@@ -49,13 +49,14 @@ VTE = Plan(
         "vte_core": {
             "crate::proved::vte_core::automaton": "skip_run_blocks",
             "crate::proved::vte_core::run":
-                "begins_ascii find_ascii_run_end find_longer_run_end find_rest_end find_run_end",
+                "begins_ascii find_ascii_run_end find_run_end_at_lead find_run_end "
+                "find_run_end_for",
             "crate::proved::vte_core::scan":
                 "Grain InRuns Run RunKind RunPlace Singly data get get_block take_run "
                 "tell_character tell_single text up_to",
             "crate::proved::vte_core::scan::grain": "PerformAs",
             "crate::proved::vte_core::scan::search":
-                "find_data_end find_put_end find_string_end search_text",
+                "find_command_data_end find_device_data_end find_string_end search_text",
         },
     },
     crate_conditions={name: 'feature = "ansi"' for name in ("vte_types", "vte_handler", "vte")},

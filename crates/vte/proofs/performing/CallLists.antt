@@ -1,8 +1,8 @@
 -- The calls of events that follow one another, and those that more bytes add: those of the whole are those of the
 -- parts joined. By induction over the events, with the last printed character carried along.
 use Rattle.vte.proofs.Common.{◌≡◌, ℕ, None, List, [], ◌∷◌, ◌++◌, Option, refl, ap, ◌∙◌, append_assoc, drop-append_seam, Event, added, events, added_both, added-nothing}
-use Rattle.vte.proofs.Common.{events_grow, Call, after, calls_added, added_calls, calls, calls_from, last_printed_after, last_printed, last_printed_from, zero, suc, ◌+◌, zero-add, suc-add, Bool, ◌||◌}
-use Rattle.vte.proofs.Common.{nat_lt, arith, nat_tests, TimeoutMeaning, set_times, update_nanos, PerformerValue, first_number, is_update_group, update_groups, with_private_mode, with_private_modes}
+use Rattle.vte.proofs.Common.{events_grow, Call, after, added_calls, calls_beyond, calls, calls_from, last_printed_after, last_printed, last_printed_from, zero, suc, ◌+◌, zero-add, suc-add, Bool, ◌||◌}
+use Rattle.vte.proofs.Common.{nat_lt, arith, nat_tests, TimeoutMeaning, set_times, update_nanos, PerformerValue, first_number, is_update_group, update_group_count, with_private_mode, with_private_modes}
 use Rattle.std.specs.Bool.{if◌then◌else◌}
 
 pub after-append : {V : Type 0} (step : V → Call → V) (value : V) (xs ys : List Call)
@@ -22,28 +22,28 @@ pub last-append : (last : Option ℕ) (xs ys : List Event)
 last-append last [] ys = refl
 last-append last (x ∷ xs) ys = last-append (last_printed_after last x) xs ys
 
-added_calls-append : (before more : List Event)
-    → added_calls before (before ++ more) ≡ calls_from (last_printed before) more
-added_calls-append before more = rw (calls-append None before more) (drop-append_seam (calls before) _)
+calls_beyond-append : (before more : List Event)
+    → calls_beyond before (before ++ more) ≡ calls_from (last_printed before) more
+calls_beyond-append before more = rw (calls-append None before more) (drop-append_seam (calls before) _)
 
-pub calls_added-events : (limit : Option ℕ) (p u : List ℕ)
-    → calls_added limit p u ≡ calls_from (last_printed (events limit p)) (added limit p u)
-calls_added-events limit p u =
-    ap (added_calls (events limit p)) (events_grow limit p u) ∙ added_calls-append (events limit p) (added limit p u)
+pub added_calls-events : (limit : Option ℕ) (p u : List ℕ)
+    → added_calls limit p u ≡ calls_from (last_printed (events limit p)) (added limit p u)
+added_calls-events limit p u =
+    ap (calls_beyond (events limit p)) (events_grow limit p u) ∙ calls_beyond-append (events limit p) (added limit p u)
 
-pub calls_added-nothing : (limit : Option ℕ) (p : List ℕ) → calls_added limit p [] ≡ []
-calls_added-nothing limit p = rw (calls_added-events limit p [], added-nothing limit p)
+pub added_calls-nothing : (limit : Option ℕ) (p : List ℕ) → added_calls limit p [] ≡ []
+added_calls-nothing limit p = rw (added_calls-events limit p [], added-nothing limit p)
 
-pub calls_added-append : (limit : Option ℕ) (p u w : List ℕ)
-    → calls_added limit p (u ++ w) ≡ calls_added limit p u ++ calls_added limit (p ++ u) w
-calls_added-append limit p u w =
+pub added_calls-append : (limit : Option ℕ) (p u w : List ℕ)
+    → added_calls limit p (u ++ w) ≡ added_calls limit p u ++ added_calls limit (p ++ u) w
+added_calls-append limit p u w =
     let last : last_printed (events limit (p ++ u))
     ≡ last_printed_from (last_printed (events limit p)) (added limit p u) =
     ap last_printed (events_grow limit p u) ∙ last-append None (events limit p) (added limit p u) in
     rw (
-      calls_added-events limit p (u ++ w),
-      calls_added-events limit p u,
-      calls_added-events limit
+      added_calls-events limit p (u ++ w),
+      added_calls-events limit p u,
+      added_calls-events limit
           (p ++ u) w,
       last,
       added_both limit p u w,
@@ -51,10 +51,10 @@ calls_added-append limit p u w =
     (calls-append (last_printed (events limit p)) (added limit p u) (added limit (p ++ u) w))
 
 pub calls_whole : (limit : Option ℕ) (p u : List ℕ)
-    → calls (events limit (p ++ u)) ≡ calls (events limit p) ++ calls_added limit p u
+    → calls (events limit (p ++ u)) ≡ calls (events limit p) ++ added_calls limit p u
 calls_whole limit p u =
     ap calls (events_grow limit p u)
-    ∙ rw (calls_added-events limit p u) (calls-append None (events limit p) (added limit p u))
+    ∙ rw (added_calls-events limit p u) (calls-append None (events limit p) (added limit p u))
 
 -- a timeout that is set several times
 pub set_times-add : {W : Type 0} (m : TimeoutMeaning W) (value : W) (n k : ℕ)
@@ -73,6 +73,6 @@ pub modes_more : {H W : Type 0} (step : H → Call → H) (timeout : TimeoutMean
 modes_more step timeout lent group groups =
     let begins : ℕ = if is_update_group group then 1 else 0 in
     rw (
-      begun_more lent.terminated (is_update_group group) (update_groups groups),
-      set_times-add timeout lent.timeout begins (update_groups groups),
+      begun_more lent.terminated (is_update_group group) (update_group_count groups),
+      set_times-add timeout lent.timeout begins (update_group_count groups),
     ) refl

@@ -1,12 +1,12 @@
 -- What parsed bytes make of a handler and a timeout. A performer's value steps by events; all events together make the
 -- calls of their rows and set the timeout once per begin of an update. An early stop is the front up to the begin.
 use Rattle.vte.proofs.Common.{◌≡◌, ℕ, ◌+◌, ◌<◌, inl, inr, Bool, false, ◌||◌, nat_lt, All, List, [], ◌∷◌, ◌++◌, length, take, refl, ap, sym, ◌∙◌, arith, or-false}
-use Rattle.vte.proofs.Common.{cases_lt, false≢true, nat_tests, All-head, All-tail, told, stream_at, StopsExactly, Event, added, events, starts-between, stream_at-between, told-between, events_grow}
-use Rattle.vte.proofs.Common.{after, ProcessorState, begin_count, begins_of, calls_of, calls_from, last_printed_after, last_printed, last_printed_from, performer_value, Meaning, set_times, FitsText, PerformerValue}
+use Rattle.vte.proofs.Common.{cases_lt, false≢true, nat_tests, All-head, All-tail, told_before, stream_at, StopsExactly, Event, added, events, starts-between, stream_at-between, told-between, events_grow}
+use Rattle.vte.proofs.Common.{after, ProcessorState, begin_count, begins_in_event, calls_of, calls_from, last_printed_after, last_printed, last_printed_from, performer_value, Meaning, set_times, FitsText, PerformerValue}
 use Rattle.vte.proofs.Common.{with_event, of_turns, IsParsed, IsParsedOn, KeepsMemory, State, parse, begin_front, ParserMeaning}
 use Rattle.vte_core.specs.Perform.{after as performed}
 use Rattle.vte.specs.declared.ansi.performer.Performer.{Performer}
-use Rattle.vte.proofs.performing.CallLists.{after-append, calls_added-events, last-append, set_times-add}
+use Rattle.vte.proofs.performing.CallLists.{after-append, added_calls-events, last-append, set_times-add}
 use Rattle.vte.proofs.turns.Fronts.{IsFront, closed_at, is_front, told_count, whole_at}
 
 -- ---- the value after events
@@ -36,8 +36,8 @@ performed-events m lent (event ∷ events) fit =
       All-head (FitsText lent.room) event events fit lent.last,
       ← after-append m.step lent.handler (calls_of lent.last event)
           (calls_from (last_printed_after lent.last event) events),
-      ← set_times-add m.timeout lent.timeout (begins_of event) (begin_count events),
-      or_some lent.terminated (begins_of event) (begin_count events),
+      ← set_times-add m.timeout lent.timeout (begins_in_event event) (begin_count events),
+      or_some lent.terminated (begins_in_event event) (begin_count events),
     ) refl
 
 -- ---- the performer gives back what it was lent
@@ -82,7 +82,7 @@ module _ {H T J G V W : Type 0} (handler_of : H → V) (timeout_of : T → W) (r
             timeout_is = rw (is_state, ← timeout) (ap (λ lent. lent.timeout) all);
           };
           handler_is =
-              rw (is_handler, calls_added-events m.limit s.parsed f, ← last, ← handler) (ap (λ lent. lent.handler) all);
+              rw (is_handler, added_calls-events m.limit s.parsed f, ← last, ← handler) (ap (λ lent. lent.handler) all);
         };
         memory = rw (room_back, at_room) (keeps (room_of lent.text));
       }
@@ -95,7 +95,7 @@ terminated_by : {H W : Type 0} (m : Meaning H W) (lent : PerformerValue H W) (ev
 terminated_by m lent [] = sym (or-false lent.terminated)
 terminated_by m lent (event ∷ events) =
     terminated_by m (with_event m.step m.timeout lent event) events
-    ∙ or_some lent.terminated (begins_of event) (begin_count events)
+    ∙ or_some lent.terminated (begins_in_event event) (begin_count events)
 
 module _ {V W : Type 0} (m : Meaning V W) {old new : PerformerValue V W} (goes_on : old.terminated ≡ false)
     {p r : List ℕ} {n : ℕ}
@@ -103,9 +103,9 @@ module _ {V W : Type 0} (m : Meaning V W) {old new : PerformerValue V W} (goes_o
   front : IsFront m.limit p r (length (begin_front m.limit p r))
   front = is_front m.limit p r
 
-  terminated_at : (i : ℕ) → (performed (with_event m.step m.timeout) old (told m.limit p r i)).terminated
+  terminated_at : (i : ℕ) → (performed (with_event m.step m.timeout) old (told_before m.limit p r i)).terminated
       ≡ nat_lt 0 (begin_count (added m.limit p (take i r)))
-  terminated_at i = terminated_by m old (told m.limit p r i) ∙ rw (goes_on, told_count m.limit p r i)
+  terminated_at i = terminated_by m old (told_before m.limit p r i) ∙ rw (goes_on, told_count m.limit p r i)
 
   not_before : n < length (begin_front m.limit p r) → ⊥
   not_before less =

@@ -1,7 +1,7 @@
 -- Each given byte is parsed or held, once and in order. Each turn and stop keeps `Grows`: parsed, held and left bytes
 -- together are those of before, and `Grows` composes over the turns of a call and the calls of a run.
 use Rattle.vte.proofs.Common.{◌≡◌, ℕ, ◌-◌, suc, inl, inr, Bool, Option, List, [], ◌∷◌, ◌++◌, length, take, drop, refl, ap, sym, ◌∙◌, append_assoc, arith}
-use Rattle.vte.proofs.Common.{take-append-drop, Step, Advance, StopSync, Meaning, TakesSteps, given_bytes, kept_of, State, TakesTurns, all_bytes, begin_front, extend, hold_turn, is_held, is_stopped, keep}
+use Rattle.vte.proofs.Common.{take-append-drop, Step, Advance, StopSync, Meaning, TakesSteps, given_bytes, still_held, State, TakesTurns, all_bytes, begin_front, extend, hold_turn, is_held, is_stopped, release}
 use Rattle.vte.proofs.Common.{cases_Bool, nat_tests, append-nil, stop_if_due, parse, stop, turn, done, turns}
 use Rattle.std.proofs.lemmas.List.{nil_from_length}
 use Rattle.vte.proofs.turns.Fronts.{is_front}
@@ -67,9 +67,9 @@ module _ {V W : Type 0} (m : Meaning V W) where
       → Grows s (parse m s front) bytes left
   parse_grows s front left bytes none is = record { more = front; parsed_is = refl; each_once = rw none (sym is) }
 
-  keep_grows : (s : State V W) (kept : List ℕ) → Grows s (keep m s kept) [] []
-  keep_grows s [] = stop_grows s []
-  keep_grows s (b ∷ kept) =
+  release_grows : (s : State V W) (kept : List ℕ) → Grows s (release m s kept) [] []
+  release_grows s [] = stop_grows s []
+  release_grows s (b ∷ kept) =
       record {
         more = take (length s.held - suc (length kept)) s.held;
         parsed_is = refl;
@@ -80,7 +80,7 @@ module _ {V W : Type 0} (m : Meaning V W) where
   hold_grows s r =
       let held : Grows s (extend m s r) r [] =
       record { more = []; parsed_is = sym (append-nil s.parsed); each_once = sym (append-nil (s.held ++ r)) } in
-      grows_on held (keep_grows (extend m s r) (kept_of (s.held ++ r)))
+      grows_on held (release_grows (extend m s r) (still_held (s.held ++ r)))
 
   turn_grows : (answer : Bool) (s : State V W) (r : List ℕ)
       → Grows s (turn m answer s r).state r (turn m answer s r).rest
@@ -98,11 +98,11 @@ module _ {V W : Type 0} (m : Meaning V W) where
   turns_grow s t (b ∷ bytes) left (turns answer allowed more) =
       grows_on (turn_grows answer s (b ∷ bytes)) (turns_grow _ t _ left more)
 
-  pub run_bytes : (s t : State V W) (steps : List Step) → TakesSteps m s steps t
+  pub replay_bytes : (s t : State V W) (steps : List Step) → TakesSteps m s steps t
       → all_bytes t ≡ all_bytes s ++ given_bytes steps
-  run_bytes s t [] e = rw (e, append-nil)
-  run_bytes s t (Advance bytes ∷ steps) (next, (a, r)) =
+  replay_bytes s t [] e = rw (e, append-nil)
+  replay_bytes s t (Advance bytes ∷ steps) (next, (a, r)) =
       let read : all_bytes next ≡ all_bytes s ++ bytes.now =
       sym (append-nil (all_bytes next)) ∙ grown_bytes (turns_grow s next bytes.now [] a) in
-      run_bytes next t steps r ∙ rw (read, append_assoc)
-  run_bytes s t (StopSync ∷ steps) r = run_bytes (stop m s) t steps r ∙ rw stop_bytes
+      replay_bytes next t steps r ∙ rw (read, append_assoc)
+  replay_bytes s t (StopSync ∷ steps) r = replay_bytes (stop m s) t steps r ∙ rw stop_bytes

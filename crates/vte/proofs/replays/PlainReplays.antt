@@ -1,12 +1,12 @@
 -- With a timeout that is never pending nothing is ever held, so a run has no stops and its calls are those of the
 -- whole stream. By induction over turns: each one is open, and ends with nothing held.
-use Rattle.vte.proofs.Common.{◌≡◌, ℕ, true, false, List, [], ◌∷◌, ◌++◌, refl, ap, sym, ◌∙◌, Bor, append-nil, events, after, Step, Advance, StopSync, calls_added, calls}
+use Rattle.vte.proofs.Common.{◌≡◌, ℕ, true, false, List, [], ◌∷◌, ◌++◌, refl, ap, sym, ◌∙◌, Bor, append-nil, events, after, Step, Advance, StopSync, added_calls, calls}
 use Rattle.vte.proofs.Common.{Meaning, Advanced, HasParsedAll, IsAt, Replayed, Replays, TakesSteps, Standing, given_bytes, IsTold, State, TakesAllTurns, done, turns, stop_if_due}
 use Rattle.vte.specs.ProcessorCalls.{AreAdvances, IsNeverPending, ParsesAll}
 use Rattle.vte.proofs.performing.CallLists.{after-append, calls_whole}
 use Rattle.vte.proofs.replays.EachOnce.{stop_if_due_none}
 use Rattle.vte.proofs.replays.Replays.{advance_runs}
-use Rattle.vte.proofs.replays.Tellings.{between-whole, told_run}
+use Rattle.vte.proofs.replays.Tellings.{between-whole, told_replay}
 
 -- nothing is held, and there was no stop
 record IsPlain {V W : Type 0} (s t : State V W) : Type 0 where
@@ -59,7 +59,7 @@ module _ {V W : Type 0} {old : Standing W} (before : V) {stream : List ℕ} (all
         told.is_told
         ∙ rw (← told.stops_are, plain.no_stop, parsed_all, between-whole m.limit stream (given_bytes steps), was)
         (sym
-        (after-append m.step start (calls (events m.limit stream)) (calls_added m.limit stream (given_bytes steps))))
+        (after-append m.step start (calls (events m.limit stream)) (added_calls m.limit stream (given_bytes steps))))
         ∙ ap (after m.step start) (sym (calls_whole m.limit stream (given_bytes steps)))
 
     plain_parses : HasParsedAll new (stream ++ given_bytes steps)
@@ -84,7 +84,7 @@ module _ {V W : Type 0} (m : Meaning V W) {old new : Standing W} {before value :
       → Replays m old new before value steps
   replays_all steps replays =
       let told : (s : State V W) → IsAt old before s → IsTold m s steps value (IsAt new value) =
-      λ s at. told_run m s value (λ t there. there.handler_is) steps (replays s at) in
+      λ s at. told_replay m s value (λ t there. there.handler_is) steps (replays s at) in
       record { told = told; plain = plain_calls steps told }
 
   -- a call is a run of one step

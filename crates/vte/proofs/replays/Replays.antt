@@ -1,9 +1,9 @@
--- From calls to a list of them: a loop over calls makes `TakesSteps`, call by call. A kept timeout allows one answer in
--- each state, so where the list leads is then a function of its calls.
+-- From calls to a list of them: a loop over calls makes `TakesSteps`, call by call. A steady timeout allows one answer
+-- in each state, so where the list leads is then a function of its calls.
 use Rattle.vte.proofs.Common.{ℕ, ◌+◌, ◌<◌, List, [], ◌∷◌, ◌++◌, length, take, drop, get_or, refl, Bor, drop_more, take_more, Step, Advance, StopSync, Meaning, Advanced}
-use Rattle.vte.proofs.Common.{HoldsWellAt, TakesSteps, Replayed, State, stop, ◌≡◌, ◌-◌, HasTaken, inl, inr, Bool, sym, ◌∙◌, IsKept, TakesAllTurns, done, turns}
+use Rattle.vte.proofs.Common.{HoldsWellAt, TakesSteps, Replayed, State, stop, ◌≡◌, ◌-◌, HasTaken, inl, inr, Bool, sym, ◌∙◌, IsSteady, TakesAllTurns, done, turns}
 use Rattle.vte.specs.Refusal.{IsFirstRefused, left_of_first}
-use Rattle.vte.proofs.replays.EachOnce.{run_bytes}
+use Rattle.vte.proofs.replays.EachOnce.{replay_bytes}
 use Rattle.vte.proofs.turns.HoldFacts.{stop_well, taken_well, turn_well}
 
 -- the refused step is the first of those that are left
@@ -14,7 +14,7 @@ first_lacks {i = i} lacks steps d read inside is lacking = rw (drop_more steps i
 
 -- ---- for a timeout that is kept, a run is a function of the calls
 
-module _ {V W : Type 0} (m : Meaning V W) (kept : IsKept m.timeout) where
+module _ {V W : Type 0} (m : Meaning V W) (kept : IsSteady m.timeout) where
   answers_alone : (s : State V W) (a b : Bool) → HoldsWellAt m s → m.timeout.allows s.timeout a
       → m.timeout.allows s.timeout b → a ≡ b
   answers_alone s a b h first second = elim (h.kept kept) [
@@ -29,37 +29,38 @@ module _ {V W : Type 0} (m : Meaning V W) (kept : IsKept m.timeout) where
       advances_alone _ t u _ (turn_well m answer s (b ∷ r) allowed h) more
       (rw (answers_alone s other answer h allowed_too allowed) at further)
 
-  run_alone : (s t u : State V W) (steps : List Step) → HoldsWellAt m s → TakesSteps m s steps t
+  replay_alone : (s t u : State V W) (steps : List Step) → HoldsWellAt m s → TakesSteps m s steps t
       → TakesSteps m s steps u → u ≡ t
-  run_alone s t u [] h first other = sym other ∙ first
-  run_alone s t u (Advance bytes ∷ steps) h (next, (a, r)) (other, (b, q)) =
-      run_alone next t u steps (taken_well m s next bytes.now [] a h) r
+  replay_alone s t u [] h first other = sym other ∙ first
+  replay_alone s t u (Advance bytes ∷ steps) h (next, (a, r)) (other, (b, q)) =
+      replay_alone next t u steps (taken_well m s next bytes.now [] a h) r
       (rw (advances_alone s next other bytes.now h a b) at q)
-  run_alone s t u (StopSync ∷ steps) h r q = run_alone (stop m s) t u steps (stop_well m s) r q
+  replay_alone s t u (StopSync ∷ steps) h r q = replay_alone (stop m s) t u steps (stop_well m s) r q
 
 -- ---- calls one by one
 
 module _ {V W : Type 0} (m : Meaning V W) where
-  run_well : (s t : State V W) (steps : List Step) → TakesSteps m s steps t → HoldsWellAt m s → HoldsWellAt m t
-  run_well s t [] same h = rw (← same) h
-  run_well s t (Advance bytes ∷ steps) (next, (a, r)) h = run_well next t steps r (taken_well m s next bytes.now [] a h)
-  run_well s t (StopSync ∷ steps) r h = run_well (stop m s) t steps r (stop_well m s)
+  replay_well : (s t : State V W) (steps : List Step) → TakesSteps m s steps t → HoldsWellAt m s → HoldsWellAt m t
+  replay_well s t [] same h = rw (← same) h
+  replay_well s t (Advance bytes ∷ steps) (next, (a, r)) h = replay_well next t steps r (taken_well m s next bytes.now
+      [] a h)
+  replay_well s t (StopSync ∷ steps) r h = replay_well (stop m s) t steps r (stop_well m s)
 
   -- a run goes on with further steps
-  run_on : (s t u : State V W) (steps more : List Step) → TakesSteps m s steps t → TakesSteps m t more u
+  replay_on : (s t u : State V W) (steps more : List Step) → TakesSteps m s steps t → TakesSteps m t more u
       → TakesSteps m s (steps ++ more) u
-  run_on s t u [] more same r = rw same r
-  run_on s t u (Advance bytes ∷ steps) more (next, (a, q)) r = (next, (a, run_on next t u steps more q r))
-  run_on s t u (StopSync ∷ steps) more q r = run_on (stop m s) t u steps more q r
+  replay_on s t u [] more same r = rw same r
+  replay_on s t u (Advance bytes ∷ steps) more (next, (a, q)) r = (next, (a, replay_on next t u steps more q r))
+  replay_on s t u (StopSync ∷ steps) more q r = replay_on (stop m s) t u steps more q r
 
   pub replayed : (s t : State V W) (steps : List Step) {there : State V W → Type 0} → TakesSteps m s steps t → there t
       → Replayed m s steps there
   replayed s t steps run at = record {
     next = t;
     takes = run;
-    each_once = run_bytes m s t steps run;
-    holds_well = run_well s t steps run;
-    alone = λ kept well other r. run_alone m kept s t other steps well run r;
+    each_once = replay_bytes m s t steps run;
+    holds_well = replay_well s t steps run;
+    alone = λ kept well other r. replay_alone m kept s t other steps well run r;
     is_at = at;
   }
 
@@ -74,7 +75,7 @@ module _ {V W : Type 0} (m : Meaning V W) where
     step_taken q =
         replayed s q.next (take (i + 1) steps)
         (rw (take_more steps i d inside)
-        (run_on s r.next q.next (take i steps) (get_or steps i d ∷ []) r.takes q.takes)) q.is_at
+        (replay_on s r.next q.next (take i steps) (get_or steps i d ∷ []) r.takes q.takes)) q.is_at
 
     -- the next step is taken, or refused
     pub advance_taken : {bytes : Bor (List ℕ)} → get_or steps i d ≡ Advance bytes → Advanced m r.next bytes.now new

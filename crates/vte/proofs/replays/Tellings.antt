@@ -2,10 +2,10 @@
 -- induction over the run; the calls before a stop are those of the bytes up to it, and places of later stops only
 -- grow.
 use Rattle.vte.proofs.Common.{◌≡◌, ◌≤◌, ℕ, ◌+◌, ◌-◌, inl, inr, Bool, Option, List, [], ◌∷◌, ◌++◌, length, take, refl, ap, sym, ◌∙◌, arith}
-use Rattle.vte.proofs.Common.{append_assoc, length-append, cases_Bool, append-nil, append_cancel_left, drop_all, take-append-add, take-append_seam, take_all, after, Step, Advance, StopSync, calls_added, Meaning}
-use Rattle.vte.proofs.Common.{TakesSteps, Replayed, added_calls, given_bytes, kept_of, AreInOrder, IsTold, calls, calls_between, calls_with_stops, events}
-use Rattle.vte.proofs.Common.{State, TakesAllTurns, begin_front, extend, is_held, is_stopped, keep, open_turn, stop, turn, done, turns}
-use Rattle.vte.proofs.performing.CallLists.{after-append, calls_added-append}
+use Rattle.vte.proofs.Common.{append_assoc, length-append, cases_Bool, append-nil, append_cancel_left, drop_all, take-append-add, take-append_seam, take_all, after, Step, Advance, StopSync, added_calls, Meaning}
+use Rattle.vte.proofs.Common.{TakesSteps, Replayed, calls_beyond, given_bytes, still_held, AreInOrder, IsTold, calls, calls_between, calls_with_stops, events}
+use Rattle.vte.proofs.Common.{State, TakesAllTurns, begin_front, extend, is_held, is_stopped, release, open_turn, stop, turn, done, turns}
+use Rattle.vte.proofs.performing.CallLists.{after-append, added_calls-append}
 
 -- ---- the calls between two places
 
@@ -15,7 +15,7 @@ between_none limit stream place =
 
 between-append : (limit : Option ℕ) (p f rest : List ℕ) (place : ℕ) → length (p ++ f) ≤ place
     → calls_between limit ((p ++ f) ++ rest) (length p) place
-    ≡ calls_added limit p f ++ calls_between limit ((p ++ f) ++ rest) (length (p ++ f)) place
+    ≡ added_calls limit p f ++ calls_between limit ((p ++ f) ++ rest) (length (p ++ f)) place
 between-append limit p f rest place from =
     let k = place - length (p ++ f) in
     let is : place ≡ length (p ++ f) + k = omega (arith, from) in
@@ -23,11 +23,11 @@ between-append limit p f rest place from =
     ap (take (length p)) (append_assoc p f rest) ∙ take-append_seam p (f ++ rest) in
     let more = take k rest in
     rw (is, first, take-append-add (p ++ f) rest k, take-append_seam (p ++ f) rest)
-    (ap (λ all. added_calls (events limit p) (events limit all)) (append_assoc p f more)
-    ∙ calls_added-append limit p f more)
+    (ap (λ all. calls_beyond (events limit p) (events limit all)) (append_assoc p f more)
+    ∙ added_calls-append limit p f more)
 
 pub between-whole : (limit : Option ℕ) (p f : List ℕ)
-    → calls_between limit (p ++ f) (length p) (length (p ++ f)) ≡ calls_added limit p f
+    → calls_between limit (p ++ f) (length p) (length (p ++ f)) ≡ added_calls limit p f
 between-whole limit p f = rw (take-append_seam p f, take_all (length (p ++ f)) (p ++ f) (omega arith)) refl
 
 -- ---- bytes before the first stop
@@ -40,10 +40,10 @@ order_sooner p f (place ∷ places) to (from, order) = (omega (arith, from, leng
 stops-later : (limit : Option ℕ) (p f rest places : List ℕ) (all : List ℕ) → all ≡ (p ++ f) ++ rest
     → AreInOrder (length (p ++ f)) places (length all)
     → calls_with_stops limit all (length p) places
-    ≡ calls_added limit p f ++ calls_with_stops limit all (length (p ++ f)) places
+    ≡ added_calls limit p f ++ calls_with_stops limit all (length (p ++ f)) places
 stops-later limit p f rest [] all is from = rw is (between-append limit p f rest _ (rw is at from))
 stops-later limit p f rest (place ∷ places) all is (from, order) =
-    rw (is, between-append limit p f rest place from) (append_assoc (calls_added limit p f) _ _)
+    rw (is, between-append limit p f rest place from) (append_assoc (added_calls limit p f) _ _)
 
 -- ---- from a state to the end of a run
 
@@ -71,7 +71,7 @@ module _ {V W : Type 0} (m : Meaning V W) (u : State V W) where
   }
 
   tells-parse : (p f stops : List ℕ) (value : V)
-      → Tells (p ++ f) stops (after m.step value (calls_added m.limit p f)) → Tells p stops value
+      → Tells (p ++ f) stops (after m.step value (added_calls m.limit p f)) → Tells p stops value
   tells-parse p f stops value e = record {
     more = f ++ e.more;
     parsed_is = e.parsed_is ∙ append_assoc p f e.more;
@@ -96,13 +96,13 @@ module _ {V W : Type 0} (m : Meaning V W) (u : State V W) where
   tells-open : (t : State V W) (r : List ℕ) → TellsAt (open_turn m t r).state → TellsAt t
   tells-open t r = tells-parse t.parsed (begin_front m.limit t.parsed r) t.stops t.handler
 
-  tells-keep : (t : State V W) (kept : List ℕ) → TellsAt (keep m t kept) → TellsAt t
-  tells-keep t [] = tells-stop t
-  tells-keep t (b ∷ kept) = tells-parse t.parsed _ t.stops t.handler
+  tells-release : (t : State V W) (kept : List ℕ) → TellsAt (release m t kept) → TellsAt t
+  tells-release t [] = tells-stop t
+  tells-release t (b ∷ kept) = tells-parse t.parsed _ t.stops t.handler
 
   tells-turn : (answer : Bool) (t : State V W) (r : List ℕ) → TellsAt (turn m answer t r).state → TellsAt t
   tells-turn answer t r = elim (cases_Bool (is_held answer t r)) [
-    | inl held ↦ rw held (tells-keep (extend m t r) (kept_of (t.held ++ r)))
+    | inl held ↦ rw held (tells-release (extend m t r) (still_held (t.held ++ r)))
     | inr parses ↦ rw parses (elim (cases_Bool (is_stopped answer t)) [
       | inl stopped ↦ rw stopped (λ e. tells-stop t (tells-open (stop m t) r e))
       | inr none ↦ rw none (tells-open t r)
@@ -114,16 +114,16 @@ module _ {V W : Type 0} (m : Meaning V W) (u : State V W) where
   tells-advances t v (b ∷ r) (turns answer allowed more) e =
       tells-turn answer t (b ∷ r) (tells-advances _ v _ more e)
 
-  tells-run : (t : State V W) (steps : List Step) → TakesSteps m t steps u → TellsAt t
-  tells-run t [] same = rw same tells-nothing
-  tells-run t (Advance bytes ∷ steps) (next, (a, r)) = tells-advances t next bytes.now a (tells-run next steps r)
-  tells-run t (StopSync ∷ steps) r = tells-stop t (tells-run (stop m t) steps r)
+  tells-replay : (t : State V W) (steps : List Step) → TakesSteps m t steps u → TellsAt t
+  tells-replay t [] same = rw same tells-nothing
+  tells-replay t (Advance bytes ∷ steps) (next, (a, r)) = tells-advances t next bytes.now a (tells-replay next steps r)
+  tells-replay t (StopSync ∷ steps) r = tells-stop t (tells-replay (stop m t) steps r)
 
-pub told_run : {V W : Type 0} (m : Meaning V W) (s : State V W) (value : V) {there : State V W → Type 0}
+pub told_replay : {V W : Type 0} (m : Meaning V W) (s : State V W) (value : V) {there : State V W → Type 0}
     → ((t : State V W) → there t → value ≡ t.handler)
     → (steps : List Step) → Replayed m s steps there → IsTold m s steps value there
-told_run m s value is steps r =
-    let e = tells-run m r.next s steps r.takes in
+told_replay m s value is steps r =
+    let e = tells-replay m r.next s steps r.takes in
     record {
       replayed = r;
       more = e.more;

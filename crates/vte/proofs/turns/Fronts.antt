@@ -2,7 +2,7 @@
 -- no character is open or broken there, and the front is the shortest that adds a begin.
 use Rattle.vte_core.proofs.stops.Told.{breaks_at-all, breaks_at-between, told-broken}
 use Rattle.vte.proofs.Common.{◌≡◌, ℕ, zero, suc, ◌+◌, ◌<◌, ◌≤◌, inl, inr, false, nat_lt, Option, List, [], ◌∷◌, ◌++◌, length, take, refl, ap, subst, ◌∙◌}
-use Rattle.vte.proofs.Common.{append_assoc, arith, cases_Bool, cases_lt, nat_tests, append-nil, take_all, breaks_at, told, Event, Print, replacement, added, open_end}
+use Rattle.vte.proofs.Common.{append_assoc, arith, cases_Bool, cases_lt, nat_tests, append-nil, take_all, breaks_at, told_before, Event, Print, replacement, added, open_end}
 use Rattle.vte.proofs.Common.{told-between, added_both, added-nothing, opens_silently, begin_count, EndsInBegin, begin_front}
 
 -- ---- how often bytes begin an update
@@ -21,7 +21,7 @@ begins_in limit p a r =
 
 -- a broken character begins no update
 pub told_count : (limit : Option ℕ) (p r : List ℕ) (i : ℕ)
-    → begin_count (told limit p r i) ≡ begin_count (added limit p (take i r))
+    → begin_count (told_before limit p r i) ≡ begin_count (added limit p (take i r))
 told_count limit p r i = elim (cases_Bool (breaks_at p r i)) [
   | inl broken ↦
       rw (

@@ -2,8 +2,8 @@
 -- turn keeps, which is all, or starts with a begin-update, or is nothing.
 use Rattle.vte.proofs.Common.{◌≡◌, ℕ, zero, suc, ◌-◌, ◌<◌, ◌≤◌, inl, inr, Bool, true, false, List, [], ◌∷◌, ◌++◌, length, take, refl, sym}
 use Rattle.vte.proofs.Common.{length-drop, arith, cases_Bool, cases_lt, false≢true, nat_tests, added}
-use Rattle.vte.proofs.Common.{TimeoutMeaning, AllowsAlone, IsKept, begin_count, IsOutsideUpdate, IsInsideUpdate, Meaning, set_times}
-use Rattle.vte.proofs.Common.{update_nanos, HoldsWellAt, begin_update, begins_among, kept_of, last_part, State, TakesTurns, stop, is_held, is_stopped, stop_if_due, begin_front, open_turn, keep}
+use Rattle.vte.proofs.Common.{TimeoutMeaning, AllowsAlone, IsSteady, begin_count, IsOutsideUpdate, IsInsideUpdate, Meaning, set_times}
+use Rattle.vte.proofs.Common.{update_nanos, HoldsWellAt, begin_update, begins_among, still_held, last_part, State, TakesTurns, stop, is_held, is_stopped, stop_if_due, begin_front, open_turn, release}
 use Rattle.vte.proofs.Common.{extend, hold_turn, turn, done, turns, most_held, drop, ap, append-nil}
 use Rattle.vte.proofs.replays.EachOnce.{stop_if_due_none}
 use Rattle.vte.proofs.turns.Fronts.{is_front}
@@ -11,7 +11,7 @@ use Rattle.vte.proofs.updates.Sequences.{StaysHeld, begins_with-append, stays_he
 
 -- ---- the timeout
 
-module _ {W : Type 0} (m : TimeoutMeaning W) (k : IsKept m) where
+module _ {W : Type 0} (m : TimeoutMeaning W) (k : IsSteady m) where
   still_pending : (n : ℕ) (value : W) → AllowsAlone m value true → AllowsAlone m (set_times m n value) true
   still_pending zero value a = a
   still_pending (suc n) value a = still_pending n (m.set value update_nanos) (k.set value update_nanos)
@@ -23,7 +23,7 @@ module _ {W : Type 0} (m : TimeoutMeaning W) (k : IsKept m) where
 -- ---- a stop
 
 module _ {V W : Type 0} (m : Meaning V W) where
-  stop_outside : (s : State V W) → IsKept m.timeout → IsOutsideUpdate m.timeout [] (stop m s).timeout
+  stop_outside : (s : State V W) → IsSteady m.timeout → IsOutsideUpdate m.timeout [] (stop m s).timeout
   stop_outside s k = record { not_pending = k.clear _; none_held = refl }
 
   pub stop_well : (s : State V W) → HoldsWellAt m (stop m s)
@@ -32,7 +32,7 @@ module _ {V W : Type 0} (m : Meaning V W) where
   -- ---- an open turn
 
   open_well : (s : State V W) (r : List ℕ) → s.held ≡ []
-      → (IsKept m.timeout → IsOutsideUpdate m.timeout s.held s.timeout) → HoldsWellAt m (open_turn m s r).state
+      → (IsSteady m.timeout → IsOutsideUpdate m.timeout s.held s.timeout) → HoldsWellAt m (open_turn m s r).state
   open_well s r nothing outside =
       let f = is_front m.limit s.parsed r in
       record {
@@ -54,7 +54,8 @@ module _ {V W : Type 0} (m : Meaning V W) where
 
   keep_well : (t : State V W) (kept : List ℕ) → StaysHeld t.held kept → drop (length t.held - length kept) t.held ≡ kept
       → length t.held ≤ most_held
-      → (IsKept m.timeout → IsInsideUpdate m.limit m.timeout t.parsed t.held t.timeout) → HoldsWellAt m (keep m t kept)
+      → (IsSteady m.timeout → IsInsideUpdate m.limit m.timeout t.parsed t.held t.timeout)
+      → HoldsWellAt m (release m t kept)
   keep_well t [] is place fits inside = stop_well t
   keep_well t (b ∷ kept) is place fits inside = record {
     no_end = rw place is.no_end;
@@ -72,14 +73,14 @@ module _ {V W : Type 0} (m : Meaning V W) where
     });
   }
 
-  inside_of : (s : State V W) → HoldsWellAt m s → m.timeout.allows s.timeout true → IsKept m.timeout
+  inside_of : (s : State V W) → HoldsWellAt m s → m.timeout.allows s.timeout true → IsSteady m.timeout
       → IsInsideUpdate m.limit m.timeout s.parsed s.held s.timeout
   inside_of s h allowed k = elim (h.kept k) [
     | inl out ↦ absurd (false≢true (sym (out.not_pending.1 true allowed)))
     | inr i ↦ i
   ]
 
-  outside_of : (s : State V W) → HoldsWellAt m s → m.timeout.allows s.timeout false → IsKept m.timeout
+  outside_of : (s : State V W) → HoldsWellAt m s → m.timeout.allows s.timeout false → IsSteady m.timeout
       → IsOutsideUpdate m.timeout s.held s.timeout
   outside_of s h allowed k = elim (h.kept k) [
     | inl out ↦ out
@@ -87,7 +88,7 @@ module _ {V W : Type 0} (m : Meaning V W) where
   ]
 
   pub stop_if_due_outside : (answer : Bool) (s : State V W) → m.timeout.allows s.timeout answer → HoldsWellAt m s
-      → IsKept m.timeout
+      → IsSteady m.timeout
       → IsOutsideUpdate m.timeout (stop_if_due m answer s).held (stop_if_due m answer s).timeout
   stop_if_due_outside answer s allowed h k = elim (cases_Bool (is_stopped answer s)) [
     | inl stopped ↦ rw stopped (stop_outside s k)
@@ -97,7 +98,7 @@ module _ {V W : Type 0} (m : Meaning V W) where
   hold_well : (s : State V W) (r : List ℕ) → HoldsWellAt m s → m.timeout.allows s.timeout true
       → length (s.held ++ r) ≤ most_held → HoldsWellAt m (hold_turn m s r)
   hold_well s r h allowed fits =
-      keep_well (extend m s r) (kept_of (s.held ++ r)) (stays_held (s.held ++ r)) (stays-is (s.held ++ r)) fits
+      keep_well (extend m s r) (still_held (s.held ++ r)) (stays_held (s.held ++ r)) (stays-is (s.held ++ r)) fits
       (λ k. (let i = inside_of s h allowed k in record {
         pending = still_pending m.timeout k (begins_among (length r) (last_part (s.held ++ r))) s.timeout i.pending;
         begun = elim i.begun [ inl p ↦ inl p | inr b ↦ inr (begins_with-append begin_update s.held r b) ];

@@ -1,14 +1,14 @@
 -- A hold turn by its parts: bytes join the hold, the timeout is set as often as they begin updates, and what the hold
--- releases is parsed. Parsing a front of the held bytes and keeping the rest is `keep`.
+-- releases is parsed. Parsing a front of the held bytes and keeping the rest is `release`.
 use Rattle.vte.proofs.Common.{◌≡◌, ℕ, ◌+◌, ◌-◌, ◌<◌, List, [], ◌∷◌, ◌++◌, length, length-append, length-take, take, refl, sym, ◌∙◌, arith, take_all, Turns, IsAdded}
-use Rattle.vte.proofs.Common.{held_of, released_of, kept_of, Meaning, set_times, AreAt, TurnsMeaning, AreNextAt, IsParsed, IsParsedOn, IsParsedWithRoom, State, parse_held, extend, hold_turn, keep}
+use Rattle.vte.proofs.Common.{held_of, released_of, still_held, Meaning, set_times, AreAt, TurnsMeaning, AreNextAt, IsParsed, IsParsedOn, IsParsedWithRoom, State, parse_held, extend, hold_turn, release}
 use Rattle.vte.proofs.Common.{parse, stop}
 use Rattle.std.proofs.lemmas.List.{nil_from_length}
 use Rattle.vte.proofs.updates.Sequences.{stays_held, stays-is, suffix-length}
 use Rattle.vte.specs.declared.ansi.hold.Hold.{Hold}
 
 keeps_some : {V W : Type 0} (m : Meaning V W) (t : State V W) (kept : List ℕ) → 0 < length kept
-    → keep m t kept ≡ parse_held m t (length t.held - length kept)
+    → release m t kept ≡ parse_held m t (length t.held - length kept)
 keeps_some m t [] some = absurd (omega arith)
 keeps_some m t (b ∷ kept) some = refl
 
@@ -47,7 +47,7 @@ module _ {P J T A V W : Type 0} {w : TurnsMeaning P J T W} (m : Meaning V W) {s 
       let sum : length (released_of hold) + rest ≡ length s.held + length more = rw (added.released_is, added.held_is) (
       omega (
         arith,
-        length-take (length all - length (kept_of all)) all,
+        length-take (length all - length (still_held all)) all,
         suffix-length
             (stays_held all).suffix,
         length-append s.held more,
@@ -55,9 +55,10 @@ module _ {P J T A V W : Type 0} {w : TurnsMeaning P J T W} (m : Meaning V W) {s 
       let ready : w.reading.has_room set.parser (w.room_of set.state.text) s.parsed (length (released_of hold) + rest) =
       rw sum room in
       let there = parses t rest extended (λ some. ready) in
-      let parsed : IsParsed w last.parser last.state next (parse m t (take (length all - length (kept_of all)) all)) =
+      let parsed : IsParsed w last.parser last.state next
+      (parse m t (take (length all - length (still_held all)) all)) =
       rw added.released_is at there.is_parsed in
-      rw (keeps_some m t (kept_of all) (rw added.held_is at some)) (record {
+      rw (keeps_some m t (still_held all) (rw added.held_is at some)) (record {
         are_at = record {
           stands = record {
             has_parsed = parsed.has_parsed;
@@ -83,7 +84,7 @@ module _ {P J T A V W : Type 0} {w : TurnsMeaning P J T W} (m : Meaning V W) {s 
   turned_stop {last} {next} is stops =
       let all = s.held ++ more in
       let none : held_of hold ≡ [] = nil_from_length (held_of hold) is in
-      let nothing : kept_of all ≡ [] = sym added.held_is ∙ none in
+      let nothing : still_held all ≡ [] = sym added.held_is ∙ none in
       let whole : released_of hold ≡ all =
       added.released_is ∙ rw nothing (take_all (length all - 0) all (omega arith)) in
       let sum : length all + 0 ≡ length s.held + length more = omega (arith, length-append s.held more) in

@@ -3,9 +3,9 @@
 -- came.
 use Rattle.vte.proofs.Common.{◌≡◌, ℕ, ◌+◌, ◌-◌, ◌<◌, ◌≤◌, inl, Bool, true, false, nat_lt, List, [], ◌∷◌, ◌++◌, length, take, drop, refl, ap, sym, subst}
 use Rattle.vte.proofs.Common.{◌∙◌, arith, length-append, length-drop, append_assoc, drop-append-add, take-add, nat_tests, append-nil, drop_all, length-take-le}
-use Rattle.vte.proofs.Common.{take-append-drop, take_all, take_at, added, IsKept, begin_count, IsOutsideUpdate, Meaning, HoldsWellAt, Halted, IsAtBegin, IsOpenAt, Opened}
+use Rattle.vte.proofs.Common.{take-append-drop, take_all, take_at, added, IsSteady, begin_count, IsOutsideUpdate, Meaning, HoldsWellAt, Halted, IsAtBegin, IsOpenAt, Opened}
 use Rattle.vte.proofs.Common.{TakesAllTurns, OpenTurnHalts, State, TakesSome, TakesTurns, TurnHalts, begin_front, between, done, is_stopped, open_turn, stop_if_due, parse, turn, turns, within}
-use Rattle.vte.proofs.performing.CallLists.{after-append, calls_added-append, calls_added-nothing, set_times-add}
+use Rattle.vte.proofs.performing.CallLists.{after-append, added_calls-append, added_calls-nothing, set_times-add}
 use Rattle.vte.proofs.replays.EachOnce.{Grows, grows_on, stop_if_due_grows, stop_if_due_none, parse_grows, turns_grow}
 use Rattle.vte.proofs.turns.Fronts.{begins_in, front_after, front_is_all, front_of_more, front_some, none_begin, none_begin_in}
 use Rattle.vte.proofs.turns.HoldFacts.{stop_if_due_outside, taken_well}
@@ -19,7 +19,7 @@ slice_size bytes read count inside few =
 
 module _ {V W : Type 0} (m : Meaning V W) where
   pub parse-nothing : (s : State V W) → parse m s [] ≡ s
-  parse-nothing s = rw (none_begin m.limit s.parsed, calls_added-nothing m.limit s.parsed, append-nil) refl
+  parse-nothing s = rw (none_begin m.limit s.parsed, added_calls-nothing m.limit s.parsed, append-nil) refl
 
   parse-append : (s : State V W) (a b : List ℕ) → parse m (parse m s a) b ≡ parse m s (a ++ b)
   parse-append s a b =
@@ -27,7 +27,7 @@ module _ {V W : Type 0} (m : Meaning V W) where
         begins_in m.limit s.parsed a b,
         set_times-add m.timeout s.timeout (begin_count (added m.limit s.parsed a))
             (begin_count (added m.limit (s.parsed ++ a) b)),
-        calls_added-append m.limit s.parsed a b,
+        added_calls-append m.limit s.parsed a b,
         after-append m.step s.handler,
         append_assoc s.parsed a b,
       ) refl
@@ -181,7 +181,7 @@ module _ {V W : Type 0} (m : Meaning V W) where
       grows_on (turns_grow m s u bytes rest taken) (turn_halts_grow answer u t rest left halts)
 
   -- outside an update, and with nothing held
-  turn_halts_outside : (answer : Bool) (s t : State V W) (bytes left : List ℕ) → IsKept m.timeout → HoldsWellAt m s
+  turn_halts_outside : (answer : Bool) (s t : State V W) (bytes left : List ℕ) → IsSteady m.timeout → HoldsWellAt m s
       → m.timeout.allows s.timeout answer
       → TurnHalts m answer s bytes t left → IsOutsideUpdate m.timeout t.held t.timeout
   turn_halts_outside answer s t bytes left kept well allowed (parses, h) =
@@ -224,7 +224,7 @@ module _ {V W : Type 0} (m : Meaning V W) where
       taken_on s _ end bytes _ [] (one_taken answer some allowed)
       (subst (λ x. TakesTurns m x.state x.rest end []) same more)
 
-  pub goes_on : (s t end : State V W) (bytes left : List ℕ) → IsKept m.timeout → HoldsWellAt m s
+  pub goes_on : (s t end : State V W) (bytes left : List ℕ) → IsSteady m.timeout → HoldsWellAt m s
       → TakesSome m s bytes t left → TakesAllTurns m t left end → TakesAllTurns m s bytes end
   goes_on s t end bytes left kept well (between taken) more = taken_on s t end bytes left [] taken more
   goes_on s t end bytes left kept well (within {u} {rest} taken answer allowed halts) more =

@@ -2,7 +2,7 @@
 -- overlap; without an end-update in the older bytes, their last seven decide as all of them would.
 use Rattle.vte.proofs.Common.{◌≡◌, ℕ, zero, suc, ◌+◌, ◌-◌, ◌≤◌, inl, inr, ◌⊎◌, true, false, Option, Some, None, List, [], ◌∷◌, ◌++◌, length, drop, refl, ap}
 use Rattle.vte.proofs.Common.{zero-add, length-append, length-drop, arith, cases_Bool, cases_lt, nat_tests, drop-drop, after_word, begin_update, end_update, begins_with, after_last_end, from_begin}
-use Rattle.vte.proofs.Common.{begins_among, kept_of, sym, ◌<◌}
+use Rattle.vte.proofs.Common.{begins_among, still_held, sym, ◌<◌}
 use Rattle.std.specs.Prelude.{is_some, nat_lt}
 
 -- an `Option` by cases, for `elim`
@@ -121,7 +121,7 @@ pub record StaysHeld (held kept : List ℕ) : Type 0 where
   pub no_end : after_last_end kept ≡ None
   pub begins : (kept ≡ held) ⊎ (0 < length kept → begins_with begin_update kept ≡ true)
 
-pub stays_held : (held : List ℕ) → StaysHeld held (kept_of held)
+pub stays_held : (held : List ℕ) → StaysHeld held (still_held held)
 stays_held held = elim (cases_Option (after_last_end held)) [
   | inl none ↦
       rw none
@@ -136,10 +136,10 @@ stays_held held = elim (cases_Option (after_last_end held)) [
       })
 ]
 
-pub stays-is : (held : List ℕ) → drop (length held - length (kept_of held)) held ≡ kept_of held
+pub stays-is : (held : List ℕ) → drop (length held - length (still_held held)) held ≡ still_held held
 stays-is held =
     let suffix = (stays_held held).suffix in
-    let front : length held - length (kept_of held) ≡ suffix.front = omega (arith, suffix-length suffix) in
+    let front : length held - length (still_held held) ≡ suffix.front = omega (arith, suffix-length suffix) in
     rw front (sym suffix.is)
 
 -- ---- the last seven of the older bytes suffice, if no end-update is in them

@@ -2,7 +2,7 @@
 -- size of its buffer for texts, whether an update has begun, which state and handler it is lent.
 use Rattle.std.specs.Prelude.{◌≡◌, ℕ, Bool, ◌||◌, List, [], nat_lt, if◌then◌else◌, Option}
 use Rattle.std.specs.Borrow.{GName}
-use Rattle.vte.specs.BeginUpdate.{begins_of}
+use Rattle.vte.specs.BeginUpdate.{begins_in_event}
 use Rattle.vte.specs.Calls.{calls_of, last_printed_after}
 use Rattle.vte.specs.CommandCalls.{system_command_calls}
 use Rattle.vte.specs.Processor.{set_times}
@@ -36,10 +36,10 @@ abbrev pub with_event : {H W : Type 0}
     → (H → Call → H) → TimeoutMeaning W → PerformerValue H W → Event → PerformerValue H W
 with_event step timeout lent event = record {
   handler = after step lent.handler (calls_made lent.room lent.last event);
-  timeout = set_times timeout (begins_of event) lent.timeout;
+  timeout = set_times timeout (begins_in_event event) lent.timeout;
   last = last_printed_after lent.last event;
   room = lent.room;
-  terminated = lent.terminated || nat_lt 0 (begins_of event);
+  terminated = lent.terminated || nat_lt 0 (begins_in_event event);
   state_name = lent.state_name;
   handler_name = lent.handler_name;
 }

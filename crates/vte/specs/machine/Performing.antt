@@ -2,7 +2,7 @@
 use Rattle.std.specs.Prelude.{◌≡◌, ℕ, ◌+◌, ◌≤◌, ◌||◌, ◌==◌, if◌then◌else◌, Option, List, ◌++◌}
 use Rattle.std.specs.Prelude.{length, nat_lt}
 use Rattle.std.specs.List.{All}
-use Rattle.vte.specs.BeginUpdate.{update_groups, update_mode}
+use Rattle.vte.specs.BeginUpdate.{update_group_count, update_mode}
 use Rattle.vte.specs.Change.{change_call, change_calls}
 use Rattle.vte.specs.Memory.{KeepsMemory, ParserMeaning}
 use Rattle.vte.specs.Processor.{set_times}
@@ -44,8 +44,8 @@ abbrev pub with_private_modes : {H W : Type 0}
     → (H → Call → H) → TimeoutMeaning W → PerformerValue H W → List (List ℕ) → PerformerValue H W
 with_private_modes step timeout lent groups = record lent {
   handler = after step lent.handler (change_calls SetPrivate (first_numbers groups));
-  timeout = set_times timeout (update_groups groups) lent.timeout;
-  terminated = lent.terminated || nat_lt 0 (update_groups groups);
+  timeout = set_times timeout (update_group_count groups) lent.timeout;
+  terminated = lent.terminated || nat_lt 0 (update_group_count groups);
 }
 
 -- A parser has read bytes after a stream, and performed what they add. It still has memory for n

@@ -5,7 +5,7 @@ ghost use Rattle.vte.specs.CallExamples.{link_examples, mode_examples, palette_e
 ghost use Rattle.vte.specs.Processor.{HoldsWellAt, State, TakesAllTurns, TakesTurns, all_bytes, meaning, stop};
 ghost use Rattle.vte.specs.Refusal.{TakesSome};
 ghost use Rattle.vte.specs.UpdateExamples.{AreLed, expired_example, update_examples};
-ghost use Rattle.vte_handler.specs.Timeout.{IsKept, timeout_meaning};
+ghost use Rattle.vte_handler.specs.Timeout.{IsSteady, timeout_meaning};
 
 mod replays;
 
@@ -45,8 +45,8 @@ pub fn stops_lose_nothing<H: Handler, T: Timeout>()
 {}
 
 /// Where the rest of a refused call of a [`LongProcessor`](crate::ansi::LongProcessor) leads to,
-/// the whole call leads to: if it was refused between turns, and with a kept timeout within a turn
-/// too, although the timeout is asked once more.
+/// the whole call leads to: if it was refused between turns, and with a steady timeout within a
+/// turn too, although the timeout is asked once more.
 #[tactic(auto, using(crate::proofs::turns::Slices::taken_on))]
 pub fn refused_calls_go_on<H: Handler, T: Timeout>()
     ensures between { (s t end : State H.Value T.Value) (bytes rest : List ℕ)
@@ -54,7 +54,7 @@ pub fn refused_calls_go_on<H: Handler, T: Timeout>()
         TakesAllTurns (meaning None H.step T.set T.clear T.allows) t rest end
         → TakesAllTurns (meaning None H.step T.set T.clear T.allows) s bytes end }
     ensures within { (s t end : State H.Value T.Value) (bytes rest : List ℕ)
-        → IsKept (timeout_meaning T.set T.clear T.allows) →
+        → IsSteady (timeout_meaning T.set T.clear T.allows) →
         HoldsWellAt (meaning None H.step T.set T.clear T.allows) s
         → TakesSome (meaning None H.step T.set T.clear T.allows) s bytes t rest →
         TakesAllTurns (meaning None H.step T.set T.clear T.allows) t rest end

@@ -18,7 +18,7 @@ pub(crate) struct Added {
     pub(crate) released: usize,
 }
 
-/// Finds what a hold releases, given its end, from a place on: the new bytes, and at most seven
+/// Finds what a hold releases, given its end, from a position on: the new bytes, and at most seven
 /// before them. No update ends among the older bytes, so it is enough to search these, backward,
 /// down to the last end-update.
 pub(crate) fn find_release(text: &[u8], start: usize) -> Added

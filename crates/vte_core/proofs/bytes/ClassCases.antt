@@ -1,5 +1,5 @@
 -- What the tests of a byte's class say together. All by cases of the class, of which most are absurd.
-use Rattle.vte_core.proofs.Common.{◌≡◌, ℕ, true, false, eqb, refl, arith, nat_tests, Class, Control, Cancel, Intermediate, Digit, Colon, Semicolon, Marker, Final, Delete, High, class_of, is_cancel, is_control, is_data, is_final, is_head, is_intermediate, dispatches_escape, ends_all, ends_data, IsCommandData}
+use Rattle.vte_core.proofs.Common.{◌≡◌, ℕ, true, false, eqb, refl, arith, nat_tests, Class, Control, Cancel, Intermediate, Digit, Colon, Semicolon, Marker, Final, Delete, High, class_of, is_cancel, is_control, is_device_data, is_final, is_head, is_intermediate, dispatches_escape, ends_all, ends_data, IsCommandData}
 use Rattle.vte_core.specs.Class.{Escape}
 use Rattle.vte_core.proofs.shapes.PlainKeys.{is_dropped, is_dropped_in_head}
 
@@ -33,7 +33,7 @@ dispatch_ends_nothing Cancel h = cc
 dispatch_ends_nothing Escape h = cc
 dispatch_ends_nothing _ h = refl
 
-pub data_ends_nothing : (k : Class) → is_data k ≡ true → ends_all k ≡ false
+pub data_ends_nothing : (k : Class) → is_device_data k ≡ true → ends_all k ≡ false
 data_ends_nothing Cancel h = cc
 data_ends_nothing Escape h = cc
 data_ends_nothing _ h = refl

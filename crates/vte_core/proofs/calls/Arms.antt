@@ -2,9 +2,9 @@
 -- place is what the function must have done.
 use Rattle.vte_core.proofs.Common.{◌≡◌, ℕ, ◌+◌, ◌<◌, Bool, false, Option, List, [], ◌∷◌, sym, subst, length, slice_index, class_of, ends_all, Machine, State, Escape, EscapeIntermediate, DeviceData, SystemCommand, IgnoredString, Event, Advances, MayGoOn, IsSettled, Leads, Reads, HoldsIntermediates, Stands, StandsBy, TakesBytes, Place, AtEscape, InEscape, InData, InSystemCommand, InIgnoredString, IsBetween, closing_events_at, Keeps, TakesByte}
 use Rattle.vte_core.proofs.Common.{after, escape}
-use Rattle.vte_core.proofs.calls.Runs.{advances-byte, advances-if}
+use Rattle.vte_core.proofs.calls.Stretches.{advances-byte, advances-if}
 use Rattle.vte_core.specs.machine.ToRun.{IsQuietIn}
-use Rattle.vte_core.proofs.fields.Standing.{stands-by, stands-in, stands-place}
+use Rattle.vte_core.proofs.fields.PlaceOfState.{stands-by, stands-in, stands-place}
 use Rattle.vte_core.proofs.streams.Performing.{takes-performs}
 use Rattle.vte_core.proofs.streams.StreamLemmas.{no_escape, reads-escape}
 

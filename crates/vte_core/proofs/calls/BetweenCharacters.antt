@@ -5,13 +5,13 @@ use Rattle.vte_core.proofs.Common.{◌≡◌, ◌≢◌, ℕ, ◌+◌, ◌<◌, 
 use Rattle.vte_core.specs.declared.utf8.Carried.TheVariants.{Unfinished as StillUnfinished}
 use Rattle.vte_core.proofs.bytes.CarriedLemmas.{begins_none}
 use Rattle.vte_core.proofs.bytes.FirstBytes.{ascii_alone}
-use Rattle.vte_core.proofs.fields.Standing.{stands-by}
-use Rattle.vte_core.proofs.calls.Runs.{advances-byte, advances-telling, not_escape, performs-begun, settled-by}
-use Rattle.vte_core.specs.machine.Words.{MayReadByte}
+use Rattle.vte_core.proofs.fields.PlaceOfState.{stands-by}
+use Rattle.vte_core.proofs.calls.Stretches.{advances-byte, advances-telling, not_escape, performs-begun, settled-by}
+use Rattle.vte_core.specs.machine.Prelude.{MayReadByte}
 use Rattle.vte_core.proofs.calls.States.{between_characters}
 use Rattle.vte_core.proofs.places.PlaceLeads.{text-lone, text-unfinished, text-whole}
 use Rattle.vte_core.proofs.streams.Others.{other_control}
-use Rattle.vte_core.proofs.calls.Telling.{adds-reads}
+use Rattle.vte_core.proofs.calls.AddedEvents.{adds-reads}
 use Rattle.vte_core.proofs.streams.StreamLemmas.{reads-byte}
 
 prints : (b : ℕ) → is_in (from_to 0x20 0x7f) b ≡ true → character_event b ≡ Print b

@@ -2,16 +2,16 @@
 -- performer, which learns of a head only at its end; both shapes share it.
 use Rattle.vte_core.specs.machine.ToRun.{IsQuietIn}
 use Rattle.vte_core.proofs.Common.{◌≡◌, ℕ, zero, suc, ◌+◌, ◌-◌, ◌<◌, ◌≤◌, ◌⊎◌, inr, eqb, Option, List, [], ◌∷◌, ◌++◌, Bool, true, false, length, take, drop, refl, sym, subst, append_assoc, arith, nat_tests, append-nil, drop-drop, drop_more, take-add, slice_index, MatchOption, class_of, is_head, is_parameter_text, AreInClass, Collected, HeadPart, Entry, Parameters, Machine, State, ControlSequence, DeviceControl, Event}
-use Rattle.vte_core.proofs.Common.{Leads, CountsNumbers, KeepsIntermediates, Stands, StandsBy, StandsInHead, Place, InControlSequence, InDeviceControl, IsBetween, Advances, CameTo, IsSettled, MayGoOn, TakesBytes, TakesByte, ends_all, part_after, ReadsHead, Some, None, told, false≢true}
+use Rattle.vte_core.proofs.Common.{Leads, CountsNumbers, KeepsIntermediates, Stands, StandsBy, StandsInHead, Place, InControlSequence, InDeviceControl, IsBetween, Advances, CameTo, IsSettled, MayGoOn, TakesBytes, TakesByte, ends_all, part_after, ReadsHead, Some, None, told_before, false≢true}
 use Rattle.vte_core.proofs.bytes.ClassCases.{head_ends_nothing}
 use Rattle.vte_core.proofs.bytes.PieceLemmas.{AreOf-append, parameter_is_head}
 use Rattle.vte_core.proofs.calls.Places.{come-between, come-byte}
 use Rattle.vte_core.proofs.calls.Arms.{performs-in}
-use Rattle.vte_core.proofs.calls.Runs.{advances-byte, advances-when, advances-then, settled-by}
+use Rattle.vte_core.proofs.calls.Stretches.{advances-byte, advances-when, advances-then, settled-by}
 use Rattle.vte_core.proofs.fields.HeadSteps.{holds-parameter}
-use Rattle.vte_core.proofs.fields.Standing.{IsPlace, stands-in}
+use Rattle.vte_core.proofs.fields.PlaceOfState.{IsPlace, stands-in}
 use Rattle.vte_core.proofs.places.PlaceLeads.{control-head, device-head}
-use Rattle.vte_core.proofs.calls.Telling.{adds-same, come-told, keep, came-kept, never}
+use Rattle.vte_core.proofs.calls.AddedEvents.{adds-same, come-told, keep, came-kept, never}
 use Rattle.vte_core.proofs.streams.StreamLemmas.{no_escape, reads-byte}
 
 -- ---- what is collected
@@ -198,12 +198,12 @@ module _ {V : Type 0} {asks : Bool} {step : V → Event → V} {is_terminated : 
         settled = λ _. settled-by _ _ state (settled shape part);
         others = λ _ old stream s.
             let k = place_in shape limit reached parser s.place (stands-in begun s.stands) in
-            let here : CameTo false keep never [] (told limit stream bytes i) limit stream bytes i
+            let here : CameTo false keep never [] (told_before limit stream bytes i) limit stream bytes i
             (in_head shape k.head) =
-            subst (CameTo false keep never [] (told limit stream bytes i) limit stream bytes i) k.same
+            subst (CameTo false keep never [] (told_before limit stream bytes i) limit stream bytes i) k.same
             (came-kept s.has_come) in
             let end : i + (j - i) ≡ j = omega (arith, reads.low) in
-            adds-same (subst (λ n. told limit stream bytes i ≡ told limit stream bytes n) end
+            adds-same (subst (λ n. told_before limit stream bytes i ≡ told_before limit stream bytes n) end
             (come-told
             (come-head shape (j - i) k.head (omega (arith, reads.high, end)) reads.are
             (λ does. absurd (false≢true does)) here)));

@@ -3,7 +3,7 @@
 -- `places/PlaceLeads` and `stops/Told` say what the byte tells.
 use Rattle.vte_core.proofs.Common.{◌≡◌, ◌≢◌, ℕ, ◌+◌, ◌<◌, inl, inr, Bool, true, Option, List, [], ◌∷◌, ◌++◌, length, refl, ap, sym, subst, ◌∙◌, slice_index, Machine, Text, Nothing, Event, Print, replacement, CameInside, StandsAt, StandsInside, Stands, StandsBy, Place, InText, bytes_of, is_open, Carries, character_event, is_truncated, scalar_of, Unfinished, HasReadUnder, open_at, open_end}
 use Rattle.vte_core.specs.declared.utf8.Carried.TheVariants.{Unfinished as StillUnfinished, Whole, Broken}
-use Rattle.vte_core.proofs.fields.Standing.{is_open-truncated, stands-by, stands-in, stands-place}
+use Rattle.vte_core.proofs.fields.PlaceOfState.{is_open-truncated, stands-by, stands-in, stands-place}
 use Rattle.vte_core.proofs.places.PlaceLeads.{text-unfinished, text-whole}
 use Rattle.vte_core.proofs.streams.Performing.{carried_is_no_escape}
 use Rattle.vte_core.proofs.stops.Told.{breaks-broken, breaks-unfinished, breaks-whole}

@@ -2,11 +2,11 @@
 -- from the first what any call does (`Advances`). What it tells is no printed character where no run could begin.
 use Rattle.vte_core.proofs.Common.{◌+◌, ◌<◌, ◌≤◌, ◌≡◌, ◌∷◌, ℕ, suc, Bool, List, Option, refl, ap, sym, ◌∙◌, arith, inl, inr, false, drop, drop_more, take, EndsRun, Machine, Text, Nothing, One, Event, Advances}
 use Rattle.vte_core.proofs.Common.{All, IsOther, false≢true, subst}
-use Rattle.vte_core.specs.machine.Words.{Completes, MayReadByte}
+use Rattle.vte_core.specs.machine.Prelude.{Completes, MayReadByte}
 use Rattle.vte_core.proofs.bytes.CarriedLemmas.{first_truncated}
-use Rattle.vte_core.proofs.calls.Runs.{reads-byte_at, settled-by}
+use Rattle.vte_core.proofs.calls.Stretches.{reads-byte_at, settled-by}
 use Rattle.vte_core.proofs.streams.Others.{other_control}
-use Rattle.vte_core.proofs.calls.Telling.{added-inside, adds-character, keep, keeps-at, never}
+use Rattle.vte_core.proofs.calls.AddedEvents.{added-inside, adds-character, keep, keeps-at, never}
 use Rattle.vte_core.proofs.calls.BetweenCharacters.{performs-opened}
 use Rattle.vte_core.proofs.calls.InsideCharacters.{in_text}
 

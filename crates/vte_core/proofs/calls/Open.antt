@@ -3,7 +3,7 @@
 use Rattle.vte_core.proofs.Common.{◌≡◌, ◌≢◌, ℕ, Option, List, [], ◌∷◌, ◌++◌, refl, ap, sym, subst, ◌∙◌, arith, Digit, Machine, State, Text, Stands, StandsBy, HasReadUnder, Event, Print, replacement, Place, InText, AtEscape, InEscape, InControlSequence, InDeviceControl, InData, InSystemCommand, InIgnoredString, IsAfter, Leads, ◌≤◌, ◌<◌, true, false, eqb, Dispatch, Unfinished, class_of, escape, is_truncated, key_of}
 use Rattle.vte_core.proofs.Common.{added, bytes_of, events_from}
 use Rattle.vte_core.proofs.bytes.FirstBytes.{ascii_breaks}
-use Rattle.vte_core.proofs.fields.Standing.{IsPlace, stands-place}
+use Rattle.vte_core.proofs.fields.PlaceOfState.{IsPlace, stands-place}
 use Rattle.vte_core.proofs.places.PlaceLeads.{escape-end, intermediate-end, control-head, device-head, data-put, command-item, ignored-more}
 use Rattle.vte_core.proofs.shapes.TextLemmas.{text_broken}
 use Rattle.vte_core.proofs.streams.After.{added-after, added-reads, after-events, after-nothing}

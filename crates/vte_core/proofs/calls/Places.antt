@@ -1,10 +1,10 @@
 -- How a call comes from one place to the next, to its end, or to a stop. A stretch of bytes that leads to a place adds
 -- its events to those told so far; at starts among them a call that asks may stop.
-use Rattle.vte_core.proofs.Common.{◌≡◌, ℕ, zero, suc, ◌+◌, ◌-◌, ◌<◌, ◌≤◌, inl, inr, Bool, true, false, Option, List, [], ◌∷◌, ◌++◌, length, take, drop, refl, ap, sym, subst, ◌∙◌, append_assoc, arith, slice_index, cases_Bool, cases_lt, append-nil, drop_more, take-add, breaks, breaks_at, IsStart, told, stream_at, Event, Print, replacement, after, added, open_end, CameTo, CameInside, MayGoOn, Reads, Place, InText}
+use Rattle.vte_core.proofs.Common.{◌≡◌, ℕ, zero, suc, ◌+◌, ◌-◌, ◌<◌, ◌≤◌, inl, inr, Bool, true, false, Option, List, [], ◌∷◌, ◌++◌, length, take, drop, refl, ap, sym, subst, ◌∙◌, append_assoc, arith, slice_index, cases_Bool, cases_lt, append-nil, drop_more, take-add, breaks, breaks_at, IsStart, told_before, stream_at, Event, Print, replacement, after, added, open_end, CameTo, CameInside, MayGoOn, Reads, Place, InText}
 use Rattle.vte_core.proofs.Common.{InSystemCommand, IsAfter, IsBetween, open_at, ComesTo}
 use Rattle.vte_core.proofs.streams.After.{after-left, after-nothing, after-open_end, after-reads, added-reads, added-nothing}
 use Rattle.vte_core.proofs.calls.States.{reads-item}
-use Rattle.vte_core.proofs.fields.Standing.{IsPlace, open_at-between}
+use Rattle.vte_core.proofs.fields.PlaceOfState.{IsPlace, open_at-between}
 use Rattle.vte_core.proofs.streams.Performing.{after-append}
 use Rattle.vte_core.proofs.stops.Told.{breaks_at-all, breaks_at-between, breaks_at-byte, no_start, starts-between, starts-broken, stream_at-between, stream_at-broken, told-all, told-between, told-broken}
 use Rattle.vte_core.proofs.stops.Units.{added_from, after_from, breaks_there, goes_on_from}
@@ -42,7 +42,7 @@ module _ (limit : Option ℕ) (stream bytes : List ℕ) (i j : ℕ) (further : i
       subst (λ s. IsAfter limit s next) all (after_from limit here run next (breaks_at stream bytes i) run-breaks a)
 
   pub run-added : added limit stream (take j bytes)
-      ≡ told limit stream bytes i ++ added limit (stream_at stream bytes i) run
+      ≡ told_before limit stream bytes i ++ added limit (stream_at stream bytes i) run
   unfolding told stream_at
   run-added =
       ap (added limit stream) (run-ends bytes i j further)
@@ -97,7 +97,8 @@ module _ {V : Type 0} {asks : Bool} {step : V → Event → V} {is_terminated : 
   -- starts among them
   pub come-further : {value new : V} {i j : ℕ} {place next : Place} {these : List Event} → i < j → j ≤ length bytes
       → (asks ≡ true → IsStart stream bytes i → is_terminated value ≡ false)
-      → (asks ≡ true → (k : ℕ) → i < k → k < j → is_terminated (after step old (told limit stream bytes k)) ≡ false)
+      → (asks ≡ true → (k : ℕ) → i < k → k < j → is_terminated (after step old (told_before limit stream bytes k))
+      ≡ false)
       → Reads limit place (take (j - i) (drop i bytes)) these next → new ≡ after step value these → IsPlace next
       → CameTo asks step is_terminated old value limit stream bytes i place
       → CameInside asks step is_terminated old new limit stream bytes j next
@@ -105,9 +106,9 @@ module _ {V : Type 0} {asks : Bool} {step : V → Event → V} {is_terminated : 
       {these = these} in_order within here inside r performed is_place c = record {
         performed =
             performed ∙ ap (λ v. after step v these) c.performed
-            ∙ sym (after-append step old (told limit stream bytes i) these)
+            ∙ sym (after-append step old (told_before limit stream bytes i) these)
             ∙ ap (after step old) (sym (run-added limit stream bytes i j in_order
-            ∙ ap (λ (es : List Event). told limit stream bytes i ++ es)
+            ∙ ap (λ (es : List Event). told_before limit stream bytes i ++ es)
             (added-reads limit (stream_at stream bytes i)
             (take (j - i) (drop i bytes)) place next these c.is_after r is_place)));
         is_after =
@@ -121,7 +122,7 @@ module _ {V : Type 0} {asks : Bool} {step : V → Event → V} {is_terminated : 
             | inr same ↦
                 let same : k ≡ i = omega (arith, from, same) in
                 subst (λ n. IsStart stream bytes n
-                → is_terminated (after step old (told limit stream bytes n)) ≡ false) (sym same)
+                → is_terminated (after step old (told_before limit stream bytes n)) ≡ false) (sym same)
                 (λ s. ap is_terminated (sym c.performed) ∙ here does s) start
           ]
         ];
@@ -240,9 +241,11 @@ module _ {V : Type 0} {asks : Bool} {step : V → Event → V} {is_terminated : 
         starts = starts;
         goes_on =
             ap (λ v. after step v (added limit (stream_at stream bytes n) unread)) c.performed
-            ∙ sym (after-append step old (told limit stream bytes n) (added limit (stream_at stream bytes n) unread))
+            ∙ sym (after-append step old (told_before limit stream bytes n) (added limit (stream_at stream bytes n)
+                unread))
             ∙ ap (after step old)
-            (ap (λ x. told limit stream bytes n ++ added limit (stream_at stream bytes n) x) (sym (append-nil unread))
+            (ap (λ x. told_before limit stream bytes n ++ added limit (stream_at stream bytes n) x) (sym (append-nil
+            unread))
             ∙ sym (goes_on_from limit stream bytes [] n) ∙ ap (added limit stream) (append-nil bytes));
       }
 

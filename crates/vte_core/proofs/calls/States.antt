@@ -1,6 +1,6 @@
 -- What a parser's state says of its place: by cases of the state, of which all but one are absurd.
 use Rattle.vte_core.proofs.Common.{◌≡◌, ℕ, ◌<◌, ◌≤◌, inl, inr, true, false, not, eqb, Option, List, [], ◌∷◌, ◌++◌, ap, sym, arith, cases_lt, false≢true, nat_tests, Machine, Text, Nothing, Stands, StandsBy, Place, InText, InSystemCommand, escape, Reads}
-use Rattle.vte_core.proofs.fields.Standing.{stands-in}
+use Rattle.vte_core.proofs.fields.PlaceOfState.{stands-in}
 use Rattle.vte_core.proofs.places.PlaceLeads.{command-item}
 use Rattle.vte_core.proofs.streams.StreamLemmas.{reads-byte}
 

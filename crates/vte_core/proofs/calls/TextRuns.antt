@@ -1,6 +1,6 @@
 -- What a run of text does to a call's progress: its characters one by one do the same. By induction over the
 -- characters, and for the performer by its contract over the whole run.
-use Rattle.vte_core.proofs.Common.{cases_Bool, inl, inr, Bool, List, Option, [], ap, arith, drop, false, length, map, refl, subst, sym, take, true, ℕ, ◌++◌, ◌+◌, ◌-◌, ◌<◌, ◌∙◌, ◌∷◌, ◌≡◌, ◌≢◌, ◌≤◌, encode, false≢true, append-nil, take-append-drop, All-append, All-head, All-nil, All-tail, All, slice_index, breaks_at, stream_at, told, Event, Print, replacement, after, added, cut_at_escape, escape, with_bodies, events}
+use Rattle.vte_core.proofs.Common.{cases_Bool, inl, inr, Bool, List, Option, [], ap, arith, drop, false, length, map, refl, subst, sym, take, true, ℕ, ◌++◌, ◌+◌, ◌-◌, ◌<◌, ◌∙◌, ◌∷◌, ◌≡◌, ◌≢◌, ◌≤◌, encode, false≢true, append-nil, take-append-drop, All-append, All-head, All-nil, All-tail, All, slice_index, breaks_at, stream_at, told_before, Event, Print, replacement, after, added, cut_at_escape, escape, with_bodies, events}
 use Rattle.vte_core.proofs.Common.{is_left_out, run_event, character_event, is_control_character, malformed_event, text_outcome, Text, Machine, Nothing, Reads, Stands, InText, encodes, nat_tests, outcome_from, Advances, CameTo, MayGoOn, StandsAt, StandsInside, chars, IsUtf8, NoCharacterStops, AreRun, IsPrinted, PrintsRun}
 use Rattle.std.proofs.lemmas.List.{take-take}
 use Rattle.std.proofs.lemmas.List.Elements.{All-from_get_or}
@@ -13,7 +13,7 @@ use Rattle.vte_core.proofs.streams.After.{added-reads}
 use Rattle.vte_core.proofs.stops.Told.{told-between, told-broken}
 use Rattle.vte_core.proofs.stops.Units.{added_both}
 use Rattle.vte_core.proofs.calls.States.{between_characters}
-use Rattle.vte_core.proofs.calls.Runs.{settled-by, settles}
+use Rattle.vte_core.proofs.calls.Stretches.{settled-by, settles}
 use Rattle.vte_core.proofs.streams.Performing.{after-append}
 use Rattle.vte_core.proofs.shapes.OutcomeLemmas.{with_bodies-tell}
 use Rattle.vte_core.proofs.streams.StreamSteps.{told_by_stream}
@@ -115,7 +115,7 @@ not_stopped-told : {V : Type 0} (keeps : Bool) (step : V → Event → V) (is_te
     → NoCharacterStops keeps step is_terminated
     → (value : V) (limit : Option ℕ) (stream bytes : List ℕ) (k : ℕ)
     → is_terminated (after step value (added limit stream (take k bytes))) ≡ false
-    → is_terminated (after step value (told limit stream bytes k)) ≡ false
+    → is_terminated (after step value (told_before limit stream bytes k)) ≡ false
 not_stopped-told keeps step is_terminated never value limit stream bytes k goes =
     elim (cases_Bool (breaks_at stream bytes k)) [
       | inl broken ↦
@@ -172,7 +172,7 @@ advances-text {V = V} {B = B} {asks = asks} {keeps = keeps} {step = step} {is_te
     -- after a front of the run that isn't empty
     inside : (value : V) (stream : List ℕ) → CameTo asks step is_terminated value old limit stream bytes i (InText [])
         → asks ≡ true → (k : ℕ) → i < k → k < j
-        → is_terminated (after step value (told limit stream bytes k)) ≡ false
+        → is_terminated (after step value (told_before limit stream bytes k)) ≡ false
     inside value stream c does k past below =
         let from : List ℕ = stream_at stream bytes i in
         let front : List ℕ = take (k - i) (drop i bytes) in
@@ -187,7 +187,7 @@ advances-text {V = V} {B = B} {asks = asks} {keeps = keeps} {step = step} {is_te
         not_stopped-told keeps step is_terminated (never does) value limit stream bytes k
         (ap (λ es. is_terminated (after step value es)) (run-added limit stream bytes i k past)
         ∙ ap is_terminated
-        (after-append step value (told limit stream bytes i) (added limit from front)
+        (after-append step value (told_before limit stream bytes i) (added limit from front)
         ∙ ap (λ v. after step v (added limit from front)) (sym c.performed))
         ∙ not_stopped keeps step is_terminated (never does) old (added limit from front)
         (added limit (from ++ front) rest) (chars run) all (may_go_on does))

@@ -1,6 +1,6 @@
 -- A machine with the state of another, what is collected there and its items has read the same: by cases of the state.
 use Rattle.vte_core.proofs.Common.{◌≡◌, Option, ℕ, List, [], sym, subst, Machine, State, Text, Escape, EscapeIntermediate, ControlSequence, DeviceControl, DeviceData, SystemCommand, IgnoredString, HoldsIntermediates, HasReadUnder, StandsBy, StandsInHead, Place, InText, AtEscape, InEscape, InControlSequence, InDeviceControl, InData, InSystemCommand, InIgnoredString, SameItems}
-use Rattle.vte_core.proofs.fields.Standing.{keeps-same, stands-by}
+use Rattle.vte_core.proofs.fields.PlaceOfState.{keeps-same, stands-by}
 
 by_clone : {B C : Type 0} (limit : Option ℕ) (state : State) (old : Machine B) (new : Machine C) (place : Place)
     → new.collected ≡ old.collected → SameItems old.command new.command

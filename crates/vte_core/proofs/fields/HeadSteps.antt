@@ -1,6 +1,6 @@
 -- What one byte makes of the head that is held: by the part of the head that was reached and the byte's class.
-use Rattle.vte_core.proofs.Common.{◌≡◌, ℕ, ◌⊎◌, inl, inr, Bool, true, false, ◌||◌, List, [], ◌∷◌, ◌++◌, length, refl, ap, ◌∙◌, append_assoc, arith, length-append, append-nil, Class, Intermediate, Marker, class_of, is_head, is_intermediate, is_marker, is_parameter_text, Collected, HeadPart, Entry, Parameters, Intermediates, Malformed, Event, head_of, is_well_shaped, sequence_event, HoldsIntermediates, CountsNumbers, HoldsNumbers, HoldsHead}
-use Rattle.vte_core.proofs.Common.{KeepsNumbers, KeepsIntermediates, StandsInHead, StaysMalformed}
+use Rattle.vte_core.proofs.Common.{◌≡◌, ℕ, ◌⊎◌, inl, inr, Bool, true, false, ◌||◌, List, [], ◌∷◌, ◌++◌, length, refl, ap, ◌∙◌, append_assoc, arith, length-append, append-nil, Class, Intermediate, Marker, class_of, is_head, is_intermediate, is_marker, is_parameter_text, Collected, HeadPart, Entry, Parameters, Intermediates, IllShaped, Event, head_of, is_well_shaped, sequence_event, HoldsIntermediates, CountsNumbers, HoldsNumbers, HoldsHead}
+use Rattle.vte_core.proofs.Common.{KeepsNumbers, KeepsIntermediates, StandsInHead, StaysIllShaped}
 use Rattle.vte_core.specs.machine.Ready.{IsReady}
 use Rattle.vte_core.proofs.shapes.HeadLemmas.{begins-intermediates, head_of-parts, held-parts, held-well_shaped, list_all-not}
 use Rattle.vte_core.proofs.bytes.PieceLemmas.{AreOf-append}
@@ -97,7 +97,7 @@ holds-parameter old new part head b (inr e) s is k more =
 
 -- a marker after a marker or a parameter
 malformed-marker : (old : Collected) (head : List ℕ) (b : ℕ) → HoldsHead old Parameters head → class_of b ≡ Marker
-    → StaysMalformed (head ++ b ∷ [])
+    → StaysIllShaped (head ++ b ∷ [])
 unfolding is_well_shaped
 malformed-marker old head b h is = record {
   stays = λ more.
@@ -111,7 +111,7 @@ malformed-marker old head b h is = record {
 
 -- what is no intermediate after an intermediate
 malformed-shape_more : (old : Collected) (head : List ℕ) (b : ℕ) → HoldsHead old Intermediates head
-    → is_intermediate (class_of b) ≡ false → StaysMalformed (head ++ b ∷ [])
+    → is_intermediate (class_of b) ≡ false → StaysIllShaped (head ++ b ∷ [])
 unfolding is_well_shaped
 malformed-shape_more old head b h is = record {
   stays = λ more.
@@ -126,11 +126,11 @@ malformed-shape_more old head b h is = record {
       rw (e, p) (list_all-not h.intermediates b more is);
 }
 
-pub malformed-more : (head : List ℕ) (b : ℕ) → StaysMalformed head → StaysMalformed (head ++ b ∷ [])
-malformed-more head b s = record { stays = λ more. rw append_assoc (s.stays (b ∷ more)) }
+pub ill_shaped-more : (head : List ℕ) (b : ℕ) → StaysIllShaped head → StaysIllShaped (head ++ b ∷ [])
+ill_shaped-more head b s = record { stays = λ more. rw append_assoc (s.stays (b ∷ more)) }
 
-pub malformed-now : (head : List ℕ) → StaysMalformed head → is_well_shaped (head_of head) ≡ false
-malformed-now head s = rw append-nil at (s.stays [])
+pub ill_shaped-now : (head : List ℕ) → StaysIllShaped head → is_well_shaped (head_of head) ≡ false
+ill_shaped-now head s = rw append-nil at (s.stays [])
 
 -- at the end of a head that is well shaped
 pub ready : (old new : Collected) (more ignored : Bool) (part : HeadPart) (head : List ℕ)
@@ -170,15 +170,15 @@ left_is_marker Marker h p i = refl
 left_is_marker _ h p i = cc
 
 -- a marker that does not come first, or a digit or a separator that may not come next
-pub malformed-late : (old : Collected) (part : HeadPart) (head : List ℕ) (b : ℕ) → StandsInHead old part head
+pub ill_shaped-late : (old : Collected) (part : HeadPart) (head : List ℕ) (b : ℕ) → StandsInHead old part head
     → is_head (class_of b) ≡ true
     → is_intermediate (class_of b) ≡ false
     → ((part ≡ Entry) ⊎ (part ≡ Parameters) → is_parameter_text (class_of b) ≡ false)
-    → (part ≡ Entry → ⊥) → StaysMalformed (head ++ b ∷ [])
-malformed-late old Entry head b s h i p n = absurd (n refl)
-malformed-late old Parameters head b s h i p n = malformed-marker old head b s (left_is_marker _ h (p (inr refl)) i)
-malformed-late old Intermediates head b s h i p n = malformed-shape_more old head b s i
-malformed-late old Malformed head b s h i p n = malformed-more head b s
+    → (part ≡ Entry → ⊥) → StaysIllShaped (head ++ b ∷ [])
+ill_shaped-late old Entry head b s h i p n = absurd (n refl)
+ill_shaped-late old Parameters head b s h i p n = malformed-marker old head b s (left_is_marker _ h (p (inr refl)) i)
+ill_shaped-late old Intermediates head b s h i p n = malformed-shape_more old head b s i
+ill_shaped-late old Malformed head b s h i p n = ill_shaped-more head b s
 
 -- what is handed over at the end of a head
 pub dispatched-ready : (call : List (List ℕ) → List ℕ → Bool → ℕ → Event) (held : Collected) (ignored : Bool)
@@ -188,7 +188,7 @@ pub dispatched-ready : (call : List (List ℕ) → List ℕ → Bool → ℕ →
 unfolding sequence_event
 dispatched-ready call held ignored head final f = rw (f.groups, f.intermediates, f.ignore) refl
 
-pub head-holds : (held : Collected) (part : HeadPart) (head : List ℕ) → (part ≡ Malformed → ⊥)
+pub head-holds : (held : Collected) (part : HeadPart) (head : List ℕ) → (part ≡ IllShaped → ⊥)
     → StandsInHead held part head → HoldsHead held part head
 head-holds held Malformed head n s = absurd (n refl)
 head-holds held part head n s = s

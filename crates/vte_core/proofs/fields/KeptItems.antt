@@ -1,6 +1,6 @@
 -- What is kept of the items of a command, and the pieces of what is kept. By induction over the items, with the piece
 -- that is open carried along.
-use Rattle.vte_core.proofs.Common.{◌≡◌, ℕ, ◌+◌, ◌<◌, ◌≤◌, zero, suc, Bool, true, false, List, [], ◌∷◌, ◌++◌, length, take, Option, Some, None, refl, sym, arith, append_assoc, length-append, take_at, length-take, All, filter, slice_split, onto_first, concat, ltb-true, All-push, FitsStore, semicolon, cut_data, ends_after, is_data_byte, kept_after, kept_items, most_pieces, pieces_of, ap, inl, inr, cases_Bool}
+use Rattle.vte_core.proofs.Common.{◌≡◌, ℕ, ◌+◌, ◌<◌, ◌≤◌, zero, suc, Bool, true, false, List, [], ◌∷◌, ◌++◌, length, take, Option, Some, None, refl, sym, arith, append_assoc, length-append, take_at, length-take, All, filter, slice_split, onto_first, concat, ltb-true, All-push, FitsStore, semicolon, cut_data, ends_after, is_data_item, kept_after, kept_items, most_pieces, pieces_of, ap, inl, inr, cases_Bool}
 use Rattle.vte_core.proofs.Common.{common_steps, eqb, take-nil, drop, take-append-drop, ◌∙◌}
 use Rattle.std.proofs.Common.{append-nil, drop_at, ◌==◌}
 use Rattle.std.proofs.lemmas.List.Folds.{concat-append}
@@ -10,7 +10,7 @@ use Rattle.std.proofs.lemmas.List.Splits.{length-slice_split, slice_split_at, sl
 
 -- `front` is the beginning of the piece that the text continues
 cut_onto : (earlier front text : List ℕ) → All (λ b. (b == semicolon) ≡ false) front →
-    cut_data (length earlier) (earlier ++ (front ++ filter is_data_byte text))
+    cut_data (length earlier) (earlier ++ (front ++ filter is_data_item text))
     (ends_after (length earlier + length front) text)
     ≡ slice_split (λ b. b == semicolon) (front ++ text)
 cut_onto earlier front [] none =
@@ -21,16 +21,16 @@ cut_onto earlier front (item ∷ text) none =
   where
     by_test : (is_end : Bool) → (item == semicolon) ≡ is_end
         → ((earlier front : List ℕ) → All (λ b. (b == semicolon) ≡ false) front →
-        cut_data (length earlier) (earlier ++ (front ++ filter is_data_byte text))
+        cut_data (length earlier) (earlier ++ (front ++ filter is_data_item text))
         (ends_after (length earlier + length front) text)
         ≡ slice_split (λ b. b == semicolon) (front ++ text))
-        → cut_data (length earlier) (earlier ++ (front ++ filter is_data_byte (item ∷ text)))
+        → cut_data (length earlier) (earlier ++ (front ++ filter is_data_item (item ∷ text)))
         (ends_after (length earlier + length front) (item ∷ text))
         ≡ slice_split (λ b. b == semicolon) (front ++ item ∷ text)
     by_test true e rests =
         let more = rests (earlier ++ front) [] (λ k d lt. absurd (omega arith)) in
         let first = slice_split_at (λ b. b == semicolon) front item text none e in
-        let later = filter is_data_byte text in
+        let later = filter is_data_item text in
         let counted = length-append earlier front in
         let joined = append_assoc earlier front later in
         let all = drop_at earlier (front ++ later) (length earlier) refl in
@@ -39,12 +39,12 @@ cut_onto earlier front (item ∷ text) none =
     by_test false e rests =
         let more = rests earlier (front ++ item ∷ []) (All-push (λ b. (b == semicolon) ≡ false) front item none e) in
         let counted = length-append front (item ∷ []) in
-        let joined = append_assoc front (item ∷ []) (filter is_data_byte text) in
+        let joined = append_assoc front (item ∷ []) (filter is_data_item text) in
         let same = append_assoc front (item ∷ []) text in
         grind (arith, more, counted, joined, same)
 
 pub cut_at_ends : (text : List ℕ)
-    → slice_split (λ b. b == semicolon) text ≡ cut_data 0 (filter is_data_byte text) (ends_after 0 text)
+    → slice_split (λ b. b == semicolon) text ≡ cut_data 0 (filter is_data_item text) (ends_after 0 text)
 cut_at_ends text = sym (cut_onto [] [] text (λ k d lt. absurd (omega arith)))
 
 -- ---- how many there are
@@ -61,7 +61,7 @@ length_onto_first item (piece ∷ pieces) =
 
 -- all pieces of a text have its data bytes
 pieces_length : (text : List ℕ)
-    → length (concat (slice_split (λ b. b == semicolon) text)) ≡ length (filter is_data_byte text)
+    → length (concat (slice_split (λ b. b == semicolon) text)) ≡ length (filter is_data_item text)
 pieces_length [] = refl
 pieces_length (item ∷ text) =
     let more = pieces_length text in
@@ -74,7 +74,7 @@ length_concat_take n pieces =
     omega (arith, ap length whole, length-append (concat (take n pieces)) (concat (drop n pieces)))
 
 kept_fits : (limit count : ℕ) (items : List ℕ) → count ≤ limit
-    → count + length (filter is_data_byte (kept_after (Some limit) count items)) ≤ limit
+    → count + length (filter is_data_item (kept_after (Some limit) count items)) ≤ limit
 kept_fits limit count [] within = omega arith
 kept_fits limit count (item ∷ items) within =
     let byte = kept_fits limit (count + 1) items in

@@ -1,7 +1,7 @@
 -- What a store holds: how many bytes, and which pieces. The invariant `Keeps` says what more items give, and each byte
 -- either joins the last piece, ends it, or is dropped.
 use Rattle.vte_core.proofs.Common.{◌≡◌, ◌≢◌, ℕ, ◌+◌, ◌-◌, ◌≤◌, ◌<◌, zero, suc, true, false, List, [], ◌∷◌, ◌++◌, length, take, drop, Option, Some, None, refl, sym, ap, ◌∙◌, arith, append_assoc, length-append, length-drop, length-take, inl, inr, All, concat, filter, slice_range, drop-append-le, take-append-le, All-head, All-tail, take-nil, cases_Bool, ltb-false, ltb-true, ne_eqb, semicolon, Stored, Keeps, PiecesEnd}
-use Rattle.vte_core.proofs.Common.{cut_data, cut_pieces, ends_after, fitting, pieces_from, Bool, drops_data, has_room, is_data_byte, nat_tests, kept_after, kept_items, most_pieces, pieces_of}
+use Rattle.vte_core.proofs.Common.{cut_data, cut_pieces, ends_after, fitting, pieces_from, Bool, drops_data, has_room, is_data_item, nat_tests, kept_after, kept_items, most_pieces, pieces_of}
 use Rattle.std.proofs.Common.{append-nil}
 use Rattle.std.specs.Prelude.{◌||◌, nat_lt}
 use Rattle.std.proofs.lemmas.List.Elements.{filter-append}
@@ -29,7 +29,7 @@ module _ (limit : Option ℕ) (bytes ends : List ℕ) where
         is_byte,
         length-append bytes (item ∷ []),
         append_assoc bytes (item ∷ [])
-            (filter is_data_byte kept),
+            (filter is_data_item kept),
       ) refl
 
   after_end : has_room limit (length bytes) ≡ true → (more : List ℕ) →
@@ -127,7 +127,7 @@ ends-complete start bytes (end ∷ ends) more later are =
 
 -- ---- how many data bytes came, and whether some were dropped
 
-data-run : (run : List ℕ) → All (λ b. b ≢ semicolon) run → filter is_data_byte run ≡ run
+data-run : (run : List ℕ) → All (λ b. b ≢ semicolon) run → filter is_data_item run ≡ run
 data-run [] none = refl
 data-run (b ∷ run) none =
     rw (
@@ -137,13 +137,13 @@ data-run (b ∷ run) none =
     ) refl
 
 pub count-run : (items run : List ℕ) → All (λ b. b ≢ semicolon) run
-    → length (filter is_data_byte (items ++ run)) ≡ length (filter is_data_byte items) + length run
+    → length (filter is_data_item (items ++ run)) ≡ length (filter is_data_item items) + length run
 count-run items run none =
-    rw (filter-append is_data_byte items run, data-run run none) (length-append (filter is_data_byte items) run)
+    rw (filter-append is_data_item items run, data-run run none) (length-append (filter is_data_item items) run)
 
 count-end : (items : List ℕ)
-    → length (filter is_data_byte (items ++ semicolon ∷ [])) ≡ length (filter is_data_byte items)
-count-end items = rw (filter-append is_data_byte items (semicolon ∷ []), append-nil (filter is_data_byte items)) refl
+    → length (filter is_data_item (items ++ semicolon ∷ [])) ≡ length (filter is_data_item items)
+count-end items = rw (filter-append is_data_item items (semicolon ∷ []), append-nil (filter is_data_item items)) refl
 
 -- The flag of a store that held `before` of `count` data bytes, and holds `after` of them when n
 -- more have come.
@@ -177,7 +177,7 @@ pub done-complete : (limit : Option ℕ) (held : Stored) (items : List ℕ) → 
     → Keeps limit held items → IsDone limit held
 done-complete limit held items complete keeps more =
     let kept = kept_after limit (length held.bytes) more in
-    rw complete at (ends-complete 0 held.bytes held.ends (filter is_data_byte kept)
+    rw complete at (ends-complete 0 held.bytes held.ends (filter is_data_item kept)
     (ends_after (length held.bytes) kept) (rw complete keeps.end))
 
 none-counts : (limit : Option ℕ) (held : Stored) (items more : List ℕ) → IsDone limit held → Keeps limit held items

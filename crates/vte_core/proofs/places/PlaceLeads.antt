@@ -1,6 +1,6 @@
 -- What one byte reports after each place, and where it leads: one lemma for each kind of place and of byte, by the
 -- definition of that shape alone.
-use Rattle.vte_core.proofs.Common.{◌≡◌, ℕ, ◌≤◌, true, false, eqb, Option, List, [], ◌∷◌, ◌++◌, ap, sym, append_assoc, append-nil, arith, nat_tests, Class, Control, Intermediate, Delete, Digit, Colon, Semicolon, Marker, Final, High, dispatches_escape, class_of, is_cancel, is_data, is_head, Dispatch, key_of, body_outcome, control_sequence_end, control_sequence_outcome, data_outcome, device_control_end, ends_command}
+use Rattle.vte_core.proofs.Common.{◌≡◌, ℕ, ◌≤◌, true, false, eqb, Option, List, [], ◌∷◌, ◌++◌, ap, sym, append_assoc, append-nil, arith, nat_tests, Class, Control, Intermediate, Delete, Digit, Colon, Semicolon, Marker, Final, High, dispatches_escape, class_of, is_cancel, is_device_data, is_head, Dispatch, key_of, body_outcome, control_sequence_end, control_sequence_outcome, data_outcome, device_control_end, ends_command}
 use Rattle.vte_core.proofs.Common.{ends_data, device_control_outcome, escape_outcome, executed_events, first_two, are_too_many, Execute, Hook, Put, Unhook, OscDispatch, CsiDispatch, EscDispatch, head_of, is_well_shaped, sequence_event, Leads, InText, AtEscape, InEscape, InControlSequence, InDeviceControl, InData, InSystemCommand, InIgnoredString, pieces_of, bell, system_command_outcome, text_outcome, character_event, Bool}
 use Rattle.vte_core.proofs.Common.{Place, refl, malformed_event, is_truncated, is_well_formed, scalar_of, nat_le}
 use Rattle.vte_core.specs.IgnoredString.{ignored_string_outcome}
@@ -153,15 +153,16 @@ device-malformed limit head b e ill = record { leads = λ rest. simp (e, append-
 -- ---- in the data of a hooked string
 
 -- a byte of a class that is data does not end them
-data_is_no_end : (b : ℕ) → is_data (class_of b) ≡ true → ends_data b ≡ false
+data_is_no_end : (b : ℕ) → is_device_data (class_of b) ≡ true → ends_data b ≡ false
 unfolding class_of
 data_is_no_end b h = grind (arith, nat_tests)
 
-pub data-put : (limit : Option ℕ) (b : ℕ) → is_data (class_of b) ≡ true → Leads limit InData b (Put b ∷ []) InData
+pub data-put : (limit : Option ℕ) (b : ℕ) → is_device_data (class_of b) ≡ true
+    → Leads limit InData b (Put b ∷ []) InData
 unfolding data_outcome
 data-put limit b is = record { leads = λ rest. simp (is, data_is_no_end b is) }
 
-pub data-dropped : (limit : Option ℕ) (b : ℕ) → ends_data b ≡ false → is_data (class_of b) ≡ false
+pub data-dropped : (limit : Option ℕ) (b : ℕ) → ends_data b ≡ false → is_device_data (class_of b) ≡ false
     → Leads limit InData b [] InData
 unfolding data_outcome
 data-dropped limit b on none = record { leads = λ rest. simp (on, none) }

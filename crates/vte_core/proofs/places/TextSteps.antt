@@ -1,9 +1,9 @@
 -- What one byte reports in a text, whatever it is: by whether it ends, continues or breaks the open character.
-use Rattle.vte_core.proofs.Common.{◌≡◌, ℕ, ◌⊎◌, inl, inr, true, false, eqb, Option, List, [], ◌∷◌, ◌++◌, refl, ap, sym, subst, ◌∙◌, cases_Bool, false≢true, IsBrief, IsTiny, IsOther, class_of, is_data, Event, Print, ◌≤◌, ◌+◌, None, arith, FitsStore, Open, OpenCommand, data_left, left_at, replacement, tell, Place, InData, InText, breaks, open_at, escape, Leads, Reads, is_open, is_truncated, is_well_formed}
+use Rattle.vte_core.proofs.Common.{◌≡◌, ℕ, ◌⊎◌, inl, inr, true, false, eqb, Option, List, [], ◌∷◌, ◌++◌, refl, ap, sym, subst, ◌∙◌, cases_Bool, false≢true, IsBrief, IsTiny, IsOther, class_of, is_device_data, Event, Print, ◌≤◌, ◌+◌, None, arith, FitsStore, Open, OpenCommand, data_left, left_at, replacement, tell, Place, InData, InText, breaks, open_at, escape, Leads, Reads, is_open, is_truncated, is_well_formed}
 use Rattle.vte_core.proofs.places.PlaceLeads.{text-unfinished, text-whole, text-lone}
 use Rattle.vte_core.proofs.shapes.TextLemmas.{text_broken}
 use Rattle.vte_core.proofs.places.BriefLemmas.{short-character, short-malformed, tiny_brief, tiny-both}
-use Rattle.vte_core.proofs.fields.Standing.{IsPlace, is_open-truncated}
+use Rattle.vte_core.proofs.fields.PlaceOfState.{IsPlace, is_open-truncated}
 use Rattle.vte_core.proofs.stops.Told.{breaks-broken}
 use Rattle.vte_core.proofs.streams.StreamLemmas.{reads-byte, waits-byte}
 
@@ -35,7 +35,7 @@ text_left limit (a ∷ u) = refl
 -- outside of a text, and of data that are put
 abbrev pub IsQuiet : Place → ℕ → Type 0
 IsQuiet (InText u) b = ⊥
-IsQuiet InData b = is_data (class_of b) ≡ false
+IsQuiet InData b = is_device_data (class_of b) ≡ false
 IsQuiet _ b = Unit {0}
 
 abbrev pub AreOthers : List Event → Type 0

@@ -4,7 +4,7 @@ use Rattle.vte_core.specs.IgnoredString.{ignored_string_outcome}
 use Rattle.vte_core.specs.machine.Place.{control_sequence_from, device_control_from, escape_from, system_command_from}
 use Rattle.vte_core.proofs.bytes.ClassLemmas.{spans}
 use Rattle.vte_core.proofs.bytes.FirstBytes.{Tests, ascii_alone, ascii_breaks}
-use Rattle.vte_core.proofs.fields.Standing.{IsPlace}
+use Rattle.vte_core.proofs.fields.PlaceOfState.{IsPlace}
 use Rattle.vte_core.proofs.places.BriefLemmas.{executed_low}
 use Rattle.vte_core.proofs.fields.KeptItems.{few_pieces, some_pieces}
 use Rattle.vte_core.proofs.places.TextSteps.{FitsLeft}

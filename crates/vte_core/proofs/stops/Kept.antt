@@ -1,5 +1,5 @@
 -- What is kept from start to start holds wherever a call stops: by induction over the places, a unit at a time.
-use Rattle.vte_core.proofs.Common.{ℕ, zero, suc, ◌+◌, ◌<◌, ◌≤◌, inl, inr, Option, List, [], ◌++◌, length, sym, subst, arith, IsBrief, IsStart, told, Event}
+use Rattle.vte_core.proofs.Common.{ℕ, zero, suc, ◌+◌, ◌<◌, ◌≤◌, inl, inr, Option, List, [], ◌++◌, length, sym, subst, arith, IsBrief, IsStart, told_before, Event}
 use Rattle.vte_core.specs.Stops.{TellsUnit, TellsUnits}
 
 -- P is to hold of what is told before each place. It holds of no events, and a unit keeps it.
@@ -10,8 +10,8 @@ module _ {limit : Option ℕ} (P Q : List Event → Type 0) (stream bytes : List
     (kept : (before unit : List Event) → P before → Q before → IsBrief limit unit → P (before ++ unit)) where
   -- by induction on m
   kept_below : (m i : ℕ) → i < m → i ≤ length bytes
-      → ((j : ℕ) → j < i → IsStart stream bytes j → Q (told limit stream bytes j))
-      → P (told limit stream bytes i)
+      → ((j : ℕ) → j < i → IsStart stream bytes j → Q (told_before limit stream bytes j))
+      → P (told_before limit stream bytes i)
   kept_below zero i below within asked = absurd (omega arith)
   kept_below (suc m) i below within asked =
       let u : TellsUnit limit stream bytes i = units stream bytes i within in
@@ -24,6 +24,7 @@ module _ {limit : Option ℕ} (P Q : List Event → Type 0) (stream bytes : List
             (subst Q (sym t.are) (asked t.start earlier t.starts)) u.brief
       ])
 
-  pub kept_at : (i : ℕ) → i ≤ length bytes → ((j : ℕ) → j < i → IsStart stream bytes j → Q (told limit stream bytes j))
-      → P (told limit stream bytes i)
+  pub kept_at : (i : ℕ) → i ≤ length bytes → ((j : ℕ) → j < i → IsStart stream bytes j
+      → Q (told_before limit stream bytes j))
+      → P (told_before limit stream bytes i)
   kept_at i within asked = kept_below (i + 1) i (omega arith) within asked

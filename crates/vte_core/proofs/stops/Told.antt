@@ -1,5 +1,5 @@
 -- Starts, what is told before them, and where a call stops: by whether the next byte breaks an open character.
-use Rattle.vte_core.proofs.Common.{◌≡◌, ℕ, ◌+◌, ◌<◌, ◌≤◌, inl, inr, true, false, Option, List, [], ◌∷◌, ◌++◌, length, take, drop, get_or, refl, ap, sym, ◌∙◌, arith, slice_index, false≢true, append-nil, drop_more, drop_all, take_all, breaks, breaks_at, IsStart, told, stream_at, Print, replacement, added, open_end, is_truncated, is_well_formed}
+use Rattle.vte_core.proofs.Common.{◌≡◌, ℕ, ◌+◌, ◌<◌, ◌≤◌, inl, inr, true, false, Option, List, [], ◌∷◌, ◌++◌, length, take, drop, get_or, refl, ap, sym, ◌∙◌, arith, slice_index, false≢true, append-nil, drop_more, drop_all, take_all, breaks, breaks_at, IsStart, told_before, stream_at, Print, replacement, added, open_end, is_truncated, is_well_formed}
 use Rattle.vte_core.proofs.shapes.TextLemmas.{well_formed_not_truncated}
 
 -- ---- whether a byte breaks the open character
@@ -68,17 +68,17 @@ no_start stream bytes u i b within is ends some whole start = elim start.starts 
 -- ---- what is told
 
 pub told-between : (limit : Option ℕ) (stream bytes : List ℕ) (i : ℕ) → breaks_at stream bytes i ≡ false
-    → told limit stream bytes i ≡ added limit stream (take i bytes)
+    → told_before limit stream bytes i ≡ added limit stream (take i bytes)
 unfolding told
 told-between limit stream bytes i whole = rw whole (append-nil (added limit stream (take i bytes)))
 
 pub told-broken : (limit : Option ℕ) (stream bytes : List ℕ) (i : ℕ) → breaks_at stream bytes i ≡ true
-    → told limit stream bytes i ≡ added limit stream (take i bytes) ++ Print replacement ∷ []
+    → told_before limit stream bytes i ≡ added limit stream (take i bytes) ++ Print replacement ∷ []
 unfolding told
 told-broken limit stream bytes i broken = rw broken refl
 
 pub told-all : (limit : Option ℕ) (stream bytes : List ℕ) (n : ℕ) → n ≡ length bytes
-    → told limit stream bytes n ≡ added limit stream bytes
+    → told_before limit stream bytes n ≡ added limit stream bytes
 told-all limit stream bytes n all =
     told-between limit stream bytes n (breaks_at-all stream bytes n (omega arith))
     ∙ ap (added limit stream) (take_all n bytes (omega arith))

@@ -1,6 +1,6 @@
 -- What is told before a place, and what goes on from there, is what the whole gives (`goes_on_from`); from one place
 -- to the next at most one unit is told. By what a byte does to an open character.
-use Rattle.vte_core.proofs.Common.{◌≡◌, ℕ, zero, suc, add-one, ◌+◌, ◌<◌, ◌≤◌, ◌⊎◌, inl, inr, Bool, true, false, if◌then◌else◌, Option, None, List, [], ◌∷◌, ◌++◌, length, take, drop, get_or, refl, ap, sym, subst, ◌∙◌, append_assoc, arith, drop-append_seam, cases_Bool, false≢true, append-nil, take_more, take-append-drop, IsBrief, IsTiny, breaks, breaks_at, told, stream_at, Event, Print, replacement, added, events}
+use Rattle.vte_core.proofs.Common.{◌≡◌, ℕ, zero, suc, add-one, ◌+◌, ◌<◌, ◌≤◌, ◌⊎◌, inl, inr, Bool, true, false, if◌then◌else◌, Option, None, List, [], ◌∷◌, ◌++◌, length, take, drop, get_or, refl, ap, sym, subst, ◌∙◌, append_assoc, arith, drop-append_seam, cases_Bool, false≢true, append-nil, take_more, take-append-drop, IsBrief, IsTiny, breaks, breaks_at, told_before, stream_at, Event, Print, replacement, added, events}
 use Rattle.vte_core.proofs.Common.{open_end, open_at, Place, IsAfter, IsStart}
 use Rattle.vte_core.specs.Stops.{GoesOnFromPlaces, AreToldAtStart, TellsUnits}
 use Rattle.vte_core.proofs.streams.After.{added-nothing, after-open_end}
@@ -122,7 +122,7 @@ module _ (limit : Option ℕ) (stream bytes : List ℕ) (i : ℕ) (within : i < 
       let from : List ℕ = stream_at stream bytes i in
       let is : breaks_at stream bytes i ≡ true → breaks (open_end here) (b ∷ []) ≡ true = λ e. sym breaks_here ∙ e in
       record {
-        before = told limit stream bytes i;
+        before = told_before limit stream bytes i;
         unit = added limit from (b ∷ []);
         parts =
             ap (added limit stream) one ∙ added_from limit stream (take i bytes) (b ∷ []) (breaks_at stream bytes i) is;

@@ -1,6 +1,6 @@
 -- How much data a command has that bytes dispatch or leave open, without a limit: by induction over the bytes.
 use Rattle.vte_core.proofs.Common.{ℕ, ◌+◌, ◌≤◌, Some, None, List, [], ◌∷◌, ◌++◌, length, refl, ap, arith, All, All-append, All-nil, IsBounded, Event, CountsData, data_left, Open, OpenCommand, Reads, Place, left_at}
-use Rattle.vte_core.proofs.fields.Standing.{IsPlace}
+use Rattle.vte_core.proofs.fields.PlaceOfState.{IsPlace}
 use Rattle.vte_core.proofs.places.PlaceSteps.{steps}
 use Rattle.vte_core.proofs.places.TextSteps.{FitsLeft, Steps}
 use Rattle.vte_core.proofs.streams.After.{added-reads, after-left, after-reads}

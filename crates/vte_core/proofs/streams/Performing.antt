@@ -3,7 +3,7 @@ use Rattle.vte_core.proofs.Common.{◌≡◌, ℕ, ◌⊎◌, inl, inr, cases_Bo
 use Rattle.std.proofs.Common.{eqb-true}
 use Rattle.vte_core.proofs.bytes.FirstBytes.{Tests, ascii_breaks}
 use Rattle.vte_core.proofs.shapes.TextLemmas.{text_broken}
-use Rattle.vte_core.proofs.fields.Standing.{is_open-truncated, events_from-nothing}
+use Rattle.vte_core.proofs.fields.PlaceOfState.{is_open-truncated, events_from-nothing}
 use Rattle.vte_core.proofs.streams.StreamLemmas.{events-after_nothing, reads-byte, waits-byte, outcome_from-escape}
 
 pub after-append : {V : Type 0} (step : V → Event → V) (value : V) (xs ys : List Event)

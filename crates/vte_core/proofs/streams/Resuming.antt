@@ -1,6 +1,6 @@
 -- What a stream goes on with after a character that the next byte breaks: as a stream that begins with that byte.
 use Rattle.vte_core.proofs.Common.{◌≡◌, ℕ, true, Option, List, [], ◌∷◌, ◌++◌, length, drop, ap, sym, ◌∙◌, append_assoc, and_parts, false≢true, not-true, drop-append_seam, append-nil, breaks, Event, Print, replacement, tell, added, events, outcome, open_end, Place, InText, IsAfter, open_at, outcome_from}
-use Rattle.vte_core.proofs.fields.Standing.{IsPlace}
+use Rattle.vte_core.proofs.fields.PlaceOfState.{IsPlace}
 use Rattle.vte_core.proofs.streams.Performing.{events-empty, waits-broken}
 use Rattle.vte_core.proofs.stops.Told.{breaks-no_byte}
 use Rattle.vte_core.proofs.shapes.OutcomeLemmas.{tell-append}

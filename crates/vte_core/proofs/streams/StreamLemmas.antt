@@ -1,7 +1,7 @@
 -- From a text or a body to the whole stream: what a byte does in its part, it does in the stream, since only ESC cuts.
 use Rattle.vte_core.proofs.Common.{◌≡◌, ℕ, false, eqb, Option, List, [], ◌∷◌, ◌++◌, refl, ap, sym, ◌∙◌, append_assoc, arith, nat_tests, Cancel, class_of, ends_all, Event, Leads, Reads, tell, closed_events, Place, InText, AtEscape, closing_events_at, rest_outcome, outcome_from, events_from, cut_at_escape, with_bodies, outcome, events, escape}
 use Rattle.vte_core.proofs.shapes.OutcomeLemmas.{tell-append, with_bodies-tell}
-use Rattle.vte_core.proofs.fields.Standing.{IsPlace, rest_outcome-nothing}
+use Rattle.vte_core.proofs.fields.PlaceOfState.{IsPlace, rest_outcome-nothing}
 
 -- a stream is what more bytes give after nothing
 pub outcome-after_nothing : (limit : Option ℕ) (stream : List ℕ)

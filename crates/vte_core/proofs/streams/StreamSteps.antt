@@ -6,7 +6,7 @@ use Rattle.vte_core.proofs.places.BriefLemmas.{short_bounded}
 use Rattle.vte_core.proofs.shapes.CancelLemmas.{cancel}
 use Rattle.vte_core.proofs.streams.After.{added-after, added-reads, after-events, after-nothing, after-open_end, after-reads}
 use Rattle.vte_core.proofs.places.PlaceSteps.{steps}
-use Rattle.vte_core.proofs.fields.Standing.{IsPlace}
+use Rattle.vte_core.proofs.fields.PlaceOfState.{IsPlace}
 use Rattle.vte_core.proofs.streams.Performing.{events-empty}
 use Rattle.vte_core.proofs.streams.StreamLemmas.{events-after_nothing, outcome_from-escape, reads-byte, reads-escape, reads-nothing, reads-append, cancel_is_no_escape}
 use Rattle.vte_core.proofs.places.TextSteps.{FitsLeft, Steps}

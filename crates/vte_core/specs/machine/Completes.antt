@@ -5,7 +5,7 @@ use Rattle.vte_core.specs.declared.parser.State.TheVariants.{Text}
 use Rattle.vte_core.specs.declared.utf8.Unfinished.{Unfinished}
 use Rattle.vte_core.specs.declared.utf8.Unfinished.TheVariants.{Nothing}
 use Rattle.std.specs.List.{All}
-use Rattle.vte_core.specs.EarlyStop.{told}
+use Rattle.vte_core.specs.EarlyStop.{told_before}
 use Rattle.vte_core.specs.Stream.{added}
 use Rattle.vte_core.specs.Event.{Event}
 use Rattle.vte_core.specs.machine.Progress.{StandsAt, StandsInside}
@@ -14,7 +14,7 @@ use Rattle.vte_core.specs.Others.{IsOther}
 use Rattle.vte_core.specs.Text.{character_event}
 use Rattle.vte_core.specs.Utf8.{is_well_formed, scalar_of}
 
--- The one event is that of the character that `begun` and the bytes at place i form.
+-- The one event is that of the character that `begun` and the bytes at position i form.
 pub record AreWhole (begun bytes : List ℕ) (i : ℕ) (events : List Event) : Type 0 where
   pub n : ℕ
   pub far : i + n ≤ length bytes
@@ -22,15 +22,15 @@ pub record AreWhole (begun bytes : List ℕ) (i : ℕ) (events : List Event) : T
   pub long : 1 < length (begun ++ take n (drop i bytes))
   pub same : events ≡ character_event (scalar_of (begun ++ take n (drop i bytes))) ∷ []
 
--- What is told from place i, inside the character that `begun` begins, to place j: the character,
--- or events that belong into no run.
+-- What is told from position i, inside the character that `begun` begins, to position j: the
+-- character, or events that belong into no run.
 pub record AddsCharacter (limit : Option ℕ) (stream begun bytes : List ℕ) (i j : ℕ) : Type 0 where
   pub events : List Event
-  pub parts : told limit stream bytes j ≡ added limit stream (take i bytes) ++ events
+  pub parts : told_before limit stream bytes j ≡ added limit stream (take i bytes) ++ events
   pub are : All IsOther events ⊎ AreWhole begun bytes i events
 
--- The call goes on to place j, in a text if bytes are left, and tells a character or none. At place
--- i a parser would stand inside the character that `begun` begins.
+-- The call goes on to position j, in a text if bytes are left, and tells a character or none. At
+-- place i a parser would stand inside the character that `begun` begins.
 pub record Completes {V B : Type 0} (asks : Bool) (step : V → Event → V) (is_terminated : V → Bool)
     (old new : V) (limit : Option ℕ) (bytes : List ℕ) (i j : ℕ)
     (begun : Unfinished) (next : Machine B) : Type 0 where

@@ -4,7 +4,7 @@ use Rattle.vte_core.specs.declared.parser.machine.Machine.{Machine}
 use Rattle.vte_core.specs.declared.parser.State.{State}
 use Rattle.vte_core.specs.machine.Progress.{MayGoOn}
 
--- The parser is in this state, at place i of the bytes or at their end, and the call may go on
+-- The parser is in this state, at position i of the bytes or at their end, and the call may go on
 -- there.
 pub record MayRead {V B : Type 0} (asks : Bool) (is_terminated : V → Bool) (value : V)
     (state : State) (parser : Machine B) (bytes : List ℕ) (i : ℕ) : Type 0 where
@@ -12,7 +12,7 @@ pub record MayRead {V B : Type 0} (asks : Bool) (is_terminated : V → Bool) (va
   pub may_go_on : MayGoOn asks is_terminated value
   pub in_order : i ≤ length bytes
 
--- `MayRead` before a byte: place i isn't the end.
+-- `MayRead` before a byte: position i isn't the end.
 pub record MayReadAt {V B : Type 0} (asks : Bool) (is_terminated : V → Bool) (value : V)
     (state : State) (parser : Machine B) (bytes : List ℕ) (i : ℕ) : Type 0 where
   pub begun : parser.state ≡ state

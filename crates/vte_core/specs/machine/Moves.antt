@@ -7,7 +7,7 @@ use Rattle.vte_core.specs.Event.{Event}
 use Rattle.vte_core.specs.Looks.{looked}
 use Rattle.vte_core.specs.machine.Progress.{IsRefusedAt, IsSettled, MayGoOn}
 
--- The bounds of each state's function, which reads from place i to place j, and gives back no
+-- The bounds of each state's function, which reads from position i to position j, and gives back no
 -- memory. It takes at least one look per byte and at most `rate`; the caller has taken `seen` of
 -- them.
 pub record Moves (rate seen : ℕ) {B : Type 0} (bytes : List ℕ) (i j : ℕ) (parser next : Machine B)
@@ -47,8 +47,9 @@ pub record Costs (rate : ℕ) {Answer B : Type 0} (bytes : List ℕ) (result : R
   pub least : looked before + n ≤ looked after
   pub memory : parser.command.capacity ≤ next.command.capacity
 
--- The bounds of a function that reads nothing at place i, because memory was refused. It searched
--- for the end of the data: it took at least one look, and at most one for each byte from there on.
+-- The bounds of a function that reads nothing at position i, because memory was refused. It
+-- searched for the end of the data: it took at least one look, and at most one for each byte from
+-- there on.
 pub record Refuses {V B : Type 0} (asks : Bool) (is_terminated : V → Bool) (value : V)
     (limit : Option ℕ) (bytes : List ℕ) (i read : ℕ)
     (parser next : Machine B) (before after : Looks B) : Type 0 where

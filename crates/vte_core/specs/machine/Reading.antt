@@ -4,7 +4,7 @@ use Rattle.vte_core.specs.Class.{is_head, AreInClass}
 use Rattle.vte_core.specs.declared.head.Collected.{Collected}
 use Rattle.vte_core.specs.declared.head.HeadEnd.{HeadEnd}
 use Rattle.vte_core.specs.declared.head.HeadPart.{HeadPart}
-use Rattle.vte_core.specs.machine.Parser.{StandsInHead}
+use Rattle.vte_core.specs.machine.Standing.{StandsInHead}
 
 -- What is collected, with this number in its field. While its digits are read, it is in a local.
 abbrev pub with_open_number : Collected → ℕ → Collected
@@ -16,7 +16,7 @@ with_open_number collected number = record {
   joined = collected.joined;
 }
 
--- The bytes from place i to place j are read as part of a head, whatever its shape.
+-- The bytes from position i to position j are read as part of a head, whatever its shape.
 pub record ReadsHead (bytes : List ℕ) (i j : ℕ) (reached part : HeadPart)
     (old new : Collected) : Type 0 where
   pub low : i ≤ j
@@ -25,7 +25,7 @@ pub record ReadsHead (bytes : List ℕ) (i j : ℕ) (reached part : HeadPart)
   pub stands : (head : List ℕ) → StandsInHead old reached head
       → StandsInHead new part (head ++ take (j - i) (drop i bytes))
 
--- A head is read from place i up to `end`, and the byte there, if there is one, was looked at.
+-- A head is read from position i up to `end`, and the byte there, if there is one, was looked at.
 pub record ReadsHeadUpTo (bytes : List ℕ) (i : ℕ) (reached : HeadPart) (end : HeadEnd)
     (old new : Collected) : Type 0 where
   pub head : ReadsHead bytes i end.position reached end.part old new

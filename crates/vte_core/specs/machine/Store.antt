@@ -4,7 +4,7 @@ use Rattle.std.specs.Prelude.{Bool, true, false, slice_index, if◌then◌else�
 use Rattle.std.specs.List.{All, filter, slice_range}
 use Rattle.std.specs.List.Sorted.{IsNonDecreasing}
 use Rattle.vte_core.specs.Parameters.{semicolon}
-use Rattle.vte_core.specs.SystemCommand.{IsCommandData, is_data_byte, kept_after, most_pieces, pieces_of}
+use Rattle.vte_core.specs.SystemCommand.{IsCommandData, is_data_item, kept_after, most_pieces, pieces_of}
 
 -- For each `;` of a text, how many data bytes come before it, starting from `count`.
 abbrev pub ends_after : ℕ → List ℕ → List ℕ
@@ -52,7 +52,7 @@ cut_pieces bytes ends = take most_pieces (cut_data 0 bytes ends)
 abbrev pub pieces_from : Option ℕ → List ℕ → List ℕ → List ℕ → List (List ℕ)
 pieces_from limit bytes ends more =
     let kept = kept_after limit (length bytes) more in
-    cut_pieces (bytes ++ filter is_data_byte kept) (ends ++ ends_after (length bytes) kept)
+    cut_pieces (bytes ++ filter is_data_item kept) (ends ++ ends_after (length bytes) kept)
 
 -- The ends of at most `left` pieces of `count` bytes, in order, from `start` on. If `left` pieces
 -- end, no byte follows the last.
@@ -68,8 +68,8 @@ pub record Keeps (limit : Option ℕ) (held : Stored) (items : List ℕ) : Type 
   pub goes_on : (more : List ℕ)
       → pieces_of limit (items ++ more) ≡ pieces_from limit held.bytes held.ends more
   pub end : PiecesEnd most_pieces 0 held.ends (length held.bytes)
-  pub fewer : length held.bytes ≤ length (filter is_data_byte items)
-  pub dropped : held.dropped ≡ nat_lt (length held.bytes) (length (filter is_data_byte items))
+  pub fewer : length held.bytes ≤ length (filter is_data_item items)
+  pub dropped : held.dropped ≡ nat_lt (length held.bytes) (length (filter is_data_item items))
 
 -- The memory doesn't suffice for what is held and the data bytes that begin at `from`.
 pub record LacksMemoryAt (held : Stored) (bytes : List ℕ) (from : ℕ) : Type 0 where

@@ -10,9 +10,9 @@ use Rattle.vte_core.specs.declared.parser.machine.Machine.{Machine}
 use Rattle.vte_core.specs.declared.parser.refused.Refused.{Refused}
 use Rattle.vte_core.specs.declared.parser.State.{State}
 use Rattle.vte_core.specs.declared.parser.State.TheVariants.{Text, DeviceData}
-use Rattle.vte_core.specs.Class.{IsPut, class_of, is_data}
+use Rattle.vte_core.specs.Class.{IsPut, class_of, is_device_data}
 use Rattle.vte_core.specs.Event.{Event, Print, Put}
-use Rattle.vte_core.specs.machine.Parser.{HasReadUnder}
+use Rattle.vte_core.specs.machine.Standing.{HasReadUnder}
 use Rattle.vte_core.specs.machine.Progress.{StandsAt}
 use Rattle.vte_core.specs.machine.TextRun.{AreRun}
 use Rattle.vte_core.specs.machine.Scans.{IsRange}
@@ -28,7 +28,7 @@ IsOutside _ = ⊤
 -- A byte is read in a sequence or a string, and isn't put.
 abbrev pub IsQuietIn : State → ℕ → Type 0
 IsQuietIn (Text _) b = ⊥
-IsQuietIn DeviceData b = is_data (class_of b) ≡ false
+IsQuietIn DeviceData b = is_device_data (class_of b) ≡ false
 IsQuietIn _ b = ⊤
 
 -- The bytes that stand at the place.

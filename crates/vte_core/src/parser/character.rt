@@ -1,6 +1,6 @@
 //! The bytes of a character after the first.
 ghost use Rattle.std.specs.Prelude.{◌≡◌, ◌≢◌, ◌+◌, ◌*◌, ◌<◌, ◌≤◌, false, true, [], length, slice_index};
-ghost use Rattle.vte_core.specs.machine.Words.{Advances, BeginsFour, BeginsThree, Completes, EndsRun, MayReadByte, Moves, NoCharacterStops, Nothing, One, Spends, Text, bytes_of, looked};
+ghost use Rattle.vte_core.specs.machine.Prelude.{Advances, BeginsFour, BeginsThree, Completes, EndsRun, MayReadByte, Moves, NoCharacterStops, Nothing, One, Spends, Text, bytes_of, looked};
 
 use crate::buffer::Buffer;
 use crate::parser::{Machine, State};
@@ -98,8 +98,8 @@ impl<B: Buffer> Machine<B> {
         from + 2
     }
 
-    /// Reads the character of four bytes that begins at a place, whose first two were looked at. If
-    /// text is taken in runs, it begins one.
+    /// Reads the character of four bytes that begins at a position, whose first two were looked at.
+    /// If text is taken in runs, it begins one.
     #[inline(always)]
     pub(crate) fn complete_four<P: CountedPerform<B, G>, G: Grain, const ASKS: bool>(
         &mut self,
@@ -153,7 +153,7 @@ impl<B: Buffer> Machine<B> {
             return next + 2;
         }
         if G::IN_RUNS {
-            let end = looks.find_run_end(performer, input, next + 3);
+            let end = looks.find_run_end_for(performer, input, next + 3);
             looks.tell_text(performer, input, from, end);
             return end;
         }

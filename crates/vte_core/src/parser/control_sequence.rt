@@ -1,6 +1,6 @@
 //! Control sequences.
 ghost use Rattle.std.specs.Prelude.{◌≡◌, ◌+◌, ◌<◌, ℕ, true, List, ⊤};
-ghost use Rattle.vte_core.specs.machine.Words.{Advances, CsiDispatch, Dispatches, HandlesByte, InControlSequence, MayRead, Moves, StandsInHead, TakesByte, class_of, is_final};
+ghost use Rattle.vte_core.specs.machine.Prelude.{Advances, CsiDispatch, Dispatches, HandlesByte, InControlSequence, MayRead, Moves, StandsInHead, TakesByte, class_of, is_final};
 
 use crate::buffer::Buffer;
 use crate::class::{ends_all, is_control, is_final};
@@ -85,7 +85,7 @@ impl<B: Buffer> Machine<B> {
     }
 
     /// Ends a control sequence at its final byte: dispatches it, unless its head is malformed.
-    /// Returns the next place.
+    /// Returns the next position.
     #[inline(always)]
     fn end_control_sequence<P: CountedPerform<B, G>, G: Grain>(
         &mut self,
@@ -104,7 +104,7 @@ impl<B: Buffer> Machine<B> {
         ensures handles { HandlesByte 1 P.step (P.value_of performer.old)
             (P.value_of performer.new) self.old self.new looks.old looks.new }
     {
-        if let HeadPart::Malformed = part {
+        if let HeadPart::IllShaped = part {
             self.state = State::Text(Unfinished::Nothing);
             return position + 1;
         }
@@ -112,8 +112,8 @@ impl<B: Buffer> Machine<B> {
         self.dispatch_control_sequence(looks, performer, ignore, byte, position)
     }
 
-    /// Dispatches a control sequence at its final byte, and returns the next place, so that callers
-    /// need not keep it.
+    /// Dispatches a control sequence at its final byte, and returns the next position, so that
+    /// callers need not keep it.
     #[inline(never)]
     fn dispatch_control_sequence<P: CountedPerform<B, G>, G: Grain>(
         &mut self,

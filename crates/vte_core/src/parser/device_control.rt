@@ -1,9 +1,9 @@
 //! Device control strings.
 ghost use Rattle.std.specs.Prelude.{◌≡◌, ℕ, true, false, List, ⊤};
-ghost use Rattle.vte_core.specs.machine.Words.{Advances, DeviceData, HandlesByte, InDeviceControl, MayRead, MayReadByte, Moves, StandsInHead, TakesByte, class_of, is_data, is_final};
+ghost use Rattle.vte_core.specs.machine.Prelude.{Advances, DeviceData, HandlesByte, InDeviceControl, MayRead, MayReadByte, Moves, StandsInHead, TakesByte, class_of, is_device_data, is_final};
 
 use crate::buffer::Buffer;
-use crate::class::{ends_all, is_data, is_final};
+use crate::class::{ends_all, is_device_data, is_final};
 use crate::head::HeadPart;
 use crate::parser::{Machine, State, Unfinished};
 use crate::scan::{CountedPerform, Grain, Input, Looks};
@@ -59,7 +59,7 @@ impl<B: Buffer> Machine<B> {
         ensures handles { HandlesByte 1 P.step (P.value_of performer.old)
             (P.value_of performer.new) self.old self.new looks.old looks.new }
     {
-        if let HeadPart::Malformed = part {
+        if let HeadPart::IllShaped = part {
             self.state = State::IgnoredString;
             return;
         }
@@ -86,11 +86,11 @@ impl<B: Buffer> Machine<B> {
     {
         for position in from..input.len() {
             let byte = looks.at(input, position);
-            if !is_data(byte) {
-                return self.end_data::<P, G, ASKS>(looks, performer, input, position, byte);
+            if !is_device_data(byte) {
+                return self.end_device_data::<P, G, ASKS>(looks, performer, input, position, byte);
             }
             if G::IN_RUNS && !ASKS {
-                let end = looks.find_put_end(input, position + 1);
+                let end = looks.find_device_data_end(input, position + 1);
                 looks.tell_data(performer, input, position, end);
                 return end;
             }
@@ -104,7 +104,7 @@ impl<B: Buffer> Machine<B> {
 
     /// Reads a byte among the data that isn't put: it ends them, or is dropped.
     #[inline(never)]
-    pub(crate) fn end_data<P: CountedPerform<B, G>, G: Grain, const ASKS: bool>(
+    pub(crate) fn end_device_data<P: CountedPerform<B, G>, G: Grain, const ASKS: bool>(
         &mut self,
         looks: &mut Looks<B>,
         performer: &mut P,
@@ -114,7 +114,7 @@ impl<B: Buffer> Machine<B> {
     ) -> usize
         requires may_read { MayReadByte ASKS P.is_terminated
             (P.value_of performer.old) DeviceData self.old input.bytes.now from byte }
-        requires other { is_data (class_of byte) ≡ false }
+        requires other { is_device_data (class_of byte) ≡ false }
         ensures advances { Advances ⊤ ASKS P.step P.is_terminated
             (P.value_of performer.old)
             (P.value_of performer.new) B.limit input.entry.bytes.now from result self.old self.new }

@@ -1,7 +1,7 @@
 //! The loop over the bytes of a call.
 ghost use Rattle.std.specs.Prelude.{◌≡◌, ◌<◌, true, List, ℕ, length, IfErr, IfOk};
-ghost use Rattle.vte_core.specs.machine.Words.{Advances, Costs, HasReadUnder, IsOutside, IsSettled, MayReadAt, Moves, NoCharacterStops, ReadsUpTo, Refuses, RefusesAt, Spends, StandsAt, TellsOthers};
-ghost use Rattle.vte_core.specs.machine.Words.{read_count};
+ghost use Rattle.vte_core.specs.machine.Prelude.{Advances, Costs, HasReadUnder, IsOutside, IsSettled, MayReadAt, Moves, NoCharacterStops, ReadsUpTo, Refuses, RefusesAt, Spends, StandsAt, TellsOthers};
+ghost use Rattle.vte_core.specs.machine.Prelude.{read_count};
 
 use crate::buffer::Buffer;
 use crate::parser::{Machine, Refused, State};

@@ -1,6 +1,6 @@
 //! ESC, CAN and SUB, which end whatever is open, in every state.
 ghost use Rattle.std.specs.Prelude.{◌≡◌, true, [], ◌∷◌, ⊤};
-ghost use Rattle.vte_core.specs.machine.Words.{Advances, Escape, HandlesByte, IsBetween, IsQuietIn, MayReadByte, Moves, TakesBytes, Place, Stands, TakesFew, after, class_of, closing_events_at, ends_all};
+ghost use Rattle.vte_core.specs.machine.Prelude.{Advances, Escape, HandlesByte, IsBetween, IsQuietIn, MayReadByte, Moves, TakesBytes, Place, Stands, TakesFew, after, class_of, closing_events_at, ends_all};
 
 use crate::buffer::Buffer;
 use crate::class::ESCAPE;

@@ -1,6 +1,6 @@
 //! Ignored strings: SOS, PM, APC, and device control strings with a malformed head.
 ghost use Rattle.std.specs.Prelude.{⊤};
-ghost use Rattle.vte_core.specs.machine.Words.{Advances, IgnoredString, MayReadAt, Moves};
+ghost use Rattle.vte_core.specs.machine.Prelude.{Advances, IgnoredString, MayReadAt, Moves};
 
 use crate::buffer::Buffer;
 use crate::parser::machine::Machine;

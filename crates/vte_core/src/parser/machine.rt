@@ -1,6 +1,6 @@
 //! The state of a parser, and what it has collected.
 ghost use Rattle.std.specs.Prelude.{◌≡◌, true, false, ℕ, List, []};
-ghost use Rattle.vte_core.specs.machine.Words.{HasReadUnder, IsFinished, IsLoss, IsUnfinished, outcome};
+ghost use Rattle.vte_core.specs.machine.Prelude.{HasReadUnder, IsFinished, IsLoss, IsUnfinished, outcome};
 
 use crate::buffer::Buffer;
 use crate::head::Collected;

@@ -3,7 +3,7 @@ ghost use Rattle.std.specs.Prelude.{◌≡◌, ◌≤◌, List, ℕ, [], length,
 ghost use Rattle.vte_core.specs.Parser.{HasRead};
 ghost use Rattle.vte_core.specs.Saved.{HasReadSaved, IsZero};
 ghost use Rattle.vte_core.specs.declared.parser.State.{State};
-ghost use Rattle.vte_core.specs.machine.Saved.{state_bytes};
+ghost use Rattle.vte_core.specs.machine.SavedLayout.{state_bytes};
 
 use crate::head::HeadPart;
 use crate::params::Params;
@@ -81,11 +81,11 @@ fn saved_state(state: State) -> [u8; 4]
         State::ControlSequence(HeadPart::Entry) => [6, 0, 0, 0],
         State::ControlSequence(HeadPart::Parameters) => [7, 0, 0, 0],
         State::ControlSequence(HeadPart::Intermediates) => [8, 0, 0, 0],
-        State::ControlSequence(HeadPart::Malformed) => [9, 0, 0, 0],
+        State::ControlSequence(HeadPart::IllShaped) => [9, 0, 0, 0],
         State::DeviceControl(HeadPart::Entry) => [10, 0, 0, 0],
         State::DeviceControl(HeadPart::Parameters) => [11, 0, 0, 0],
         State::DeviceControl(HeadPart::Intermediates) => [12, 0, 0, 0],
-        State::DeviceControl(HeadPart::Malformed) => [13, 0, 0, 0],
+        State::DeviceControl(HeadPart::IllShaped) => [13, 0, 0, 0],
         State::DeviceData => [14, 0, 0, 0],
         State::SystemCommand => [15, 0, 0, 0],
         State::IgnoredString => [16, 0, 0, 0],
@@ -107,11 +107,11 @@ fn restored_state(saved: [u8; 4]) -> State
         6 => State::ControlSequence(HeadPart::Entry),
         7 => State::ControlSequence(HeadPart::Parameters),
         8 => State::ControlSequence(HeadPart::Intermediates),
-        9 => State::ControlSequence(HeadPart::Malformed),
+        9 => State::ControlSequence(HeadPart::IllShaped),
         10 => State::DeviceControl(HeadPart::Entry),
         11 => State::DeviceControl(HeadPart::Parameters),
         12 => State::DeviceControl(HeadPart::Intermediates),
-        13 => State::DeviceControl(HeadPart::Malformed),
+        13 => State::DeviceControl(HeadPart::IllShaped),
         14 => State::DeviceData,
         15 => State::SystemCommand,
         _ => State::IgnoredString,

@@ -1,6 +1,6 @@
 //! Operating system commands.
 ghost use Rattle.std.specs.Prelude.{IfErr, IfOk, ⊤};
-ghost use Rattle.vte_core.specs.machine.Words.{Advances, MayReadAt, Moves, Refuses, SystemCommand, read_count};
+ghost use Rattle.vte_core.specs.machine.Prelude.{Advances, MayReadAt, Moves, Refuses, SystemCommand, read_count};
 
 use crate::buffer::Buffer;
 use crate::class::ends_all;
@@ -32,7 +32,7 @@ impl<B: Buffer> Machine<B> {
             Refuses ASKS P.is_terminated (P.value_of performer.new) B.limit input.entry.bytes.now
             from refused.read self.old self.new looks.old looks.new) }
     {
-        let end = looks.find_data_end(input, from);
+        let end = looks.find_command_data_end(input, from);
         if !self.command.make_room(end - from) {
             return Err(Refused { read: from });
         }

@@ -1,6 +1,6 @@
 //! Text: characters, runs of them, and malformed sequences.
 ghost use Rattle.std.specs.Prelude.{◌≡◌, ◌+◌, ◌*◌, ◌<◌, ◌≤◌, false, true, IfSome, length, slice_index};
-ghost use Rattle.vte_core.specs.machine.Words.{Advances, IsPrinted, MayReadAt, MayReadByte, Moves, NoCharacterStops, Nothing, PrintsRun, Text, looked};
+ghost use Rattle.vte_core.specs.machine.Prelude.{Advances, IsPrinted, MayReadAt, MayReadByte, Moves, NoCharacterStops, Nothing, PrintsRun, Text, looked};
 
 use crate::buffer::Buffer;
 use crate::class::ESCAPE;
@@ -19,8 +19,8 @@ struct AsciiRun {
     next: Option<u8>,
 }
 
-/// Prints the run of ASCII that stands at a place, whose first byte was looked at. If it is short,
-/// that is the first byte alone.
+/// Prints the run of ASCII that stands at a position, whose first byte was looked at. If it is
+/// short, that is the first byte alone.
 #[inline(always)]
 fn print_ascii<B, P: CountedPerform<B, G>, G: Grain>(
     looks: &mut Looks<B>,
@@ -76,8 +76,8 @@ impl<B: Buffer> Machine<B> {
             looks.old looks.new }
     {
         let mut position = from;
-        // The length of `front` bounds the place, so that the loop has no test of the index. Runs
-        // are read by words, which find an ESC too.
+        // The length of `front` bounds the position, so that the loop has no test of the index.
+        // Runs are read by words, which find an ESC too.
         let mut front = if G::IN_RUNS {
             input
         } else {
@@ -102,7 +102,7 @@ impl<B: Buffer> Machine<B> {
                     // One comparison tells lead bytes and malformed ones from ESC and controls. A
                     // lead byte may begin a control, which may stop the call; U+FFFD doesn't.
                     if is_lead(byte) {
-                        position = self.read_longer::<P, G, ASKS>(
+                        position = self.read_at_lead::<P, G, ASKS>(
                             looks, performer, input, position, byte,
                         );
                         if ASKS && performer.terminated() {
@@ -147,7 +147,7 @@ impl<B: Buffer> Machine<B> {
     /// Reads what begins with a lead byte, which was looked at, for a performer that takes runs: a
     /// run, a character or a malformed sequence.
     #[inline(always)]
-    fn read_longer<P: CountedPerform<B, G>, G: Grain, const ASKS: bool>(
+    fn read_at_lead<P: CountedPerform<B, G>, G: Grain, const ASKS: bool>(
         &mut self,
         looks: &mut Looks<B>,
         performer: &mut P,
@@ -168,7 +168,7 @@ impl<B: Buffer> Machine<B> {
         ensures moves { Moves 5 1 input.entry.bytes.now from result self.old self.new
             looks.old looks.new }
     {
-        let end = looks.find_longer_run_end(performer, input, from, first);
+        let end = looks.find_run_end_at_lead(performer, input, from, first);
         if end > from {
             looks.tell_text(performer, input, from, end);
             return end;

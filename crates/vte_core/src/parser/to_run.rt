@@ -1,7 +1,7 @@
 //! Runs of text and data in the input, for callers that take them from there.
 ghost use Rattle.std.specs.Prelude.{◌≡◌, ◌+◌, ◌*◌, ◌≤◌, true, false, ℕ, List, IfErr, IfOk, ⊤};
 ghost use Rattle.vte_core.specs.AdvanceToRun.{ReadsToRun};
-ghost use Rattle.vte_core.specs.machine.Words.{Advances, ComesToRun, Costs, EndsRun, HasReadUnder, MayReadAt, Moves, Nothing, RefusesAt, TellsOthers, Text, looked, place_count, start_count};
+ghost use Rattle.vte_core.specs.machine.Prelude.{Advances, ComesToRun, Costs, EndsRun, HasReadUnder, MayReadAt, Moves, Nothing, RefusesAt, TellsOthers, Text, looked, place_count, start_count};
 
 use crate::buffer::Buffer;
 use crate::class::ESCAPE;
@@ -14,7 +14,7 @@ impl<const OSC_RAW_BUF_SIZE: usize> Parser<OSC_RAW_BUF_SIZE> {
     /// Reads bytes up to a run of text, or of data of a device control string, and the run itself,
     /// which it returns instead of performing it.
     ///
-    /// A caller can take text from its own input in this way, with its place and without a copy:
+    /// A caller can take text from its own input in this way, with its position and without a copy:
     ///
     /// ```
     /// let mut parser = Parser::new();
@@ -68,7 +68,7 @@ impl<B: Buffer> Machine<B> {
         while position < input.len() && !performer.terminated() {
             position = match self.state {
                 State::Text(_) => {
-                    let end = looks.find_rest_end(input, position, false);
+                    let end = looks.find_run_end(input, position, false);
                     if end > position {
                         return Ok(RunPlace {
                             start: position,
@@ -79,7 +79,7 @@ impl<B: Buffer> Machine<B> {
                     self.read_unprinted(looks, performer, input, position)
                 }
                 State::DeviceData => {
-                    let end = looks.find_put_end(input, position);
+                    let end = looks.find_device_data_end(input, position);
                     if end > position {
                         return Ok(RunPlace {
                             start: position,
@@ -88,7 +88,7 @@ impl<B: Buffer> Machine<B> {
                         });
                     }
                     let byte = looks.at(input, position);
-                    self.end_data::<P, Singly, true>(looks, performer, input, position, byte)
+                    self.end_device_data::<P, Singly, true>(looks, performer, input, position, byte)
                 }
                 _ => self.read_by_state::<P, Singly, true>(looks, performer, input, position)?,
             };

@@ -1,6 +1,6 @@
 //! Performers that count each event as it is reported.
 ghost use Rattle.std.specs.Prelude.{◌≡◌, ◌<◌, Bool, false, length, map, chars};
-ghost use Rattle.vte_core.specs.machine.Words.{CsiDispatch, EscDispatch, Event, Execute, Hook, IsTextRun, OscDispatch, Print, Put, Tells, TellsAll, Unhook, is_control_character, run_event};
+ghost use Rattle.vte_core.specs.machine.Prelude.{CsiDispatch, EscDispatch, Event, Execute, Hook, IsTextRun, OscDispatch, Print, Put, Tells, TellsAll, Unhook, is_control_character, run_event};
 
 use crate::head::Collected;
 use crate::perform::Perform;

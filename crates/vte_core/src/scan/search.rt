@@ -3,16 +3,17 @@
 //! Ignored strings may hold megabytes, so blocks are taken. None is tried before a string has begun
 //! with single bytes, so that no byte is read often.
 ghost use Rattle.std.specs.Prelude.{◌≡◌, ◌≢◌, ◌+◌, ◌*◌, ◌<◌, ◌≤◌, ℕ, IsTrue, true, length, min, slice_index};
-ghost use Rattle.vte_core.specs.machine.Words.{AreIgnored, FindsEnd, IsCommandData, IsPut, IsRange, Scans, class_of, ends_all, looked};
+ghost use Rattle.vte_core.specs.machine.Prelude.{AreIgnored, FindsEnd, IsCommandData, IsPut, IsRange, Scans, class_of, ends_all, looked};
 
-use crate::class::{ESCAPE, cannot_end, ends_all, is_command_data, is_data};
+use crate::class::{ESCAPE, cannot_end, ends_all, is_command_data, is_device_data};
 use crate::scan::{Input, Looks};
 use memchr::memchr;
 
 impl<B> Looks<B> {
-    /// Finds where the data bytes of an operating system command end that start at a place: before
+    /// Finds where the data bytes of an operating system command end that start at a position:
+    /// before
     /// `;` or a control, or with the input.
-    pub(crate) fn find_data_end(&mut self, input: Input<'_, B>, from: usize) -> usize
+    pub(crate) fn find_command_data_end(&mut self, input: Input<'_, B>, from: usize) -> usize
         requires { from ≤ length input.bytes.now }
         ensures { FindsEnd IsCommandData input.entry.bytes.now from result self.old self.new }
     {
@@ -24,21 +25,21 @@ impl<B> Looks<B> {
         end
     }
 
-    /// Finds where the data of a device control string end that start at a place: before a byte
+    /// Finds where the data of a device control string end that start at a position: before a byte
     /// that isn't put, or with the input.
-    pub(crate) fn find_put_end(&mut self, input: Input<'_, B>, from: usize) -> usize
+    pub(crate) fn find_device_data_end(&mut self, input: Input<'_, B>, from: usize) -> usize
         requires { from ≤ length input.bytes.now }
         ensures { FindsEnd IsPut input.entry.bytes.now from result self.old self.new }
     {
         let mut end = from;
-        while end < input.len() && is_data(input.bytes[end]) {
+        while end < input.len() && is_device_data(input.bytes[end]) {
             end += 1;
         }
         self.add((end - from) + usize::from(end < input.len()));
         end
     }
 
-    /// Returns the place of the first ESC from a place on, or the length if there is none.
+    /// Returns the position of the first ESC from a position on, or the length if there is none.
     pub(crate) fn find_escape(&mut self, input: Input<'_, B>, from: usize) -> usize
         requires { from ≤ length input.bytes.now }
         ensures { FindsEnd
@@ -84,7 +85,7 @@ impl<B> Looks<B> {
         escape + usize::from(escape < to)
     }
 
-    /// Finds the CAN, SUB or ESC that ends an ignored string, from a place on.
+    /// Finds the CAN, SUB or ESC that ends an ignored string, from a position on.
     pub(crate) fn find_string_end(&mut self, input: Input<'_, B>, from: usize) -> usize
         requires { from ≤ length input.bytes.now }
         ensures scans { Scans AreIgnored input.entry.bytes.now from result self.old self.new }
@@ -106,7 +107,7 @@ impl<B> Looks<B> {
         self.find_ending_byte(input, end, input.len())
     }
 
-    /// Finds the first CAN, SUB or ESC from one place up to another.
+    /// Finds the first CAN, SUB or ESC from one position up to another.
     #[inline(always)]
     fn find_ending_byte(&mut self, input: Input<'_, B>, from: usize, to: usize) -> usize
         requires range { IsRange input.bytes.now from to }

@@ -1,12 +1,12 @@
 //! Runs of text and data, which a caller takes from its own input.
 ghost use Rattle.std.specs.Prelude.{◌≡◌};
-ghost use Rattle.vte_core.specs.machine.Words.{Empty};
+ghost use Rattle.vte_core.specs.machine.Prelude.{Empty};
 
 /// What a call of [`advance_to_run`](crate::Parser::advance_to_run) read: bytes whose events it
 /// performed, and the run after them, if there is one.
 #[derive(Clone, Copy, Debug, PartialEq, Eq)]
 pub struct Run<'a> {
-    /// How many bytes were read before the run: its place in the bytes of the call.
+    /// How many bytes were read before the run: its position in the bytes of the call.
     pub start: usize,
     /// How many bytes the call read: those before the run, and its own.
     pub end: usize,
@@ -25,7 +25,7 @@ pub enum Taken<'a> {
     Nothing,
 }
 
-/// What stands at the place of a run.
+/// What stands at the position of a run.
 #[derive(Clone, Copy)]
 pub(crate) enum RunKind {
     OfText,
@@ -33,7 +33,7 @@ pub(crate) enum RunKind {
     Empty,
 }
 
-/// The place of a run in the bytes of a call.
+/// The position of a run in the bytes of a call.
 #[derive(Clone, Copy)]
 pub(crate) struct RunPlace {
     pub(crate) start: usize,
@@ -42,7 +42,7 @@ pub(crate) struct RunPlace {
 }
 
 impl RunPlace {
-    /// Creates the place of no run, where a call ends.
+    /// Creates the position of no run, where a call ends.
     pub(crate) fn empty(end: usize) -> Self
         ensures start { result.start ≡ end }
         ensures end { result.end ≡ end }

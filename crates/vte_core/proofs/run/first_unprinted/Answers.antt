@@ -2,7 +2,7 @@
 use Rattle.std.proofs.Common.{ap, arith, w64, ◌∙◌}
 use Rattle.std.specs.Int.{bit_at}
 use Rattle.std.proofs.lemmas.Nat.Bits.{bit_at-trailing_zeros, bit_at-zero}
-use Rattle.vte_core.proofs.bytes.Words.{front-printed, marks-fit}
+use Rattle.vte_core.proofs.bytes.EightBytes.{front-printed, marks-fit}
 use Rattle.vte_core.proofs.run.first_unprinted.Goals as goal
 
 pub returns-then-marks-eq0 : goal.returns-then-marks-eq0

@@ -2,8 +2,9 @@
 //! The automaton of text in runs.
 //!
 //! It is a shift-based DFA: a byte's row in the table holds for each state the one that comes next,
-//! in six bits at the place that the state's number gives. So a step is a load and a shift, without
-//! a branch. But the block in which a run ends is read in vain, so only long runs come here.
+//! in six bits at the position that the state's number gives. So a step is a load and a shift,
+//! without a branch. But the block in which a run ends is read in vain, so only long runs come
+//! here.
 
 use crate::proved::vte_core::scan::get_block;
 use crate::proved::vte_core::utf8::is_printed_ascii;
@@ -32,7 +33,7 @@ const AFTER_C2: u64 = 48;
 const FAILED: u64 = 54;
 
 // Rows of bytes that fit nowhere and of those that begin a character: these fit between two
-// characters alone, the state at place 0.
+// characters alone, the state at position 0.
 const FAIL: u64 = FAILED
     | FAILED << ONE
     | FAILED << TWO
@@ -134,7 +135,7 @@ pub(crate) fn skip_run_blocks(input: &[u8], from: usize, keeps: bool) -> usize {
     from + last_end(input, from, at, state)
 }
 
-/// Finds where the last character ended before a place.
+/// Finds where the last character ended before a position.
 #[inline(always)]
 fn last_end(input: &[u8], from: usize, at: usize, state: u64) -> usize {
     if state == BETWEEN {

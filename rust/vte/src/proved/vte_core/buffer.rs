@@ -18,7 +18,7 @@ pub(crate) trait Buffer {
     /// always is.
     fn reserve(&mut self, more: usize) -> bool;
 
-    /// Adds the bytes of an input from one place to another, up to the limit.
+    /// Adds the bytes of an input from one position to another, up to the limit.
     fn append(&mut self, input: &[u8], from: usize, to: usize);
 }
 

@@ -19,7 +19,7 @@ pub(crate) fn cannot_end(byte: u8) -> bool {
 }
 
 /// Returns whether a byte is one of the data of a device control string: C0 and 20..7E.
-pub(crate) fn is_data(byte: u8) -> bool {
+pub(crate) fn is_device_data(byte: u8) -> bool {
     (byte >= 0x20 && byte < 0x7f) || is_control(byte)
 }
 

@@ -18,7 +18,7 @@ pub(crate) enum HeadPart {
     /// An intermediate was last.
     Intermediates,
     /// It is malformed.
-    Malformed,
+    IllShaped,
 }
 
 impl HeadPart {
@@ -28,7 +28,7 @@ impl HeadPart {
     }
 }
 
-/// How far a head has been read, and up to which place. The byte there was looked at.
+/// How far a head has been read, and up to which position. The byte there was looked at.
 #[derive(Clone, Copy)]
 pub(crate) struct HeadEnd {
     pub(crate) part: HeadPart,
@@ -96,8 +96,8 @@ impl Collected {
     /// has been read then.
     #[inline(always)]
     fn collect_head_byte(&mut self, part: HeadPart, byte: u8) -> HeadPart {
-        if let HeadPart::Malformed = part {
-            return HeadPart::Malformed;
+        if let HeadPart::IllShaped = part {
+            return HeadPart::IllShaped;
         }
         if is_intermediate(byte) {
             self.collect(byte);
@@ -108,10 +108,10 @@ impl Collected {
             self.collect(byte);
             return HeadPart::Parameters;
         }
-        HeadPart::Malformed
+        HeadPart::IllShaped
     }
 
-    /// Reads the digits at a place of a head, if any, and the separators too if there may be
+    /// Reads the digits at a position of a head, if any, and the separators too if there may be
     /// `several` numbers.
     #[inline(always)]
     pub(crate) fn read_numbers(

@@ -14,8 +14,8 @@ use crate::proved::vte_core::utf8::{
 /// Longer runs go on in blocks.
 const LONG: usize = 48;
 
-/// Returns whether printed ASCII begins a run at a place: four bytes of it, of which the first
-/// was looked at, and `next` too.
+/// Returns whether printed ASCII begins a run at a position: four bytes of it, of which the
+/// first was looked at, and `next` too.
 #[inline(always)]
 pub(crate) fn begins_ascii(input: &[u8], at: usize, next: Option<u8>) -> bool {
     matches!(next, Some(second) if is_printed_ascii(second))
@@ -31,17 +31,17 @@ pub(crate) fn find_ascii_run_end<P: PerformAs<G>, G: Grain>(
     from: usize,
 ) -> usize {
     let end = find_end_by_words(input, from + 4);
-    find_rest_end(input, end, performer.keeps_layout())
+    find_run_end(input, end, performer.keeps_layout())
 }
 
-/// Finds where the run ends that begins at a place with a character of two or three bytes,
-/// whose first was looked at; at that place if none does.
+/// Finds where the run ends that begins at a position with a character of two or three bytes,
+/// whose first was looked at; at that position if none does.
 ///
 /// Two bytes are tested before anything else, because malformed text seldom has them: after a
 /// first byte of two, the second and that another character follows; after one of three, the
 /// second and the third.
 #[inline(always)]
-pub(crate) fn find_longer_run_end<P: PerformAs<G>, G: Grain>(
+pub(crate) fn find_run_end_at_lead<P: PerformAs<G>, G: Grain>(
     performer: &P,
     input: &[u8],
     from: usize,
@@ -51,7 +51,7 @@ pub(crate) fn find_longer_run_end<P: PerformAs<G>, G: Grain>(
         Some(second) if is_continuation(second) => match get(input, from + 2) {
             Some(third) if first < 0xe0 => {
                 if is_lead(third) && is_printed_pair(first, second) {
-                    find_run_end(performer, input, from + 2)
+                    find_run_end_for(performer, input, from + 2)
                 } else {
                     from
                 }
@@ -59,7 +59,7 @@ pub(crate) fn find_longer_run_end<P: PerformAs<G>, G: Grain>(
             Some(third)
                 if first < 0xf0 && is_continuation(third) && may_begin_three(first, second) =>
             {
-                find_run_end(performer, input, from + 3)
+                find_run_end_for(performer, input, from + 3)
             }
             _ => from,
         },
@@ -67,30 +67,30 @@ pub(crate) fn find_longer_run_end<P: PerformAs<G>, G: Grain>(
     }
 }
 
-/// Finds where the run ends that has come to a place, for a performer.
+/// Finds where the run ends that has come to a position, for a performer.
 #[inline(never)]
-pub(crate) fn find_run_end<P: PerformAs<G>, G: Grain>(
+pub(crate) fn find_run_end_for<P: PerformAs<G>, G: Grain>(
     performer: &P,
     input: &[u8],
     from: usize,
 ) -> usize {
-    find_rest_end(input, from, performer.keeps_layout())
+    find_run_end(input, from, performer.keeps_layout())
 }
 
-/// Finds where the run ends that has come to a place. If it `keeps` them, HT, LF and CR don't
-/// end it.
+/// Finds where the run ends that has come to a position. If it `keeps` them, HT, LF and CR
+/// don't end it.
 #[inline(always)]
-pub(crate) fn find_rest_end(input: &[u8], from: usize, keeps: bool) -> usize {
+pub(crate) fn find_run_end(input: &[u8], from: usize, keeps: bool) -> usize {
     let to = input.len().min(from + LONG);
     let end = find_end_before(input, from, to, keeps);
     if end < to || end == input.len() {
         end
     } else {
-        find_long_end(input, end, keeps)
+        find_long_run_end(input, end, keeps)
     }
 }
 
-/// Finds where the run ends that has come to a place, or where it comes to or past another.
+/// Finds where the run ends that has come to a position, or where it comes to or past another.
 #[inline(always)]
 fn find_end_before(input: &[u8], from: usize, to: usize, keeps: bool) -> usize {
     let mut end = from;
@@ -99,7 +99,7 @@ fn find_end_before(input: &[u8], from: usize, to: usize, keeps: bool) -> usize {
         if is_printed_ascii(byte) {
             end = find_ascii_end(input, end + 1);
         } else {
-            match find_other_end(input, end, byte, keeps) {
+            match find_other_character_end(input, end, byte, keeps) {
                 Some(next) => end = next,
                 None => return end,
             }
@@ -108,17 +108,17 @@ fn find_end_before(input: &[u8], from: usize, to: usize, keeps: bool) -> usize {
     end
 }
 
-/// Finds where a long run ends that has come to a place.
+/// Finds where a long run ends that has come to a position.
 #[inline(never)]
-fn find_long_end(input: &[u8], from: usize, keeps: bool) -> usize {
+fn find_long_run_end(input: &[u8], from: usize, keeps: bool) -> usize {
     let end = skip_run_blocks(input, from, keeps);
     find_end_before(input, end, input.len(), keeps)
 }
 
-/// Finds where the character ends that stands at a place and is no printed ASCII, if a run may
-/// hold it. Its first byte was looked at.
+/// Finds where the character ends that stands at a position and is no printed ASCII, if a run
+/// may hold it. Its first byte was looked at.
 #[inline(always)]
-fn find_other_end(input: &[u8], from: usize, first: u8, keeps: bool) -> Option<usize> {
+fn find_other_character_end(input: &[u8], from: usize, first: u8, keeps: bool) -> Option<usize> {
     if !is_lead(first) {
         if keeps && is_layout(first) {
             return Some(from + 1);
@@ -143,7 +143,7 @@ fn find_other_end(input: &[u8], from: usize, first: u8, keeps: bool) -> Option<u
     None
 }
 
-/// Finds where the printed ASCII ends that has come to a place by a byte. Two more are read
+/// Finds where the printed ASCII ends that has come to a position by a byte. Two more are read
 /// alone, then words are taken.
 #[inline(always)]
 fn find_ascii_end(input: &[u8], from: usize) -> usize {
@@ -156,7 +156,7 @@ fn find_ascii_end(input: &[u8], from: usize) -> usize {
     }
 }
 
-/// Finds the first byte from a place on that is no printed ASCII, or where fewer than eight
+/// Finds the first byte from a position on that is no printed ASCII, or where fewer than eight
 /// bytes are left.
 #[inline(always)]
 fn find_end_by_words(input: &[u8], from: usize) -> usize {
@@ -170,7 +170,8 @@ fn find_end_by_words(input: &[u8], from: usize) -> usize {
     end
 }
 
-/// Returns the place of the first of eight bytes that is no printed ASCII, or of a space before it.
+/// Returns the position of the first of eight bytes that is no printed ASCII, or of a space before
+/// it.
 #[inline(always)]
 fn first_unprinted(word: &[u8; 8]) -> Option<usize> {
     // Bit 7 of each eight marks a byte: from 80 on it is set, and below 20 it is after a

@@ -13,13 +13,13 @@ pub use grain::{InRuns, Singly};
 pub use taken::{Run, Taken};
 pub(crate) use taken::{RunKind, RunPlace};
 
-/// Returns the bytes up to a place.
+/// Returns the bytes up to a position.
 #[inline(always)]
 pub(crate) fn up_to(input: &[u8], to: usize) -> &[u8] {
     &input[..to]
 }
 
-/// Returns the text from one place to another, which is whole characters.
+/// Returns the text from one position to another, which is whole characters.
 #[inline(always)]
 #[allow(unsafe_code)]
 pub(crate) fn text(input: &[u8], from: usize, to: usize) -> &str {
@@ -32,13 +32,13 @@ pub(crate) fn text(input: &[u8], from: usize, to: usize) -> &str {
     unsafe { str::from_utf8_unchecked(bytes) }
 }
 
-/// Returns the data from one place to another.
+/// Returns the data from one position to another.
 #[inline(always)]
 pub(crate) fn data(input: &[u8], from: usize, to: usize) -> &[u8] {
     &input[from..to]
 }
 
-/// Returns the run that stands at a place, whose bytes were looked at.
+/// Returns the run that stands at a position, whose bytes were looked at.
 pub(crate) fn take_run(input: &[u8], place: RunPlace) -> Run<'_> {
     let taken = match place.kind {
         RunKind::OfText => Taken::Text(text(input, place.start, place.end)),
@@ -59,7 +59,7 @@ pub(crate) fn get(input: &[u8], index: usize) -> Option<u8> {
     Some(byte)
 }
 
-/// Returns a copy of the `N` bytes from a place on, or `None` if there are fewer.
+/// Returns a copy of the `N` bytes from a position on, or `None` if there are fewer.
 #[inline(always)]
 pub(crate) fn get_block<const N: usize>(input: &[u8], from: usize) -> Option<[u8; N]> {
     let block = *first_chunk::<N>(&input[from..])?;

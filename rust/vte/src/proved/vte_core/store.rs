@@ -60,7 +60,7 @@ impl<B: Buffer> Store<B> {
         }
     }
 
-    /// Adds the data bytes of an input from one place to another, as many as there is room for;
+    /// Adds the data bytes of an input from one position to another, as many as there is room for;
     /// none after 16 pieces.
     pub(crate) fn push_data(&mut self, input: &[u8], from: usize, to: usize) {
         let before = self.bytes.bytes().len();
@@ -138,8 +138,8 @@ impl Store<Vec<u8>> {
     }
 }
 
-/// Returns whether pieces with this many bytes in all can end at these places, of which there are
-/// at most 16.
+/// Returns whether pieces with this many bytes in all can end at these positions, of which there
+/// are at most 16.
 #[cfg(feature = "__own")]
 fn are_piece_ends(ends: &[usize], count: usize) -> bool {
     ends.windows(2).all(|pair| pair[0] <= pair[1]) && ends.iter().all(|end| *end <= count)

@@ -2,7 +2,7 @@
 -- and the part of the head that was reached.
 use Rattle.vte_core.proofs.Common.{◌≡◌, inl, sym, ◌∙◌, Marker, class_of}
 use Rattle.vte_core.proofs.bytes.ClassCases.{intermediate}
-use Rattle.vte_core.proofs.fields.HeadSteps.{head-holds, holds-intermediate, holds-marker, malformed-late, left_is_marker}
+use Rattle.vte_core.proofs.fields.HeadSteps.{head-holds, holds-intermediate, holds-marker, ill_shaped-late, left_is_marker}
 use Rattle.vte_core.proofs.head.Collected.collect_head_byte.Goals as goal
 
 pub returns-then-is_intermediate : goal.returns-then-is_intermediate
@@ -21,5 +21,5 @@ returns-in-Entry c = λ head s.
 
 pub returns : goal.returns
 returns c = λ head s.
-    malformed-late _ c.args.part head c.args.byte s c.requires.is
+    ill_shaped-late _ c.args.part head c.args.byte s c.requires.is
     (sym c.is_intermediate.ensures ∙ c.if-is_intermediate.false) c.requires.no_number c.in_default-part.not-Entry

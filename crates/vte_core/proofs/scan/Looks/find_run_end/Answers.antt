@@ -1,5 +1,19 @@
--- The search of the rest, with the performer's choice of controls.
+-- A short search first. If the run goes on where that ends, the long one continues it.
+use Rattle.vte_core.proofs.Common.{◌≡◌, sym, ◌∙◌, arith, eqb-true}
+use Rattle.vte_core.proofs.bytes.Ends.{ends-all}
+use Rattle.vte_core.proofs.bytes.Scanning.{scans-run}
+use Rattle.vte_core.proofs.scan.Looks.find_run_end.Goals.{then-end-to, else-end-to}
 use Rattle.vte_core.proofs.scan.Looks.find_run_end.Goals as goal
 
-pub returns-clause-scans : goal.returns-clause-scans
-returns-clause-scans g c = rw c.keeps_layout.ensures at c.find_rest_end.ensures.scans
+pub returns-else-end-len-clause-scans : goal.returns-else-end-len-clause-scans
+returns-else-end-len-clause-scans g c = scans-run c.find_end_before-end.ensures.scans c.find_long_run_end.ensures.scans
+
+pub returns-then-end-len-clause-ended : goal.returns-then-end-len-clause-ended
+returns-then-end-len-clause-ended g c = elim c.if-end-to.branch [
+  | then-end-to w ↦ c.find_end_before-end.ensures.ended (omega (arith, w.if-end-to.true))
+  | else-end-to w ↦
+      ends-all _ _ _
+      (let last : c.find_end_before-end.result
+      ≡ w.len-else-end-to.result =
+      eqb-true _ _ (sym w.value-is ∙ c.if-end-len.true) in omega (arith, last, w.len-else-end-to.ensures))
+]

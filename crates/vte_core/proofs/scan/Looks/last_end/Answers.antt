@@ -2,8 +2,8 @@
 -- continue a character, to the byte that began the last one: the text ends before it.
 use Rattle.vte_core.proofs.Common.{◌≡◌, ◌≢◌, ℕ, ◌+◌, ◌≤◌, ◌<◌, List, take, drop, ap, sym, inl, inr, ◌∙◌, arith, cases_lt, slice_index}
 use Rattle.vte_core.specs.machine.Automaton.{Between, HasScanned, state_after}
-use Rattle.vte_core.proofs.runs.Standing.{Standing, standing}
-use Rattle.vte_core.proofs.runs.Readings.{is_between, byte_from, last_end-here, unended, last_end-first}
+use Rattle.vte_core.proofs.scanning.Scanned.{Standing, standing}
+use Rattle.vte_core.proofs.scanning.Readings.{is_between, byte_from, last_end-here, unended, last_end-first}
 use Rattle.vte_core.proofs.scan.Looks.last_end.Goals as goal
 
 -- Between characters: the text ends here.

@@ -1,7 +1,7 @@
 -- The last character ends at this place or before it: nothing after it has begun one.
 use Rattle.vte_core.proofs.Common.{drop, take, ◌+◌, ◌<◌, ◌≡◌, ◌≤◌, looked}
 use Rattle.vte_core.specs.machine.Automaton.{Between, state_after}
-use Rattle.vte_core.proofs.runs.Standing.{Standing}
+use Rattle.vte_core.proofs.scanning.Scanned.{Standing}
 use Rattle.vte_core.proofs.scan.Looks.last_end.Given as goal
 
 abbrev pub invariant-loop-end : goal.invariant-loop-end

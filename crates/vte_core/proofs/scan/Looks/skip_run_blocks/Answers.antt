@@ -2,7 +2,7 @@
 use Rattle.vte_core.proofs.Common.{drop-drop, false≢true, ◌≡◌, ◌≤◌, ◌+◌, ◌-◌, false, take, drop, ap, sym, subst, ◌∙◌, arith, inl, inr, cases_lt, length-drop, looked, rules, AreRun}
 use Rattle.vte_core.specs.machine.Between.{Each}
 use Rattle.vte_core.proofs.bytes.Between.{each-both, each-block}
-use Rattle.vte_core.proofs.runs.Readings.{has_read-more, run-kept}
+use Rattle.vte_core.proofs.scanning.Readings.{has_read-more, run-kept}
 use Rattle.vte_core.proofs.scan.Looks.skip_run_blocks.Goals.{else-not-keeps-via-then-not-keeps+else-has_control, else-not-keeps-via-else-not-keeps}
 use Rattle.vte_core.proofs.scan.Looks.skip_run_blocks.Goals as goal
 

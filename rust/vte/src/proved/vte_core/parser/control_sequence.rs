@@ -65,7 +65,7 @@ impl<B: Buffer> Machine<B> {
     }
 
     /// Ends a control sequence at its final byte: dispatches it, unless its head is malformed.
-    /// Returns the next place.
+    /// Returns the next position.
     #[inline(always)]
     fn end_control_sequence<P: PerformAs<G>, G: Grain>(
         &mut self,
@@ -74,7 +74,7 @@ impl<B: Buffer> Machine<B> {
         byte: u8,
         position: usize,
     ) -> usize {
-        if let HeadPart::Malformed = part {
+        if let HeadPart::IllShaped = part {
             self.state = State::Text(Unfinished::Nothing);
             return position + 1;
         }
@@ -82,8 +82,8 @@ impl<B: Buffer> Machine<B> {
         self.dispatch_control_sequence(performer, ignore, byte, position)
     }
 
-    /// Dispatches a control sequence at its final byte, and returns the next place, so that callers
-    /// need not keep it.
+    /// Dispatches a control sequence at its final byte, and returns the next position, so that
+    /// callers need not keep it.
     #[inline(never)]
     fn dispatch_control_sequence<P: PerformAs<G>, G: Grain>(
         &mut self,

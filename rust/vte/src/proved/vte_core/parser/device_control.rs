@@ -2,11 +2,11 @@
 //! Device control strings.
 
 use crate::proved::vte_core::buffer::Buffer;
-use crate::proved::vte_core::class::{ends_all, is_data, is_final};
+use crate::proved::vte_core::class::{ends_all, is_device_data, is_final};
 use crate::proved::vte_core::head::HeadPart;
 use crate::proved::vte_core::parser::{Machine, State, Unfinished};
 use crate::proved::vte_core::scan::grain::PerformAs;
-use crate::proved::vte_core::scan::search::find_put_end;
+use crate::proved::vte_core::scan::search::find_device_data_end;
 use crate::proved::vte_core::scan::{data, Grain};
 
 /// The one 8-bit control that is read: ST, the end of the data.
@@ -39,7 +39,7 @@ impl<B: Buffer> Machine<B> {
 
     /// Hooks the string at the final byte of its head, or ignores it if the head is malformed.
     fn hook<P: PerformAs<G>, G: Grain>(&mut self, performer: &mut P, part: HeadPart, byte: u8) {
-        if let HeadPart::Malformed = part {
+        if let HeadPart::IllShaped = part {
             self.state = State::IgnoredString;
             return;
         }
@@ -63,11 +63,11 @@ impl<B: Buffer> Machine<B> {
     ) -> usize {
         for position in from..input.len() {
             let byte = input[position];
-            if !is_data(byte) {
-                return self.end_data::<P, G, ASKS>(performer, input, position, byte);
+            if !is_device_data(byte) {
+                return self.end_device_data::<P, G, ASKS>(performer, input, position, byte);
             }
             if G::IN_RUNS && !ASKS {
-                let end = find_put_end(input, position + 1);
+                let end = find_device_data_end(input, position + 1);
                 performer.put_slice(data(input, position, end));
                 return end;
             }
@@ -81,7 +81,7 @@ impl<B: Buffer> Machine<B> {
 
     /// Reads a byte among the data that isn't put: it ends them, or is dropped.
     #[inline(never)]
-    pub(crate) fn end_data<P: PerformAs<G>, G: Grain, const ASKS: bool>(
+    pub(crate) fn end_device_data<P: PerformAs<G>, G: Grain, const ASKS: bool>(
         &mut self,
         performer: &mut P,
         input: &[u8],

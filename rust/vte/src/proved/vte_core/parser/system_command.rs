@@ -5,7 +5,7 @@ use crate::proved::vte_core::buffer::Buffer;
 use crate::proved::vte_core::class::ends_all;
 use crate::proved::vte_core::parser::{Machine, Refused, State, Unfinished};
 use crate::proved::vte_core::scan::grain::PerformAs;
-use crate::proved::vte_core::scan::search::find_data_end;
+use crate::proved::vte_core::scan::search::find_command_data_end;
 use crate::proved::vte_core::scan::{get, Grain};
 
 const BELL: u8 = 0x07;
@@ -20,7 +20,7 @@ impl<B: Buffer> Machine<B> {
         input: &[u8],
         from: usize,
     ) -> Result<usize, Refused> {
-        let end = find_data_end(input, from);
+        let end = find_command_data_end(input, from);
         if !self.command.make_room(end - from) {
             return Err(Refused { read: from });
         }

@@ -4,7 +4,7 @@
 use crate::proved::vte_core::buffer::Buffer;
 use crate::proved::vte_core::class::ESCAPE;
 use crate::proved::vte_core::parser::Machine;
-use crate::proved::vte_core::run::{begins_ascii, find_ascii_run_end, find_longer_run_end};
+use crate::proved::vte_core::run::{begins_ascii, find_ascii_run_end, find_run_end_at_lead};
 use crate::proved::vte_core::scan::grain::PerformAs;
 use crate::proved::vte_core::scan::search::search_text;
 use crate::proved::vte_core::scan::{get, tell_single, text, up_to, Grain};
@@ -21,8 +21,8 @@ struct AsciiRun {
     next: Option<u8>,
 }
 
-/// Prints the run of ASCII that stands at a place, whose first byte was looked at. If it is short,
-/// that is the first byte alone.
+/// Prints the run of ASCII that stands at a position, whose first byte was looked at. If it is
+/// short, that is the first byte alone.
 #[inline(always)]
 fn print_ascii<P: PerformAs<G>, G: Grain>(
     performer: &mut P,
@@ -54,8 +54,8 @@ impl<B: Buffer> Machine<B> {
         from: usize,
     ) -> usize {
         let mut position = from;
-        // The length of `front` bounds the place, so that the loop has no test of the index. Runs
-        // are read by words, which find an ESC too.
+        // The length of `front` bounds the position, so that the loop has no test of the index.
+        // Runs are read by words, which find an ESC too.
         let mut front = if G::IN_RUNS {
             input
         } else {
@@ -80,7 +80,7 @@ impl<B: Buffer> Machine<B> {
                     // One comparison tells lead bytes and malformed ones from ESC and controls. A
                     // lead byte may begin a control, which may stop the call; U+FFFD doesn't.
                     if is_lead(byte) {
-                        position = self.read_longer(performer, input, position, byte);
+                        position = self.read_at_lead(performer, input, position, byte);
                         if ASKS && performer.terminated() {
                             return position;
                         }
@@ -121,14 +121,14 @@ impl<B: Buffer> Machine<B> {
     /// Reads what begins with a lead byte, which was looked at, for a performer that takes runs: a
     /// run, a character or a malformed sequence.
     #[inline(always)]
-    fn read_longer<P: PerformAs<G>, G: Grain>(
+    fn read_at_lead<P: PerformAs<G>, G: Grain>(
         &mut self,
         performer: &mut P,
         input: &[u8],
         from: usize,
         first: u8,
     ) -> usize {
-        let end = find_longer_run_end(performer, input, from, first);
+        let end = find_run_end_at_lead(performer, input, from, first);
         if end > from {
             performer.print_text(text(input, from, end));
             return end;

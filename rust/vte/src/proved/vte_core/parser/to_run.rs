@@ -5,9 +5,9 @@ use crate::proved::vte_core::buffer::Buffer;
 use crate::proved::vte_core::class::ESCAPE;
 use crate::proved::vte_core::parser::{Machine, Parser, Refused, State};
 use crate::proved::vte_core::perform::Perform;
-use crate::proved::vte_core::run::find_rest_end;
+use crate::proved::vte_core::run::find_run_end;
 use crate::proved::vte_core::scan::grain::PerformAs;
-use crate::proved::vte_core::scan::search::find_put_end;
+use crate::proved::vte_core::scan::search::find_device_data_end;
 use crate::proved::vte_core::scan::{take_run, tell_single, Run, RunKind, RunPlace, Singly};
 use crate::proved::vte_core::utf8::{is_lead, is_printed_ascii};
 
@@ -15,7 +15,7 @@ impl<const OSC_RAW_BUF_SIZE: usize> Parser<OSC_RAW_BUF_SIZE> {
     /// Reads bytes up to a run of text, or of data of a device control string, and the run itself,
     /// which it returns instead of performing it.
     ///
-    /// A caller can take text from its own input in this way, with its place and without a copy:
+    /// A caller can take text from its own input in this way, with its position and without a copy:
     ///
     /// ```
     /// # use vte::{Parser, Perform, Taken};
@@ -61,7 +61,7 @@ impl<B: Buffer> Machine<B> {
         while position < input.len() && !performer.terminated() {
             position = match self.state {
                 State::Text(_) => {
-                    let end = find_rest_end(input, position, false);
+                    let end = find_run_end(input, position, false);
                     if end > position {
                         return Ok(RunPlace {
                             start: position,
@@ -72,7 +72,7 @@ impl<B: Buffer> Machine<B> {
                     self.read_unprinted(performer, input, position)
                 }
                 State::DeviceData => {
-                    let end = find_put_end(input, position);
+                    let end = find_device_data_end(input, position);
                     if end > position {
                         return Ok(RunPlace {
                             start: position,
@@ -81,7 +81,7 @@ impl<B: Buffer> Machine<B> {
                         });
                     }
                     let byte = input[position];
-                    self.end_data::<P, Singly, true>(performer, input, position, byte)
+                    self.end_device_data::<P, Singly, true>(performer, input, position, byte)
                 }
                 _ => self.read_by_state::<P, Singly, true>(performer, input, position)?,
             };

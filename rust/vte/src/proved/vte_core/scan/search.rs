@@ -5,12 +5,13 @@
 //! with single bytes, so that no byte is read often.
 
 use crate::prelude::memchr;
-use crate::proved::vte_core::class::{cannot_end, ends_all, is_data, ESCAPE};
+use crate::proved::vte_core::class::{cannot_end, ends_all, is_device_data, ESCAPE};
 use crate::proved::vte_core::scan::{get_block, up_to};
 
-/// Finds where the data bytes of an operating system command end that start at a place: before
+/// Finds where the data bytes of an operating system command end that start at a position:
+/// before
 /// `;` or a control, or with the input.
-pub(crate) fn find_data_end(input: &[u8], from: usize) -> usize {
+pub(crate) fn find_command_data_end(input: &[u8], from: usize) -> usize {
     let mut end = from;
     while end < input.len() && input[end] >= 0x20 && input[end] != b';' {
         end += 1;
@@ -18,17 +19,17 @@ pub(crate) fn find_data_end(input: &[u8], from: usize) -> usize {
     end
 }
 
-/// Finds where the data of a device control string end that start at a place: before a byte
+/// Finds where the data of a device control string end that start at a position: before a byte
 /// that isn't put, or with the input.
-pub(crate) fn find_put_end(input: &[u8], from: usize) -> usize {
+pub(crate) fn find_device_data_end(input: &[u8], from: usize) -> usize {
     let mut end = from;
-    while end < input.len() && is_data(input[end]) {
+    while end < input.len() && is_device_data(input[end]) {
         end += 1;
     }
     end
 }
 
-/// Returns the place of the first ESC from a place on, or the length if there is none.
+/// Returns the position of the first ESC from a position on, or the length if there is none.
 pub(crate) fn find_escape(input: &[u8], from: usize) -> usize {
     let rest = &input[from..];
     match memchr(ESCAPE, rest) {
@@ -51,7 +52,7 @@ pub(crate) fn search_text<const ASKS: bool>(input: &[u8], from: usize, at: usize
     escape + usize::from(escape < to)
 }
 
-/// Finds the CAN, SUB or ESC that ends an ignored string, from a place on.
+/// Finds the CAN, SUB or ESC that ends an ignored string, from a position on.
 pub(crate) fn find_string_end(input: &[u8], from: usize) -> usize {
     let near = input.len().min(from + 8);
     let mut end = find_ending_byte(input, from, near);
@@ -67,7 +68,7 @@ pub(crate) fn find_string_end(input: &[u8], from: usize) -> usize {
     find_ending_byte(input, end, input.len())
 }
 
-/// Finds the first CAN, SUB or ESC from one place up to another.
+/// Finds the first CAN, SUB or ESC from one position up to another.
 #[inline(always)]
 fn find_ending_byte(input: &[u8], from: usize, to: usize) -> usize {
     for end in from..to {

@@ -5,7 +5,7 @@
 /// performed, and the run after them, if there is one.
 #[derive(Clone, Copy, Debug, PartialEq, Eq)]
 pub struct Run<'a> {
-    /// How many bytes were read before the run: its place in the bytes of the call.
+    /// How many bytes were read before the run: its position in the bytes of the call.
     pub start: usize,
     /// How many bytes the call read: those before the run, and its own.
     pub end: usize,
@@ -24,7 +24,7 @@ pub enum Taken<'a> {
     Nothing,
 }
 
-/// What stands at the place of a run.
+/// What stands at the position of a run.
 #[derive(Clone, Copy)]
 pub(crate) enum RunKind {
     OfText,
@@ -32,7 +32,7 @@ pub(crate) enum RunKind {
     Empty,
 }
 
-/// The place of a run in the bytes of a call.
+/// The position of a run in the bytes of a call.
 #[derive(Clone, Copy)]
 pub(crate) struct RunPlace {
     pub(crate) start: usize,
@@ -41,7 +41,7 @@ pub(crate) struct RunPlace {
 }
 
 impl RunPlace {
-    /// Creates the place of no run, where a call ends.
+    /// Creates the position of no run, where a call ends.
     pub(crate) fn empty(end: usize) -> Self {
         RunPlace {
             start: end,

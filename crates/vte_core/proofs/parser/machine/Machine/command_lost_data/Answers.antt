@@ -1,6 +1,6 @@
 -- Data of a command were dropped if the store says so: by the state, and so the place, of the parser.
 use Rattle.vte_core.proofs.Common.{ℕ, Option, List, [], ◌∷◌, sym, subst, Machine, State, SystemCommand, Stands, StandsBy, Place, InText, InSystemCommand, Keeps, IsLoss, left_at}
-use Rattle.vte_core.proofs.fields.Standing.{stands-place}
+use Rattle.vte_core.proofs.fields.PlaceOfState.{stands-place}
 use Rattle.vte_core.proofs.fields.StoreLemmas.{drops_held}
 use Rattle.vte_core.proofs.streams.After.{after-left}
 use Rattle.vte_core.proofs.parser.machine.Machine.command_lost_data.Goals as goal

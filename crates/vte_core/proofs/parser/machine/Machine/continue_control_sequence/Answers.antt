@@ -2,7 +2,7 @@
 use Rattle.vte_core.proofs.Common.{refl, sym, ◌∙◌, rules}
 use Rattle.vte_core.proofs.bytes.ClassCases.{final_ends_nothing}
 use Rattle.vte_core.proofs.calls.Heads.{ControlHead, advances-head, advances-past, performs-head}
-use Rattle.vte_core.proofs.calls.Runs.{advances-moved, advances-then}
+use Rattle.vte_core.proofs.calls.Stretches.{advances-moved, advances-then}
 use Rattle.vte_core.proofs.parser.machine.Machine.continue_control_sequence.Goals as goal
 
 -- Numbers and a final byte.

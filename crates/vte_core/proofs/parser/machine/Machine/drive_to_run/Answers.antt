@@ -2,7 +2,7 @@
 -- have told nothing of a run (`tells-more`).
 use Rattle.vte_core.proofs.Common.{Err, ap, sym, ◌∙◌, arith, rules, err_from_is_err_and}
 use Rattle.vte_core.proofs.calls.ToRun.{comes-nowhere, comes-to_run, has-data, has-text, outside, settled-text}
-use Rattle.vte_core.proofs.calls.Tellings.{tells-more}
+use Rattle.vte_core.proofs.calls.BeforeRun.{tells-more}
 use Rattle.vte_core.proofs.parser.machine.Machine.drive_to_run.Goals.{then-loop-position-test+else-not-terminated, else-loop-position-test}
 use Rattle.vte_core.proofs.parser.machine.Machine.drive_to_run.Goals as goal
 
@@ -16,7 +16,7 @@ loop-position-init g c =
 pub returns-then-end-position-clause-comes : goal.returns-then-end-position-clause-comes
 returns-then-end-position-clause-comes g c =
     let v = c.loop-position.invariant in
-    let found = c.find_rest_end-end.ensures in
+    let found = c.find_run_end-end.ensures in
     let between = settled-text c.in-Text.field-0 c.in-Text.is (v.settled (omega arith)) in
     comes-to_run (has-text between (omega arith) found.scans.high found.scans.are found.ended) (omega arith)
     (sym c.terminated.ensures ∙ c.if-not-terminated.true) v.stands_at
@@ -25,7 +25,7 @@ returns-then-end-position-clause-comes g c =
 pub returns-then-end-position-2-clause-comes : goal.returns-then-end-position-2-clause-comes
 returns-then-end-position-2-clause-comes g c =
     let v = c.loop-position.invariant in
-    let found = c.find_put_end-end.ensures in
+    let found = c.find_device_data_end-end.ensures in
     comes-to_run (has-data c.in-DeviceData.is (omega arith) found.high found.are found.ended) (omega arith)
     (sym c.terminated.ensures ∙ c.if-not-terminated.true) v.stands_at
 
@@ -45,7 +45,7 @@ loop-position-preserved-else-end-position g c =
 pub loop-position-preserved-else-end-position-2 : goal.loop-position-preserved-else-end-position-2
 loop-position-preserved-else-end-position-2 g c =
     let v = c.loop-position.invariant in
-    let read = c.end_data-position.ensures.advances in
+    let read = c.end_device_data-position.ensures.advances in
     record {
       stands_at = λ stream h. read.goes_on _ stream (v.stands_at stream h);
       settled = read.settled;

@@ -2,7 +2,7 @@
 use Rattle.vte_core.proofs.Common.{[], ◌∷◌, ◌++◌, refl, sym, ap, ◌∙◌, rules, Execute, InText, closing_events_at}
 use Rattle.vte_core.proofs.bytes.ClassCases.{ends_by_cancel}
 use Rattle.vte_core.proofs.calls.Arms.{performs-escape, taken}
-use Rattle.vte_core.proofs.fields.Standing.{stands-place}
+use Rattle.vte_core.proofs.fields.PlaceOfState.{stands-place}
 use Rattle.vte_core.proofs.streams.Performing.{after-append, takes-performs}
 use Rattle.vte_core.proofs.shapes.CancelLemmas.{cancel}
 use Rattle.vte_core.proofs.streams.StreamLemmas.{cancel_is_no_escape}

@@ -1,16 +1,16 @@
 -- A malformed head tells nothing. Any other is whole once the last number is settled, and is dispatched.
 use Rattle.vte_core.proofs.Common.{[], ◌∷◌, refl, ap, ◌∙◌, arith, CsiDispatch, head_of, sequence_event, InText}
 use Rattle.vte_core.proofs.bytes.ClassCases.{final}
-use Rattle.vte_core.proofs.calls.Runs.{settled-by}
-use Rattle.vte_core.proofs.fields.HeadSteps.{dispatched-ready, head-holds, malformed-now}
+use Rattle.vte_core.proofs.calls.Stretches.{settled-by}
+use Rattle.vte_core.proofs.fields.HeadSteps.{dispatched-ready, head-holds, ill_shaped-now}
 use Rattle.vte_core.proofs.places.PlaceLeads.{control-dispatched, control-silent}
-use Rattle.vte_core.proofs.fields.Standing.{stands-text_begun}
+use Rattle.vte_core.proofs.fields.PlaceOfState.{stands-text_begun}
 use Rattle.vte_core.proofs.parser.machine.Machine.end_control_sequence.Goals as goal
 
 -- A malformed head.
-pub returns-in-Malformed-clause-takes : goal.returns-in-Malformed-clause-takes
-returns-in-Malformed-clause-takes g c = λ head s.
-    let ill = malformed-now head (rw c.in-Malformed.is at s) in
+pub returns-in-IllShaped-clause-takes : goal.returns-in-IllShaped-clause-takes
+returns-in-IllShaped-clause-takes g c = λ head s.
+    let ill = ill_shaped-now head (rw c.in-IllShaped.is at s) in
     record {
       told = [];
       next = InText [];

@@ -1,8 +1,8 @@
 -- Without an open character the call stands at its start. With one it stands where that is completed.
 use Rattle.vte_core.proofs.Common.{sym, ◌∙◌, false≢true}
 use Rattle.vte_core.proofs.calls.InsideCharacters.{opens-text}
-use Rattle.vte_core.proofs.calls.Tellings.{tells-nothing, tells-open}
-use Rattle.vte_core.proofs.calls.Runs.{settled-by, settled-nothing, settled-outside, starts-at, starts-inside}
+use Rattle.vte_core.proofs.calls.BeforeRun.{tells-nothing, tells-open}
+use Rattle.vte_core.proofs.calls.Stretches.{settled-by, settled-nothing, settled-outside, starts-at, starts-inside}
 use Rattle.vte_core.proofs.parser.machine.Machine.finish_character.Goals as goal
 
 -- A text without an open character.

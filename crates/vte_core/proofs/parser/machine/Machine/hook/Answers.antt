@@ -1,14 +1,14 @@
 -- A malformed head leads to an ignored string. Any other is whole once the last number is settled, and hooks.
 use Rattle.vte_core.proofs.Common.{[], ◌∷◌, refl, ap, ◌∙◌, rules, Hook, head_of, sequence_event, InData, InIgnoredString}
 use Rattle.vte_core.proofs.bytes.ClassCases.{final}
-use Rattle.vte_core.proofs.fields.HeadSteps.{dispatched-ready, head-holds, malformed-now}
+use Rattle.vte_core.proofs.fields.HeadSteps.{dispatched-ready, head-holds, ill_shaped-now}
 use Rattle.vte_core.proofs.places.PlaceLeads.{device-well_shaped, device-malformed}
 use Rattle.vte_core.proofs.parser.machine.Machine.hook.Goals as goal
 
 -- A malformed head.
-pub returns-in-Malformed-clause-takes : goal.returns-in-Malformed-clause-takes
-returns-in-Malformed-clause-takes g c = λ head s.
-    let ill = malformed-now head (rw c.in-Malformed.is at s) in
+pub returns-in-IllShaped-clause-takes : goal.returns-in-IllShaped-clause-takes
+returns-in-IllShaped-clause-takes g c = λ head s.
+    let ill = ill_shaped-now head (rw c.in-IllShaped.is at s) in
     record {
       told = [];
       next = InIgnoredString;

@@ -4,8 +4,8 @@ use Rattle.vte_core.proofs.Common.{[], ◌∷◌, refl, sym, ◌∙◌, rules, c
 use Rattle.vte_core.proofs.bytes.ClassCases.{control, final_ends_nothing, left_is_dropped}
 use Rattle.vte_core.proofs.calls.Arms.{taken}
 use Rattle.vte_core.proofs.calls.Heads.{ControlHead, advances-head, advances-past, performs-head}
-use Rattle.vte_core.proofs.calls.Runs.{advances-moved}
-use Rattle.vte_core.proofs.fields.Standing.{stands-by}
+use Rattle.vte_core.proofs.calls.Stretches.{advances-moved}
+use Rattle.vte_core.proofs.fields.PlaceOfState.{stands-by}
 use Rattle.vte_core.proofs.places.PlaceLeads.{byte-dropped, control-control}
 use Rattle.vte_core.proofs.parser.machine.Machine.read_control_sequence.Goals.{then-ends_all, else-ends_all+then-is_control, else-ends_all+else-is_control}
 use Rattle.vte_core.proofs.parser.machine.Machine.read_control_sequence.Goals as goal

@@ -3,7 +3,7 @@ use Rattle.vte_core.proofs.Common.{[], refl, sym, ◌∙◌, rules, class_of, In
 use Rattle.vte_core.proofs.bytes.ClassCases.{final_ends_nothing, left_in_head}
 use Rattle.vte_core.proofs.calls.Arms.{taken}
 use Rattle.vte_core.proofs.calls.Heads.{DeviceHead, advances-head, advances-past, at-none, performs-head}
-use Rattle.vte_core.proofs.fields.Standing.{stands-by}
+use Rattle.vte_core.proofs.fields.PlaceOfState.{stands-by}
 use Rattle.vte_core.proofs.places.PlaceLeads.{device-dropped}
 use Rattle.vte_core.proofs.parser.machine.Machine.read_device_control.Goals.{then-is_final, else-is_final+then-ends_all, else-is_final+else-ends_all}
 use Rattle.vte_core.proofs.parser.machine.Machine.read_device_control.Goals as goal

@@ -3,9 +3,9 @@ use Rattle.vte_core.proofs.Common.{[], ◌∷◌, refl, sym, ◌∙◌, arith, r
 use Rattle.vte_core.proofs.bytes.ClassCases.{data_ends_nothing}
 use Rattle.vte_core.proofs.calls.Arms.{advances-in, in_data, taken}
 use Rattle.vte_core.proofs.calls.Data.{advances-data, first-put}
-use Rattle.vte_core.proofs.fields.Standing.{stands-by}
+use Rattle.vte_core.proofs.fields.PlaceOfState.{stands-by}
 use Rattle.vte_core.proofs.calls.States.{asks-none}
-use Rattle.vte_core.proofs.calls.Runs.{advances-moved, advances-nothing, advances-part, advances-then, settled-by}
+use Rattle.vte_core.proofs.calls.Stretches.{advances-moved, advances-nothing, advances-part, advances-then, settled-by}
 use Rattle.vte_core.proofs.places.PlaceLeads.{data-put}
 use Rattle.vte_core.proofs.parser.machine.Machine.read_device_data.Goals.{else-this-ne0-via-then-this-ne0+else-terminated, else-this-ne0-via-else-this-ne0}
 use Rattle.vte_core.proofs.parser.machine.Machine.read_device_data.Goals as goal
@@ -23,7 +23,7 @@ loop-position-init g c =
 pub loop-position-preserved : goal.loop-position-preserved
 loop-position-preserved g c =
     let v = c.loop-position.invariant in
-    let is = sym c.is_data.ensures ∙ c.if-not-is_data.false in
+    let is = sym c.is_device_data.ensures ∙ c.if-not-is_device_data.false in
     record {
       advances = advances-then v.advances
           (advances-part (advances-in v.begun (omega arith) c.at-byte.ensures.value v.may_go_on (data_ends_nothing _ is)
@@ -42,7 +42,7 @@ loop-position-preserved g c =
 pub returns-then-terminated-clause-advances : goal.returns-then-terminated-clause-advances
 returns-then-terminated-clause-advances g c =
     let v = c.loop-position.invariant in
-    let is = sym c.is_data.ensures ∙ c.if-not-is_data.false in
+    let is = sym c.is_device_data.ensures ∙ c.if-not-is_device_data.false in
     advances-then v.advances
     (advances-part (advances-in v.begun (omega arith) c.at-byte.ensures.value v.may_go_on (data_ends_nothing _ is)
     (in_data c.loop-position.self
@@ -53,18 +53,18 @@ returns-then-terminated-clause-advances g c =
 pub returns-then-not-this-clause-advances : goal.returns-then-not-this-clause-advances
 returns-then-not-this-clause-advances g c =
     let v = c.loop-position.invariant in
-    let found = c.find_put_end-end.ensures in
+    let found = c.find_device_data_end-end.ensures in
     let are =
     first-put c.args.input.bytes.now c.at-byte.ensures.value
-    (sym c.is_data.ensures ∙ c.if-not-is_data.false) found.are in
+    (sym c.is_device_data.ensures ∙ c.if-not-is_device_data.false) found.are in
     advances-then v.advances
     (advances-data v.begun (omega (arith, found.low)) found.high are
     (rw c.if-not-this.true refl) c.tell_data.ensures.put)
 
 -- A byte that is no data ends them or is dropped.
-pub returns-then-not-is_data-clause-advances : goal.returns-then-not-is_data-clause-advances
-returns-then-not-is_data-clause-advances g c =
-    advances-then c.loop-position.invariant.advances (advances-part c.end_data.ensures.advances)
+pub returns-then-not-is_device_data-clause-advances : goal.returns-then-not-is_device_data-clause-advances
+returns-then-not-is_device_data-clause-advances g c =
+    advances-then c.loop-position.invariant.advances (advances-part c.end_device_data.ensures.advances)
 
 pub returns-clause-advances : goal.returns-clause-advances
 returns-clause-advances g c = advances-moved (omega arith) c.loop-position.invariant.advances

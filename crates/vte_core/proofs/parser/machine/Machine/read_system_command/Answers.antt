@@ -3,9 +3,9 @@
 use Rattle.vte_core.proofs.Common.{◌≡◌, ◌<◌, length, true, [], ◌∷◌, ◌++◌, refl, sym, subst, ◌∙◌, arith, ne_eqb, Machine, OscDispatch, InText, InSystemCommand, Keeps, IsCommandData, pieces_of}
 use Rattle.vte_core.proofs.bytes.ClassCases.{left_is_control}
 use Rattle.vte_core.proofs.calls.Arms.{advances-in, in_system_command, taken}
-use Rattle.vte_core.proofs.fields.Standing.{keeps-same, stands-by}
+use Rattle.vte_core.proofs.fields.PlaceOfState.{keeps-same, stands-by}
 use Rattle.vte_core.proofs.fields.StoreLemmas.{pieces_held}
-use Rattle.vte_core.proofs.calls.Runs.{advances-items, advances-when, advances-then, settled-by}
+use Rattle.vte_core.proofs.calls.Stretches.{advances-items, advances-when, advances-then, settled-by}
 use Rattle.vte_core.proofs.places.PlaceLeads.{command-item, command-control, command-bell}
 use Rattle.vte_core.proofs.parser.machine.Machine.read_system_command.Goals.{then-byte-eq59, else-byte-eq59+then-byte-eq-BELL, else-byte-eq59+else-byte-eq-BELL}
 use Rattle.vte_core.proofs.parser.machine.Machine.read_system_command.Goals as goal
@@ -14,7 +14,7 @@ use Rattle.vte_core.proofs.parser.machine.Machine.read_system_command.Goals as g
 pub returns-in-None-clause-advances : goal.returns-in-None-clause-advances
 returns-in-None-clause-advances g c =
     let r = c.requires in
-    let found = c.find_data_end-end.ensures in
+    let found = c.find_command_data_end-end.ensures in
     advances-items r.within r.begun refl found.low found.high
     (λ k low high. (found.are k low high).0) r.may_go_on r.begun
     (λ items k. c.push_data.ensures.keeps items (keeps-same _ _ _ items c.make_room.ensures.same k))
@@ -23,7 +23,7 @@ returns-in-None-clause-advances g c =
 pub returns-then-ends_all-clause-advances : goal.returns-then-ends_all-clause-advances
 returns-then-ends_all-clause-advances g c =
     let r = c.requires in
-    let found = c.find_data_end-end.ensures in
+    let found = c.find_command_data_end-end.ensures in
     advances-then
     (advances-items r.within r.begun refl found.low found.high
     (λ k low high. (found.are k low high).0) r.may_go_on r.begun
@@ -36,12 +36,12 @@ returns-clause-advances g c =
     let r = c.requires in
     let limit = g.B.Buffer.limit in
     let begun = r.begun in
-    let found = c.find_data_end-end.ensures in
+    let found = c.find_command_data_end-end.ensures in
     let byte = c.in-Some.byte in
     let here = rw c.in-Some.is at c.get.ensures in
     let after_data : Machine _ =
     record { state = c.args.self.now.state; collected = c.args.self.now.collected; command = c.push_data.new.self } in
-    let within : c.find_data_end-end.result < length c.args.input.bytes.now = here.0 in
+    let within : c.find_command_data_end-end.result < length c.args.input.bytes.now = here.0 in
     let ordinary = sym c.ends_all.ensures ∙ c.if-ends_all.false in
     let no_data : IsCommandData byte → ⊥ = λ d. found.ended within (rw here.1 at d) in
     advances-then

@@ -1,8 +1,8 @@
 -- In a round the call may first print a run of ASCII (`reached`), and then stands before a byte (`at`), which it reads
 -- by one of five branches (`read`). Goals after such joins take these three; the others are one branch alone.
 use Rattle.vte_core.proofs.Common.{◌≡◌, ◌+◌, ◌<◌, not, eqb, true, length, sym, ◌∙◌, arith, rules, false≢true, Advances, Text, Nothing}
-use Rattle.vte_core.specs.machine.Words.{MayReadByte}
-use Rattle.vte_core.proofs.calls.Runs.{advances-byte, advances-moved, advances-part, advances-then, settled-by}
+use Rattle.vte_core.specs.machine.Prelude.{MayReadByte}
+use Rattle.vte_core.proofs.calls.Stretches.{advances-byte, advances-moved, advances-part, advances-then, settled-by}
 use Rattle.vte_core.proofs.calls.TextRuns.{advances-text, may_go_on-malformed, may_go_on-text}
 use Rattle.vte_core.proofs.calls.BetweenCharacters.{performs-printed, performs-single}
 use Rattle.vte_core.proofs.parser.machine.Machine.read_text.Given.{Over}
@@ -88,9 +88,9 @@ loop-position-2-preserved-in-None g c =
     }
 
 -- The three functions that read on begin where the call stands.
-pub read_longer-position-requires-clause-may_read : goal.read_longer-position-requires-clause-may_read
-read_longer-position-requires-clause-may_read g c = at g
-    (goal.at.read_longer-position-requires-clause-may_read g c).Joined-IN_RUNS-2
+pub read_at_lead-position-requires-clause-may_read : goal.read_at_lead-position-requires-clause-may_read
+read_at_lead-position-requires-clause-may_read g c = at g
+    (goal.at.read_at_lead-position-requires-clause-may_read g c).Joined-IN_RUNS-2
 
 pub read_character-next-requires-clause-may_read : goal.read_character-next-requires-clause-may_read
 read_character-next-requires-clause-may_read g c = at g
@@ -147,7 +147,7 @@ returns-then-terminated-3-clause-advances g c =
 pub returns-then-terminated-clause-advances : goal.returns-then-terminated-clause-advances
 returns-then-terminated-clause-advances g c =
     advances-then (reached g (goal.at.returns-then-terminated-clause-advances g c).Joined-IN_RUNS-2)
-    (advances-part c.read_longer-position.ensures.advances)
+    (advances-part c.read_at_lead-position.ensures.advances)
 
 pub returns-then-terminated-2-clause-advances : goal.returns-then-terminated-2-clause-advances
 returns-then-terminated-2-clause-advances g c =
@@ -183,7 +183,7 @@ loop-position-2-preserved-then-byte-ge160 g c =
     record {
       advances = advances-then (reached g places.Joined-IN_RUNS-2) (elim c.if-is_lead.branch [
         | then-is_lead+else-this-ne0 w ↦
-            rw (w.self-is, w.performer-is, w.position-is) (advances-part w.read_longer-position.ensures.advances)
+            rw (w.self-is, w.performer-is, w.position-is) (advances-part w.read_at_lead-position.ensures.advances)
         | else-is_lead w ↦
             let told = w.tell_single.ensures in
             rw (w.self-is, w.performer-is, w.position-is) (advances-part
@@ -200,7 +200,7 @@ loop-position-2-preserved-then-byte-ge160 g c =
             (w.tell_single.ensures.malformed (omega (arith, c.if-byte-ge160.true))))
       ];
       between = elim c.if-is_lead.branch [
-        | then-is_lead+else-this-ne0 w ↦ rw (w.self-is, w.position-is) w.read_longer-position.ensures.text
+        | then-is_lead+else-this-ne0 w ↦ rw (w.self-is, w.position-is) w.read_at_lead-position.ensures.text
         | else-is_lead w ↦ rw w.self-is (λ _. here.begun)
       ];
       low = search rules;

@@ -1,6 +1,6 @@
 -- Only an open command tells something at its end: the pieces of the store are those of its items.
 use Rattle.vte_core.proofs.Common.{sym, ap, ◌∙◌, after, closing_events_at}
-use Rattle.vte_core.proofs.fields.Standing.{in_command}
+use Rattle.vte_core.proofs.fields.PlaceOfState.{in_command}
 use Rattle.vte_core.proofs.fields.StoreLemmas.{pieces_held}
 use Rattle.vte_core.proofs.parser.machine.Machine.report_end.Goals as goal
 

@@ -1,6 +1,6 @@
 -- What is saved first is the state of a new parser.
 use Rattle.vte_core.proofs.Common.{refl, Text, Nothing}
-use Rattle.vte_core.proofs.fields.Standing.{stands-text_begun}
+use Rattle.vte_core.proofs.fields.PlaceOfState.{stands-text_begun}
 use Rattle.vte_core.proofs.streams.After.{begins}
 use Rattle.vte_core.proofs.parser.saved.Saved.new.Goals as goal
 

@@ -4,8 +4,8 @@ use Rattle.std.proofs.lemmas.List.{get_or-take, get_or-append-add}
 use Rattle.std.proofs.lemmas.Str.{encode_ascii, encodes-chars}
 use Rattle.vte_core.specs.machine.Between.{Each}
 use Rattle.vte_core.specs.machine.Automaton.{AutomatonState, Between, Failed, state_code, state_after, HasScanned, LastEnd}
-use Rattle.vte_core.proofs.runs.Standing.{IsBegun, Standing, standing}
-use Rattle.vte_core.proofs.runs.Steps.{still, state_after-append, between, gone, waiting, turn}
+use Rattle.vte_core.proofs.scanning.Scanned.{IsBegun, Standing, standing}
+use Rattle.vte_core.proofs.scanning.Steps.{still, state_after-append, between, gone, waiting, turn}
 
 -- ---- codes
 

@@ -5,7 +5,7 @@ use Rattle.vte_core.proofs.bytes.FirstBytes.{fits, tests_row, tests_two}
 use Rattle.vte_core.proofs.bytes.Printable.{run-ascii, run-layout}
 use Rattle.vte_core.proofs.dividing.PrintableCharacters.{printable}
 use Rattle.vte_core.specs.machine.Automaton.{AutomatonState, Between, One, Two, Three, AfterE0, AfterED, AfterF0, AfterF4, AfterC2, Failed, next_between}
-use Rattle.vte_core.proofs.runs.Steps.{still}
+use Rattle.vte_core.proofs.scanning.Steps.{still}
 
 -- Bytes in these ranges end the character.
 abbrev pub Completes : ℕ → List Range → Type 0

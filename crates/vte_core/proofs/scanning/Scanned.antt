@@ -6,8 +6,8 @@ use Rattle.vte_core.proofs.bytes.Between.{each-next}
 use Rattle.vte_core.proofs.bytes.FirstBytes.{fits}
 use Rattle.vte_core.proofs.bytes.Printable.{printable-nil, printable-append}
 use Rattle.vte_core.specs.machine.Automaton.{AutomatonState, Between, Failed, next_between, next_if_in, next_state, state_after}
-use Rattle.vte_core.proofs.runs.Steps.{still, state_after-append, failed, between, gone, waiting, turn}
-use Rattle.vte_core.proofs.runs.Begins.{prints, fails, opens, begins}
+use Rattle.vte_core.proofs.scanning.Steps.{still, state_after-append, failed, between, gone, waiting, turn}
+use Rattle.vte_core.proofs.scanning.Begins.{prints, fails, opens, begins}
 
 -- From `end` up to `at` stand a first byte and bytes that are none.
 pub record IsBegun (text : List ℕ) (end at : ℕ) : Type 0 where

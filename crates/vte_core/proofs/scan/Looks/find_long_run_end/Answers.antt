@@ -2,7 +2,7 @@
 use Rattle.vte_core.proofs.Common.{arith, inl, inr, cases_lt, length}
 use Rattle.vte_core.proofs.bytes.Ends.{ends-all}
 use Rattle.vte_core.proofs.bytes.Scanning.{scans-run}
-use Rattle.vte_core.proofs.scan.Looks.find_long_end.Goals as goal
+use Rattle.vte_core.proofs.scan.Looks.find_long_run_end.Goals as goal
 
 pub returns-clause-scans : goal.returns-clause-scans
 returns-clause-scans g c = scans-run c.skip_run_blocks-end.ensures.scans c.find_end_before.ensures.scans

@@ -1,9 +1,9 @@
 -- What a call tells before a run is told by no run: nothing at its start, then what an open character is, then
 -- stretches of which each tells none.
-use Rattle.vte_core.proofs.Common.{◌≡◌, ℕ, inl, inr, Option, List, [], ◌++◌, ap, sym, subst, ◌∙◌, false, All, All-append, All-nil, Event, Machine, HasReadUnder, IsSettled, told, open_end, AddsOthers, IsOther, IsWide, TellsOthers}
+use Rattle.vte_core.proofs.Common.{◌≡◌, ℕ, inl, inr, Option, List, [], ◌++◌, ap, sym, subst, ◌∙◌, false, All, All-append, All-nil, Event, Machine, HasReadUnder, IsSettled, told_before, open_end, AddsOthers, IsOther, IsWide, TellsOthers}
 use Rattle.vte_core.specs.machine.Completes.{AddsCharacter}
-use Rattle.vte_core.proofs.calls.Runs.{starts-at}
-use Rattle.vte_core.proofs.calls.Telling.{keep, never, told-at}
+use Rattle.vte_core.proofs.calls.Stretches.{starts-at}
+use Rattle.vte_core.proofs.calls.AddedEvents.{keep, never, told-at}
 use Rattle.vte_core.proofs.streams.After.{added-nothing}
 use Rattle.vte_core.proofs.streams.Others.{wide, wide_all, wide_character}
 
@@ -11,7 +11,7 @@ use Rattle.vte_core.proofs.streams.Others.{wide, wide_all, wide_character}
 pub tells-nothing : {B : Type 0} {limit : Option ℕ} {stream bytes : List ℕ} {parser : Machine B}
     → IsSettled parser.state → HasReadUnder limit parser stream → TellsOthers limit stream bytes 0
 tells-nothing {limit = limit} {stream = stream} {bytes = bytes} settled h =
-    let none : [] ≡ told limit stream bytes 0 =
+    let none : [] ≡ told_before limit stream bytes 0 =
     told-at (starts-at {asks = false} {step = keep} {is_terminated = never} settled h) in
     record {
       others = λ _. subst (All IsOther) none (All-nil IsOther);
@@ -22,7 +22,7 @@ tells-nothing {limit = limit} {stream = stream} {bytes = bytes} settled h =
 pub tells-open : {limit : Option ℕ} {stream begun bytes : List ℕ} {j : ℕ} → AddsCharacter limit stream begun bytes 0 j
     → (open_end stream ≡ [] → ⊥) → TellsOthers limit stream bytes j
 tells-open {limit = limit} {stream = stream} {bytes = bytes} {j = j} a opened =
-    let all : told limit stream bytes j ≡ a.events =
+    let all : told_before limit stream bytes j ≡ a.events =
     a.parts ∙ ap (λ (es : List Event). es ++ a.events) (added-nothing limit stream) in
     record {
       others = λ none. absurd (opened none);
@@ -38,8 +38,9 @@ pub tells-more : {limit : Option ℕ} {stream bytes : List ℕ} {i j : ℕ} → 
 tells-more {limit = limit} {stream = stream} {bytes = bytes} {i = i} t a = record {
   others =
       λ none.
-      subst (All IsOther) (sym a.parts) (All-append IsOther (told limit stream bytes i) a.events (t.others none) a.are);
+      subst (All IsOther) (sym a.parts) (All-append IsOther (told_before limit stream bytes i) a.events (t.others none)
+          a.are);
   opened =
       subst (All IsWide) (sym a.parts)
-      (All-append IsWide (told limit stream bytes i) a.events t.opened (wide_all a.events a.are));
+      (All-append IsWide (told_before limit stream bytes i) a.events t.opened (wide_all a.events a.are));
 }

@@ -2,7 +2,7 @@
 use Rattle.vte_core.proofs.Common.{◌-◌, ◌≤◌, length}
 use Rattle.vte_core.specs.SystemCommand.{IsCommandData}
 use Rattle.vte_core.specs.machine.Between.{Each}
-use Rattle.vte_core.proofs.scan.Looks.find_data_end.Given as goal
+use Rattle.vte_core.proofs.scan.Looks.find_command_data_end.Given as goal
 
 abbrev pub invariant-loop-end : goal.invariant-loop-end
 invariant-loop-end g l = record {

@@ -2,11 +2,11 @@
 use Rattle.vte_core.proofs.Common.{[], ◌∷◌, refl, sym, ◌∙◌, Unhook, InText, InData}
 use Rattle.vte_core.proofs.bytes.ClassCases.{ends_no_data, terminator_is_high}
 use Rattle.vte_core.proofs.calls.Arms.{advances-in, in_data, taken}
-use Rattle.vte_core.proofs.fields.Standing.{stands-by}
-use Rattle.vte_core.proofs.calls.Runs.{advances-when, settled-by}
+use Rattle.vte_core.proofs.fields.PlaceOfState.{stands-by}
+use Rattle.vte_core.proofs.calls.Stretches.{advances-when, settled-by}
 use Rattle.vte_core.proofs.places.PlaceLeads.{data-dropped, data-terminator}
-use Rattle.vte_core.proofs.parser.machine.Machine.end_data.Goals.{then-byte-eq-STRING_TERMINATOR, else-byte-eq-STRING_TERMINATOR}
-use Rattle.vte_core.proofs.parser.machine.Machine.end_data.Goals as goal
+use Rattle.vte_core.proofs.parser.machine.Machine.end_device_data.Goals.{then-byte-eq-STRING_TERMINATOR, else-byte-eq-STRING_TERMINATOR}
+use Rattle.vte_core.proofs.parser.machine.Machine.end_device_data.Goals as goal
 
 pub returns-clause-advances : goal.returns-clause-advances
 returns-clause-advances g c =

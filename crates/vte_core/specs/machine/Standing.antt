@@ -2,7 +2,7 @@
 use Rattle.std.specs.Prelude.{◌≡◌, ℕ, ◌<◌, Bool, true, false, if◌then◌else◌, Option, List, [], ◌∷◌, ◌++◌, length, take, ⊤}
 use Rattle.vte_core.specs.declared.head.Collected.{Collected}
 use Rattle.vte_core.specs.declared.head.HeadPart.{HeadPart}
-use Rattle.vte_core.specs.declared.head.HeadPart.TheVariants.{Entry, Parameters, Intermediates, Malformed}
+use Rattle.vte_core.specs.declared.head.HeadPart.TheVariants.{Entry, Parameters, Intermediates, IllShaped}
 use Rattle.vte_core.specs.declared.parser.machine.Machine.{Machine}
 use Rattle.vte_core.specs.declared.parser.State.{State}
 use Rattle.vte_core.specs.declared.parser.State.TheVariants.{Text, Escape, EscapeIntermediate, ControlSequence, DeviceControl, DeviceData, SystemCommand, IgnoredString}
@@ -82,11 +82,11 @@ pub record HoldsHead (collected : Collected) (part : HeadPart) (head : List ℕ)
   pub counts : CountsNumbers collected parameters
 
 -- No further bytes make the head well shaped.
-pub record StaysMalformed (head : List ℕ) : Type 0 where
+pub record StaysIllShaped (head : List ℕ) : Type 0 where
   pub stays : (more : List ℕ) → is_well_shaped (head_of (head ++ more)) ≡ false
 
 abbrev pub StandsInHead : Collected → HeadPart → List ℕ → Type 0
-StandsInHead collected Malformed head = StaysMalformed head
+StandsInHead collected Malformed head = StaysIllShaped head
 StandsInHead collected part head = HoldsHead collected part head
 
 -- What the state says of the place.

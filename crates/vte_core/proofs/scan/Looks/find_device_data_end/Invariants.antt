@@ -1,6 +1,6 @@
 -- All bytes so far are put.
 use Rattle.vte_core.proofs.Common.{◌-◌, ◌≤◌, length, ArePut}
-use Rattle.vte_core.proofs.scan.Looks.find_put_end.Given as goal
+use Rattle.vte_core.proofs.scan.Looks.find_device_data_end.Given as goal
 
 abbrev pub invariant-loop-end : goal.invariant-loop-end
 invariant-loop-end g l = record {

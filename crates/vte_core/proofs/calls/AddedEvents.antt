@@ -1,12 +1,12 @@
 -- What is told from place to place. A call is followed with a performer that keeps all events; so what any performer
 -- receives is a function of the bytes, and a stretch that tells no run is known by its events.
-use Rattle.vte_core.proofs.Common.{◌≡◌, ℕ, ◌+◌, ◌-◌, ◌<◌, inl, inr, Bool, false, Option, List, [], ◌∷◌, ◌++◌, length, take, drop, refl, ap, sym, ◌∙◌, append_assoc, append-nil, arith, cases_Bool, drop_more, slice_index, false≢true, All, All-append, All-cons, All-nil, Event, Print, replacement, after, added, told, stream_at, breaks_at, State, Text, DeviceData, Machine, StandsBy, CameTo, StandsAt, StandsInside, Reads}
+use Rattle.vte_core.proofs.Common.{◌≡◌, ℕ, ◌+◌, ◌-◌, ◌<◌, inl, inr, Bool, false, Option, List, [], ◌∷◌, ◌++◌, length, take, drop, refl, ap, sym, ◌∙◌, append_assoc, append-nil, arith, cases_Bool, drop_more, slice_index, false≢true, All, All-append, All-cons, All-nil, Event, Print, replacement, after, added, told_before, stream_at, breaks_at, State, Text, DeviceData, Machine, StandsBy, CameTo, StandsAt, StandsInside, Reads}
 use Rattle.vte_core.proofs.Common.{Place, InText, InData, IsAfter, AddsOthers, IsOther}
 use Rattle.vte_core.specs.machine.Completes.{AddsCharacter}
 use Rattle.vte_core.specs.machine.Progress.{HasCome}
 use Rattle.vte_core.specs.machine.ToRun.{IsQuietIn}
 use Rattle.vte_core.proofs.calls.Places.{run-added}
-use Rattle.vte_core.proofs.fields.Standing.{IsPlace}
+use Rattle.vte_core.proofs.fields.PlaceOfState.{IsPlace}
 use Rattle.vte_core.proofs.places.PlaceSteps.{steps}
 use Rattle.vte_core.proofs.places.TextSteps.{AreOthers, IsQuiet}
 use Rattle.vte_core.proofs.stops.Told.{told-between, told-broken}
@@ -39,7 +39,7 @@ kept-is {given = given} c = c.performed ∙ after-keep [] given
 module _ {V B : Type 0} {asks : Bool} {step : V → Event → V} {is_terminated : V → Bool} {old value : V}
     {limit : Option ℕ} {stream bytes : List ℕ} {i : ℕ} {parser : Machine B} where
   pub keeps-at : StandsAt asks step is_terminated old value limit stream bytes i parser
-      → StandsAt false keep never [] (told limit stream bytes i) limit stream bytes i parser
+      → StandsAt false keep never [] (told_before limit stream bytes i) limit stream bytes i parser
   keeps-at s = record { place = s.place; stands = s.stands; between = s.between; has_come = came-kept s.has_come }
 
   pub keeps-inside : StandsInside asks step is_terminated old value limit stream bytes i parser
@@ -47,12 +47,12 @@ module _ {V B : Type 0} {asks : Bool} {step : V → Event → V} {is_terminated 
   keeps-inside s = record { place = s.place; stands = s.stands; has_come = came-kept s.has_come }
 
 pub come-told : {limit : Option ℕ} {stream bytes : List ℕ} {i : ℕ} {value : List Event} {place : Place}
-    → CameTo false keep never [] value limit stream bytes i place → value ≡ told limit stream bytes i
+    → CameTo false keep never [] value limit stream bytes i place → value ≡ told_before limit stream bytes i
 come-told c = kept-is c
 
 pub told-at : {B : Type 0} {value : List Event} {limit : Option ℕ} {stream bytes : List ℕ} {i : ℕ} {parser : Machine B}
     → StandsAt false keep never [] value limit stream bytes i parser
-    → value ≡ told limit stream bytes i
+    → value ≡ told_before limit stream bytes i
 told-at s = kept-is s.has_come
 
 pub added-inside : {B : Type 0} {value : List Event} {limit : Option ℕ} {stream bytes : List ℕ} {i : ℕ}
@@ -78,9 +78,10 @@ quiet-place limit _ parser _ b quiet s = tt
 -- ---- what is told between two places
 
 module _ {limit : Option ℕ} {stream bytes : List ℕ} {i : ℕ} where
-  pub adds-same : {j : ℕ} → told limit stream bytes i ≡ told limit stream bytes j → AddsOthers limit stream bytes i j
+  pub adds-same : {j : ℕ} → told_before limit stream bytes i ≡ told_before limit stream bytes j
+      → AddsOthers limit stream bytes i j
   adds-same e =
-      record { events = []; are = All-nil IsOther; parts = sym e ∙ sym (append-nil (told limit stream bytes i)) }
+      record { events = []; are = All-nil IsOther; parts = sym e ∙ sym (append-nil (told_before limit stream bytes i)) }
 
   pub adds-then : {j k : ℕ} → AddsOthers limit stream bytes i j
       → AddsOthers limit stream bytes j k → AddsOthers limit stream bytes i k
@@ -89,7 +90,7 @@ module _ {limit : Option ℕ} {stream bytes : List ℕ} {i : ℕ} where
     are = All-append IsOther a.events b.events a.are b.are;
     parts =
         b.parts ∙ ap (λ (es : List Event). es ++ b.events) a.parts
-        ∙ append_assoc (told limit stream bytes i) a.events b.events;
+        ∙ append_assoc (told_before limit stream bytes i) a.events b.events;
   }
 
   pub adds-reads : {b : ℕ} {place next : Place} {these : List Event}
@@ -99,7 +100,7 @@ module _ {limit : Option ℕ} {stream bytes : List ℕ} {i : ℕ} where
   adds-reads {b = b} {place = place} {next = next} {these = these} within is a r is_place are =
       let one : take (i + 1 - i) (drop i bytes) ≡ b ∷ [] =
       let e : i + 1 - i ≡ 1 = omega arith in rw (e, drop_more bytes i 0 within, is) refl in
-      let before : List Event = told limit stream bytes i in
+      let before : List Event = told_before limit stream bytes i in
       let all : added limit stream (take (i + 1) bytes) ≡ before ++ these =
       run-added limit stream bytes i (i + 1) (omega arith)
       ∙ ap (λ (es : List Event). before ++ es)
@@ -127,7 +128,7 @@ module _ {limit : Option ℕ} {stream bytes : List ℕ} {i : ℕ} where
 
   -- what is told of a character whose first byte told nothing
   pub adds-character : {begun : List ℕ} {j : ℕ} (a : AddsCharacter limit stream begun bytes (i + 1) j)
-      → told limit stream bytes i ≡ added limit stream (take (i + 1) bytes) → All IsOther a.events
+      → told_before limit stream bytes i ≡ added limit stream (take (i + 1) bytes) → All IsOther a.events
       → AddsOthers limit stream bytes i j
   adds-character a silent are =
       record { events = a.events; are = are; parts = a.parts ∙ ap (λ (es : List Event). es ++ a.events) (sym silent) }

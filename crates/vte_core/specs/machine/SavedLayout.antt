@@ -1,6 +1,6 @@
 -- A parser saved as plain data.
 use Rattle.std.specs.Prelude.{◌≡◌, ℕ, Bool, not, ◌==◌, List, [], ◌∷◌, take, replicate, ⊤}
-use Rattle.vte_core.specs.declared.head.HeadPart.TheVariants.{Entry, Parameters, Intermediates, Malformed}
+use Rattle.vte_core.specs.declared.head.HeadPart.TheVariants.{Entry, Parameters, Intermediates, IllShaped}
 use Rattle.vte_core.specs.declared.parser.machine.Machine.{Machine}
 use Rattle.vte_core.specs.declared.parser.State.{State}
 use Rattle.vte_core.specs.declared.parser.State.TheVariants.{Text, Escape, EscapeIntermediate, ControlSequence, DeviceControl, DeviceData, SystemCommand, IgnoredString}
@@ -20,11 +20,11 @@ state_bytes EscapeIntermediate = 5 ∷ 0 ∷ 0 ∷ 0 ∷ []
 state_bytes (ControlSequence Entry) = 6 ∷ 0 ∷ 0 ∷ 0 ∷ []
 state_bytes (ControlSequence Parameters) = 7 ∷ 0 ∷ 0 ∷ 0 ∷ []
 state_bytes (ControlSequence Intermediates) = 8 ∷ 0 ∷ 0 ∷ 0 ∷ []
-state_bytes (ControlSequence Malformed) = 9 ∷ 0 ∷ 0 ∷ 0 ∷ []
+state_bytes (ControlSequence IllShaped) = 9 ∷ 0 ∷ 0 ∷ 0 ∷ []
 state_bytes (DeviceControl Entry) = 10 ∷ 0 ∷ 0 ∷ 0 ∷ []
 state_bytes (DeviceControl Parameters) = 11 ∷ 0 ∷ 0 ∷ 0 ∷ []
 state_bytes (DeviceControl Intermediates) = 12 ∷ 0 ∷ 0 ∷ 0 ∷ []
-state_bytes (DeviceControl Malformed) = 13 ∷ 0 ∷ 0 ∷ 0 ∷ []
+state_bytes (DeviceControl IllShaped) = 13 ∷ 0 ∷ 0 ∷ 0 ∷ []
 state_bytes DeviceData = 14 ∷ 0 ∷ 0 ∷ 0 ∷ []
 state_bytes SystemCommand = 15 ∷ 0 ∷ 0 ∷ 0 ∷ []
 state_bytes IgnoredString = 16 ∷ 0 ∷ 0 ∷ 0 ∷ []

@@ -178,7 +178,7 @@ pub ill_shaped-late : (old : Collected) (part : HeadPart) (head : List ℕ) (b :
 ill_shaped-late old Entry head b s h i p n = absurd (n refl)
 ill_shaped-late old Parameters head b s h i p n = malformed-marker old head b s (left_is_marker _ h (p (inr refl)) i)
 ill_shaped-late old Intermediates head b s h i p n = malformed-shape_more old head b s i
-ill_shaped-late old Malformed head b s h i p n = ill_shaped-more head b s
+ill_shaped-late old IllShaped head b s h i p n = ill_shaped-more head b s
 
 -- what is handed over at the end of a head
 pub dispatched-ready : (call : List (List ℕ) → List ℕ → Bool → ℕ → Event) (held : Collected) (ignored : Bool)
@@ -190,5 +190,5 @@ dispatched-ready call held ignored head final f = rw (f.groups, f.intermediates,
 
 pub head-holds : (held : Collected) (part : HeadPart) (head : List ℕ) → (part ≡ IllShaped → ⊥)
     → StandsInHead held part head → HoldsHead held part head
-head-holds held Malformed head n s = absurd (n refl)
+head-holds held IllShaped head n s = absurd (n refl)
 head-holds held part head n s = s

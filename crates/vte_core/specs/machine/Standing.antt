@@ -66,7 +66,7 @@ Reaches Entry marker parameters intermediates =
 Reaches Parameters marker parameters intermediates =
     (0 < length (marker ++ parameters)) × (intermediates ≡ [])
 Reaches Intermediates marker parameters intermediates = 0 < length intermediates
-Reaches Malformed marker parameters intermediates = ⊥
+Reaches IllShaped marker parameters intermediates = ⊥
 
 -- The head is well shaped so far, and its numbers and intermediates are held.
 pub record HoldsHead (collected : Collected) (part : HeadPart) (head : List ℕ) : Type 0 where
@@ -86,7 +86,7 @@ pub record StaysIllShaped (head : List ℕ) : Type 0 where
   pub stays : (more : List ℕ) → is_well_shaped (head_of (head ++ more)) ≡ false
 
 abbrev pub StandsInHead : Collected → HeadPart → List ℕ → Type 0
-StandsInHead collected Malformed head = StaysIllShaped head
+StandsInHead collected IllShaped head = StaysIllShaped head
 StandsInHead collected part head = HoldsHead collected part head
 
 -- What the state says of the place.

@@ -9,7 +9,7 @@ pub returns-then-is_intermediate : goal.returns-then-is_intermediate
 returns-then-is_intermediate c = λ head s.
     let is = intermediate (class_of c.args.byte) (sym c.is_intermediate.ensures ∙ c.if-is_intermediate.true) in
     holds-intermediate _ _ c.args.part head c.args.byte
-    (head-holds _ c.args.part head c.in_default.not-Malformed s) is c.collect.ensures.numbers c.collect.ensures.holds
+    (head-holds _ c.args.part head c.in_default.not-IllShaped s) is c.collect.ensures.numbers c.collect.ensures.holds
 
 pub returns-in-Entry : goal.returns-in-Entry
 returns-in-Entry c = λ head s.

@@ -22,7 +22,7 @@ returns-in-IllShaped-clause-takes g c = λ head s.
 -- A whole one.
 pub returns-clause-takes : goal.returns-clause-takes
 returns-clause-takes g c = λ head s.
-    let ready = c.end_head-ignore.ensures c.args.part head (head-holds _ _ head c.in_default.not-Malformed s) in
+    let ready = c.end_head-ignore.ensures c.args.part head (head-holds _ _ head c.in_default.not-IllShaped s) in
     let d = c.dispatch_control_sequence.ensures.dispatches in
     record {
       told = sequence_event CsiDispatch (head_of head) c.args.byte ∷ [];

@@ -16,7 +16,7 @@ short_replacement = refl
 -- A call reads a byte: neither an empty recorder nor the line of a replacement character stops it at once.
 pub reads_some : {old new : Record} {stream bytes : List ℕ} {n : ℕ} → old ≡ empty_record
     → StopsExactly (with_event line_of) is_to_be_written old new usual_limit stream bytes n → 0 < length bytes → 0 < n
-unfolding told
+unfolding told_before
 reads_some {stream = stream} {bytes = bytes} {n = zero} empty s some =
     absurd (elim (cases_Bool (breaks_at stream bytes 0)) [
       | inl broken ↦ let e = rw (broken, added-nothing, empty) at s.comes.performed in let h = short_replacement in

@@ -61,7 +61,7 @@ breaks-next (a ∷ opened) byte xs ys = refl
 -- A call that stops before that byte has told U+FFFD, which no byte has added so far.
 broken_first : GoesOnFromPlaces usual_limit → (stream unread : List ℕ) (k : ℕ) → breaks (open_end stream) unread ≡ true
     → AreFirst (added usual_limit stream (take k unread)) (Print replacement ∷ added usual_limit [] (take k unread))
-unfolding told stream_at breaks_at
+unfolding told_before stream_at breaks_at
 broken_first goes_on stream unread zero broken =
     record { others = Print replacement ∷ added usual_limit [] []; parts = rw (added-nothing usual_limit stream) refl }
 broken_first goes_on stream [] (suc k) broken =
@@ -77,7 +77,7 @@ broken_first goes_on stream (byte ∷ unread) (suc k) broken =
 
 pub continues-call : GoesOnFromPlaces usual_limit → (since bytes : List ℕ) (n : ℕ)
     → Continues since (stream_at since bytes n) bytes n (told usual_limit since bytes n)
-unfolding told stream_at breaks_at
+unfolding told_before stream_at breaks_at
 continues-call goes_on since bytes n = elim (cases_Bool (breaks_at since bytes n)) [
   | inl broken ↦ rw broken (record {
     goes_on = λ more. rw broken at (goes_on since bytes more n);

@@ -252,7 +252,7 @@ module _ (old mid new : Room) (since bytes : List ℕ) (from : ℕ) (run : Retur
   -- With room for what two bytes add, a call reads one, unless a record that stops was written.
   pub further : Starts old → from < length bytes → new ≡ with_run mid from run
       → HaveOtherRecords old.stops new.events → 0 < run.end
-  unfolding told
+  unfolding told_before
   further starts some is others = elim (cases_lt 0 run.end) [
     | inl more ↦ more
     | inr none ↦

@@ -82,7 +82,7 @@ module _ (stop : ℕ → Bool) (no_text : stop 0 ≡ false) (stream bytes : List
     (asked : (i : ℕ) → i < n → IsStart stream bytes i → AreOthers stop (told usual_limit stream bytes i)) where
   at_start : (i : ℕ) → i < n → open_end (stream ++ take i bytes) ≡ []
       → AreOthers stop (added usual_limit stream (take i bytes))
-  unfolding told
+  unfolding told_before
   at_start i earlier closed =
       others_front stop (added usual_limit stream (take i bytes))
       (if breaks_at stream bytes i then Print replacement ∷ [] else [])

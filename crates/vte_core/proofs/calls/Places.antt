@@ -43,7 +43,7 @@ module _ (limit : Option ℕ) (stream bytes : List ℕ) (i j : ℕ) (further : i
 
   pub run-added : added limit stream (take j bytes)
       ≡ told_before limit stream bytes i ++ added limit (stream_at stream bytes i) run
-  unfolding told stream_at
+  unfolding told_before stream_at
   run-added =
       ap (added limit stream) (run-ends bytes i j further)
       ∙ added_from limit stream (take i bytes) run (breaks_at stream bytes i) run-breaks

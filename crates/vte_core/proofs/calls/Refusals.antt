@@ -28,11 +28,11 @@ pub meets_data : {B : Type 0} {parser : Machine B} {stream bytes : List ℕ} {fr
 meets_data {parser = parser} {stream = stream} {bytes = bytes} {from = from} refused h =
     let byte : ℕ = slice_index bytes from in
     let k = in_command parser h.place refused.inside h.stands in
-    let o = open_for parser.command k.items byte k.keeps refused.few refused.is_device_data.1 in
+    let o = open_for parser.command k.items byte k.keeps refused.few refused.is_data.1 in
     let last : Place = InSystemCommand (k.items ++ byte ∷ []) in
     let joined : IsAfter None (stream ++ byte ∷ []) last =
     after-reads None stream (byte ∷ []) (InSystemCommand k.items) last []
-    (subst (IsAfter None stream) k.same h.is_after) (reads-item None k.items byte refused.is_device_data.0) tt in
+    (subst (IsAfter None stream) k.same h.is_after) (reads-item None k.items byte refused.is_data.0) tt in
     record {
       pieces = o.pieces;
       last = o.last;
@@ -41,7 +41,7 @@ meets_data {parser = parser} {stream = stream} {bytes = bytes} {from = from} ref
       is_open =
           left_here parser stream h ∙ ap (left_at None) k.same
           ∙ ap (λ those. OpenCommand those (drops_data None k.items)) o.before;
-      is_device_data = refused.is_device_data;
+      is_data = refused.is_data;
       joins = after-left None (stream ++ byte ∷ []) last joined tt
           ∙ ap (λ those. OpenCommand those (drops_data None (k.items ++ byte ∷ []))) o.later
           ∙ ap (λ d. OpenCommand (o.pieces ++ (o.last ++ byte ∷ []) ∷ []) d) o.dropped;

@@ -69,12 +69,12 @@ no_start stream bytes u i b within is ends some whole start = elim start.starts 
 
 pub told-between : (limit : Option ℕ) (stream bytes : List ℕ) (i : ℕ) → breaks_at stream bytes i ≡ false
     → told_before limit stream bytes i ≡ added limit stream (take i bytes)
-unfolding told
+unfolding told_before
 told-between limit stream bytes i whole = rw whole (append-nil (added limit stream (take i bytes)))
 
 pub told-broken : (limit : Option ℕ) (stream bytes : List ℕ) (i : ℕ) → breaks_at stream bytes i ≡ true
     → told_before limit stream bytes i ≡ added limit stream (take i bytes) ++ Print replacement ∷ []
-unfolding told
+unfolding told_before
 told-broken limit stream bytes i broken = rw broken refl
 
 pub told-all : (limit : Option ℕ) (stream bytes : List ℕ) (n : ℕ) → n ≡ length bytes

@@ -117,7 +117,7 @@ module _ (limit : Option ℕ) (stream bytes : List ℕ) (i : ℕ) (within : i < 
 
   -- the place is a start
   from_start : IsStart stream bytes i → Added limit stream bytes (i + 1)
-  unfolding told stream_at
+  unfolding told_before stream_at
   from_start starts =
       let from : List ℕ = stream_at stream bytes i in
       let is : breaks_at stream bytes i ≡ true → breaks (open_end here) (b ∷ []) ≡ true = λ e. sym breaks_here ∙ e in
@@ -187,7 +187,7 @@ added_to limit stream bytes (suc i) within =
     rw add-one at b
 
 pub tells_units : (limit : Option ℕ) → TellsUnits limit
-unfolding told
+unfolding told_before
 tells_units limit stream bytes i within = record {
   before = a.before;
   unit = a.unit ++ (if breaks_at stream bytes i then Print replacement ∷ [] else []);
@@ -222,7 +222,7 @@ breaks-more (a ∷ u) [] more is = cc
 breaks-more (a ∷ u) (b ∷ unread) more is = is
 
 pub goes_on_from : (limit : Option ℕ) → GoesOnFromPlaces limit
-unfolding told stream_at
+unfolding told_before stream_at
 goes_on_from limit stream bytes more n =
     ap (λ (v : List ℕ). added limit stream (v ++ more)) (sym (take-append-drop n bytes))
     ∙ ap (added limit stream) (append_assoc (take n bytes) (drop n bytes) more)

@@ -39,9 +39,10 @@ kept_lines {whole = whole} {n = n} {parser = parser} {old = old} unread goes_on 
       adds_up = record { since = since; parsed = before.parsed; goes_on = λ more. rw empty (before.goes_on more) };
       kept = ap (λ (r : Record). r.lost) empty;
     } in
-    kept_by (told usual_limit since unread n) (stream_at since unread n) h (λ more. goes_on since unread more n) parsed
+    kept_by (told_before usual_limit since unread n) (stream_at since unread n) h (λ more. goes_on since unread more n)
+        parsed
     (s.comes.performed
     ∙ takes_told line_of lines_are_small units since unread old h.kept
     (half_has_room old (ap is_to_be_written empty)) n s.comes.within
-    (λ j earlier start. half_has_room (after (with_event line_of) old (told usual_limit since unread j))
+    (λ j earlier start. half_has_room (after (with_event line_of) old (told_before usual_limit since unread j))
     (s.comes.earlier j earlier start)))

@@ -96,8 +96,8 @@ module _ (text_of : Event → List ℕ) (small : IsSmall text_of) (units : Tells
   -- By induction on m: what was reported before a place is what was reported at an earlier start, and one unit.
   takes_below : (m i : ℕ) → i < m → i ≤ length bytes
       → ((j : ℕ) → j < i → IsStart stream bytes j
-      → HasRoomForUnit (after (with_event text_of) old (told usual_limit stream bytes j)))
-      → Takes (told usual_limit stream bytes i)
+      → HasRoomForUnit (after (with_event text_of) old (told_before usual_limit stream bytes j)))
+      → Takes (told_before usual_limit stream bytes i)
   takes_below zero i below within rooms = absurd (omega arith)
   takes_below (suc m) i below within rooms =
       let u = units stream bytes i within in
@@ -107,13 +107,14 @@ module _ (text_of : Event → List ℕ) (small : IsSmall text_of) (units : Tells
             let earlier : t.start < i = t.earlier in
             let before = takes_below m t.start (omega arith) (omega arith) (λ j h. rooms j (omega arith)) in
             rw t.are
-            (takes_unit (told usual_limit stream bytes t.start) u.unit before (rooms t.start earlier t.starts) u.brief)
+            (takes_unit (told_before usual_limit stream bytes t.start) u.unit before (rooms t.start earlier t.starts)
+            u.brief)
       ])
 
   -- If there was room at each start before a place, all texts were taken.
   pub takes_told : (i : ℕ) → i ≤ length bytes
       → ((j : ℕ) → j < i → IsStart stream bytes j
-      → HasRoomForUnit (after (with_event text_of) old (told usual_limit stream bytes j)))
-      → after (with_event text_of) old (told usual_limit stream bytes i)
-      ≡ record_of (old.bytes ++ flat_map text_of (told usual_limit stream bytes i)) false
+      → HasRoomForUnit (after (with_event text_of) old (told_before usual_limit stream bytes j)))
+      → after (with_event text_of) old (told_before usual_limit stream bytes i)
+      ≡ record_of (old.bytes ++ flat_map text_of (told_before usual_limit stream bytes i)) false
   takes_told i within rooms = takes_below (i + 1) i (omega arith) within rooms

@@ -72,11 +72,11 @@ broken_first goes_on stream (byte ∷ unread) (suc k) broken =
     rw (append-nil stream) (breaks-next (open_end stream) byte (take k unread) unread ∙ broken) in
     first_same
     (sym
-    (rw (append-nil front, told, stream_at, breaks_it, added-nothing usual_limit stream) at
+    (rw (append-nil front, told_before, stream_at, breaks_it, added-nothing usual_limit stream) at
     (goes_on stream front [] 0)))
 
 pub continues-call : GoesOnFromPlaces usual_limit → (since bytes : List ℕ) (n : ℕ)
-    → Continues since (stream_at since bytes n) bytes n (told usual_limit since bytes n)
+    → Continues since (stream_at since bytes n) bytes n (told_before usual_limit since bytes n)
 unfolding told_before stream_at breaks_at
 continues-call goes_on since bytes n = elim (cases_Bool (breaks_at since bytes n)) [
   | inl broken ↦ rw broken (record {

@@ -106,7 +106,7 @@ pub record Laws : Type 0 where
 module _ (old new : Room) (since bytes : List ℕ) (from n : ℕ) (laws : Laws) (free : is_full old ≡ false)
     (s : ComesTo with_event is_full old new usual_limit since (drop from bytes) n) where
   abbrev told_at : ℕ → List Event
-  told_at i = told usual_limit since (drop from bytes) i
+  told_at i = told_before usual_limit since (drop from bytes) i
 
   -- All that was told is written, since the room wasn't full at any start that the call came to.
   told_written : (i : ℕ) → i ≤ n

@@ -79,7 +79,7 @@ others_earlier stop stream bytes i n earlier h =
 
 module _ (stop : ℕ → Bool) (no_text : stop 0 ≡ false) (stream bytes : List ℕ) (n : ℕ) (within : n ≤ length bytes)
     (silent : OpensSilently usual_limit)
-    (asked : (i : ℕ) → i < n → IsStart stream bytes i → AreOthers stop (told usual_limit stream bytes i)) where
+    (asked : (i : ℕ) → i < n → IsStart stream bytes i → AreOthers stop (told_before usual_limit stream bytes i)) where
   at_start : (i : ℕ) → i < n → open_end (stream ++ take i bytes) ≡ []
       → AreOthers stop (added usual_limit stream (take i bytes))
   unfolding told_before

@@ -40,7 +40,7 @@ kept_lines {whole = whole} {n = n} {parser = parser} {old = old} unread goes_on 
       kept = ap (λ (r : Record). r.lost) empty;
     } in
     kept_by (told_before usual_limit since unread n) (stream_at since unread n) h (λ more. goes_on since unread more n)
-        parsed
+    parsed
     (s.comes.performed
     ∙ takes_told line_of lines_are_small units since unread old h.kept
     (half_has_room old (ap is_to_be_written empty)) n s.comes.within

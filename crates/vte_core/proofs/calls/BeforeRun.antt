@@ -39,7 +39,7 @@ tells-more {limit = limit} {stream = stream} {bytes = bytes} {i = i} t a = recor
   others =
       λ none.
       subst (All IsOther) (sym a.parts) (All-append IsOther (told_before limit stream bytes i) a.events (t.others none)
-          a.are);
+      a.are);
   opened =
       subst (All IsWide) (sym a.parts)
       (All-append IsWide (told_before limit stream bytes i) a.events t.opened (wide_all a.events a.are));

@@ -242,7 +242,7 @@ module _ {V : Type 0} {asks : Bool} {step : V → Event → V} {is_terminated : 
         goes_on =
             ap (λ v. after step v (added limit (stream_at stream bytes n) unread)) c.performed
             ∙ sym (after-append step old (told_before limit stream bytes n) (added limit (stream_at stream bytes n)
-                unread))
+            unread))
             ∙ ap (after step old)
             (ap (λ x. told_before limit stream bytes n ++ added limit (stream_at stream bytes n) x) (sym (append-nil
             unread))

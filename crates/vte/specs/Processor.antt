@@ -37,7 +37,7 @@ set_times m (suc n) value = set_times m n (m.set value update_nanos)
 abbrev pub added_calls : Option ℕ → List ℕ → List ℕ → List Call
 added_calls limit stream more = calls_beyond (events limit stream) (events limit (stream ++ more))
 
--- The state between calls: the bytes parsed so far, the places among them at which updates were
+-- The state between calls: the bytes parsed so far, the positions among them at which updates were
 -- stopped, the bytes held after them, and the values of the timeout and the handler.
 pub record State (H W : Type 0) : Type 0 where
   pub parsed : List ℕ
@@ -66,7 +66,7 @@ abbrev pub with_held : {H W : Type 0} → State H W → List ℕ → State H W
 with_held s bytes = record s { held = bytes }
 
 -- A stop: the whole hold is parsed, the handler receives the call that reports the end of an
--- update, and the timeout is cleared. The stop's place is how many bytes were parsed by then.
+-- update, and the timeout is cleared. The stop's position is how many bytes were parsed by then.
 abbrev pub stop : {H W : Type 0} → Meaning H W → State H W → State H W
 stop m s = let p = parse m s s.held in record p {
   stops = p.stops ++ length p.parsed ∷ [];
@@ -101,9 +101,9 @@ extend m s bytes = let all = s.held ++ bytes in record s {
   timeout = set_times m.timeout (begins_among (length bytes) (last_part all)) s.timeout;
 }
 
--- The held bytes before a place are parsed, and the others stay.
+-- The held bytes before a position are parsed, and the others stay.
 abbrev pub parse_held : {H W : Type 0} → Meaning H W → State H W → ℕ → State H W
-parse_held m s place = with_held (parse m s (take place s.held)) (drop place s.held)
+parse_held m s position = with_held (parse m s (take position s.held)) (drop position s.held)
 
 -- Bytes at the end of the hold are kept, and those before them parsed. If none are kept, the update
 -- is stopped.
@@ -196,20 +196,20 @@ given_bytes [] = []
 given_bytes (Advance bytes ∷ steps) = bytes.now ++ given_bytes steps
 given_bytes (StopSync ∷ steps) = given_bytes steps
 
--- The calls that the bytes from one place of a stream to another make.
+-- The calls that the bytes from one position of a stream to another make.
 abbrev pub calls_between : Option ℕ → List ℕ → ℕ → ℕ → List Call
 calls_between limit stream from to =
     calls_beyond (events limit (take from stream)) (events limit (take to stream))
 
--- The calls that the bytes of a stream make from a place on, if updates are stopped at these ones:
--- after the calls of the bytes before a stop comes the one that reports the end of an update.
+-- The calls that the bytes of a stream make from a position on, if updates are stopped at these
+-- ones: after the calls of the bytes before a stop comes the one that reports the end of an update.
 abbrev pub calls_with_stops : Option ℕ → List ℕ → ℕ → List ℕ → List Call
 calls_with_stops limit stream from [] = calls_between limit stream from (length stream)
-calls_with_stops limit stream from (place ∷ places) =
-    calls_between limit stream from place
-    ++ update_ended ∷ calls_with_stops limit stream place places
+calls_with_stops limit stream from (position ∷ positions) =
+    calls_between limit stream from position
+    ++ update_ended ∷ calls_with_stops limit stream position positions
 
--- The places lie between two others, and none is before the one that precedes it.
+-- The positions lie between two others, and none is before the one that precedes it.
 abbrev pub AreInOrder : ℕ → List ℕ → ℕ → Type 0
 AreInOrder from [] to = from ≤ to
-AreInOrder from (place ∷ places) to = (from ≤ place) × AreInOrder place places to
+AreInOrder from (position ∷ positions) to = (from ≤ position) × AreInOrder position positions to

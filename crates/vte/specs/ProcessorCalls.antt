@@ -73,13 +73,13 @@ pub record IsTold {V W : Type 0} (m : Meaning V W) (s : State V W) (steps : List
   pub more : List ℕ
   pub parsed_is : replayed.next.parsed ≡ s.parsed ++ more
   pub each_once : s.held ++ given_bytes steps ≡ more ++ replayed.next.held
-  -- the places of these stops
-  pub places : List ℕ
-  pub stops_are : replayed.next.stops ≡ s.stops ++ places
-  pub in_order : AreInOrder (length s.parsed) places (length replayed.next.parsed)
+  -- the positions of these stops
+  pub positions : List ℕ
+  pub stops_are : replayed.next.stops ≡ s.stops ++ positions
+  pub in_order : AreInOrder (length s.parsed) positions (length replayed.next.parsed)
   pub is_told : value
       ≡ after m.step s.handler
-      (calls_with_stops m.limit replayed.next.parsed (length s.parsed) places)
+      (calls_with_stops m.limit replayed.next.parsed (length s.parsed) positions)
 
 -- No value allows the answer "pending".
 abbrev pub IsNeverPending : {W : Type 0} → (W → Bool → Type 0) → Type 0

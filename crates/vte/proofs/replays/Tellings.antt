@@ -1,5 +1,5 @@
 -- What a handler receives in a run, from a state on: first by what is done there, then by the rest of the run. By
--- induction over the run; the calls before a stop are those of the bytes up to it, and places of later stops only
+-- induction over the run; the calls before a stop are those of the bytes up to it, and positions of later stops only
 -- grow.
 use Rattle.vte.proofs.Common.{◌≡◌, ◌≤◌, ℕ, ◌+◌, ◌-◌, inl, inr, Bool, Option, List, [], ◌∷◌, ◌++◌, length, take, refl, ap, sym, ◌∙◌, arith}
 use Rattle.vte.proofs.Common.{append_assoc, length-append, cases_Bool, append-nil, append_cancel_left, drop_all, take-append-add, take-append_seam, take_all, after, Step, Advance, StopSync, added_calls, Meaning}
@@ -7,18 +7,18 @@ use Rattle.vte.proofs.Common.{TakesSteps, Replayed, calls_beyond, given_bytes, s
 use Rattle.vte.proofs.Common.{State, TakesAllTurns, begin_front, extend, is_held, is_stopped, release, open_turn, stop, turn, done, turns}
 use Rattle.vte.proofs.performing.CallLists.{after-append, added_calls-append}
 
--- ---- the calls between two places
+-- ---- the calls between two positions
 
-between_none : (limit : Option ℕ) (stream : List ℕ) (place : ℕ) → calls_between limit stream place place ≡ []
-between_none limit stream place =
-    let seen = calls (events limit (take place stream)) in drop_all (length seen) seen (omega arith)
+between_none : (limit : Option ℕ) (stream : List ℕ) (position : ℕ) → calls_between limit stream position position ≡ []
+between_none limit stream position =
+    let seen = calls (events limit (take position stream)) in drop_all (length seen) seen (omega arith)
 
-between-append : (limit : Option ℕ) (p f rest : List ℕ) (place : ℕ) → length (p ++ f) ≤ place
-    → calls_between limit ((p ++ f) ++ rest) (length p) place
-    ≡ added_calls limit p f ++ calls_between limit ((p ++ f) ++ rest) (length (p ++ f)) place
-between-append limit p f rest place from =
-    let k = place - length (p ++ f) in
-    let is : place ≡ length (p ++ f) + k = omega (arith, from) in
+between-append : (limit : Option ℕ) (p f rest : List ℕ) (position : ℕ) → length (p ++ f) ≤ position
+    → calls_between limit ((p ++ f) ++ rest) (length p) position
+    ≡ added_calls limit p f ++ calls_between limit ((p ++ f) ++ rest) (length (p ++ f)) position
+between-append limit p f rest position from =
+    let k = position - length (p ++ f) in
+    let is : position ≡ length (p ++ f) + k = omega (arith, from) in
     let first : take (length p) ((p ++ f) ++ rest) ≡ p =
     ap (take (length p)) (append_assoc p f rest) ∙ take-append_seam p (f ++ rest) in
     let more = take k rest in
@@ -32,18 +32,18 @@ between-whole limit p f = rw (take-append_seam p f, take_all (length (p ++ f)) (
 
 -- ---- bytes before the first stop
 
-order_sooner : (p f places : List ℕ) (to : ℕ) → AreInOrder (length (p ++ f)) places to
-    → AreInOrder (length p) places to
+order_sooner : (p f positions : List ℕ) (to : ℕ) → AreInOrder (length (p ++ f)) positions to
+    → AreInOrder (length p) positions to
 order_sooner p f [] to order = omega (arith, order, length-append p f)
-order_sooner p f (place ∷ places) to (from, order) = (omega (arith, from, length-append p f), order)
+order_sooner p f (position ∷ positions) to (from, order) = (omega (arith, from, length-append p f), order)
 
-stops-later : (limit : Option ℕ) (p f rest places : List ℕ) (all : List ℕ) → all ≡ (p ++ f) ++ rest
-    → AreInOrder (length (p ++ f)) places (length all)
-    → calls_with_stops limit all (length p) places
-    ≡ added_calls limit p f ++ calls_with_stops limit all (length (p ++ f)) places
+stops-later : (limit : Option ℕ) (p f rest positions : List ℕ) (all : List ℕ) → all ≡ (p ++ f) ++ rest
+    → AreInOrder (length (p ++ f)) positions (length all)
+    → calls_with_stops limit all (length p) positions
+    ≡ added_calls limit p f ++ calls_with_stops limit all (length (p ++ f)) positions
 stops-later limit p f rest [] all is from = rw is (between-append limit p f rest _ (rw is at from))
-stops-later limit p f rest (place ∷ places) all is (from, order) =
-    rw (is, between-append limit p f rest place from) (append_assoc (added_calls limit p f) _ _)
+stops-later limit p f rest (position ∷ positions) all is (from, order) =
+    rw (is, between-append limit p f rest position from) (append_assoc (added_calls limit p f) _ _)
 
 -- ---- from a state to the end of a run
 
@@ -52,10 +52,10 @@ module _ {V W : Type 0} (m : Meaning V W) (u : State V W) where
   record Tells (parsed stops : List ℕ) (value : V) : Type 0 where
     pub more : List ℕ
     pub parsed_is : u.parsed ≡ parsed ++ more
-    pub places : List ℕ
-    pub stops_are : u.stops ≡ stops ++ places
-    pub in_order : AreInOrder (length parsed) places (length u.parsed)
-    pub told : u.handler ≡ after m.step value (calls_with_stops m.limit u.parsed (length parsed) places)
+    pub positions : List ℕ
+    pub stops_are : u.stops ≡ stops ++ positions
+    pub in_order : AreInOrder (length parsed) positions (length u.parsed)
+    pub told : u.handler ≡ after m.step value (calls_with_stops m.limit u.parsed (length parsed) positions)
 
   abbrev TellsAt : State V W → Type 0
   TellsAt t = Tells t.parsed t.stops t.handler
@@ -64,7 +64,7 @@ module _ {V W : Type 0} (m : Meaning V W) (u : State V W) where
   tells-nothing = record {
     more = [];
     parsed_is = sym (append-nil u.parsed);
-    places = [];
+    positions = [];
     stops_are = sym (append-nil u.stops);
     in_order = omega arith;
     told = rw between_none refl;
@@ -75,20 +75,20 @@ module _ {V W : Type 0} (m : Meaning V W) (u : State V W) where
   tells-parse p f stops value e = record {
     more = f ++ e.more;
     parsed_is = e.parsed_is ∙ append_assoc p f e.more;
-    places = e.places;
+    positions = e.positions;
     stops_are = e.stops_are;
-    in_order = order_sooner p f e.places _ e.in_order;
-    told = rw (stops-later m.limit p f e.more e.places u.parsed e.parsed_is e.in_order, after-append) e.told;
+    in_order = order_sooner p f e.positions _ e.in_order;
+    told = rw (stops-later m.limit p f e.more e.positions u.parsed e.parsed_is e.in_order, after-append) e.told;
   }
 
   tells-stop : (t : State V W) → TellsAt (stop m t) → TellsAt t
   tells-stop t e =
-      let place = length (t.parsed ++ t.held) in
+      let position = length (t.parsed ++ t.held) in
       tells-parse t.parsed t.held t.stops t.handler (record {
         more = e.more;
         parsed_is = e.parsed_is;
-        places = place ∷ e.places;
-        stops_are = e.stops_are ∙ append_assoc t.stops (place ∷ []) e.places;
+        positions = position ∷ e.positions;
+        stops_are = e.stops_are ∙ append_assoc t.stops (position ∷ []) e.positions;
         in_order = (omega arith, e.in_order);
         told = rw between_none e.told;
       })
@@ -135,7 +135,7 @@ told_replay m s value is steps r =
             ← append_assoc s.parsed e.more r.next.held,
             ← e.parsed_is,
           ) (sym r.each_once));
-      places = e.places;
+      positions = e.positions;
       stops_are = e.stops_are;
       in_order = e.in_order;
       is_told = is r.next r.is_at ∙ e.told;

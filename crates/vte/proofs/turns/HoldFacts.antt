@@ -56,9 +56,9 @@ module _ {V W : Type 0} (m : Meaning V W) where
       → length t.held ≤ most_held
       → (IsSteady m.timeout → IsInsideUpdate m.limit m.timeout t.parsed t.held t.timeout)
       → HoldsWellAt m (release m t kept)
-  keep_well t [] is place fits inside = stop_well t
-  keep_well t (b ∷ kept) is place fits inside = record {
-    no_end = rw place is.no_end;
+  keep_well t [] is position fits inside = stop_well t
+  keep_well t (b ∷ kept) is position fits inside = record {
+    no_end = rw position is.no_end;
     fits = rw length-drop (omega arith);
     kept = λ k. inr (record {
       pending =
@@ -68,7 +68,7 @@ module _ {V W : Type 0} (m : Meaning V W) where
       begun = elim is.begins [
         | inl all ↦ let none : length t.held - suc (length kept) ≡ 0 =
             omega (arith, ap length all) in rw (none, append-nil) (inside k).begun
-        | inr begins ↦ inr (rw place (begins (omega arith)))
+        | inr begins ↦ inr (rw position (begins (omega arith)))
       ];
     });
   }

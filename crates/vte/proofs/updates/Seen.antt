@@ -1,5 +1,5 @@
--- What the search from the end of a hold has seen, place by place: how many updates begin, and where what is unread
--- starts. Only a place with ESC can change it, and the older bytes matter only by their last seven.
+-- What the search from the end of a hold has seen, position by position: how many updates begin, and where what is
+-- unread starts. Only a position with ESC can change it, and the older bytes matter only by their last seven.
 use Rattle.vte.proofs.Common.{◌≡◌, ℕ, zero, suc, ◌+◌, ◌-◌, ◌<◌, ◌≤◌, inl, inr, true, false, eqb, Some, None, List, [], ◌∷◌, length, drop, take, get_or, refl}
 use Rattle.vte.proofs.Common.{ap, ◌∙◌, add-zero, length-drop, arith, cases_Bool, nat_tests, drop_all, drop_more, get_or-drop, get_or-take, length-take-le, take_all, ◌++◌}
 use Rattle.vte.proofs.Common.{IsEnd, drop-drop, length-append, Adds, after_word, begin_update, end_update, begins_among, begins_with, after_last_end, from_begin}
@@ -7,17 +7,17 @@ use Rattle.std.specs.Prelude.{nat_lt}
 use Rattle.memchr.specs.Find.{NoneAfter, Nowhere, Passes, is_byte}
 use Rattle.vte.proofs.updates.Sequences.{after_whole, begins_among-tail, begins_is, begins_long, after_last_end-tail, end_skipped, not_further, not_some}
 
--- no update begins or ends with the sequence at this place
-record IsNeither (text : List ℕ) (place : ℕ) : Type 0 where
-  pub no_begin : begins_with begin_update (drop place text) ≡ false
-  pub no_end : begins_with end_update (drop place text) ≡ false
+-- no update begins or ends with the sequence at this position
+record IsNeither (text : List ℕ) (position : ℕ) : Type 0 where
+  pub no_begin : begins_with begin_update (drop position text) ≡ false
+  pub no_end : begins_with end_update (drop position text) ≡ false
 
 -- without ESC, or with fewer than eight bytes
-neither_plain : (text : List ℕ) (place : ℕ) → place < length text → eqb (get_or text place 0) 0x1b ≡ false
-    → IsNeither text place
-neither_plain text place l e =
+neither_plain : (text : List ℕ) (position : ℕ) → position < length text → eqb (get_or text position 0) 0x1b ≡ false
+    → IsNeither text position
+neither_plain text position l e =
     let d =
-    drop_more text place 0 l in
+    drop_more text position 0 l in
     record { no_begin = rw d (grind (arith, nat_tests)); no_end = rw d (grind (arith, nat_tests)) }
 
 too_short : (sequence text : List ℕ) → length text < length sequence → begins_with sequence text ≡ false
@@ -26,12 +26,12 @@ too_short sequence text short = elim (cases_Bool (begins_with sequence text)) [
   | inr other ↦ other
 ]
 
-neither_short : (text : List ℕ) (place : ℕ) → length text < place + 8 → IsNeither text place
-neither_short text place short =
-    let few : length (drop place text) < 8 = rw length-drop (omega arith) in
+neither_short : (text : List ℕ) (position : ℕ) → length text < position + 8 → IsNeither text position
+neither_short text position short =
+    let few : length (drop position text) < 8 = rw length-drop (omega arith) in
     record {
-      no_begin = too_short begin_update (drop place text) few;
-      no_end = too_short end_update (drop place text) few;
+      no_begin = too_short begin_update (drop position text) few;
+      no_end = too_short end_update (drop position text) few;
     }
 
 -- with ESC among the seven bytes that follow
@@ -48,15 +48,16 @@ no_escape (a ∷ sequence) (b ∷ text) zero plain inside here = let first = pla
 no_escape (a ∷ sequence) (b ∷ text) (suc i) plain inside here =
     not_further a b sequence text (no_escape sequence text i plain.1 (omega arith) here)
 
-neither_before : (text : List ℕ) (place escape : ℕ) → place < escape → escape < place + 8 → escape < length text
-    → eqb (get_or text escape 0) 0x1b ≡ true → IsNeither text place
-neither_before text place escape before near inside here =
-    let d = drop_more text place 0 (omega arith) in
-    let i = escape - (place + 1) in
-    let n : place + 1 + i ≡ escape = omega arith in
-    let there : eqb (get_or (drop (place + 1) text) i 0) 0x1b ≡ true = rw (get_or-drop, n) here in
+neither_before : (text : List ℕ) (position escape : ℕ) → position < escape → escape < position + 8
+    → escape < length text
+    → eqb (get_or text escape 0) 0x1b ≡ true → IsNeither text position
+neither_before text position escape before near inside here =
+    let d = drop_more text position 0 (omega arith) in
+    let i = escape - (position + 1) in
+    let n : position + 1 + i ≡ escape = omega arith in
+    let there : eqb (get_or (drop (position + 1) text) i 0) 0x1b ≡ true = rw (get_or-drop, n) here in
     let none : (sequence : List ℕ) → HasNoEscape sequence → 7 ≡ length sequence
-    → begins_with (0x1b ∷ sequence) (drop place text) ≡ false
+    → begins_with (0x1b ∷ sequence) (drop position text) ≡ false
     = λ sequence plain long.
     rw d (not_further 0x1b _ sequence _ (no_escape sequence _ i plain (omega (arith, long)) there)) in
     record {
@@ -67,46 +68,46 @@ neither_before text place escape before near inside here =
 begins_one : (text : List ℕ) → begins_with begin_update text ≡ true → after_word end_update text ≡ None
 begins_one text e = rw (begins_is begin_update text e) refl
 
--- what follows the place `unread` of a text, of which the last `new` bytes are new
+-- what follows the position `unread` of a text, of which the last `new` bytes are new
 pub record HasSeen (text : List ℕ) (new unread begin begins : ℕ) : Type 0 where
   pub no_end : after_last_end (drop unread text) ≡ None
   pub begin_is : begin ≡ length text - length (from_begin (drop unread text))
   pub begins_are : begins ≡ begins_among new (drop unread text)
 
--- ---- one place more
+-- ---- one position more
 
-module _ (text : List ℕ) (new place begin begins : ℕ) (l : place < length text)
-    (seen : HasSeen text new (place + 1) begin begins) where
-  seen_other : IsNeither text place → HasSeen text new place begin begins
-  seen_other n = let d = drop_more text place 0 l in
+module _ (text : List ℕ) (new position begin begins : ℕ) (l : position < length text)
+    (seen : HasSeen text new (position + 1) begin begins) where
+  seen_other : IsNeither text position → HasSeen text new position begin begins
+  seen_other n = let d = drop_more text position 0 l in
       let no_begin = not_some _ (rw d at n.no_begin) in
       let no_end = not_some _ (rw d at n.no_end) in
       grind (arith, d)
 
   -- with at most seven older bytes from there on, it ends among the new ones
-  seen_begin : length text ≤ place + 7 + new → begins_with begin_update (drop place text) ≡ true
-      → HasSeen text new place place (begins + 1)
+  seen_begin : length text ≤ position + 7 + new → begins_with begin_update (drop position text) ≡ true
+      → HasSeen text new position position (begins + 1)
   seen_begin few e =
-      let d = drop_more text place 0 l in
-      let long = begins_long begin_update (drop place text) e in
-      let near : nat_lt (length (drop 7 (drop (place + 1) text))) new ≡ true =
+      let d = drop_more text position 0 l in
+      let long = begins_long begin_update (drop position text) e in
+      let near : nat_lt (length (drop 7 (drop (position + 1) text))) new ≡ true =
       (let h = rw length-drop at long in rw (length-drop, length-drop) (grind (arith, nat_tests))) in
       let here = rw d at e in
-      let other = rw d at (begins_one (drop place text) e) in
+      let other = rw d at (begins_one (drop position text) e) in
       record {
         no_end = rw (d, seen.no_end, other) refl;
         begin_is = rw (d, here) (rw length-drop (omega arith));
         begins_are = rw (d, after_whole begin_update _ here, near) (omega (arith, seen.begins_are));
       }
 
-  pub seen_end : begins_with end_update (drop place text) ≡ true
+  pub seen_end : begins_with end_update (drop position text) ≡ true
       → Adds text new (record { begins = begins; released = begin })
   seen_end e =
-      let d = drop_more text place 0 l in
+      let d = drop_more text position 0 l in
       let here = rw d at e in
-      let skipped = end_skipped new (get_or text place 0) (drop (place + 1) text) here in
-      let last : after_last_end text ≡ Some (drop 7 (drop (place + 1) text)) =
-      last_of place text _ (rw (d, seen.no_end, after_whole end_update _ here) refl) in
+      let skipped = end_skipped new (get_or text position 0) (drop (position + 1) text) here in
+      let last : after_last_end text ≡ Some (drop 7 (drop (position + 1) text)) =
+      last_of position text _ (rw (d, seen.no_end, after_whole end_update _ here) refl) in
       record {
         begins = rw last (seen.begins_are ∙ skipped.1);
         released = rw last (seen.begin_is ∙ ap (λ part. length text - length part) skipped.0);
@@ -117,53 +118,55 @@ module _ (text : List ℕ) (new place begin begins : ℕ) (l : place < length te
       last_of (suc n) [] later e = e
       last_of (suc n) (b ∷ h) later e = rw (last_of n h later e) refl
 
--- ---- many places more
+-- ---- many positions more
 
-seen_further : (text : List ℕ) (new n place begin begins : ℕ) → place + n ≤ length text
-    → ((k : ℕ) → place ≤ k → k < place + n → IsNeither text k)
-    → HasSeen text new (place + n) begin begins → HasSeen text new place begin begins
-seen_further text new zero place begin begins within neither seen = rw add-zero at seen
-seen_further text new (suc n) place begin begins within neither seen =
-    let e : place + suc n ≡ place + n + 1 = omega arith in
-    seen_further text new n place begin begins (omega arith) (λ k low high. neither k low (omega arith))
-    (seen_other text new (place + n) begin begins (omega arith) (rw e at seen)
-    (neither (place + n) (omega arith) (omega arith)))
+seen_further : (text : List ℕ) (new n position begin begins : ℕ) → position + n ≤ length text
+    → ((k : ℕ) → position ≤ k → k < position + n → IsNeither text k)
+    → HasSeen text new (position + n) begin begins → HasSeen text new position begin begins
+seen_further text new zero position begin begins within neither seen = rw add-zero at seen
+seen_further text new (suc n) position begin begins within neither seen =
+    let e : position + suc n ≡ position + n + 1 = omega arith in
+    seen_further text new n position begin begins (omega arith) (λ k low high. neither k low (omega arith))
+    (seen_other text new (position + n) begin begins (omega arith) (rw e at seen)
+    (neither (position + n) (omega arith) (omega arith)))
 
 -- if no sequence begins in between
-seen_down : (text : List ℕ) (new place unread begin begins : ℕ) → place ≤ unread → unread ≤ length text
-    → ((k : ℕ) → place ≤ k → k < unread → IsNeither text k)
-    → HasSeen text new unread begin begins → HasSeen text new place begin begins
-seen_down text new place unread begin begins l within neither seen =
-    let e : unread ≡ place + (unread - place) = omega arith in
-    seen_further text new (unread - place) place begin begins (omega arith) (λ k low high. neither k low (omega arith))
+seen_down : (text : List ℕ) (new position unread begin begins : ℕ) → position ≤ unread → unread ≤ length text
+    → ((k : ℕ) → position ≤ k → k < unread → IsNeither text k)
+    → HasSeen text new unread begin begins → HasSeen text new position begin begins
+seen_down text new position unread begin begins l within neither seen =
+    let e : unread ≡ position + (unread - position) = omega arith in
+    seen_further text new (unread - position) position begin begins (omega arith) (λ k low high. neither k low (omega
+    arith))
     (rw e at seen)
 
 -- ---- the end of a hold
 
 -- from ESC on, and from at most seven bytes before it on
-pub record IsLastEscape (all : List ℕ) (new place unread begin begins : ℕ) : Type 0 where
-  pub earlier : place < unread
-  pub inside : place < length all
-  pub here : eqb (get_or all place 0) 0x1b ≡ true
-  pub seen : HasSeen all new (place + 1) begin begins
+pub record IsLastEscape (all : List ℕ) (new position unread begin begins : ℕ) : Type 0 where
+  pub earlier : position < unread
+  pub inside : position < length all
+  pub here : eqb (get_or all position 0) 0x1b ≡ true
+  pub seen : HasSeen all new (position + 1) begin begins
 
-module _ {all : List ℕ} {new place unread begin begins : ℕ} (e : IsLastEscape all new place unread begin begins)
-    (at : ℕ) (low : at ≤ place) (near : place ≤ at + 7) where
-  further : (first count : ℕ) → HasSeen all new place first count → HasSeen all new at first count
+module _ {all : List ℕ} {new position unread begin begins : ℕ} (e : IsLastEscape all new position unread begin begins)
+    (at : ℕ) (low : at ≤ position) (near : position ≤ at + 7) where
+  further : (first count : ℕ) → HasSeen all new position first count → HasSeen all new at first count
   further first count seen =
       let inside = e.inside in
-      seen_down all new at place first count low (omega arith)
-      (λ k low high. neither_before all k place high (omega arith) inside e.here) seen
+      seen_down all new at position first count low (omega arith)
+      (λ k low high. neither_before all k position high (omega arith) inside e.here) seen
 
-  pub seen_begin_before : length all ≤ place + 7 + new → begins_with begin_update (drop place all) ≡ true
-      → HasSeen all new at place (begins + 1)
-  seen_begin_before few b = further place (begins + 1) (seen_begin all new place begin begins e.inside e.seen few b)
+  pub seen_begin_before : length all ≤ position + 7 + new → begins_with begin_update (drop position all) ≡ true
+      → HasSeen all new at position (begins + 1)
+  seen_begin_before few b = further position (begins + 1) (seen_begin all new position begin begins e.inside e.seen few
+      b)
 
-  pub seen_other_before : begins_with begin_update (drop place all) ≡ false
-      → begins_with end_update (drop place all) ≡ false → HasSeen all new at begin begins
+  pub seen_other_before : begins_with begin_update (drop position all) ≡ false
+      → begins_with end_update (drop position all) ≡ false → HasSeen all new at begin begins
   seen_other_before b other =
       further begin begins
-      (seen_other all new place begin begins e.inside e.seen (record { no_begin = b; no_end = other }))
+      (seen_other all new position begin begins e.inside e.seen (record { no_begin = b; no_end = other }))
 
 module _ {held more text : List ℕ} {start : ℕ} (e : IsEnd held more text start) where
   abbrev all : List ℕ
@@ -172,10 +175,10 @@ module _ {held more text : List ℕ} {start : ℕ} (e : IsEnd held more text sta
   pub whole_size : start + length text ≡ length all
   whole_size = let from = e.start_is in omega (arith, ap length e.is, length-drop start all, length-append held more)
 
-  pub sequence_at : (place : ℕ) → take (length text - place) (drop place text) ≡ drop (start + place) all
-  sequence_at place =
-      take_all (length text - place) (drop place text) (rw length-drop (omega arith)) ∙ ap (drop place) e.is
-      ∙ drop-drop place start all
+  pub sequence_at : (position : ℕ) → take (length text - position) (drop position text) ≡ drop (start + position) all
+  sequence_at position =
+      take_all (length text - position) (drop position text) (rw length-drop (omega arith)) ∙ ap (drop position) e.is
+      ∙ drop-drop position start all
 
   byte_at : (unread k : ℕ) → k < unread → get_or (take unread text) k 0 ≡ get_or all (start + k) 0
   byte_at unread k inside = get_or-take unread text k 0 inside ∙ ap (λ bytes. get_or bytes k 0) e.is ∙ rw get_or-drop
@@ -185,8 +188,8 @@ module _ {held more text : List ℕ} {start : ℕ} (e : IsEnd held more text sta
       → (k : ℕ) → low ≤ k → k < start + unread → IsNeither all k
   neither_between from low unread is within nowhere k above high =
       let i = k - start in
-      let place : start + i ≡ k = omega arith in
-      let here : get_or (take unread text) i 0 ≡ get_or all k 0 = byte_at unread i (omega arith) ∙ rw place in
+      let position : start + i ≡ k = omega arith in
+      let here : get_or (take unread text) i 0 ≡ get_or all k 0 = byte_at unread i (omega arith) ∙ rw position in
       neither_plain all k (omega (arith, whole_size))
       (grind (arith, nowhere i (omega arith) (rw length-take-le (omega arith))))
 
@@ -200,20 +203,20 @@ module _ {held more text : List ℕ} {start : ℕ} (e : IsEnd held more text sta
       (λ k low high. neither_short all k (omega (arith, whole_size)))
       (record { no_end = rw none; begin_is = rw none (omega (arith, whole_size)); begins_are = rw none })
 
-  pub last_escape : (place unread begin begins : ℕ) → unread ≤ length text
-      → NoneAfter (Passes (is_byte 0x1b) (take unread text)) 0 (length (take unread text)) place
-      → Passes (is_byte 0x1b) (take unread text) place → HasSeen all (length more) (start + unread) begin begins
-      → IsLastEscape all (length more) (start + place) (start + unread) begin begins
-  last_escape place unread begin begins within last escape seen =
-      let earlier : place < unread = omega (arith, length-take-le unread text within, last.high) in
+  pub last_escape : (position unread begin begins : ℕ) → unread ≤ length text
+      → NoneAfter (Passes (is_byte 0x1b) (take unread text)) 0 (length (take unread text)) position
+      → Passes (is_byte 0x1b) (take unread text) position → HasSeen all (length more) (start + unread) begin begins
+      → IsLastEscape all (length more) (start + position) (start + unread) begin begins
+  last_escape position unread begin begins within last escape seen =
+      let earlier : position < unread = omega (arith, length-take-le unread text within, last.high) in
       record {
         earlier = omega arith;
         inside = omega (arith, whole_size);
-        here = rw (byte_at unread place earlier) at escape;
+        here = rw (byte_at unread position earlier) at escape;
         seen =
-            seen_down all (length more) (start + place + 1) (start + unread) begin begins (omega arith)
+            seen_down all (length more) (start + position + 1) (start + unread) begin begins (omega arith)
             (omega (arith, whole_size))
-            (neither_between (place + 1) _ unread (omega arith) within last.after) seen;
+            (neither_between (position + 1) _ unread (omega arith) within last.after) seen;
       }
 
   -- if no ESC is left, there is no end-update, as there is none in the older bytes

@@ -22,7 +22,7 @@ pub(crate) fn split_at_first(text: &[u8], separator: u8) -> (&[u8], Option<&[u8]
     ensures shorter { IfSome result.1 (λ rest. length rest.now < length text.now) }
 {
     match text.iter().position(|byte| *byte == separator) {
-        Some(place) => (&text[..place], Some(&text[place + 1..])),
+        Some(position) => (&text[..position], Some(&text[position + 1..])),
         None => (text, None),
     }
 }

@@ -31,11 +31,11 @@ pub(crate) fn find_release(text: &[u8], start: usize) -> Added
     // A sequence has eight bytes, and only the first is ESC: none begins among the last seven
     // bytes, or the seven before an ESC.
     let mut unread = text.len().saturating_sub(7);
-    while let Some(place) = memrchr(ESCAPE, &text[..unread]) {
-        unread = place.saturating_sub(7);
-        let sequence = &text[place..];
+    while let Some(position) = memrchr(ESCAPE, &text[..unread]) {
+        unread = position.saturating_sub(7);
+        let sequence = &text[position..];
         if begins_update(sequence) {
-            begin = start + place;
+            begin = start + position;
             begins += 1;
         } else if ends_update(sequence) {
             let released = begin;

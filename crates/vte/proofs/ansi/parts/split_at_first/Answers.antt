@@ -7,9 +7,9 @@ pub returns-in-Some-clause-parts : goal.returns-in-Some-clause-parts
 returns-in-Some-clause-parts c =
     let text = c.args.text.now in
     let found =
-    position_or_len_is (λ (b : ℕ). b == c.args.separator) text c.in-Some.place 0 (search rules) (search rules)
+    position_or_len_is (λ (b : ℕ). b == c.args.separator) text c.in-Some.position 0 (search rules) (search rules)
     (search rules) in
-    rw (take_rest text (c.in-Some.place + 1)) (first_part _ text c.in-Some.place found (search rules))
+    rw (take_rest text (c.in-Some.position + 1)) (first_part _ text c.in-Some.position found (search rules))
 
 pub returns-in-None-clause-parts : goal.returns-in-None-clause-parts
 returns-in-None-clause-parts c =

@@ -5,26 +5,26 @@ use Rattle.vte.proofs.updates.Seen.{last_escape, seen_all, seen_begin_before, se
 use Rattle.vte.proofs.ansi.release.find_release.Goals as goal
 
 -- Nothing is seen yet.
-pub loop-place-init : goal.loop-place-init
-loop-place-init c =
+pub loop-position-init : goal.loop-position-init
+loop-position-init c =
     record {
       few = omega (arith, c.saturating_sub-unread.ensures);
       seen = λ held more e. seen_nothing e _ c.saturating_sub-unread.ensures;
     }
 
 -- A begin of an update: one more is counted.
-pub loop-place-preserved-then-begins_update : goal.loop-place-preserved-then-begins_update
-loop-place-preserved-then-begins_update c =
-    let before = c.loop-place.invariant in
-    let within : c.loop-place.unread ≤ length c.args.text.now = omega (arith, before.few) in
-    let earlier : c.in-Some.place < c.loop-place.unread =
-    omega (arith, length-take-le c.loop-place.unread c.args.text.now within, c.in-Some.ensures.0.high) in
+pub loop-position-preserved-then-begins_update : goal.loop-position-preserved-then-begins_update
+loop-position-preserved-then-begins_update c =
+    let before = c.loop-position.invariant in
+    let within : c.loop-position.unread ≤ length c.args.text.now = omega (arith, before.few) in
+    let earlier : c.in-Some.position < c.loop-position.unread =
+    omega (arith, length-take-le c.loop-position.unread c.args.text.now within, c.in-Some.ensures.0.high) in
     let next = c.saturating_sub-unread-in-Some.ensures in
     record {
       few = omega (arith, before.few);
       seen = λ held more e.
           let at =
-          last_escape e c.in-Some.place _ _ _ within c.in-Some.ensures.0 c.in-Some.ensures.1
+          last_escape e c.in-Some.position _ _ _ within c.in-Some.ensures.0 c.in-Some.ensures.1
           (before.seen held more e) in
           let from = e.start_is in
           seen_begin_before at _ (omega arith) (omega arith) (omega (arith, length-append held more))
@@ -32,18 +32,18 @@ loop-place-preserved-then-begins_update c =
     }
 
 -- Any other sequence.
-pub loop-place-preserved : goal.loop-place-preserved
-loop-place-preserved c =
-    let before = c.loop-place.invariant in
-    let within : c.loop-place.unread ≤ length c.args.text.now = omega (arith, before.few) in
-    let earlier : c.in-Some.place < c.loop-place.unread =
-    omega (arith, length-take-le c.loop-place.unread c.args.text.now within, c.in-Some.ensures.0.high) in
+pub loop-position-preserved : goal.loop-position-preserved
+loop-position-preserved c =
+    let before = c.loop-position.invariant in
+    let within : c.loop-position.unread ≤ length c.args.text.now = omega (arith, before.few) in
+    let earlier : c.in-Some.position < c.loop-position.unread =
+    omega (arith, length-take-le c.loop-position.unread c.args.text.now within, c.in-Some.ensures.0.high) in
     let next = c.saturating_sub-unread-in-Some.ensures in
     record {
       few = omega (arith, before.few);
       seen = λ held more e.
           let at =
-          last_escape e c.in-Some.place _ _ _ within c.in-Some.ensures.0 c.in-Some.ensures.1
+          last_escape e c.in-Some.position _ _ _ within c.in-Some.ensures.0 c.in-Some.ensures.1
           (before.seen held more e) in
           seen_other_before at _ (omega arith) (omega arith)
           (rw (sequence_at e) at (sym c.begins_update.ensures.value ∙ c.if-begins_update.false))
@@ -53,9 +53,9 @@ loop-place-preserved c =
 -- The last end of an update.
 pub returns-then-ends_update : goal.returns-then-ends_update
 returns-then-ends_update c = λ held more e none.
-    let before = c.loop-place.invariant in
+    let before = c.loop-position.invariant in
     let at =
-    last_escape e c.in-Some.place _ _ _ (omega (arith, before.few)) c.in-Some.ensures.0 c.in-Some.ensures.1
+    last_escape e c.in-Some.position _ _ _ (omega (arith, before.few)) c.in-Some.ensures.0 c.in-Some.ensures.1
     (before.seen held more e) in
     seen_end _ _ _ _ _ at.inside at.seen
     (rw (sequence_at e) at (sym c.ends_update.ensures.value ∙ c.if-ends_update.true))
@@ -63,5 +63,5 @@ returns-then-ends_update c = λ held more e none.
 -- No ESC is left, so no end either.
 pub returns : goal.returns
 returns c = λ held more e none.
-    let before = c.loop-place.invariant in
+    let before = c.loop-position.invariant in
     seen_all e _ _ _ none (omega (arith, before.few)) c.in_default.ensures (before.seen held more e)

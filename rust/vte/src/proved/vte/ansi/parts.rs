@@ -11,7 +11,7 @@ pub(crate) fn strip_word<'a>(text: &'a [u8], word: &[u8]) -> Option<&'a [u8]> {
 /// is one.
 pub(crate) fn split_at_first(text: &[u8], separator: u8) -> (&[u8], Option<&[u8]>) {
     match text.iter().position(|byte| *byte == separator) {
-        Some(place) => (&text[..place], Some(&text[place + 1..])),
+        Some(position) => (&text[..position], Some(&text[position + 1..])),
         None => (text, None),
     }
 }

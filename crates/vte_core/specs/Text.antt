@@ -25,9 +25,9 @@ IsRunText keeps text = All (λ c. is_left_out keeps c ≡ false) (chars text)
 
 -- No character of a run begins at the position: a well-formed sequence there is left out.
 abbrev pub EndsRun : Bool → List ℕ → ℕ → Type 0
-EndsRun keeps bytes place =
-    (n : ℕ) → place + n ≤ length bytes → is_well_formed (take n (drop place bytes)) ≡ true
-    → is_left_out keeps (scalar_of (take n (drop place bytes))) ≡ true
+EndsRun keeps bytes position =
+    (n : ℕ) → position + n ≤ length bytes → is_well_formed (take n (drop position bytes)) ≡ true
+    → is_left_out keeps (scalar_of (take n (drop position bytes))) ≡ true
 
 -- No character of a text is a control.
 abbrev pub HasNoControls : List ℕ → Type 0

@@ -1,6 +1,6 @@
 //! What a stream asks of a terminal, and the classes of all objects.
 
-use crate::tape::{fields, Field, Is, Tape, Value};
+use crate::tape::{fields, Field, Tape, Value, MEMBER, NUMBER, OBJECT};
 use vte::ansi::cursor_icon::CursorIcon;
 use vte::ansi::lent::{HandlerCall, Hyperlink, TakeCall, TakeText};
 use vte::ansi::{
@@ -55,36 +55,36 @@ classes! {
 
 impl TakeText for Tape {
     fn take_text(&mut self, text: &str) {
-        self.add_run(Kind::Input, text);
+        self.add_run(Kind::Input, text.as_bytes());
     }
 }
 
 fields! {
-    Kind: kind => Value::new(Is::Object, kind as i64);
     // the letter of a clipboard
     u8: byte => char::from(byte);
-    u16: number => Value::new(Is::Number, number.into());
-    i32: number => Value::new(Is::Number, number.into());
+    u16: number => Value::new(NUMBER, number.into());
+    i32: number => Value::new(NUMBER, number.into());
     CharsetIndex: index => index as u16;
     CursorIcon: icon => icon.name();
     Mode: mode => mode.raw();
     PrivateMode: mode => mode.raw();
     KeyboardModes: modes => u16::from(modes.bits());
-    Rgb: rgb => Kind::Rgb, u16::from(rgb.r), u16::from(rgb.g), u16::from(rgb.b);
+    Rgb: rgb =>
+        Value::of(OBJECT, Kind::Rgb, 0), u16::from(rgb.r), u16::from(rgb.g), u16::from(rgb.b);
     Option<CursorStyle>: style =>
         style.map(|style| style.shape), style.map_or(false, |style| style.blinking);
     Option<Hyperlink<'_>>: link => link.and_then(|link| link.id), link.map(|link| link.uri);
     // members of enumerations, by their numbers
-    NamedColor: color => Kind::NamedColor, color as u16;
-    LineClearMode: part => Kind::LinePart, part as u16;
-    ClearMode: part => Kind::ScreenPart, part as u16;
-    TabulationClearMode: which => Kind::Tabs, which as u16;
-    CursorShape: shape => Kind::Shape, shape as u16;
-    StandardCharset: charset => Kind::Charset, charset as u16;
-    ScpCharPath: path => Kind::Path, path as u16;
-    ScpUpdateMode: update => Kind::Update, update as u16;
-    KeyboardModesApplyBehavior: behavior => Kind::Behavior, behavior as u16;
-    ModifyOtherKeys: keys => Kind::OtherKeys, keys as u16;
+    NamedColor: color => Value::of(MEMBER, Kind::NamedColor, color as i64);
+    LineClearMode: part => Value::of(MEMBER, Kind::LinePart, part as i64);
+    ClearMode: part => Value::of(MEMBER, Kind::ScreenPart, part as i64);
+    TabulationClearMode: which => Value::of(MEMBER, Kind::Tabs, which as i64);
+    CursorShape: shape => Value::of(MEMBER, Kind::Shape, shape as i64);
+    StandardCharset: charset => Value::of(MEMBER, Kind::Charset, charset as i64);
+    ScpCharPath: path => Value::of(MEMBER, Kind::Path, path as i64);
+    ScpUpdateMode: update => Value::of(MEMBER, Kind::Update, update as i64);
+    KeyboardModesApplyBehavior: behavior => Value::of(MEMBER, Kind::Behavior, behavior as i64);
+    ModifyOtherKeys: keys => Value::of(MEMBER, Kind::OtherKeys, keys as i64);
 }
 
 impl Field for Color {
@@ -110,7 +110,8 @@ macro_rules! attributes {
                     Attr::Background(color) => (Number::Background, Some(color)),
                     Attr::UnderlineColor(color) => (Number::UnderlineColor, color),
                 };
-                tape.with(Kind::Attribute).with(number as u16).with(color);
+                let attribute = Value::of(MEMBER, Kind::Attribute, number as i64);
+                tape.with(attribute).with(color);
             }
         }
     };

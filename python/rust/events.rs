@@ -1,7 +1,7 @@
 //! The events of a stream.
 
 use crate::calls::Kind;
-use crate::tape::{classes, fields, Field, Is, Tape, Tuple, Value};
+use crate::tape::{classes, fields, Field, Tape, Tuple, Value, BYTES, MEMBER, SINGLE};
 use pyo3::exceptions::PyTypeError;
 use pyo3::prelude::*;
 use vte::{Params, Perform, PerformText};
@@ -44,23 +44,28 @@ pub struct Recorder {
     stops: Kinds,
     // those after which it is terminated
     pauses: Kinds,
-    is_paused: bool,
-    pub has_stopped: bool,
+    // those that came since it went on
+    seen: Kinds,
     // where it stands whether the last command lost data
     truncated: Option<usize>,
 }
 
 impl Recorder {
     pub fn start(&mut self, kinds: Kinds, stops: Kinds) {
-        (self.kinds, self.stops, self.has_stopped) = (kinds, stops, false);
+        (self.kinds, self.stops) = (kinds, stops);
         self.pauses = Kinds(match self.only_commands() {
             true => Kinds::ALL.0,
             false => stops.0 | Kinds::COMMANDS.0,
         });
+        self.go_on();
     }
 
     pub fn go_on(&mut self) {
-        (self.is_paused, self.truncated) = (false, None);
+        (self.seen, self.truncated) = (Kinds::default(), None);
+    }
+
+    pub fn has_stopped(&self) -> bool {
+        self.seen.0 & self.stops.0 != 0
     }
 
     pub fn only_commands(&self) -> bool {
@@ -74,20 +79,36 @@ impl Recorder {
         }
     }
 
-    /// Begins an event, whose fields are to follow, if it is wanted.
+    /// Begins an event, if it is wanted.
     #[inline]
     fn begin(&mut self, kind: Kind) -> Option<&mut Tape> {
-        self.has_stopped |= self.stops.has(kind);
-        self.is_paused |= self.pauses.has(kind);
+        self.seen.0 |= 1 << kind as u16;
         self.tape.end_run();
-        self.kinds.has(kind).then(|| self.tape.begin(kind))
+        self.kinds.has(kind).then_some(&mut self.tape)
+    }
+
+    /// Records an event with one number.
+    #[inline]
+    fn add(&mut self, kind: Kind, number: u8) {
+        if let Some(tape) = self.begin(kind) {
+            tape.add(Value::of(MEMBER, kind, number.into()));
+        }
     }
 }
 
 fields! {
     &Params: groups => Tuple(groups.iter());
-    &[u16]: group => Tuple(group.iter().copied());
     &[&[u8]]: pieces => Tuple(pieces.iter().copied());
+}
+
+impl Field for &[u16] {
+    #[inline]
+    fn record(self, tape: &mut Tape) {
+        match self {
+            [number] => Value::new(SINGLE, (*number).into()).record(tape),
+            _ => Tuple(self.iter().copied()).record(tape),
+        }
+    }
 }
 
 /// At most six bytes.
@@ -96,29 +117,29 @@ fn brief(bytes: &[u8]) -> Value {
         .iter()
         .rev()
         .fold(0, |all, byte| all << 8 | i64::from(*byte));
-    Value::new(Is::Bytes, all << 8 | bytes.len() as i64)
+    Value::new(BYTES, all << 8 | bytes.len() as i64)
 }
 
 /// Records an event with its fields, if it is wanted.
 macro_rules! record {
-    ($recorder:ident, $kind:ident, $($field:expr),+) => {
+    ($recorder:ident, $kind:ident$(, $field:expr)*) => {
         if let Some(tape) = $recorder.begin(Kind::$kind) {
-            tape$(.with($field))+;
+            tape.begin(Kind::$kind)$(.with($field))*;
         }
     };
 }
 
 impl Perform for Recorder {
     fn execute(&mut self, byte: u8) {
-        record!(self, Execute, u16::from(byte));
+        self.add(Kind::Execute, byte);
     }
 
     fn put(&mut self, byte: u8) {
-        record!(self, Put, u16::from(byte));
+        self.add(Kind::Put, byte);
     }
 
     fn unhook(&mut self) {
-        self.begin(Kind::Unhook);
+        record!(self, Unhook);
     }
 
     fn hook(&mut self, groups: &Params, intermediates: &[u8], ignore: bool, end: char) {
@@ -135,20 +156,23 @@ impl Perform for Recorder {
 
     fn osc_dispatch(&mut self, pieces: &[&[u8]], bell_terminated: bool) {
         if let Some(tape) = self.begin(Kind::Osc) {
-            tape.with(pieces).with(bell_terminated).with(false);
+            tape.begin(Kind::Osc)
+                .with(pieces)
+                .with(bell_terminated)
+                .with(false);
             self.truncated = Some(tape.last_value());
         }
     }
 
     fn terminated(&self) -> bool {
-        self.is_paused
+        self.seen.0 & self.pauses.0 != 0
     }
 }
 
 impl PerformText for Recorder {
     fn print_text(&mut self, text: &str) {
         match self.kinds.has(Kind::Text) {
-            true => self.tape.add_run(Kind::Text, text),
+            true => self.tape.add_run(Kind::Text, text.as_bytes()),
             false => self.tape.end_run(),
         }
     }

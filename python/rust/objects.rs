@@ -6,7 +6,7 @@
 
 use pyo3::exceptions::PyRuntimeError;
 use pyo3::pyclass::boolean_struct::False;
-use pyo3::types::{PyBytes, PyList, PyMemoryView, PyString, PyTuple, PyType};
+use pyo3::types::{PyBytes, PyMemoryView, PyString, PyTuple, PyType};
 use pyo3::{ffi, prelude::*, PyClass, PyTypeInfo};
 use std::os::raw::c_char;
 
@@ -112,14 +112,24 @@ pub fn real(py: Python<'_>, value: f64) -> PyResult<PyObject> {
 }
 
 /// A tuple of as many values.
+#[inline(always)]
 pub fn tuple(
     py: Python<'_>,
     count: usize,
-    values: impl Iterator<Item = PyResult<PyObject>>,
+    next: impl FnMut() -> PyResult<PyObject>,
 ) -> PyResult<PyObject> {
     let tuple = new!(py, PyTuple_New(size(count)))?;
     // SAFETY: a new tuple of this size
-    unsafe { filled(tuple, count, values) }
+    unsafe { filled(tuple, count, next) }
+}
+
+/// A tuple of these values.
+pub fn tuple_of<const N: usize>(
+    py: Python<'_>,
+    values: [PyResult<PyObject>; N],
+) -> PyResult<PyObject> {
+    let mut values = values.into_iter();
+    tuple(py, N, || values.next().expect("one for each place"))
 }
 
 /// Sets the places of a new tuple. Those whose values can't be made stay null, which nothing but
@@ -128,39 +138,26 @@ pub fn tuple(
 /// # Safety
 ///
 /// The tuple is new, and has as many places.
-#[inline]
+#[inline(always)]
 unsafe fn filled(
     tuple: PyObject,
     count: usize,
-    values: impl Iterator<Item = PyResult<PyObject>>,
+    mut next: impl FnMut() -> PyResult<PyObject>,
 ) -> PyResult<PyObject> {
-    for (place, value) in values.take(count).enumerate() {
-        ffi::PyTuple_SetItem(tuple.as_ptr(), size(place), value?.into_ptr());
+    for place in 0..count {
+        ffi::PyTuple_SetItem(tuple.as_ptr(), size(place), next()?.into_ptr());
     }
     Ok(tuple)
 }
 
-/// A new list.
-pub fn list(py: Python<'_>) -> PyResult<Bound<'_, PyList>> {
-    Ok(new!(py, PyList_New(0))?.into_bound(py).downcast_into()?)
-}
-
-/// Lets a list grow unseen by the collector, which would look at all of it again and again.
-pub fn unseen<T>(list: &Bound<'_, PyList>, grow: impl FnOnce() -> T) -> T {
-    // SAFETY: a list, which the collector sees before and after
-    unsafe { ffi::PyObject_GC_UnTrack(list.as_ptr().cast()) };
-    let grown = grow();
-    unsafe { ffi::PyObject_GC_Track(list.as_ptr().cast()) };
-    grown
-}
-
-/// Appends to a list.
-pub fn append(list: &Bound<'_, PyList>, object: &Bound<'_, PyAny>) -> PyResult<()> {
-    // SAFETY: a list and an object
-    match unsafe { ffi::PyList_Append(list.as_ptr(), object.as_ptr()) } {
-        0 => Ok(()),
-        _ => Err(PyErr::fetch(list.py())),
+/// A list of objects, which it takes. If memory is refused, they stay.
+pub fn list(py: Python<'_>, objects: &mut Vec<PyObject>) -> PyResult<PyObject> {
+    let list = new!(py, PyList_New(size(objects.len())))?;
+    for (place, object) in objects.drain(..).enumerate() {
+        // SAFETY: a new list, which has this place
+        unsafe { ffi::PyList_SetItem(list.as_ptr(), size(place), object.into_ptr()) };
     }
+    Ok(list)
 }
 
 /// A class of Python's half of the package.
@@ -191,15 +188,15 @@ impl Class {
     }
 
     /// Makes an object of its fields.
-    #[inline]
+    #[inline(always)]
     pub fn make(
         &self,
         py: Python<'_>,
-        fields: impl Iterator<Item = PyResult<PyObject>>,
+        next: impl FnMut() -> PyResult<PyObject>,
     ) -> PyResult<PyObject> {
         let (class, count) = (self.class.as_ptr(), self.fields);
         if !self.is_allocated {
-            let fields = tuple(py, count, fields)?;
+            let fields = tuple(py, count, next)?;
             return new!(py, PyObject_CallObject(class, fields.as_ptr()));
         }
         let made = new!(py, PyType_GenericAlloc(class.cast(), size(count)))?;
@@ -207,7 +204,7 @@ impl Class {
         // collector needn't look at it
         unsafe {
             ffi::PyObject_GC_UnTrack(made.as_ptr().cast());
-            filled(made, count, fields)
+            filled(made, count, next)
         }
     }
 }

@@ -2,7 +2,7 @@
 
 use crate::calls::Kind;
 use crate::events::{Kinds, Recorder};
-use crate::objects::{borrowed, bytes, bytes_of, error, integer, text, tuple};
+use crate::objects::{borrowed, bytes, bytes_of, error, integer, text, tuple_of};
 use crate::reader::{read, step, Reader};
 use crate::tape::Tape;
 use pyo3::exceptions::{PyTypeError, PyValueError};
@@ -34,7 +34,7 @@ pub fn state_of(py: Python<'_>, parser: &Limited) -> PyResult<PyObject> {
     let mut content = Content([0; size_of::<Saved>()]);
     parser.save(content.saved());
     let version = text(py, env!("CARGO_PKG_VERSION").as_bytes());
-    tuple(py, 2, [version, bytes(py, &content.0)].into_iter())
+    tuple_of(py, [version, bytes(py, &content.0)])
 }
 
 /// The parser of a state.
@@ -123,13 +123,13 @@ impl Parser {
             return Err(error::<PyValueError>(py, wrong));
         }
         let (events, read) = read_events(slf, data, kinds, stops)?;
-        tuple(py, 2, [Ok(events), integer(py, read as i64)].into_iter())
+        tuple_of(py, [Ok(events), integer(py, read as i64)])
     }
 
     // with these, `object` can make a copy and a pickle
 
     fn __getnewargs__(slf: &Bound<'_, Self>) -> PyResult<PyObject> {
-        tuple(slf.py(), 1, [integer(slf.py(), LIMIT as i64)].into_iter())
+        tuple_of(slf.py(), [integer(slf.py(), LIMIT as i64)])
     }
 
     fn __getstate__(slf: &Bound<'_, Self>) -> PyResult<PyObject> {
@@ -165,7 +165,7 @@ impl Reader for Parser {
     }
 
     fn has_stopped(&self) -> bool {
-        self.recorder.has_stopped
+        self.recorder.has_stopped()
     }
 
     fn read(&mut self, bytes: &[u8]) -> Result<usize, Refused> {

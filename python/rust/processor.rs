@@ -1,6 +1,6 @@
 //! The processor of calls.
 
-use crate::objects::{borrowed, bytes_of, integer, list, no_memory, real};
+use crate::objects::{borrowed, bytes_of, integer, no_memory, real};
 use crate::reader::{make, read, step, Reader};
 use crate::tape::Tape;
 use pyo3::prelude::*;
@@ -53,8 +53,8 @@ impl Processor {
     }
 
     /// Ends an update whose end doesn't come, and returns the calls of what was held.
-    fn stop_sync(slf: &Bound<'_, Self>) -> PyResult<PyObject> {
-        let (made, mut shared) = (list(slf.py())?, borrowed(slf)?);
+    fn stop_sync(slf: &Bound<'_, Self>) -> PyResult<Option<PyObject>> {
+        let mut shared = borrowed(slf)?;
         let Processor {
             processor, calls, ..
         } = &mut *shared;
@@ -63,8 +63,7 @@ impl Processor {
         if !is_refused {
             processor.stop_sync_text(calls);
         }
-        make(&made, &mut calls.0, 0, is_refused, true)?;
-        Ok(made.into_any().unbind())
+        make(slf.py(), &mut calls.0, 0, is_refused, true)
     }
 
     /// How many bytes are held.

@@ -116,11 +116,15 @@ pub fn real(py: Python<'_>, value: f64) -> PyResult<PyObject> {
 pub fn tuple(
     py: Python<'_>,
     count: usize,
-    next: impl FnMut() -> PyResult<PyObject>,
+    mut next: impl FnMut() -> PyResult<PyObject>,
 ) -> PyResult<PyObject> {
     let tuple = new!(py, PyTuple_New(size(count)))?;
-    // SAFETY: a new tuple of this size
-    unsafe { filled(tuple, count, next) }
+    for place in 0..count {
+        // SAFETY: a new tuple of this size. Places whose values can't be made stay null, which
+        // nothing but the deallocator sees
+        unsafe { ffi::PyTuple_SetItem(tuple.as_ptr(), size(place), next()?.into_ptr()) };
+    }
+    Ok(tuple)
 }
 
 /// A tuple of these values.
@@ -130,24 +134,6 @@ pub fn tuple_of<const N: usize>(
 ) -> PyResult<PyObject> {
     let mut values = values.into_iter();
     tuple(py, N, || values.next().expect("one for each place"))
-}
-
-/// Sets the places of a new tuple. Those whose values can't be made stay null, which nothing but
-/// the deallocator sees.
-///
-/// # Safety
-///
-/// The tuple is new, and has as many places.
-#[inline(always)]
-unsafe fn filled(
-    tuple: PyObject,
-    count: usize,
-    mut next: impl FnMut() -> PyResult<PyObject>,
-) -> PyResult<PyObject> {
-    for place in 0..count {
-        ffi::PyTuple_SetItem(tuple.as_ptr(), size(place), next()?.into_ptr());
-    }
-    Ok(tuple)
 }
 
 /// A list of objects, which it takes. If memory is refused, they stay.
@@ -192,19 +178,31 @@ impl Class {
     pub fn make(
         &self,
         py: Python<'_>,
-        next: impl FnMut() -> PyResult<PyObject>,
+        mut next: impl FnMut() -> PyResult<PyObject>,
     ) -> PyResult<PyObject> {
         let (class, count) = (self.class.as_ptr(), self.fields);
         if !self.is_allocated {
             let fields = tuple(py, count, next)?;
             return new!(py, PyObject_CallObject(class, fields.as_ptr()));
         }
-        let made = new!(py, PyType_GenericAlloc(class.cast(), size(count)))?;
-        // SAFETY: it has the layout of a tuple of this size. What it holds is in no cycle, so the
-        // collector needn't look at it
+        // SAFETY: a class with the layout of tuples, whose places are at the end of an object. They are
+        // set before anything sees it. What they hold is in no cycle, so the collector needn't look
+        // at it
         unsafe {
-            ffi::PyObject_GC_UnTrack(made.as_ptr().cast());
-            filled(made, count, next)
+            let made = ffi::_PyObject_GC_NewVar(class.cast(), size(count));
+            let made = PyObject::from_owned_ptr_or_err(py, made.cast())?;
+            let places = made.as_ptr().cast::<ffi::PyVarObject>().add(1);
+            let places = places.cast::<*mut ffi::PyObject>();
+            for place in 0..count {
+                match next() {
+                    Ok(field) => places.add(place).write(field.into_ptr()),
+                    Err(error) => {
+                        places.add(place).write_bytes(0, count - place);
+                        return Err(error);
+                    }
+                }
+            }
+            Ok(made)
         }
     }
 }

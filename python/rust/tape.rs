@@ -156,7 +156,7 @@ type Pair = [Option<Known>; 2];
 /// How many pairs of objects are known at most, by its logarithm.
 const KNOWN: u32 = 9;
 /// The content of a run that is known has at most so many bytes.
-const SHORT: i64 = 3;
+const SHORT: usize = 3;
 
 /// Objects that are recorded, one after another.
 #[derive(Default)]
@@ -258,32 +258,69 @@ impl Tape {
 
     /// Makes the objects, but not the last if it may go on. If memory is refused, those that aren't
     /// made stay.
+    #[inline(never)]
     pub fn make(&mut self, py: Python<'_>, ends: bool) -> PyResult<()> {
         let reserved = self.made.try_reserve(self.values.len());
         reserved.map_err(|_| no_memory(py))?;
         if self.known.is_empty() && self.known.try_reserve_exact(1 << KNOWN).is_ok() {
             self.known.resize_with(1 << KNOWN, Default::default);
         }
-        let (left, mut done) = (usize::from(self.is_open && !ends), Ok(()));
-        let mut maker = Maker {
-            py,
-            classes: classes(py)?,
-            values: &self.values,
-            content: &self.content,
-        };
-        while maker.values.len() > left {
-            let (values, content) = (maker.values, maker.content);
-            match maker.object(&mut self.known) {
-                Ok(object) => self.made.push(object),
+        let end = self.values.len() - usize::from(self.is_open && !ends);
+        let classes = classes(py)?;
+        let Tape {
+            values,
+            content,
+            made,
+            known: all,
+            ..
+        } = self;
+        let (mut at, mut place, mut done) = (0, 0, Ok(()));
+        while at < end {
+            let (first, mut count, mut length) = (values[at], 1, 0);
+            let ((kind, field), mut hash, mut short) = (first.parts(), mix(0, first), [first]);
+            let object = if first.is(RUN) && field as usize > SHORT {
+                length = field as usize;
+                run(py, &classes[kind], kind, &content[place..place + length])
+            } else {
+                let key = if first.is(RUN) {
+                    length = field as usize;
+                    let bytes = content[place..place + length].iter();
+                    // the length of a short run leaves room for its content
+                    short[0].0 |= bytes.fold(0, |all, byte| all << 8 | i64::from(*byte)) << 16;
+                    hash = mix(0, short[0]);
+                    &short
+                } else {
+                    while at + count < values.len() && values[at + count].0 & FIRST == 0 {
+                        (hash, count) = (mix(hash, values[at + count]), count + 1);
+                    }
+                    &values[at..at + count]
+                };
+                match known(all, hash, key) {
+                    Some(object) => Ok(object.clone_ref(py)),
+                    None => {
+                        let mut maker = Maker {
+                            py,
+                            classes,
+                            values: &values[at..],
+                            content: &content[place..],
+                        };
+                        let object = maker.new_object(all, hash, key);
+                        length = content.len() - place - maker.content.len();
+                        object
+                    }
+                }
+            };
+            match object {
+                Ok(object) => made.push(object),
                 Err(error) => {
-                    (maker.values, maker.content, done) = (values, content, Err(error));
+                    done = Err(error);
                     break;
                 }
             }
+            (at, place) = (at + count, place + length);
         }
-        let (values, content) = (maker.values.len(), maker.content.len());
-        self.values.drain(..self.values.len() - values);
-        self.content.drain(..self.content.len() - content);
+        values.drain(..at);
+        content.drain(..place);
         done
     }
 
@@ -327,6 +364,15 @@ fn mix(hash: u64, value: Value) -> u64 {
     (hash.rotate_left(5) ^ value.0 as u64).wrapping_mul(0x517C_C1B7_2722_0A95)
 }
 
+/// Makes a run of a class, which is of this kind.
+#[inline]
+fn run(py: Python<'_>, class: &Class, kind: usize, content: &[u8]) -> PyResult<PyObject> {
+    match kind == Kind::Data as usize {
+        true => class.make(py, || bytes(py, content)),
+        false => class.make(py, || text(py, content)),
+    }
+}
+
 /// Makes objects of values.
 struct Maker<'a, 'py> {
     py: Python<'py>,
@@ -336,38 +382,6 @@ struct Maker<'a, 'py> {
 }
 
 impl<'a> Maker<'a, '_> {
-    /// The next object, which may be known.
-    #[inline(always)]
-    fn object(&mut self, all: &mut [Pair]) -> PyResult<PyObject> {
-        let (first, values) = (self.values[0], self.values);
-        if first.is(RUN) {
-            let (kind, length) = first.parts();
-            if length > SHORT {
-                self.values = &values[1..];
-                return self.run(kind, length);
-            }
-            let bytes = self.content[..length as usize].iter();
-            let content = bytes.fold(0, |all, byte| all << 8 | i64::from(*byte));
-            // a run that is short leaves room for its content
-            let key = [Value(first.0 | content << 16)];
-            if let Some(object) = known(all, mix(0, key[0]), &key) {
-                (self.values, self.content) = (&values[1..], &self.content[length as usize..]);
-                return Ok(object.clone_ref(self.py));
-            }
-            return self.new_object(all, mix(0, key[0]), &key);
-        }
-        let (mut hash, mut count) = (mix(0, first), 1);
-        for value in values[1..].iter().take_while(|value| value.0 & FIRST == 0) {
-            (hash, count) = (mix(hash, *value), count + 1);
-        }
-        let (key, rest) = values.split_at(count);
-        if let Some(object) = known(all, hash, key) {
-            self.values = rest;
-            return Ok(object.clone_ref(self.py));
-        }
-        self.new_object(all, hash, key)
-    }
-
     /// A new object, which is known from now on unless it has content that its key hasn't.
     #[inline(never)]
     fn new_object(&mut self, all: &mut [Pair], hash: u64, key: &[Value]) -> PyResult<PyObject> {
@@ -406,17 +420,11 @@ impl<'a> Maker<'a, '_> {
             TUPLE => tuple(py, number as usize, || self.next()),
             OBJECT => self.classes[kind].make(py, || self.next()),
             MEMBER => self.classes[kind].make(py, || integer(py, field)),
-            RUN => self.run(kind, field),
+            RUN => {
+                let content = self.content(field);
+                run(py, &self.classes[kind], kind, content)
+            }
             _ => integer(py, number),
-        }
-    }
-
-    #[inline]
-    fn run(&mut self, kind: usize, length: i64) -> PyResult<PyObject> {
-        let (py, class, content) = (self.py, &self.classes[kind], self.content(length));
-        match kind == Kind::Data as usize {
-            true => class.make(py, || bytes(py, content)),
-            false => class.make(py, || text(py, content)),
         }
     }
 

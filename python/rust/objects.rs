@@ -10,13 +10,20 @@ use pyo3::types::{PyBytes, PyMemoryView, PyString, PyTuple, PyType};
 use pyo3::{ffi, prelude::*, PyClass, PyTypeInfo};
 use std::os::raw::c_char;
 
+/// A new object, or none if Python has an error, which `raised` takes.
+pub type Made = Option<PyObject>;
+
 /// Calls a function of Python that returns a new reference, or null with an error. It gets objects,
 /// numbers, the bytes of a slice, or texts that end in NUL.
 macro_rules! new {
     ($py:expr, $function:ident($($argument:expr),+)) => {
         // SAFETY: the arguments are as said above, and the lock is held
-        unsafe { PyObject::from_owned_ptr_or_err($py, ffi::$function($($argument),+)) }
+        unsafe { PyObject::from_owned_ptr_or_opt($py, ffi::$function($($argument),+)) }
     };
+}
+
+pub fn raised(py: Python<'_>, made: Made) -> PyResult<PyObject> {
+    made.ok_or_else(|| PyErr::fetch(py))
 }
 
 /// From how many bytes on other threads may run meanwhile. Below, a release costs more than it
@@ -58,8 +65,10 @@ pub fn bytes_of<'py>(data: &Bound<'py, PyAny>) -> PyResult<Bound<'py, PyBytes>> 
         return Ok(bytes.clone());
     }
     let view = PyMemoryView::from_bound(data)?;
-    let copied = new!(data.py(), PyBytes_FromObject(view.as_ptr()))?;
-    Ok(copied.into_bound(data.py()).downcast_into()?)
+    let copied = new!(data.py(), PyBytes_FromObject(view.as_ptr()));
+    Ok(raised(data.py(), copied)?
+        .into_bound(data.py())
+        .downcast_into()?)
 }
 
 /// A `str` in UTF-8. What errors of codecs do is named by a text that ends in NUL.
@@ -71,8 +80,8 @@ pub fn encoded<'py>(
     let encoded = new!(
         py,
         PyUnicode_AsEncodedString(text, for_c("utf-8\0"), errors)
-    )?;
-    Ok(encoded.into_bound(py).downcast_into()?)
+    );
+    Ok(raised(py, encoded)?.into_bound(py).downcast_into()?)
 }
 
 /// The error of memory that was refused, which needs none itself.
@@ -88,62 +97,49 @@ fn size(length: usize) -> ffi::Py_ssize_t {
 }
 
 /// A `str` of text in UTF-8, which Python checks.
-pub fn text(py: Python<'_>, utf8: &[u8]) -> PyResult<PyObject> {
+pub fn text(py: Python<'_>, utf8: &[u8]) -> Made {
     decoded(py, utf8, "strict\0")
 }
 
 /// A `str` of bytes, as `encoded` makes them.
-pub fn decoded(py: Python<'_>, utf8: &[u8], errors: &'static str) -> PyResult<PyObject> {
+pub fn decoded(py: Python<'_>, utf8: &[u8], errors: &'static str) -> Made {
     let (place, length) = (utf8.as_ptr().cast(), size(utf8.len()));
     new!(py, PyUnicode_DecodeUTF8(place, length, for_c(errors)))
 }
 
-pub fn bytes(py: Python<'_>, content: &[u8]) -> PyResult<PyObject> {
+pub fn bytes(py: Python<'_>, content: &[u8]) -> Made {
     let (place, length) = (content.as_ptr().cast(), size(content.len()));
     new!(py, PyBytes_FromStringAndSize(place, length))
 }
 
-pub fn integer(py: Python<'_>, value: i64) -> PyResult<PyObject> {
+pub fn integer(py: Python<'_>, value: i64) -> Made {
     new!(py, PyLong_FromLongLong(value))
 }
 
-pub fn real(py: Python<'_>, value: f64) -> PyResult<PyObject> {
+pub fn real(py: Python<'_>, value: f64) -> Made {
     new!(py, PyFloat_FromDouble(value))
 }
 
-/// A tuple of as many values.
+/// A tuple of as many values, of which each is made for its place.
 #[inline(always)]
-pub fn tuple(
-    py: Python<'_>,
-    count: usize,
-    mut next: impl FnMut() -> PyResult<PyObject>,
-) -> PyResult<PyObject> {
+pub fn tuple(py: Python<'_>, count: usize, mut value: impl FnMut(usize) -> Made) -> Made {
     let tuple = new!(py, PyTuple_New(size(count)))?;
     for place in 0..count {
         // SAFETY: a new tuple of this size. Places whose values can't be made stay null, which
         // nothing but the deallocator sees
-        unsafe { ffi::PyTuple_SetItem(tuple.as_ptr(), size(place), next()?.into_ptr()) };
+        unsafe { ffi::PyTuple_SetItem(tuple.as_ptr(), size(place), value(place)?.into_ptr()) };
     }
-    Ok(tuple)
-}
-
-/// A tuple of these values.
-pub fn tuple_of<const N: usize>(
-    py: Python<'_>,
-    values: [PyResult<PyObject>; N],
-) -> PyResult<PyObject> {
-    let mut values = values.into_iter();
-    tuple(py, N, || values.next().expect("one for each place"))
+    Some(tuple)
 }
 
 /// A list of objects, which it takes. If memory is refused, they stay.
-pub fn list(py: Python<'_>, objects: &mut Vec<PyObject>) -> PyResult<PyObject> {
+pub fn list(py: Python<'_>, objects: &mut Vec<PyObject>) -> Made {
     let list = new!(py, PyList_New(size(objects.len())))?;
     for (place, object) in objects.drain(..).enumerate() {
         // SAFETY: a new list, which has this place
         unsafe { ffi::PyList_SetItem(list.as_ptr(), size(place), object.into_ptr()) };
     }
-    Ok(list)
+    Some(list)
 }
 
 /// A class of Python's half of the package.
@@ -173,36 +169,32 @@ impl Class {
         self.class.is(other)
     }
 
-    /// Makes an object of its fields.
+    /// Makes an object of its fields, of which each is made for its place.
     #[inline(always)]
-    pub fn make(
-        &self,
-        py: Python<'_>,
-        mut next: impl FnMut() -> PyResult<PyObject>,
-    ) -> PyResult<PyObject> {
+    pub fn make(&self, py: Python<'_>, mut field: impl FnMut(usize) -> Made) -> Made {
         let (class, count) = (self.class.as_ptr(), self.fields);
         if !self.is_allocated {
-            let fields = tuple(py, count, next)?;
+            let fields = tuple(py, count, field)?;
             return new!(py, PyObject_CallObject(class, fields.as_ptr()));
         }
-        // SAFETY: a class with the layout of tuples, whose places are at the end of an object. They are
-        // set before anything sees it. What they hold is in no cycle, so the collector needn't look
-        // at it
+        // SAFETY: a class with the layout of tuples, whose places follow the size. They are set
+        // before anything sees the object. What they hold is in no cycle, so the collector needn't
+        // look at it
         unsafe {
             let made = ffi::_PyObject_GC_NewVar(class.cast(), size(count));
-            let made = PyObject::from_owned_ptr_or_err(py, made.cast())?;
+            let made = PyObject::from_owned_ptr_or_opt(py, made.cast())?;
             let places = made.as_ptr().cast::<ffi::PyVarObject>().add(1);
             let places = places.cast::<*mut ffi::PyObject>();
             for place in 0..count {
-                match next() {
-                    Ok(field) => places.add(place).write(field.into_ptr()),
-                    Err(error) => {
+                match field(place) {
+                    Some(field) => places.add(place).write(field.into_ptr()),
+                    None => {
                         places.add(place).write_bytes(0, count - place);
-                        return Err(error);
+                        return None;
                     }
                 }
             }
-            Ok(made)
+            Some(made)
         }
     }
 }

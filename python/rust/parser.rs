@@ -2,7 +2,7 @@
 
 use crate::calls::Kind;
 use crate::events::{Kinds, Recorder};
-use crate::objects::{borrowed, bytes, bytes_of, error, integer, text, tuple_of};
+use crate::objects::{borrowed, bytes, bytes_of, error, integer, raised, text, tuple};
 use crate::reader::{read, step, Reader};
 use crate::tape::Tape;
 use pyo3::exceptions::{PyTypeError, PyValueError};
@@ -33,8 +33,11 @@ impl Content {
 pub fn state_of(py: Python<'_>, parser: &Limited) -> PyResult<PyObject> {
     let mut content = Content([0; size_of::<Saved>()]);
     parser.save(content.saved());
-    let version = text(py, env!("CARGO_PKG_VERSION").as_bytes());
-    tuple_of(py, [version, bytes(py, &content.0)])
+    let state = tuple(py, 2, |place| match place {
+        0 => text(py, env!("CARGO_PKG_VERSION").as_bytes()),
+        _ => bytes(py, &content.0),
+    });
+    raised(py, state)
 }
 
 /// The parser of a state.
@@ -86,7 +89,7 @@ impl Parser {
     fn limit(slf: &Bound<'_, Self>) -> PyResult<PyObject> {
         match borrowed(slf)?.machine {
             Machine::Long(_) => Ok(slf.py().None()),
-            Machine::Limited(_) => integer(slf.py(), LIMIT as i64),
+            Machine::Limited(_) => raised(slf.py(), integer(slf.py(), LIMIT as i64)),
         }
     }
 
@@ -123,13 +126,18 @@ impl Parser {
             return Err(error::<PyValueError>(py, wrong));
         }
         let (events, read) = read_events(slf, data, kinds, stops)?;
-        tuple_of(py, [Ok(events), integer(py, read as i64)])
+        let pair = tuple(py, 2, |place| match place {
+            0 => Some(events.clone_ref(py)),
+            _ => integer(py, read as i64),
+        });
+        raised(py, pair)
     }
 
     // with these, `object` can make a copy and a pickle
 
     fn __getnewargs__(slf: &Bound<'_, Self>) -> PyResult<PyObject> {
-        tuple_of(slf.py(), [integer(slf.py(), LIMIT as i64)])
+        let py = slf.py();
+        raised(py, tuple(py, 1, |_| integer(py, LIMIT as i64)))
     }
 
     fn __getstate__(slf: &Bound<'_, Self>) -> PyResult<PyObject> {

@@ -1,6 +1,6 @@
 //! The processor of calls.
 
-use crate::objects::{borrowed, bytes_of, integer, no_memory, real};
+use crate::objects::{borrowed, bytes_of, integer, no_memory, raised, real};
 use crate::reader::{make, read, step, Reader};
 use crate::tape::Tape;
 use pyo3::prelude::*;
@@ -69,7 +69,8 @@ impl Processor {
     /// How many bytes are held.
     #[getter]
     fn sync_bytes_count(slf: &Bound<'_, Self>) -> PyResult<PyObject> {
-        integer(slf.py(), borrowed(slf)?.processor.sync_bytes_count() as i64)
+        let count = borrowed(slf)?.processor.sync_bytes_count();
+        raised(slf.py(), integer(slf.py(), count as i64))
     }
 
     /// Until when an update is pending, by `time.monotonic()`, or None.
@@ -84,7 +85,8 @@ impl Processor {
         // one of these two is 0
         let left = deadline.saturating_duration_since(Instant::now());
         let over = deadline.elapsed();
-        real(py, now + left.as_secs_f64() - over.as_secs_f64())
+        let deadline = real(py, now + left.as_secs_f64() - over.as_secs_f64());
+        raised(py, deadline)
     }
 }
 

@@ -1,7 +1,7 @@
 //! How streams are read, and what an error has.
 
 use crate::calls::Kind;
-use crate::objects::{integer, no_memory, run, LONG};
+use crate::objects::{integer, no_memory, raised, run, LONG};
 use crate::tape::{classes, Tape};
 use pyo3::exceptions::PyMemoryError;
 use pyo3::prelude::*;
@@ -77,21 +77,22 @@ pub fn make(
     }
     let made = match tape.make(py, ends) {
         Ok(()) if is_refused => Err(no_memory(py)),
-        Ok(()) if ends => tape.list(py).map(Some),
+        Ok(()) if ends => raised(py, tape.list(py)).map(Some),
         made => made.map(|()| None),
     };
     made.map_err(|error| {
         if !error.is_instance_of::<PyMemoryError>(py) {
             return error;
         }
-        let mut values = [integer(py, read as i64), tape.list(py)].into_iter();
-        let refused = classes(py).and_then(|classes| {
-            let next = || values.next().expect("it has two fields");
-            classes[Kind::Refused as usize].make(py, next)
+        let refused = classes(py).map(|classes| {
+            classes[Kind::Refused as usize].make(py, |place| match place {
+                0 => integer(py, read as i64),
+                _ => tape.list(py),
+            })
         });
         match refused {
-            Ok(refused) => PyErr::from_value_bound(refused.into_bound(py)),
-            Err(_) => no_memory(py),
+            Ok(Some(refused)) => PyErr::from_value_bound(refused.into_bound(py)),
+            _ => no_memory(py),
         }
     })
 }

@@ -3,14 +3,15 @@
 //! still there.
 
 use crate::calls::{Kind, NAMES};
-use crate::objects::{bytes, integer, list, no_memory, text, tuple, Class};
+use crate::objects::{bytes, integer, list, no_memory, text, tuple, Class, Made};
 use pyo3::prelude::*;
-use pyo3::sync::GILOnceCell;
+use pyo3::sync::{GILOnceCell, GILProtected};
+use std::cell::Cell;
 use vte::Refused;
 
 /// What an object is made of: what it is, and a number of 58 bits. The content of texts and data is
 /// stored beside it, in the same order.
-#[derive(Clone, Copy, PartialEq)]
+#[derive(Clone, Copy, Default, PartialEq)]
 pub struct Value(i64);
 
 // what the number of a value is
@@ -150,11 +151,18 @@ impl<T: Field> Field for Option<T> {
     }
 }
 
-/// An object, and its values.
-type Known = (Vec<Value>, PyObject);
-type Pair = [Option<Known>; 2];
+/// An object that was made, and its key: the values, and the content if it is short.
+#[derive(Default)]
+struct Known {
+    first: Value,
+    others: Vec<Value>,
+    object: Option<PyObject>,
+}
+
 /// How many pairs of objects are known at most, by its logarithm.
-const KNOWN: u32 = 9;
+const PAIRS: u32 = 9;
+/// How many objects there is always memory for, once they were made.
+const MOST: usize = 1 << 12;
 /// The content of a run that is known has at most so many bytes.
 const SHORT: usize = 3;
 
@@ -168,10 +176,11 @@ pub struct Tape {
     // whether memory was refused, so that something is missing
     is_refused: bool,
     made: Vec<PyObject>,
-    // objects that were made, each in the place that its values give: programs send few different
-    // ones
-    known: Vec<Pair>,
 }
+
+/// Objects that were made, each in the pair of places that its key gives: programs send few
+/// different ones. Who makes objects takes them meanwhile.
+static KNOWN: GILProtected<Cell<Vec<[Known; 2]>>> = GILProtected::new(Cell::new(Vec::new()));
 
 impl Tape {
     /// The most values or bytes for each byte that is read, and for what was open before. More are
@@ -262,41 +271,34 @@ impl Tape {
     pub fn make(&mut self, py: Python<'_>, ends: bool) -> PyResult<()> {
         let reserved = self.made.try_reserve(self.values.len());
         reserved.map_err(|_| no_memory(py))?;
-        if self.known.is_empty() && self.known.try_reserve_exact(1 << KNOWN).is_ok() {
-            self.known.resize_with(1 << KNOWN, Default::default);
+        let (classes, mut all) = (classes(py)?, KNOWN.get(py).take());
+        if all.is_empty() && all.try_reserve_exact(1 << PAIRS).is_ok() {
+            all.resize_with(1 << PAIRS, Default::default);
         }
         let end = self.values.len() - usize::from(self.is_open && !ends);
-        let classes = classes(py)?;
-        let Tape {
-            values,
-            content,
-            made,
-            known: all,
-            ..
-        } = self;
+        let (values, content) = (&self.values[..end], &self.content[..]);
         let (mut at, mut place, mut done) = (0, 0, Ok(()));
         while at < end {
-            let (first, mut count, mut length) = (values[at], 1, 0);
+            let (first, is_run, mut count) = (values[at], values[at].is(RUN), 1);
             let ((kind, field), mut hash, mut short) = (first.parts(), mix(0, first), [first]);
-            let object = if first.is(RUN) && field as usize > SHORT {
-                length = field as usize;
+            let mut length = if is_run { field as usize } else { 0 };
+            let object = if length > SHORT {
                 run(py, &classes[kind], kind, &content[place..place + length])
             } else {
-                let key = if first.is(RUN) {
-                    length = field as usize;
+                let key = if is_run {
                     let bytes = content[place..place + length].iter();
                     // the length of a short run leaves room for its content
                     short[0].0 |= bytes.fold(0, |all, byte| all << 8 | i64::from(*byte)) << 16;
                     hash = mix(0, short[0]);
                     &short
                 } else {
-                    while at + count < values.len() && values[at + count].0 & FIRST == 0 {
+                    while at + count < end && values[at + count].0 & FIRST == 0 {
                         (hash, count) = (mix(hash, values[at + count]), count + 1);
                     }
                     &values[at..at + count]
                 };
-                match known(all, hash, key) {
-                    Some(object) => Ok(object.clone_ref(py)),
+                match known(&all, hash, key) {
+                    Some(object) => Some(object.clone_ref(py)),
                     None => {
                         let mut maker = Maker {
                             py,
@@ -304,31 +306,34 @@ impl Tape {
                             values: &values[at..],
                             content: &content[place..],
                         };
-                        let object = maker.new_object(all, hash, key);
+                        let object = maker.new_object(&mut all, hash, key);
                         length = content.len() - place - maker.content.len();
                         object
                     }
                 }
             };
             match object {
-                Ok(object) => made.push(object),
-                Err(error) => {
-                    done = Err(error);
+                Some(object) => self.made.push(object),
+                None => {
+                    done = Err(PyErr::fetch(py));
                     break;
                 }
             }
             (at, place) = (at + count, place + length);
         }
-        values.drain(..at);
-        content.drain(..place);
+        KNOWN.get(py).set(all);
+        self.values.drain(..at);
+        self.content.drain(..place);
         done
     }
 
     /// A list of what was made. If memory is refused, this stays.
-    pub fn list(&mut self, py: Python<'_>) -> PyResult<PyObject> {
+    pub fn list(&mut self, py: Python<'_>) -> Made {
         let list = list(py, &mut self.made)?;
-        self.made = Vec::new();
-        Ok(list)
+        if self.made.capacity() > MOST {
+            self.made = Vec::new();
+        }
+        Some(list)
     }
 }
 
@@ -347,16 +352,13 @@ pub fn classes(py: Python<'_>) -> PyResult<&'static [Class]> {
 
 /// The object of a key, if it is known.
 #[inline]
-fn known<'a>(all: &'a [Pair], hash: u64, key: &[Value]) -> Option<&'a PyObject> {
-    match all.get(place_of(hash))? {
-        [Some((known, object)), _] if known == key => Some(object),
-        [_, Some((known, object))] if known == key => Some(object),
-        _ => None,
-    }
+fn known<'a>(all: &'a [[Known; 2]], hash: u64, key: &[Value]) -> Option<&'a PyObject> {
+    let is = |known: &&Known| known.first == key[0] && known.others == key[1..];
+    all.get(place_of(hash))?.iter().find(is)?.object.as_ref()
 }
 
 fn place_of(hash: u64) -> usize {
-    (hash >> (u64::BITS - KNOWN)) as usize
+    (hash >> (u64::BITS - PAIRS)) as usize
 }
 
 #[inline]
@@ -366,10 +368,10 @@ fn mix(hash: u64, value: Value) -> u64 {
 
 /// Makes a run of a class, which is of this kind.
 #[inline]
-fn run(py: Python<'_>, class: &Class, kind: usize, content: &[u8]) -> PyResult<PyObject> {
+fn run(py: Python<'_>, class: &Class, kind: usize, content: &[u8]) -> Made {
     match kind == Kind::Data as usize {
-        true => class.make(py, || bytes(py, content)),
-        false => class.make(py, || text(py, content)),
+        true => class.make(py, |_| bytes(py, content)),
+        false => class.make(py, |_| text(py, content)),
     }
 }
 
@@ -384,28 +386,32 @@ struct Maker<'a, 'py> {
 impl<'a> Maker<'a, '_> {
     /// A new object, which is known from now on unless it has content that its key hasn't.
     #[inline(never)]
-    fn new_object(&mut self, all: &mut [Pair], hash: u64, key: &[Value]) -> PyResult<PyObject> {
+    fn new_object(&mut self, all: &mut [[Known; 2]], hash: u64, key: &[Value]) -> Made {
         let content = self.content;
-        let (made, mut known) = (self.next()?, Vec::new());
+        let (object, mut others) = (self.next()?, Vec::new());
         let is_whole = key[0].is(RUN) || self.content.len() == content.len();
-        if is_whole && known.try_reserve_exact(key.len()).is_ok() {
+        if is_whole && others.try_reserve_exact(key.len() - 1).is_ok() {
             if let Some(pair) = all.get_mut(place_of(hash)) {
-                known.extend_from_slice(key);
+                others.extend_from_slice(&key[1..]);
                 pair.swap(0, 1);
-                pair[0] = Some((known, made.clone_ref(self.py)));
+                pair[0] = Known {
+                    first: key[0],
+                    others,
+                    object: Some(object.clone_ref(self.py)),
+                };
             }
         }
-        Ok(made)
+        Some(object)
     }
 
-    fn next(&mut self) -> PyResult<PyObject> {
+    fn next(&mut self) -> Made {
         let py = self.py;
         let value = self.values[0];
         self.values = &self.values[1..];
         let (number, (kind, field)) = (value.number(), value.parts());
         match value.0 & (FIRST - 1) {
-            NOTHING => Ok(py.None()),
-            FLAG => Ok((number != 0).into_py(py)),
+            NOTHING => Some(py.None()),
+            FLAG => Some((number != 0).into_py(py)),
             LETTER => {
                 let letter = char::from(number as u8);
                 text(py, letter.encode_utf8(&mut [0; 4]).as_bytes())
@@ -416,10 +422,10 @@ impl<'a> Maker<'a, '_> {
             }
             TEXT => text(py, self.content(number)),
             DATA => bytes(py, self.content(number)),
-            SINGLE => tuple(py, 1, || integer(py, number)),
-            TUPLE => tuple(py, number as usize, || self.next()),
-            OBJECT => self.classes[kind].make(py, || self.next()),
-            MEMBER => self.classes[kind].make(py, || integer(py, field)),
+            SINGLE => tuple(py, 1, |_| integer(py, number)),
+            TUPLE => tuple(py, number as usize, |_| self.next()),
+            OBJECT => self.classes[kind].make(py, |_| self.next()),
+            MEMBER => self.classes[kind].make(py, |_| integer(py, field)),
             RUN => {
                 let content = self.content(field);
                 run(py, &self.classes[kind], kind, content)

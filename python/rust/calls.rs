@@ -60,6 +60,7 @@ impl TakeText for Tape {
 }
 
 fields! {
+    Kind: kind => Value::of(OBJECT, kind, 0);
     // the letter of a clipboard
     u8: byte => char::from(byte);
     u16: number => Value::new(NUMBER, number.into());
@@ -69,22 +70,23 @@ fields! {
     Mode: mode => mode.raw();
     PrivateMode: mode => mode.raw();
     KeyboardModes: modes => u16::from(modes.bits());
-    Rgb: rgb =>
-        Value::of(OBJECT, Kind::Rgb, 0), u16::from(rgb.r), u16::from(rgb.g), u16::from(rgb.b);
+    Rgb: rgb => Kind::Rgb, u16::from(rgb.r), u16::from(rgb.g), u16::from(rgb.b);
     Option<CursorStyle>: style =>
         style.map(|style| style.shape), style.map_or(false, |style| style.blinking);
     Option<Hyperlink<'_>>: link => link.and_then(|link| link.id), link.map(|link| link.uri);
-    // members of enumerations, by their numbers
-    NamedColor: color => Value::of(MEMBER, Kind::NamedColor, color as i64);
-    LineClearMode: part => Value::of(MEMBER, Kind::LinePart, part as i64);
-    ClearMode: part => Value::of(MEMBER, Kind::ScreenPart, part as i64);
-    TabulationClearMode: which => Value::of(MEMBER, Kind::Tabs, which as i64);
-    CursorShape: shape => Value::of(MEMBER, Kind::Shape, shape as i64);
-    StandardCharset: charset => Value::of(MEMBER, Kind::Charset, charset as i64);
-    ScpCharPath: path => Value::of(MEMBER, Kind::Path, path as i64);
-    ScpUpdateMode: update => Value::of(MEMBER, Kind::Update, update as i64);
-    KeyboardModesApplyBehavior: behavior => Value::of(MEMBER, Kind::Behavior, behavior as i64);
-    ModifyOtherKeys: keys => Value::of(MEMBER, Kind::OtherKeys, keys as i64);
+}
+
+/// Says for enumerations of which classes their members are, which have numbers.
+macro_rules! members {
+    ($($type:ident $kind:ident;)+) => {
+        fields! { $($type: member => Value::of(MEMBER, Kind::$kind, member as i64);)+ }
+    };
+}
+
+members! {
+    NamedColor NamedColor; LineClearMode LinePart; ClearMode ScreenPart; TabulationClearMode Tabs;
+    CursorShape Shape; StandardCharset Charset; ScpCharPath Path; ScpUpdateMode Update;
+    KeyboardModesApplyBehavior Behavior; ModifyOtherKeys OtherKeys; Number Attribute;
 }
 
 impl Field for Color {
@@ -110,8 +112,7 @@ macro_rules! attributes {
                     Attr::Background(color) => (Number::Background, Some(color)),
                     Attr::UnderlineColor(color) => (Number::UnderlineColor, color),
                 };
-                let attribute = Value::of(MEMBER, Kind::Attribute, number as i64);
-                tape.with(attribute).with(color);
+                tape.with(number).with(color);
             }
         }
     };

@@ -1,37 +1,33 @@
 //! The events of a stream.
 
 use crate::calls::Kind;
-use crate::tape::{classes, fields, Field, Tape, Tuple, Value, BYTES, MEMBER, SINGLE};
+use crate::tape::{classes, fields, Field, Tape, Tuple, Value, BYTES, MEMBER};
 use pyo3::exceptions::PyTypeError;
 use pyo3::prelude::*;
 use vte::{Params, Perform, PerformText};
 
 /// A set of types of events.
-#[derive(Clone, Copy, Default, PartialEq, Eq)]
-pub struct Kinds(u16);
+pub type Kinds = u16;
+/// All but `Data`, which stands for `Put`.
+pub const ALL: Kinds = (1 << Kind::Data as u16) - 1;
+const COMMANDS: Kinds = 1 << Kind::Osc as u16;
 
-impl Kinds {
-    /// All but `Data`, which stands for `Put`.
-    pub const ALL: Kinds = Kinds((1 << Kind::Data as u16) - 1);
-    const COMMANDS: Kinds = Kinds(1 << Kind::Osc as u16);
+pub fn has(kinds: Kinds, kind: Kind) -> bool {
+    kinds >> kind as u16 & 1 == 1
+}
 
-    pub fn has(self, kind: Kind) -> bool {
-        self.0 >> kind as u16 & 1 == 1
-    }
-
-    /// Those that an iterable over classes names.
-    pub fn of(kinds: &Bound<'_, PyAny>) -> PyResult<Self> {
-        let events = &classes(kinds.py())?[..=Kind::Data as usize];
-        kinds.iter()?.try_fold(Kinds::default(), |made, kind| {
-            let kind = kind?;
-            match events.iter().position(|class| class.is(&kind)) {
-                Some(place) => Ok(Kinds(made.0 | 1 << place)),
-                None => Err(PyTypeError::new_err(format!(
-                    "kinds must be types of events, such as vte.Osc, not {kind:?}"
-                ))),
-            }
-        })
-    }
+/// Those that an iterable over classes names.
+pub fn kinds_of(kinds: &Bound<'_, PyAny>) -> PyResult<Kinds> {
+    let events = &classes(kinds.py())?[..=Kind::Data as usize];
+    kinds.iter()?.try_fold(0, |made, kind| {
+        let kind = kind?;
+        match events.iter().position(|class| class.is(&kind)) {
+            Some(place) => Ok(made | 1 << place),
+            None => Err(PyTypeError::new_err(format!(
+                "kinds must be types of events, such as vte.Osc, not {kind:?}"
+            ))),
+        }
+    })
 }
 
 /// Records events of some types. It is terminated after those of the types that stop a call, and
@@ -53,41 +49,37 @@ pub struct Recorder {
 impl Recorder {
     pub fn start(&mut self, kinds: Kinds, stops: Kinds) {
         (self.kinds, self.stops) = (kinds, stops);
-        self.pauses = Kinds(match self.only_commands() {
-            true => Kinds::ALL.0,
-            false => stops.0 | Kinds::COMMANDS.0,
-        });
+        self.pauses = [stops | COMMANDS, ALL][usize::from(self.only_commands())];
         self.go_on();
     }
 
     pub fn go_on(&mut self) {
-        (self.seen, self.truncated) = (Kinds::default(), None);
+        (self.seen, self.truncated) = (0, None);
     }
 
     pub fn has_stopped(&self) -> bool {
-        self.seen.0 & self.stops.0 != 0
+        self.seen & self.stops != 0
     }
 
     pub fn only_commands(&self) -> bool {
-        self.kinds == Kinds::COMMANDS
+        self.kinds == COMMANDS
     }
 
     /// Notes that the command that ended since `go_on` lost data, if there is one.
     pub fn truncate_command(&mut self) {
         if let Some(place) = self.truncated {
-            self.tape.set(place, true);
+            self.tape.set(place);
         }
     }
 
     /// Begins an event, if it is wanted.
     #[inline]
     fn begin(&mut self, kind: Kind) -> Option<&mut Tape> {
-        self.seen.0 |= 1 << kind as u16;
+        self.seen |= 1 << kind as u16;
         self.tape.end_run();
-        self.kinds.has(kind).then_some(&mut self.tape)
+        has(self.kinds, kind).then_some(&mut self.tape)
     }
 
-    /// Records an event with one number.
     #[inline]
     fn add(&mut self, kind: Kind, number: u8) {
         if let Some(tape) = self.begin(kind) {
@@ -98,17 +90,8 @@ impl Recorder {
 
 fields! {
     &Params: groups => Tuple(groups.iter());
+    &[u16]: group => Tuple(group.iter().copied());
     &[&[u8]]: pieces => Tuple(pieces.iter().copied());
-}
-
-impl Field for &[u16] {
-    #[inline]
-    fn record(self, tape: &mut Tape) {
-        match self {
-            [number] => Value::new(SINGLE, (*number).into()).record(tape),
-            _ => Tuple(self.iter().copied()).record(tape),
-        }
-    }
 }
 
 /// At most six bytes.
@@ -160,25 +143,25 @@ impl Perform for Recorder {
                 .with(pieces)
                 .with(bell_terminated)
                 .with(false);
-            self.truncated = Some(tape.last_value());
+            self.truncated = Some(tape.count() - 1);
         }
     }
 
     fn terminated(&self) -> bool {
-        self.seen.0 & self.pauses.0 != 0
+        self.seen & self.pauses != 0
     }
 }
 
 impl PerformText for Recorder {
     fn print_text(&mut self, text: &str) {
-        match self.kinds.has(Kind::Text) {
+        match has(self.kinds, Kind::Text) {
             true => self.tape.add_run(Kind::Text, text.as_bytes()),
             false => self.tape.end_run(),
         }
     }
 
     fn put_slice(&mut self, data: &[u8]) {
-        match self.kinds.has(Kind::Data) {
+        match has(self.kinds, Kind::Data) {
             true => self.tape.add_run(Kind::Data, data),
             false => data.iter().for_each(|byte| self.put(*byte)),
         }

@@ -84,15 +84,15 @@ pub fn make(
         if !error.is_instance_of::<PyMemoryError>(py) {
             return error;
         }
-        let refused = classes(py).map(|classes| {
+        let refused = classes(py).ok().and_then(|classes| {
             classes[Kind::Refused as usize].make(py, |place| match place {
                 0 => integer(py, read as i64),
                 _ => tape.list(py),
             })
         });
         match refused {
-            Ok(Some(refused)) => PyErr::from_value_bound(refused.into_bound(py)),
-            _ => no_memory(py),
+            Some(refused) => PyErr::from_value_bound(refused.into_bound(py)),
+            None => no_memory(py),
         }
     })
 }

@@ -9,7 +9,7 @@ use pyo3::sync::{GILOnceCell, GILProtected};
 use std::cell::Cell;
 use vte::Refused;
 
-/// What an object is made of: what it is, and a number of 58 bits. The content of texts and data is
+/// What an object is made of: what it is, and a number of 59 bits. The content of texts and data is
 /// stored beside it, in the same order.
 #[derive(Clone, Copy, Default, PartialEq)]
 pub struct Value(i64);
@@ -23,26 +23,22 @@ pub const LETTER: i64 = 3;
 pub const BYTES: i64 = 4;
 /// How many fields follow.
 const TUPLE: i64 = 5;
-/// The only number of a tuple.
-pub const SINGLE: i64 = 6;
 /// A class, whose fields follow.
 pub const OBJECT: i64 = 7;
 /// A class, and the number that is its only field.
 pub const MEMBER: i64 = 8;
 /// The length of the content.
-const TEXT: i64 = CONTENT;
-const DATA: i64 = CONTENT + 1;
+const TEXT: i64 = 9;
+const DATA: i64 = 10;
 /// A class, and the length of the content that is its only field.
-const RUN: i64 = CONTENT + 2;
-
-const CONTENT: i64 = 1 << 4;
+const RUN: i64 = 11;
 /// A value with which an object begins that is in no other.
-const FIRST: i64 = 1 << 5;
+const FIRST: i64 = 16;
 
 impl Value {
     #[inline]
     pub fn new(is: i64, number: i64) -> Self {
-        Value(number << 6 | is)
+        Value(number << 5 | is)
     }
 
     /// An object of a class, and its only field.
@@ -55,13 +51,9 @@ impl Value {
         self.0 & (FIRST - 1) == is
     }
 
-    fn number(self) -> i64 {
-        self.0 >> 6
-    }
-
     /// The class and the only field.
     fn parts(self) -> (usize, i64) {
-        ((self.number() & 255) as usize, self.number() >> 8)
+        ((self.0 >> 5 & 255) as usize, self.0 >> 13)
     }
 }
 
@@ -151,18 +143,10 @@ impl<T: Field> Field for Option<T> {
     }
 }
 
-/// An object that was made, and its key: the values, and the content if it is short.
-#[derive(Default)]
-struct Known {
-    first: Value,
-    others: Vec<Value>,
-    object: Option<PyObject>,
-}
-
+/// An object that was made, after its key: its values, or what stands for a short run.
+type Known = (Value, Vec<Value>, Option<PyObject>);
 /// How many pairs of objects are known at most, by its logarithm.
 const PAIRS: u32 = 9;
-/// How many objects there is always memory for, once they were made.
-const MOST: usize = 1 << 12;
 /// The content of a run that is known has at most so many bytes.
 const SHORT: usize = 3;
 
@@ -246,13 +230,9 @@ impl Tape {
         self.is_open = false;
     }
 
-    /// The place of the last value, which can be changed there.
-    pub fn last_value(&self) -> usize {
-        self.values.len() - 1
-    }
-
-    pub fn set(&mut self, place: usize, flag: bool) {
-        self.values[place] = Value::new(FLAG, flag.into());
+    /// Changes the value of a place to true.
+    pub fn set(&mut self, place: usize) {
+        self.values[place] = Value::new(FLAG, 1);
     }
 
     /// Returns whether there was no memory to record something. Then all that is recorded is
@@ -297,19 +277,30 @@ impl Tape {
                     }
                     &values[at..at + count]
                 };
-                match known(&all, hash, key) {
-                    Some(object) => Some(object.clone_ref(py)),
-                    None => {
-                        let mut maker = Maker {
-                            py,
-                            classes,
-                            values: &values[at..],
-                            content: &content[place..],
-                        };
-                        let object = maker.new_object(&mut all, hash, key);
-                        length = content.len() - place - maker.content.len();
-                        object
+                let pair = &mut all.get_mut((hash >> (u64::BITS - PAIRS)) as usize);
+                let is = |it: &&Known| it.0 == key[0] && it.1 == key[1..];
+                let known = pair.as_ref().and_then(|pair| pair.iter().find(is));
+                if let Some((_, _, object)) = known {
+                    object.as_ref().map(|object| object.clone_ref(py))
+                } else {
+                    let mut maker = Maker {
+                        py,
+                        classes,
+                        values: &values[at..],
+                        content: &content[place..],
+                    };
+                    let (object, mut others) = (maker.next(), Vec::new());
+                    length = content.len() - place - maker.content.len();
+                    // other content makes other objects of these values
+                    let is_all = is_run || length == 0;
+                    if let (Some(pair), true, Some(_)) = (pair, is_all, &object) {
+                        if others.try_reserve_exact(count - 1).is_ok() {
+                            others.extend_from_slice(&key[1..]);
+                            pair.swap(0, 1);
+                            pair[0] = (key[0], others, object.as_ref().map(|it| it.clone_ref(py)));
+                        }
                     }
+                    object
                 }
             };
             match object {
@@ -330,7 +321,8 @@ impl Tape {
     /// A list of what was made. If memory is refused, this stays.
     pub fn list(&mut self, py: Python<'_>) -> Made {
         let list = list(py, &mut self.made)?;
-        if self.made.capacity() > MOST {
+        // the memory of few is at hand
+        if self.made.capacity() > 1 << 12 {
             self.made = Vec::new();
         }
         Some(list)
@@ -348,17 +340,6 @@ pub fn classes(py: Python<'_>) -> PyResult<&'static [Class]> {
         classes.collect::<PyResult<_>>()
     });
     classes.map(Vec::as_slice)
-}
-
-/// The object of a key, if it is known.
-#[inline]
-fn known<'a>(all: &'a [[Known; 2]], hash: u64, key: &[Value]) -> Option<&'a PyObject> {
-    let is = |known: &&Known| known.first == key[0] && known.others == key[1..];
-    all.get(place_of(hash))?.iter().find(is)?.object.as_ref()
-}
-
-fn place_of(hash: u64) -> usize {
-    (hash >> (u64::BITS - PAIRS)) as usize
 }
 
 #[inline]
@@ -384,31 +365,11 @@ struct Maker<'a, 'py> {
 }
 
 impl<'a> Maker<'a, '_> {
-    /// A new object, which is known from now on unless it has content that its key hasn't.
-    #[inline(never)]
-    fn new_object(&mut self, all: &mut [[Known; 2]], hash: u64, key: &[Value]) -> Made {
-        let content = self.content;
-        let (object, mut others) = (self.next()?, Vec::new());
-        let is_whole = key[0].is(RUN) || self.content.len() == content.len();
-        if is_whole && others.try_reserve_exact(key.len() - 1).is_ok() {
-            if let Some(pair) = all.get_mut(place_of(hash)) {
-                others.extend_from_slice(&key[1..]);
-                pair.swap(0, 1);
-                pair[0] = Known {
-                    first: key[0],
-                    others,
-                    object: Some(object.clone_ref(self.py)),
-                };
-            }
-        }
-        Some(object)
-    }
-
     fn next(&mut self) -> Made {
         let py = self.py;
         let value = self.values[0];
         self.values = &self.values[1..];
-        let (number, (kind, field)) = (value.number(), value.parts());
+        let (number, (kind, field)) = (value.0 >> 5, value.parts());
         match value.0 & (FIRST - 1) {
             NOTHING => Some(py.None()),
             FLAG => Some((number != 0).into_py(py)),
@@ -422,7 +383,6 @@ impl<'a> Maker<'a, '_> {
             }
             TEXT => text(py, self.content(number)),
             DATA => bytes(py, self.content(number)),
-            SINGLE => tuple(py, 1, |_| integer(py, number)),
             TUPLE => tuple(py, number as usize, |_| self.next()),
             OBJECT => self.classes[kind].make(py, |_| self.next()),
             MEMBER => self.classes[kind].make(py, |_| integer(py, field)),

@@ -1,7 +1,7 @@
 //! The events of a stream.
 
 use crate::calls::Kind;
-use crate::tape::{classes, fields, Field, Tape, Tuple, Value, BYTES, MEMBER};
+use crate::tape::{classes, fields, Field, Tape, Tuple, Value, BYTES, MEMBER, SINGLE};
 use pyo3::exceptions::PyTypeError;
 use pyo3::prelude::*;
 use vte::{Params, Perform, PerformText};
@@ -90,8 +90,17 @@ impl Recorder {
 
 fields! {
     &Params: groups => Tuple(groups.iter());
-    &[u16]: group => Tuple(group.iter().copied());
     &[&[u8]]: pieces => Tuple(pieces.iter().copied());
+}
+
+impl Field for &[u16] {
+    #[inline]
+    fn record(self, tape: &mut Tape) {
+        match self {
+            [number] => Value::new(SINGLE, (*number).into()).record(tape),
+            _ => Tuple(self.iter().copied()).record(tape),
+        }
+    }
 }
 
 /// At most six bytes.

@@ -23,6 +23,8 @@ pub const LETTER: i64 = 3;
 pub const BYTES: i64 = 4;
 /// How many fields follow.
 const TUPLE: i64 = 5;
+/// The only number of a tuple.
+pub const SINGLE: i64 = 6;
 /// A class, whose fields follow.
 pub const OBJECT: i64 = 7;
 /// A class, and the number that is its only field.
@@ -383,6 +385,7 @@ impl<'a> Maker<'a, '_> {
             }
             TEXT => text(py, self.content(number)),
             DATA => bytes(py, self.content(number)),
+            SINGLE => tuple(py, 1, |_| integer(py, number)),
             TUPLE => tuple(py, number as usize, |_| self.next()),
             OBJECT => self.classes[kind].make(py, |_| self.next()),
             MEMBER => self.classes[kind].make(py, |_| integer(py, field)),

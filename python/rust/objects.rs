@@ -184,19 +184,16 @@ impl Class {
             let fields = tuple(py, count, field)?;
             return new!(py, PyObject_CallObject(class, fields.as_ptr()));
         }
-        // SAFETY: a tuple, whose places are set before anything sees it. What they hold is in no
-        // cycle, so the collector needn't look at it
+        // SAFETY: a tuple, whose places are null or set before anything sees it. What they hold is in
+        // no cycle, so the collector needn't look at it
         unsafe {
             let made = ffi::_PyObject_GC_NewVar(class.cast(), size(count));
             let made = PyObject::from_owned_ptr_or_opt(py, made.cast())?;
             let places = made.as_ptr().cast::<ffi::PyVarObject>().add(1);
             let places = places.cast::<Made>();
+            places.write_bytes(0, count);
             for place in 0..count {
-                places.add(place).write(field(place));
-                if (*places.add(place)).is_none() {
-                    places.add(place).write_bytes(0, count - place);
-                    return None;
-                }
+                places.add(place).write(Some(field(place)?));
             }
             Some(made)
         }

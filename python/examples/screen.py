@@ -1,46 +1,27 @@
-"""A screen of 80 by 24 cells, kept from the calls of a processor.
+"""A screen of 80 by 24 characters, kept from the calls of a processor.
 
-Shows the one that its standard input leaves. It knows what crates/examples knows: text, the cursor,
-erasing, and how cells look.
+Shows the one that its standard input leaves. It knows text, the cursor and erasing.
 """
 import itertools
 import sys
-from typing import NamedTuple
 
 import vte
 from vte import calls
-from vte.calls import Attribute
 
 COLUMNS, ROWS = 80, 24
-# what attributes take away
-REMOVED = {
-    "CancelBold": "Bold", "CancelBoldDim": "Bold Dim", "CancelItalic": "Italic",
-    "CancelUnderline": "Underline DoubleUnderline Undercurl DottedUnderline DashedUnderline",
-    "CancelBlink": "BlinkSlow BlinkFast", "CancelReverse": "Reverse", "CancelHidden": "Hidden",
-    "CancelStrike": "Strike",
-}
-
-
-class Cell(NamedTuple):
-    character: str = " "
-    # attributes, with the colours of those that have one
-    look: dict[Attribute, calls.Color | None] = {}
 
 
 class Screen:
-    """A grid of cells, and a cursor that never leaves it."""
+    """A grid of characters, and a cursor that never leaves it."""
 
     def __init__(self):
-        self.lines = [[Cell()] * COLUMNS for _ in range(ROWS)]
+        self.lines = [[" "] * COLUMNS for _ in range(ROWS)]
         # the column is COLUMNS after a character in the last one: the next goes to the next row
         self._row = self._column = 0
-        # the look of the next character
-        self._look = Cell().look
 
     def __str__(self):
         """The characters of all rows, without blanks at their ends."""
-        rows = ("".join(cell.character for cell in line) for line in self.lines)
-        return "".join(row.rstrip() + "\n" for row in rows)
+        return "".join("".join(line).rstrip() + "\n" for line in self.lines)
 
     def take(self, call):
         """Does what a call asks for."""
@@ -72,8 +53,6 @@ class Screen:
                 self._erase(part, range(row, row + 1))
             case calls.ClearScreen(part):
                 self._erase(part, range(ROWS))
-            case calls.TerminalAttribute(attribute, color):
-                self._change(attribute, color)
 
     def _move(self, row, column):
         self._row = max(0, min(row, ROWS - 1))
@@ -84,34 +63,21 @@ class Screen:
             if self._column == COLUMNS:
                 self._feed_line()
                 self._column = 0
-            self.lines[self._row][self._column] = Cell(character, self._look)
+            self.lines[self._row][self._column] = character
             self._column += 1
 
     def _feed_line(self):
         if self._row + 1 == ROWS:
-            self.lines.append([self._erased()] * COLUMNS)
+            self.lines.append([" "] * COLUMNS)
             del self.lines[0]
         self._move(self._row + 1, self._column)
-
-    def _erased(self):
-        kept = Attribute.Background
-        return Cell(" ", {kept: self._look[kept]} if kept in self._look else {})
 
     def _erase(self, part, rows):
         """Blanks what is behind the cursor, before it, or everything, of some rows."""
         cursor = self._row, min(self._column, COLUMNS - 1)
         for place in itertools.product(rows, range(COLUMNS)):
             if part == 2 or part == 0 and place >= cursor or part == 1 and place <= cursor:
-                self.lines[place[0]][place[1]] = self._erased()
-
-    def _change(self, attribute, color):
-        if attribute == Attribute.Reset:
-            self._look = {}
-        elif attribute.name in REMOVED:
-            removed = REMOVED[attribute.name].split()
-            self._look = {it: color for it, color in self._look.items() if it.name not in removed}
-        else:
-            self._look = {**self._look, attribute: color}
+                self.lines[place[0]][place[1]] = " "
 
 
 if __name__ == "__main__":

@@ -1,9 +1,6 @@
-"""Writes FILE.txt, the text of each FILE, on all cores, or by the workers of a Dask scheduler.
-
-The workers, on as many machines as the scheduler has, need the package vte and the files.
-"""
-import argparse
-import concurrent.futures
+"""Writes FILE.txt, the text of each FILE, on all cores: strip_files.py FILE .."""
+import sys
+from concurrent.futures import ThreadPoolExecutor
 from pathlib import Path
 
 import vte
@@ -17,21 +14,9 @@ def strip(name):
     return len(stream), len(text)
 
 
-def main():
-    parser = argparse.ArgumentParser(description=__doc__)
-    parser.add_argument("files", nargs="+", metavar="FILE")
-    parser.add_argument("--scheduler", metavar="ADDRESS")
-    given = parser.parse_args()
-    if given.scheduler is None:
-        pool = concurrent.futures.ProcessPoolExecutor()
-    else:
-        from distributed import Client
-
-        pool = Client(given.scheduler).get_executor()
-    with pool:
-        for name, (before, after) in zip(given.files, pool.map(strip, given.files)):
-            print(f"{name}: {before} bytes, {after} of them text")
-
-
 if __name__ == "__main__":
-    main()
+    names = sys.argv[1:]
+    # other threads run while a long stream is stripped
+    with ThreadPoolExecutor() as pool:
+        for name, (before, after) in zip(names, pool.map(strip, names)):
+            print(f"{name}: {before} bytes, {after} of them text")

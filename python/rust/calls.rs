@@ -1,6 +1,6 @@
 //! What a stream asks of a terminal, and the classes of all objects.
 
-use crate::tape::{fields, Field, Is, Tape, Value};
+use crate::tape::{fields, Field, Tape, Value, MEMBER, NUMBER, OBJECT};
 use vte::ansi::cursor_icon::CursorIcon;
 use vte::ansi::lent::{HandlerCall, Hyperlink, TakeCall, TakeText};
 use vte::ansi::{
@@ -55,16 +55,16 @@ classes! {
 
 impl TakeText for Tape {
     fn take_text(&mut self, text: &str) {
-        self.add_run(Kind::Input, text);
+        self.add_run(Kind::Input, text.as_bytes());
     }
 }
 
 fields! {
-    Kind: kind => Value::new(Is::Object, kind as i64);
+    Kind: kind => Value::of(OBJECT, kind, 0);
     // the letter of a clipboard
     u8: byte => char::from(byte);
-    u16: number => Value::new(Is::Number, number.into());
-    i32: number => Value::new(Is::Number, number.into());
+    u16: number => Value::new(NUMBER, number.into());
+    i32: number => Value::new(NUMBER, number.into());
     CharsetIndex: index => index as u16;
     CursorIcon: icon => icon.name();
     Mode: mode => mode.raw();
@@ -74,17 +74,19 @@ fields! {
     Option<CursorStyle>: style =>
         style.map(|style| style.shape), style.map_or(false, |style| style.blinking);
     Option<Hyperlink<'_>>: link => link.and_then(|link| link.id), link.map(|link| link.uri);
-    // members of enumerations, by their numbers
-    NamedColor: color => Kind::NamedColor, color as u16;
-    LineClearMode: part => Kind::LinePart, part as u16;
-    ClearMode: part => Kind::ScreenPart, part as u16;
-    TabulationClearMode: which => Kind::Tabs, which as u16;
-    CursorShape: shape => Kind::Shape, shape as u16;
-    StandardCharset: charset => Kind::Charset, charset as u16;
-    ScpCharPath: path => Kind::Path, path as u16;
-    ScpUpdateMode: update => Kind::Update, update as u16;
-    KeyboardModesApplyBehavior: behavior => Kind::Behavior, behavior as u16;
-    ModifyOtherKeys: keys => Kind::OtherKeys, keys as u16;
+}
+
+/// Says for enumerations of which classes their members are, which have numbers.
+macro_rules! members {
+    ($($type:ident $kind:ident;)+) => {
+        fields! { $($type: member => Value::of(MEMBER, Kind::$kind, member as i64);)+ }
+    };
+}
+
+members! {
+    NamedColor NamedColor; LineClearMode LinePart; ClearMode ScreenPart; TabulationClearMode Tabs;
+    CursorShape Shape; StandardCharset Charset; ScpCharPath Path; ScpUpdateMode Update;
+    KeyboardModesApplyBehavior Behavior; ModifyOtherKeys OtherKeys; Number Attribute;
 }
 
 impl Field for Color {
@@ -110,7 +112,7 @@ macro_rules! attributes {
                     Attr::Background(color) => (Number::Background, Some(color)),
                     Attr::UnderlineColor(color) => (Number::UnderlineColor, color),
                 };
-                tape.with(Kind::Attribute).with(number as u16).with(color);
+                tape.with(number).with(color);
             }
         }
     };

@@ -1,37 +1,33 @@
 //! The events of a stream.
 
 use crate::calls::Kind;
-use crate::tape::{classes, fields, Field, Is, Tape, Tuple, Value};
+use crate::tape::{classes, fields, Field, Tape, Tuple, Value, BYTES, MEMBER, SINGLE};
 use pyo3::exceptions::PyTypeError;
 use pyo3::prelude::*;
 use vte::{Params, Perform, PerformText};
 
 /// A set of types of events.
-#[derive(Clone, Copy, Default, PartialEq, Eq)]
-pub struct Kinds(u16);
+pub type Kinds = u16;
+/// All but `Data`, which stands for `Put`.
+pub const ALL: Kinds = (1 << Kind::Data as u16) - 1;
+const COMMANDS: Kinds = 1 << Kind::Osc as u16;
 
-impl Kinds {
-    /// All but `Data`, which stands for `Put`.
-    pub const ALL: Kinds = Kinds((1 << Kind::Data as u16) - 1);
-    const COMMANDS: Kinds = Kinds(1 << Kind::Osc as u16);
+pub fn has(kinds: Kinds, kind: Kind) -> bool {
+    kinds >> kind as u16 & 1 == 1
+}
 
-    pub fn has(self, kind: Kind) -> bool {
-        self.0 >> kind as u16 & 1 == 1
-    }
-
-    /// Those that an iterable over classes names.
-    pub fn of(kinds: &Bound<'_, PyAny>) -> PyResult<Self> {
-        let events = &classes(kinds.py())?[..=Kind::Data as usize];
-        kinds.iter()?.try_fold(Kinds::default(), |made, kind| {
-            let kind = kind?;
-            match events.iter().position(|class| class.is(&kind)) {
-                Some(place) => Ok(Kinds(made.0 | 1 << place)),
-                None => Err(PyTypeError::new_err(format!(
-                    "kinds must be types of events, such as vte.Osc, not {kind:?}"
-                ))),
-            }
-        })
-    }
+/// Those that an iterable over classes names.
+pub fn kinds_of(kinds: &Bound<'_, PyAny>) -> PyResult<Kinds> {
+    let events = &classes(kinds.py())?[..=Kind::Data as usize];
+    kinds.iter()?.try_fold(0, |made, kind| {
+        let kind = kind?;
+        match events.iter().position(|class| class.is(&kind)) {
+            Some(place) => Ok(made | 1 << place),
+            None => Err(PyTypeError::new_err(format!(
+                "kinds must be types of events, such as vte.Osc, not {kind:?}"
+            ))),
+        }
+    })
 }
 
 /// Records events of some types. It is terminated after those of the types that stop a call, and
@@ -44,50 +40,67 @@ pub struct Recorder {
     stops: Kinds,
     // those after which it is terminated
     pauses: Kinds,
-    is_paused: bool,
-    pub has_stopped: bool,
+    // those that came since it went on
+    seen: Kinds,
     // where it stands whether the last command lost data
     truncated: Option<usize>,
 }
 
 impl Recorder {
     pub fn start(&mut self, kinds: Kinds, stops: Kinds) {
-        (self.kinds, self.stops, self.has_stopped) = (kinds, stops, false);
-        self.pauses = Kinds(match self.only_commands() {
-            true => Kinds::ALL.0,
-            false => stops.0 | Kinds::COMMANDS.0,
-        });
+        (self.kinds, self.stops) = (kinds, stops);
+        self.pauses = [stops | COMMANDS, ALL][usize::from(self.only_commands())];
+        self.go_on();
     }
 
     pub fn go_on(&mut self) {
-        (self.is_paused, self.truncated) = (false, None);
+        (self.seen, self.truncated) = (0, None);
+    }
+
+    pub fn has_stopped(&self) -> bool {
+        self.seen & self.stops != 0
     }
 
     pub fn only_commands(&self) -> bool {
-        self.kinds == Kinds::COMMANDS
+        self.kinds == COMMANDS
     }
 
     /// Notes that the command that ended since `go_on` lost data, if there is one.
     pub fn truncate_command(&mut self) {
         if let Some(place) = self.truncated {
-            self.tape.set(place, true);
+            self.tape.set(place);
         }
     }
 
-    /// Begins an event, whose fields are to follow, if it is wanted.
+    /// Begins an event, if it is wanted.
     #[inline]
     fn begin(&mut self, kind: Kind) -> Option<&mut Tape> {
-        self.has_stopped |= self.stops.has(kind);
-        self.is_paused |= self.pauses.has(kind);
+        self.seen |= 1 << kind as u16;
         self.tape.end_run();
-        self.kinds.has(kind).then(|| self.tape.begin(kind))
+        has(self.kinds, kind).then_some(&mut self.tape)
+    }
+
+    #[inline]
+    fn add(&mut self, kind: Kind, number: u8) {
+        if let Some(tape) = self.begin(kind) {
+            tape.add(Value::of(MEMBER, kind, number.into()));
+        }
     }
 }
 
 fields! {
     &Params: groups => Tuple(groups.iter());
-    &[u16]: group => Tuple(group.iter().copied());
     &[&[u8]]: pieces => Tuple(pieces.iter().copied());
+}
+
+impl Field for &[u16] {
+    #[inline]
+    fn record(self, tape: &mut Tape) {
+        match self {
+            [number] => Value::new(SINGLE, (*number).into()).record(tape),
+            _ => Tuple(self.iter().copied()).record(tape),
+        }
+    }
 }
 
 /// At most six bytes.
@@ -96,29 +109,29 @@ fn brief(bytes: &[u8]) -> Value {
         .iter()
         .rev()
         .fold(0, |all, byte| all << 8 | i64::from(*byte));
-    Value::new(Is::Bytes, all << 8 | bytes.len() as i64)
+    Value::new(BYTES, all << 8 | bytes.len() as i64)
 }
 
 /// Records an event with its fields, if it is wanted.
 macro_rules! record {
-    ($recorder:ident, $kind:ident, $($field:expr),+) => {
+    ($recorder:ident, $kind:ident$(, $field:expr)*) => {
         if let Some(tape) = $recorder.begin(Kind::$kind) {
-            tape$(.with($field))+;
+            tape.begin(Kind::$kind)$(.with($field))*;
         }
     };
 }
 
 impl Perform for Recorder {
     fn execute(&mut self, byte: u8) {
-        record!(self, Execute, u16::from(byte));
+        self.add(Kind::Execute, byte);
     }
 
     fn put(&mut self, byte: u8) {
-        record!(self, Put, u16::from(byte));
+        self.add(Kind::Put, byte);
     }
 
     fn unhook(&mut self) {
-        self.begin(Kind::Unhook);
+        record!(self, Unhook);
     }
 
     fn hook(&mut self, groups: &Params, intermediates: &[u8], ignore: bool, end: char) {
@@ -135,26 +148,29 @@ impl Perform for Recorder {
 
     fn osc_dispatch(&mut self, pieces: &[&[u8]], bell_terminated: bool) {
         if let Some(tape) = self.begin(Kind::Osc) {
-            tape.with(pieces).with(bell_terminated).with(false);
-            self.truncated = Some(tape.last_value());
+            tape.begin(Kind::Osc)
+                .with(pieces)
+                .with(bell_terminated)
+                .with(false);
+            self.truncated = Some(tape.count() - 1);
         }
     }
 
     fn terminated(&self) -> bool {
-        self.is_paused
+        self.seen & self.pauses != 0
     }
 }
 
 impl PerformText for Recorder {
     fn print_text(&mut self, text: &str) {
-        match self.kinds.has(Kind::Text) {
-            true => self.tape.add_run(Kind::Text, text),
+        match has(self.kinds, Kind::Text) {
+            true => self.tape.add_run(Kind::Text, text.as_bytes()),
             false => self.tape.end_run(),
         }
     }
 
     fn put_slice(&mut self, data: &[u8]) {
-        match self.kinds.has(Kind::Data) {
+        match has(self.kinds, Kind::Data) {
             true => self.tape.add_run(Kind::Data, data),
             false => data.iter().for_each(|byte| self.put(*byte)),
         }

@@ -1,22 +1,28 @@
 //! Python's objects: what functions take, and what they return.
 //!
-//! PyO3's constructors panic if memory is refused, so those here call Python's C interface, and
-//! return an error instead. A named tuple is made by the allocator of its class, as `tuple.__new__`
-//! makes it, in a quarter of the time of a call of the class.
+//! PyO3's constructors panic if memory is refused, so those here call Python's C interface. A named
+//! tuple is made in place, in a tenth of the time of a call of its class.
 
 use pyo3::exceptions::PyRuntimeError;
 use pyo3::pyclass::boolean_struct::False;
-use pyo3::types::{PyBytes, PyList, PyMemoryView, PyString, PyTuple, PyType};
+use pyo3::types::{PyBytes, PyMemoryView, PyString, PyTuple, PyType};
 use pyo3::{ffi, prelude::*, PyClass, PyTypeInfo};
 use std::os::raw::c_char;
+
+/// A new object, or none if Python has an error, which `raised` takes.
+pub type Made = Option<PyObject>;
 
 /// Calls a function of Python that returns a new reference, or null with an error. It gets objects,
 /// numbers, the bytes of a slice, or texts that end in NUL.
 macro_rules! new {
     ($py:expr, $function:ident($($argument:expr),+)) => {
         // SAFETY: the arguments are as said above, and the lock is held
-        unsafe { PyObject::from_owned_ptr_or_err($py, ffi::$function($($argument),+)) }
+        unsafe { PyObject::from_owned_ptr_or_opt($py, ffi::$function($($argument),+)) }
     };
+}
+
+pub fn raised(py: Python<'_>, made: Made) -> PyResult<PyObject> {
+    made.ok_or_else(|| PyErr::fetch(py))
 }
 
 /// From how many bytes on other threads may run meanwhile. Below, a release costs more than it
@@ -58,8 +64,10 @@ pub fn bytes_of<'py>(data: &Bound<'py, PyAny>) -> PyResult<Bound<'py, PyBytes>> 
         return Ok(bytes.clone());
     }
     let view = PyMemoryView::from_bound(data)?;
-    let copied = new!(data.py(), PyBytes_FromObject(view.as_ptr()))?;
-    Ok(copied.into_bound(data.py()).downcast_into()?)
+    let copied = new!(data.py(), PyBytes_FromObject(view.as_ptr()));
+    Ok(raised(data.py(), copied)?
+        .into_bound(data.py())
+        .downcast_into()?)
 }
 
 /// A `str` in UTF-8. What errors of codecs do is named by a text that ends in NUL.
@@ -71,8 +79,8 @@ pub fn encoded<'py>(
     let encoded = new!(
         py,
         PyUnicode_AsEncodedString(text, for_c("utf-8\0"), errors)
-    )?;
-    Ok(encoded.into_bound(py).downcast_into()?)
+    );
+    Ok(raised(py, encoded)?.into_bound(py).downcast_into()?)
 }
 
 /// The error of memory that was refused, which needs none itself.
@@ -88,87 +96,65 @@ fn size(length: usize) -> ffi::Py_ssize_t {
 }
 
 /// A `str` of text in UTF-8, which Python checks.
-pub fn text(py: Python<'_>, utf8: &[u8]) -> PyResult<PyObject> {
+pub fn text(py: Python<'_>, utf8: &[u8]) -> Made {
     decoded(py, utf8, "strict\0")
 }
 
 /// A `str` of bytes, as `encoded` makes them.
-pub fn decoded(py: Python<'_>, utf8: &[u8], errors: &'static str) -> PyResult<PyObject> {
+pub fn decoded(py: Python<'_>, utf8: &[u8], errors: &'static str) -> Made {
     let (place, length) = (utf8.as_ptr().cast(), size(utf8.len()));
     new!(py, PyUnicode_DecodeUTF8(place, length, for_c(errors)))
 }
 
-pub fn bytes(py: Python<'_>, content: &[u8]) -> PyResult<PyObject> {
+pub fn bytes(py: Python<'_>, content: &[u8]) -> Made {
     let (place, length) = (content.as_ptr().cast(), size(content.len()));
     new!(py, PyBytes_FromStringAndSize(place, length))
 }
 
-pub fn integer(py: Python<'_>, value: i64) -> PyResult<PyObject> {
+pub fn integer(py: Python<'_>, value: i64) -> Made {
     new!(py, PyLong_FromLongLong(value))
 }
 
-pub fn real(py: Python<'_>, value: f64) -> PyResult<PyObject> {
+pub fn real(py: Python<'_>, value: f64) -> Made {
     new!(py, PyFloat_FromDouble(value))
 }
 
-/// A tuple of as many values.
-pub fn tuple(
-    py: Python<'_>,
-    count: usize,
-    values: impl Iterator<Item = PyResult<PyObject>>,
-) -> PyResult<PyObject> {
+/// A tuple of as many values, of which each is made for its place.
+#[inline(always)]
+pub fn tuple(py: Python<'_>, count: usize, mut value: impl FnMut(usize) -> Made) -> Made {
     let tuple = new!(py, PyTuple_New(size(count)))?;
-    // SAFETY: a new tuple of this size
-    unsafe { filled(tuple, count, values) }
-}
-
-/// Sets the places of a new tuple. Those whose values can't be made stay null, which nothing but
-/// the deallocator sees.
-///
-/// # Safety
-///
-/// The tuple is new, and has as many places.
-#[inline]
-unsafe fn filled(
-    tuple: PyObject,
-    count: usize,
-    values: impl Iterator<Item = PyResult<PyObject>>,
-) -> PyResult<PyObject> {
-    for (place, value) in values.take(count).enumerate() {
-        ffi::PyTuple_SetItem(tuple.as_ptr(), size(place), value?.into_ptr());
+    for place in 0..count {
+        // SAFETY: a new tuple of this size. Places whose values can't be made stay null, which
+        // nothing but the deallocator sees
+        unsafe { ffi::PyTuple_SetItem(tuple.as_ptr(), size(place), value(place)?.into_ptr()) };
     }
-    Ok(tuple)
+    Some(tuple)
 }
 
-/// A new list.
-pub fn list(py: Python<'_>) -> PyResult<Bound<'_, PyList>> {
-    Ok(new!(py, PyList_New(0))?.into_bound(py).downcast_into()?)
+/// A pair. The second is made after the first.
+pub fn pair<F>(py: Python<'_>, mut first: Made, second: F) -> PyResult<PyObject>
+where
+    F: Fn(Python<'_>) -> Made,
+{
+    let values = |place| if place == 0 { first.take() } else { second(py) };
+    raised(py, tuple(py, 2, values))
 }
 
-/// Lets a list grow unseen by the collector, which would look at all of it again and again.
-pub fn unseen<T>(list: &Bound<'_, PyList>, grow: impl FnOnce() -> T) -> T {
-    // SAFETY: a list, which the collector sees before and after
-    unsafe { ffi::PyObject_GC_UnTrack(list.as_ptr().cast()) };
-    let grown = grow();
-    unsafe { ffi::PyObject_GC_Track(list.as_ptr().cast()) };
-    grown
-}
-
-/// Appends to a list.
-pub fn append(list: &Bound<'_, PyList>, object: &Bound<'_, PyAny>) -> PyResult<()> {
-    // SAFETY: a list and an object
-    match unsafe { ffi::PyList_Append(list.as_ptr(), object.as_ptr()) } {
-        0 => Ok(()),
-        _ => Err(PyErr::fetch(list.py())),
+/// A list of objects, which it takes. If memory is refused, they stay.
+pub fn list(py: Python<'_>, objects: &mut Vec<PyObject>) -> Made {
+    let list = new!(py, PyList_New(size(objects.len())))?;
+    for (place, object) in objects.drain(..).enumerate() {
+        // SAFETY: a new list, which has this place
+        unsafe { ffi::PyList_SetItem(list.as_ptr(), size(place), object.into_ptr()) };
     }
+    Some(list)
 }
 
 /// A class of Python's half of the package.
 pub struct Class {
     class: PyObject,
-    // whether its allocator makes objects whole, as it does tuples. From Python 3.14 on a tuple has
-    // its hash too, which is set elsewhere
-    is_allocated: bool,
+    // whether an object is a tuple as Python has it before 3.14, with its places after its size
+    is_tuple: bool,
     // how many fields an object has
     fields: usize,
 }
@@ -180,7 +166,7 @@ impl Class {
         let names = class.getattr("_fields");
         let fields = names.map_or(Ok(1), |names| names.len())?;
         Ok(Class {
-            is_allocated: is_tuple && class.py().version_info() < (3, 14),
+            is_tuple: is_tuple && class.py().version_info() < (3, 14),
             fields,
             class: class.unbind(),
         })
@@ -190,24 +176,26 @@ impl Class {
         self.class.is(other)
     }
 
-    /// Makes an object of its fields.
-    #[inline]
-    pub fn make(
-        &self,
-        py: Python<'_>,
-        fields: impl Iterator<Item = PyResult<PyObject>>,
-    ) -> PyResult<PyObject> {
+    /// Makes an object of its fields, of which each is made for its place.
+    #[inline(always)]
+    pub fn make(&self, py: Python<'_>, mut field: impl FnMut(usize) -> Made) -> Made {
         let (class, count) = (self.class.as_ptr(), self.fields);
-        if !self.is_allocated {
-            let fields = tuple(py, count, fields)?;
+        if !self.is_tuple {
+            let fields = tuple(py, count, field)?;
             return new!(py, PyObject_CallObject(class, fields.as_ptr()));
         }
-        let made = new!(py, PyType_GenericAlloc(class.cast(), size(count)))?;
-        // SAFETY: it has the layout of a tuple of this size. What it holds is in no cycle, so the
-        // collector needn't look at it
+        // SAFETY: a tuple, whose places are null or set before anything sees it. What they hold is in
+        // no cycle, so the collector needn't look at it
         unsafe {
-            ffi::PyObject_GC_UnTrack(made.as_ptr().cast());
-            filled(made, count, fields)
+            let made = ffi::_PyObject_GC_NewVar(class.cast(), size(count));
+            let made = PyObject::from_owned_ptr_or_opt(py, made.cast())?;
+            let places = made.as_ptr().cast::<ffi::PyVarObject>().add(1);
+            let places = places.cast::<Made>();
+            places.write_bytes(0, count);
+            for place in 0..count {
+                places.add(place).write(Some(field(place)?));
+            }
+            Some(made)
         }
     }
 }

@@ -1,8 +1,8 @@
 //! The parser of events.
 
 use crate::calls::Kind;
-use crate::events::{Kinds, Recorder};
-use crate::objects::{borrowed, bytes, bytes_of, error, integer, text, tuple};
+use crate::events::{has, kinds_of, Kinds, Recorder, ALL};
+use crate::objects::{borrowed, bytes, bytes_of, error, integer, pair, raised, text, tuple};
 use crate::reader::{read, step, Reader};
 use crate::tape::Tape;
 use pyo3::exceptions::{PyTypeError, PyValueError};
@@ -34,7 +34,7 @@ pub fn state_of(py: Python<'_>, parser: &Limited) -> PyResult<PyObject> {
     let mut content = Content([0; size_of::<Saved>()]);
     parser.save(content.saved());
     let version = text(py, env!("CARGO_PKG_VERSION").as_bytes());
-    tuple(py, 2, [version, bytes(py, &content.0)].into_iter())
+    pair(py, version, |py| bytes(py, &content.0))
 }
 
 /// The parser of a state.
@@ -86,7 +86,7 @@ impl Parser {
     fn limit(slf: &Bound<'_, Self>) -> PyResult<PyObject> {
         match borrowed(slf)?.machine {
             Machine::Long(_) => Ok(slf.py().None()),
-            Machine::Limited(_) => integer(slf.py(), LIMIT as i64),
+            Machine::Limited(_) => raised(slf.py(), integer(slf.py(), LIMIT as i64)),
         }
     }
 
@@ -102,7 +102,7 @@ impl Parser {
         data: &Bound<'_, PyAny>,
         kinds: Option<&Bound<'_, PyAny>>,
     ) -> PyResult<PyObject> {
-        Ok(read_events(slf, data, kinds, Kinds::default())?.0)
+        Ok(read_events(slf, data, kinds, 0)?.0)
     }
 
     /// Reads the next bytes up to the first event of the types `stops`, and that too. Returns a
@@ -117,19 +117,20 @@ impl Parser {
         stops: &Bound<'_, PyAny>,
         kinds: Option<&Bound<'_, PyAny>>,
     ) -> PyResult<PyObject> {
-        let (py, stops) = (slf.py(), Kinds::of(stops)?);
-        if stops.has(Kind::Text) || stops.has(Kind::Data) {
+        let (py, stops) = (slf.py(), kinds_of(stops)?);
+        if has(stops, Kind::Text) || has(stops, Kind::Data) {
             let wrong = "stops can't have vte.Text or vte.Data\0";
             return Err(error::<PyValueError>(py, wrong));
         }
         let (events, read) = read_events(slf, data, kinds, stops)?;
-        tuple(py, 2, [Ok(events), integer(py, read as i64)].into_iter())
+        pair(py, Some(events), |py| integer(py, read as i64))
     }
 
     // with these, `object` can make a copy and a pickle
 
     fn __getnewargs__(slf: &Bound<'_, Self>) -> PyResult<PyObject> {
-        tuple(slf.py(), 1, [integer(slf.py(), LIMIT as i64)].into_iter())
+        let py = slf.py();
+        raised(py, tuple(py, 1, |_| integer(py, LIMIT as i64)))
     }
 
     fn __getstate__(slf: &Bound<'_, Self>) -> PyResult<PyObject> {
@@ -153,7 +154,7 @@ fn read_events(
     kinds: Option<&Bound<'_, PyAny>>,
     stops: Kinds,
 ) -> PyResult<(PyObject, usize)> {
-    let (source, kinds) = (bytes_of(data)?, kinds.map_or(Ok(Kinds::ALL), Kinds::of)?);
+    let (source, kinds) = (bytes_of(data)?, kinds.map_or(Ok(ALL), kinds_of)?);
     let mut reader = borrowed(parser)?;
     reader.recorder.start(kinds, stops);
     read(parser.py(), &mut *reader, source.as_bytes())
@@ -165,7 +166,7 @@ impl Reader for Parser {
     }
 
     fn has_stopped(&self) -> bool {
-        self.recorder.has_stopped
+        self.recorder.has_stopped()
     }
 
     fn read(&mut self, bytes: &[u8]) -> Result<usize, Refused> {

@@ -1,6 +1,6 @@
 //! The processor of calls.
 
-use crate::objects::{borrowed, bytes_of, integer, list, no_memory, real};
+use crate::objects::{borrowed, bytes_of, integer, no_memory, raised, real};
 use crate::reader::{make, read, step, Reader};
 use crate::tape::Tape;
 use pyo3::prelude::*;
@@ -53,8 +53,8 @@ impl Processor {
     }
 
     /// Ends an update whose end doesn't come, and returns the calls of what was held.
-    fn stop_sync(slf: &Bound<'_, Self>) -> PyResult<PyObject> {
-        let (made, mut shared) = (list(slf.py())?, borrowed(slf)?);
+    fn stop_sync(slf: &Bound<'_, Self>) -> PyResult<Option<PyObject>> {
+        let mut shared = borrowed(slf)?;
         let Processor {
             processor, calls, ..
         } = &mut *shared;
@@ -63,14 +63,14 @@ impl Processor {
         if !is_refused {
             processor.stop_sync_text(calls);
         }
-        make(&made, &mut calls.0, 0, is_refused, true)?;
-        Ok(made.into_any().unbind())
+        make(slf.py(), &mut calls.0, 0, is_refused, true)
     }
 
     /// How many bytes are held.
     #[getter]
     fn sync_bytes_count(slf: &Bound<'_, Self>) -> PyResult<PyObject> {
-        integer(slf.py(), borrowed(slf)?.processor.sync_bytes_count() as i64)
+        let count = borrowed(slf)?.processor.sync_bytes_count();
+        raised(slf.py(), integer(slf.py(), count as i64))
     }
 
     /// Until when an update is pending, by `time.monotonic()`, or None.
@@ -85,7 +85,8 @@ impl Processor {
         // one of these two is 0
         let left = deadline.saturating_duration_since(Instant::now());
         let over = deadline.elapsed();
-        real(py, now + left.as_secs_f64() - over.as_secs_f64())
+        let deadline = real(py, now + left.as_secs_f64() - over.as_secs_f64());
+        raised(py, deadline)
     }
 }
 

@@ -1,19 +1,18 @@
 //! How streams are read, and what an error has.
 
 use crate::calls::Kind;
-use crate::objects::{integer, list, no_memory, run, unseen, LONG};
+use crate::objects::{integer, no_memory, raised, run, LONG};
 use crate::tape::{classes, Tape};
 use pyo3::exceptions::PyMemoryError;
 use pyo3::prelude::*;
-use pyo3::types::PyList;
 use vte::Refused;
 
 /// How many bytes are read between two questions for memory.
-const STEP: usize = 1 << 11;
-/// How many objects are recorded before they are made: few, because their memory is then at hand,
-/// but not if the lock is taken again each time.
-const MOST: usize = 1 << 10;
-const MOST_OF_LONG: usize = 1 << 14;
+const STEP: usize = 1 << 12;
+/// How many values are recorded before objects are made of them: few, because their memory is then
+/// at hand, but not if the lock is taken again each time.
+const MOST: usize = 1 << 11;
+const MOST_OF_LONG: usize = 1 << 15;
 
 /// Records what a stream adds.
 pub trait Reader: Send {
@@ -38,16 +37,15 @@ pub fn read(
     reader: &mut impl Reader,
     source: &[u8],
 ) -> PyResult<(PyObject, usize)> {
-    let (made, mut at) = (list(py)?, 0);
+    let mut at = 0;
     reader.tape().end_run();
     loop {
         let rest = &source[at..];
         let (read, is_refused) = run(py, rest.len(), || read_some(reader, rest));
         at += read;
         let ends = is_refused || at == source.len() || reader.has_stopped();
-        make(&made, reader.tape(), at, is_refused, ends)?;
-        if ends {
-            return Ok((made.into_any().unbind(), at));
+        if let Some(list) = make(py, reader.tape(), at, is_refused, ends)? {
+            return Ok((list, at));
         }
     }
 }
@@ -65,31 +63,36 @@ fn read_some(reader: &mut impl Reader, source: &[u8]) -> (usize, bool) {
     (at, false)
 }
 
-/// Makes what was recorded. An error of memory, which was refused now or before, has what was made.
+/// Makes what was recorded, and a list of it if this is the end. An error of memory, which was
+/// refused now or before, has what was made.
 pub fn make(
-    made: &Bound<'_, PyList>,
+    py: Python<'_>,
     tape: &mut Tape,
     read: usize,
     is_refused: bool,
     ends: bool,
-) -> PyResult<()> {
-    let py = made.py();
+) -> PyResult<Option<PyObject>> {
     if tape.has_lost() {
         return Err(no_memory(py));
     }
-    let error = match unseen(made, || tape.make(made, ends)) {
-        Ok(()) if is_refused => no_memory(py),
-        Ok(()) => return Ok(()),
-        Err(error) => error,
+    let made = match tape.make(py, ends) {
+        Ok(()) if is_refused => Err(no_memory(py)),
+        Ok(()) if ends => raised(py, tape.list(py)).map(Some),
+        made => made.map(|()| None),
     };
-    if !error.is_instance_of::<PyMemoryError>(py) {
-        return Err(error);
-    }
-    let read = integer(py, read as i64);
-    let values = [read, Ok(made.as_any().clone().unbind())].into_iter();
-    let class = &classes(py)?[Kind::Refused as usize];
-    Err(match class.make(py, values) {
-        Ok(refused) => PyErr::from_value_bound(refused.into_bound(py)),
-        Err(_) => no_memory(py),
+    made.map_err(|error| {
+        if !error.is_instance_of::<PyMemoryError>(py) {
+            return error;
+        }
+        let refused = classes(py).ok().and_then(|classes| {
+            classes[Kind::Refused as usize].make(py, |place| match place {
+                0 => integer(py, read as i64),
+                _ => tape.list(py),
+            })
+        });
+        match refused {
+            Some(refused) => PyErr::from_value_bound(refused.into_bound(py)),
+            None => no_memory(py),
+        }
     })
 }

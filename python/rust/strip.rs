@@ -1,6 +1,6 @@
 //! Texts without sequences.
 
-use crate::objects::{borrowed, bytes, bytes_of, decoded, encoded, no_memory, run};
+use crate::objects::{borrowed, bytes, bytes_of, decoded, encoded, no_memory, raised, run};
 use crate::parser::{restored, state_of, Limited};
 use pyo3::exceptions::PyValueError;
 use pyo3::prelude::*;
@@ -159,8 +159,8 @@ where
         Cow::Borrowed(shown) if is_exact && shown.len() == source.len() => {
             Ok(data.clone().unbind())
         }
-        shown if text.is_some() => decoded(py, &shown, errors),
-        shown => bytes(py, &shown),
+        shown if text.is_some() => raised(py, decoded(py, &shown, errors)),
+        shown => raised(py, bytes(py, &shown)),
     }
 }
 

@@ -3,55 +3,60 @@
 //! still there.
 
 use crate::calls::{Kind, NAMES};
-use crate::objects::{append, bytes, integer, text, tuple, Class};
+use crate::objects::{bytes, integer, list, no_memory, text, tuple, Class, Made};
 use pyo3::prelude::*;
-use pyo3::sync::GILOnceCell;
-use pyo3::types::PyList;
-use std::iter::from_fn;
+use pyo3::sync::{GILOnceCell, GILProtected};
+use std::cell::Cell;
 use vte::Refused;
 
-/// What an object is made of: a number of 60 bits, and what it is. The content of texts and data is
+/// What an object is made of: what it is, and a number of 59 bits. The content of texts and data is
 /// stored beside it, in the same order.
-#[derive(Clone, Copy, PartialEq)]
+#[derive(Clone, Copy, Default, PartialEq)]
 pub struct Value(i64);
 
+// what the number of a value is
+pub const NOTHING: i64 = 0;
+pub const FLAG: i64 = 1;
+pub const NUMBER: i64 = 2;
+pub const LETTER: i64 = 3;
+/// A count, and as many bytes.
+pub const BYTES: i64 = 4;
+/// How many fields follow.
+const TUPLE: i64 = 5;
+/// The only number of a tuple.
+pub const SINGLE: i64 = 6;
+/// A class, whose fields follow.
+pub const OBJECT: i64 = 7;
+/// A class, and the number that is its only field.
+pub const MEMBER: i64 = 8;
+/// The length of the content.
+const TEXT: i64 = 9;
+const DATA: i64 = 10;
+/// A class, and the length of the content that is its only field.
+const RUN: i64 = 11;
+/// A value with which an object begins that is in no other.
+const FIRST: i64 = 16;
+
 impl Value {
-    pub fn new(is: Is, number: i64) -> Self {
-        Value(number << 4 | is as i64)
+    #[inline]
+    pub fn new(is: i64, number: i64) -> Self {
+        Value(number << 5 | is)
     }
 
-    fn plus(self, more: usize) -> Self {
-        Value(self.0 + ((more as i64) << 4))
+    /// An object of a class, and its only field.
+    #[inline]
+    pub fn of(is: i64, kind: Kind, field: i64) -> Self {
+        Value::new(is, field << 8 | kind as i64)
     }
 
-    fn parts(self) -> (Is, i64) {
-        (EACH[(self.0 & 15) as usize], self.0 >> 4)
+    fn is(self, is: i64) -> bool {
+        self.0 & (FIRST - 1) == is
     }
-}
 
-const EACH: [Is; 9] = {
-    use Is::*;
-    [
-        Nothing, Flag, Number, Letter, Bytes, Text, Data, Tuple, Object,
-    ]
-};
-
-/// What the number of a value is.
-#[derive(Clone, Copy)]
-pub enum Is {
-    Nothing,
-    Flag,
-    Number,
-    Letter,
-    /// A count, and as many bytes.
-    Bytes,
-    /// The length of the content.
-    Text,
-    Data,
-    /// How many fields follow.
-    Tuple,
-    /// A class, whose fields follow.
-    Object,
+    /// The class and the only field.
+    fn parts(self) -> (usize, i64) {
+        ((self.0 >> 5 & 255) as usize, self.0 >> 13)
+    }
 }
 
 /// What can be in a field of an event or a call.
@@ -63,6 +68,7 @@ pub trait Field {
 macro_rules! fields {
     ($($type:ty: $field:ident => $($value:expr),+;)+) => {
         $(impl Field for $type {
+            #[inline]
             fn record(self, tape: &mut Tape) {
                 let $field = self;
                 tape$(.with($value))+;
@@ -73,12 +79,12 @@ macro_rules! fields {
 pub(crate) use fields;
 
 fields! {
-    bool: flag => Value::new(Is::Flag, flag.into());
-    char: letter => Value::new(Is::Letter, u32::from(letter).into());
+    bool: flag => Value::new(FLAG, flag.into());
+    char: letter => Value::new(LETTER, u32::from(letter).into());
     // what is a number of the stream, or a place in what was sent
-    usize: number => Value::new(Is::Number, number as i64);
-    &str: text => Content(text.as_bytes()), Value::new(Is::Text, text.len() as i64);
-    &[u8]: data => Content(data), Value::new(Is::Data, data.len() as i64);
+    usize: number => Value::new(NUMBER, number as i64);
+    &str: text => Content(text.as_bytes()), Value::new(TEXT, text.len() as i64);
+    &[u8]: data => Content(data), Value::new(DATA, data.len() as i64);
 }
 
 impl Field for Value {
@@ -92,6 +98,7 @@ impl Field for Value {
 struct Content<'a>(&'a [u8]);
 
 impl Field for Content<'_> {
+    #[inline]
     fn record(self, tape: &mut Tape) {
         extend(&mut tape.content, self.0, &mut tape.is_refused);
     }
@@ -100,21 +107,31 @@ impl Field for Content<'_> {
 /// Adds to a vector, or says that memory is refused.
 #[inline]
 fn extend<T: Copy>(vector: &mut Vec<T>, more: &[T], is_refused: &mut bool) {
+    if more.len() <= vector.capacity() - vector.len() {
+        vector.extend_from_slice(more);
+    } else {
+        grow(vector, more, is_refused);
+    }
+}
+
+#[cold]
+fn grow<T: Copy>(vector: &mut Vec<T>, more: &[T], is_refused: &mut bool) {
     match vector.try_reserve(more.len()) {
         Ok(()) => vector.extend_from_slice(more),
         Err(_) => *is_refused = true,
     }
 }
 
-/// A tuple of fields.
+/// A tuple of fields, which knows how many there are.
 pub struct Tuple<I>(pub I);
 
-impl<I: Iterator + Clone> Field for Tuple<I>
+impl<I: Iterator> Field for Tuple<I>
 where
     I::Item: Field,
 {
+    #[inline]
     fn record(self, tape: &mut Tape) {
-        tape.with(Value::new(Is::Tuple, self.0.clone().count() as i64));
+        tape.with(Value::new(TUPLE, self.0.size_hint().0 as i64));
         self.0.for_each(|field| field.record(tape));
     }
 }
@@ -123,33 +140,33 @@ impl<T: Field> Field for Option<T> {
     fn record(self, tape: &mut Tape) {
         match self {
             Some(field) => field.record(tape),
-            None => Value::new(Is::Nothing, 0).record(tape),
+            None => Value::new(NOTHING, 0).record(tape),
         }
     }
 }
 
-/// Where the values and the content of an object begin.
-type Place = (usize, usize);
-
-/// An object, and its values.
-type Known = (Vec<Value>, PyObject);
-/// How many objects are known at most, by its logarithm.
-const KNOWN: u32 = 9;
+/// An object that was made, after its key: its values, or what stands for a short run.
+type Known = (Value, Vec<Value>, Option<PyObject>);
+/// How many pairs of objects are known at most, by its logarithm.
+const PAIRS: u32 = 9;
+/// The content of a run that is known has at most so many bytes.
+const SHORT: usize = 3;
 
 /// Objects that are recorded, one after another.
 #[derive(Default)]
 pub struct Tape {
-    places: Vec<Place>,
     values: Vec<Value>,
     content: Vec<u8>,
-    // whether the last is a text or data that may go on
+    // whether the last value is a run that may go on
     is_open: bool,
     // whether memory was refused, so that something is missing
     is_refused: bool,
-    // objects without content that were made, each in the place that its values give: programs send
-    // few different ones
-    known: Vec<Option<Known>>,
+    made: Vec<PyObject>,
 }
+
+/// Objects that were made, each in the pair of places that its key gives: programs send few
+/// different ones. Who makes objects takes them meanwhile.
+static KNOWN: GILProtected<Cell<Vec<[Known; 2]>>> = GILProtected::new(Cell::new(Vec::new()));
 
 impl Tape {
     /// The most values or bytes for each byte that is read, and for what was open before. More are
@@ -157,32 +174,36 @@ impl Tape {
     const PER_BYTE: usize = 3;
     const BEFORE: usize = 128;
 
+    /// How many values are recorded.
     pub fn count(&self) -> usize {
-        self.places.len()
+        self.values.len()
     }
 
     /// How much is recorded.
     pub fn size(&self) -> usize {
-        self.places.len() + self.content.len()
+        self.values.len() + self.content.len()
     }
 
     /// Takes memory for what bytes add, and the command that they may end.
     pub fn reserve(&mut self, bytes: usize, command: usize) -> Result<(), Refused> {
         let most = Self::PER_BYTE * bytes + Self::BEFORE;
-        let places = self.places.try_reserve(bytes + Self::BEFORE);
-        places
-            .and_then(|()| self.values.try_reserve(most))
+        let values = self.values.try_reserve(most);
+        values
             .and_then(|()| self.content.try_reserve(most + command))
             .map_err(|_| Refused { read: 0 })
     }
 
     /// Begins an object. Its fields are to follow.
     #[inline]
-    pub fn begin(&mut self, object: impl Field) -> &mut Self {
-        let place = (self.values.len(), self.content.len());
-        extend(&mut self.places, &[place], &mut self.is_refused);
+    pub fn begin(&mut self, kind: Kind) -> &mut Self {
+        self.add(Value::of(OBJECT, kind, 0))
+    }
+
+    /// Adds an object, or its first value.
+    #[inline]
+    pub fn add(&mut self, first: Value) -> &mut Self {
         self.is_open = false;
-        self.with(object)
+        self.with(Value(first.0 | FIRST))
     }
 
     /// Adds a field.
@@ -194,31 +215,26 @@ impl Tape {
 
     /// Adds to the text or data that is open, or begins one.
     #[inline]
-    pub fn add_run<T: Field + AsRef<[u8]>>(&mut self, kind: Kind, run: T) {
+    pub fn add_run(&mut self, kind: Kind, run: &[u8]) {
         match self.values.last_mut() {
-            Some(length) if self.is_open => {
-                *length = length.plus(run.as_ref().len());
-                self.with(Content(run.as_ref()));
-            }
+            Some(last) if self.is_open => last.0 += Value::new(0, (run.len() as i64) << 8).0,
             _ => {
-                self.begin(kind).with(run);
+                self.add(Value::of(RUN, kind, run.len() as i64));
                 self.is_open = true;
             }
         }
+        self.with(Content(run));
     }
 
     /// Ends a text or data.
+    #[inline]
     pub fn end_run(&mut self) {
         self.is_open = false;
     }
 
-    /// The place of the last value, which can be changed there.
-    pub fn last_value(&self) -> usize {
-        self.values.len() - 1
-    }
-
-    pub fn set(&mut self, place: usize, flag: bool) {
-        self.values[place] = Value::new(Is::Flag, flag.into());
+    /// Changes the value of a place to true.
+    pub fn set(&mut self, place: usize) {
+        self.values[place] = Value::new(FLAG, 1);
     }
 
     /// Returns whether there was no memory to record something. Then all that is recorded is
@@ -231,66 +247,87 @@ impl Tape {
         is_refused
     }
 
-    /// Makes the objects, and appends them to a list, but not the last if it may go on. If memory
-    /// is refused, those that aren't made stay.
-    pub fn make(&mut self, list: &Bound<'_, PyList>, ends: bool) -> PyResult<()> {
-        let classes = classes(list.py())?;
-        let count = self.places.len() - usize::from(self.is_open && !ends);
-        let (mut made, mut start, mut done) = (0, (0, 0), Ok(()));
-        while made < count {
-            let all = (self.values.len(), self.content.len());
-            let end = self.places.get(made + 1).copied().unwrap_or(all);
-            if let Err(error) = self.append(list, classes, start, end) {
-                done = Err(error);
-                break;
+    /// Makes the objects, but not the last if it may go on. If memory is refused, those that aren't
+    /// made stay.
+    #[inline(never)]
+    pub fn make(&mut self, py: Python<'_>, ends: bool) -> PyResult<()> {
+        let reserved = self.made.try_reserve(self.values.len());
+        reserved.map_err(|_| no_memory(py))?;
+        let (classes, mut all) = (classes(py)?, KNOWN.get(py).take());
+        if all.is_empty() && all.try_reserve_exact(1 << PAIRS).is_ok() {
+            all.resize_with(1 << PAIRS, Default::default);
+        }
+        let end = self.values.len() - usize::from(self.is_open && !ends);
+        let (values, content) = (&self.values[..end], &self.content[..]);
+        let (mut at, mut place, mut done) = (0, 0, Ok(()));
+        while at < end {
+            let (first, is_run, mut count) = (values[at], values[at].is(RUN), 1);
+            let ((kind, field), mut hash, mut short) = (first.parts(), mix(0, first), [first]);
+            let mut length = if is_run { field as usize } else { 0 };
+            let object = if length > SHORT {
+                run(py, &classes[kind], kind, &content[place..place + length])
+            } else {
+                let key = if is_run {
+                    let bytes = content[place..place + length].iter();
+                    // the length of a short run leaves room for its content
+                    short[0].0 |= bytes.fold(0, |all, byte| all << 8 | i64::from(*byte)) << 16;
+                    hash = mix(0, short[0]);
+                    &short
+                } else {
+                    while at + count < end && values[at + count].0 & FIRST == 0 {
+                        (hash, count) = (mix(hash, values[at + count]), count + 1);
+                    }
+                    &values[at..at + count]
+                };
+                let pair = &mut all.get_mut((hash >> (u64::BITS - PAIRS)) as usize);
+                let is = |it: &&Known| it.0 == key[0] && it.1 == key[1..];
+                let known = pair.as_ref().and_then(|pair| pair.iter().find(is));
+                if let Some((_, _, object)) = known {
+                    object.as_ref().map(|object| object.clone_ref(py))
+                } else {
+                    let mut maker = Maker {
+                        py,
+                        classes,
+                        values: &values[at..],
+                        content: &content[place..],
+                    };
+                    let (object, mut others) = (maker.next(), Vec::new());
+                    length = content.len() - place - maker.content.len();
+                    // other content makes other objects of these values
+                    let is_all = is_run || length == 0;
+                    if let (Some(pair), true, Some(_)) = (pair, is_all, &object) {
+                        if others.try_reserve_exact(count - 1).is_ok() {
+                            others.extend_from_slice(&key[1..]);
+                            pair.swap(0, 1);
+                            pair[0] = (key[0], others, object.as_ref().map(|it| it.clone_ref(py)));
+                        }
+                    }
+                    object
+                }
+            };
+            match object {
+                Some(object) => self.made.push(object),
+                None => {
+                    done = Err(PyErr::fetch(py));
+                    break;
+                }
             }
-            (made, start) = (made + 1, end);
+            (at, place) = (at + count, place + length);
         }
-        self.places.drain(..made);
-        self.values.drain(..start.0);
-        self.content.drain(..start.1);
-        for place in &mut self.places {
-            *place = (place.0 - start.0, place.1 - start.1);
-        }
+        KNOWN.get(py).set(all);
+        self.values.drain(..at);
+        self.content.drain(..place);
         done
     }
 
-    #[inline]
-    fn append(
-        &mut self,
-        list: &Bound<'_, PyList>,
-        classes: &[Class],
-        start: Place,
-        end: Place,
-    ) -> PyResult<()> {
-        let (py, values) = (list.py(), &self.values[start.0..end.0]);
-        let mut maker = Maker {
-            py,
-            classes,
-            values: values.iter(),
-            content: &self.content[start.1..end.1],
-        };
-        if !maker.content.is_empty() {
-            return append(list, &maker.next()?.into_bound(py));
+    /// A list of what was made. If memory is refused, this stays.
+    pub fn list(&mut self, py: Python<'_>) -> Made {
+        let list = list(py, &mut self.made)?;
+        // the memory of few is at hand
+        if self.made.capacity() > 1 << 12 {
+            self.made = Vec::new();
         }
-        let hash = values.iter().fold(0, |hash: u64, Value(value)| {
-            (hash.rotate_left(5) ^ *value as u64).wrapping_mul(0x517C_C1B7_2722_0A95)
-        });
-        if self.known.is_empty() && self.known.try_reserve_exact(1 << KNOWN).is_ok() {
-            self.known.resize_with(1 << KNOWN, || None);
-        }
-        match self.known.get_mut((hash >> (u64::BITS - KNOWN)) as usize) {
-            Some(Some((known, made))) if known == values => append(list, made.bind(py)),
-            place => {
-                let (made, mut key) = (maker.next()?, Vec::new());
-                append(list, made.bind(py))?;
-                if let (Some(place), Ok(())) = (place, key.try_reserve_exact(values.len())) {
-                    key.extend_from_slice(values);
-                    *place = Some((key, made));
-                }
-                Ok(())
-            }
-        }
+        Some(list)
     }
 }
 
@@ -307,41 +344,61 @@ pub fn classes(py: Python<'_>) -> PyResult<&'static [Class]> {
     classes.map(Vec::as_slice)
 }
 
-/// Makes an object of values.
+#[inline]
+fn mix(hash: u64, value: Value) -> u64 {
+    (hash.rotate_left(5) ^ value.0 as u64).wrapping_mul(0x517C_C1B7_2722_0A95)
+}
+
+/// Makes a run of a class, which is of this kind.
+#[inline]
+fn run(py: Python<'_>, class: &Class, kind: usize, content: &[u8]) -> Made {
+    match kind == Kind::Data as usize {
+        true => class.make(py, |_| bytes(py, content)),
+        false => class.make(py, |_| text(py, content)),
+    }
+}
+
+/// Makes objects of values.
 struct Maker<'a, 'py> {
     py: Python<'py>,
     classes: &'a [Class],
-    values: std::slice::Iter<'a, Value>,
+    values: &'a [Value],
     content: &'a [u8],
 }
 
-impl Maker<'_, '_> {
-    fn next(&mut self) -> PyResult<PyObject> {
+impl<'a> Maker<'a, '_> {
+    fn next(&mut self) -> Made {
         let py = self.py;
-        let value = self.values.next().expect("each field has a value");
-        let (is, number) = value.parts();
-        let count = number as usize;
-        match is {
-            Is::Nothing => Ok(py.None()),
-            Is::Flag => Ok((number != 0).into_py(py)),
-            Is::Number => integer(py, number),
-            Is::Letter => {
+        let value = self.values[0];
+        self.values = &self.values[1..];
+        let (number, (kind, field)) = (value.0 >> 5, value.parts());
+        match value.0 & (FIRST - 1) {
+            NOTHING => Some(py.None()),
+            FLAG => Some((number != 0).into_py(py)),
+            LETTER => {
                 let letter = char::from(number as u8);
                 text(py, letter.encode_utf8(&mut [0; 4]).as_bytes())
             }
-            Is::Bytes => {
+            BYTES => {
                 let [count, all @ ..] = number.to_le_bytes();
                 bytes(py, &all[..usize::from(count)])
             }
-            Is::Text => text(py, self.content(count)),
-            Is::Data => bytes(py, self.content(count)),
-            Is::Tuple => tuple(py, count, from_fn(|| Some(self.next()))),
-            Is::Object => self.classes[count].make(py, from_fn(|| Some(self.next()))),
+            TEXT => text(py, self.content(number)),
+            DATA => bytes(py, self.content(number)),
+            SINGLE => tuple(py, 1, |_| integer(py, number)),
+            TUPLE => tuple(py, number as usize, |_| self.next()),
+            OBJECT => self.classes[kind].make(py, |_| self.next()),
+            MEMBER => self.classes[kind].make(py, |_| integer(py, field)),
+            RUN => {
+                let content = self.content(field);
+                run(py, &self.classes[kind], kind, content)
+            }
+            _ => integer(py, number),
         }
     }
 
-    fn content(&mut self, length: usize) -> &[u8] {
-        let (own, rest) = self.content.split_at(length);
+    fn content(&mut self, length: i64) -> &'a [u8] {
+        let (own, rest) = self.content.split_at(length as usize);
         self.content = rest;
         own
     }

@@ -48,7 +48,7 @@ def test_many_calls_of_few_bytes():
     assert vte.Processor().feed(b"\x1b]52;c;" + b"Q" * 100_000 + b"\x07") == long
 
 
-# ---- the example: bytes, and a cell that is then shown
+# ---- the example: bytes, and a character that is then shown
 
 screen, processor = Screen(), vte.Processor()
 
@@ -67,20 +67,7 @@ def show(stream):
     (b"\x1b[3;1Hpqr\x08\x1b[K", 2, 1, "q"), (b"\x1b[2J", 23, 79, " ")])
 def test_cells(stream, row, column, character):
     show(stream)
-    assert screen.lines[row][column].character == character
-
-
-@pytest.mark.parametrize("rendition, look", [
-    (b"31;1;4", "Foreground=Red Bold Underline"), (b"3;7;23", "Reverse"),
-    (b"1;31;44;39;22", "Foreground=Foreground Background=Blue"), (b"3;0;45", "Background=Magenta"),
-    (b"1;2;4:3;5;8;9", "Bold Dim Undercurl BlinkSlow Hidden Strike"),
-    (b"1;2;4:3;5;7;8;9;22;24;25;27;28;29", "")])
-def test_looks(rendition, look):
-    show(b"\x1b[m\x1b[H\x1b[%smx\n\x1b[2K" % rendition)
-    shown = [[it.name if color is None else f"{it.name}={color.name}"
-              for it, color in screen.lines[row][0].look.items()] for row in range(2)]
-    # what is erased has the background alone
-    assert shown == [look.split(), [it for it in look.split() if it.startswith("Background=")]]
+    assert screen.lines[row][column] == character
 
 
 def test_screen():

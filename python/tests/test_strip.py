@@ -70,14 +70,11 @@ def test_bytes_that_are_not_utf8_stay():
         assert list(found) == [wanted, wanted_text]
 
 
-@pytest.mark.parametrize("words", [["strip_lines.py"], ["strip_files.py", "FILE"]])
-def test_examples(words, tmp_path):
+def test_example(tmp_path):
     file = tmp_path / "stream"
     file.write_bytes(STREAM * 9)
-    words = [sys.executable, EXAMPLES / words[0], *[file for _ in words[1:]]]
-    said = subprocess.run(words, input=STREAM * 9, stdout=subprocess.PIPE, check=True).stdout
+    words = [sys.executable, EXAMPLES / "strip_files.py", file]
+    said = subprocess.run(words, stdout=subprocess.PIPE, check=True).stdout
     text = vte.strip(STREAM * 9)
-    if file in words:
-        assert said.decode() == f"{file}: {len(STREAM * 9)} bytes, {len(text)} of them text\n"
-        said = (tmp_path / "stream.txt").read_bytes()
-    assert said == text
+    assert said.decode() == f"{file}: {len(STREAM * 9)} bytes, {len(text)} of them text\n"
+    assert (tmp_path / "stream.txt").read_bytes() == text

@@ -1,8 +1,8 @@
 """Times the package, the best of many passes: time_vte.py FILE..
 
-In nanoseconds of this thread's time per byte: `feed` of pieces of 65,536 bytes, with all events and
-with commands alone (titles), `Processor.feed` (calls), and `strip` of the whole. In nanoseconds:
-short calls, and lines that all differ, beside a compiled `re.sub`. In real time: two threads.
+In nanoseconds of this thread's time per byte: `feed` of 65,536 bytes, with all events and with
+titles alone, `Processor.feed` (calls), and `strip` of the whole. In nanoseconds: short calls, and
+lines that all differ, beside a compiled `re.sub`. In real time: two threads.
 """
 import itertools
 import re

@@ -33,7 +33,7 @@ pub use Rattle.vte_core.specs.declared.parser.refused.Refused.{Refused}
 pub use Rattle.vte_handler.specs.Call.{Call, Input, ResetColor}
 pub use Rattle.vte_handler.specs.Handler.{after}
 pub use Rattle.vte_handler.specs.Timeout.{AllowsAlone, IsSteady, TimeoutMeaning, timeout_meaning}
-pub use Rattle.vte.specs.Processor.{EndsInBegin, HoldsWellAt, IsInsideUpdate, IsOutsideUpdate, Meaning, TakesSteps, State, TakesAllTurns, TakesTurns, all_bytes, begin_front, given_bytes, AreInOrder, added_calls, calls_between, calls_with_stops, parse_held, done, extend, hold_turn, is_held, is_stopped, release, meaning, most_held, open_turn, stop_if_due, parse, set_times, stop, turn, turns, update_nanos}
+pub use Rattle.vte.specs.Processor.{EndsInBegin, HoldsWellAt, IsInsideUpdate, IsOutsideUpdate, Meaning, TakesSteps, State, TakesAllTurns, TakesTurns, all_bytes, begin_front, given_bytes, AreInOrder, added_calls, calls_between, calls_with_stops, done, extend, hold_turn, is_held, is_stopped, release, meaning, most_held, open_turn, stop_if_due, parse, set_times, stop, turn, turns, update_nanos, with_held}
 pub use Rattle.vte.specs.Refusal.{OpenTurnHalts, HasTaken, TakesSome, TurnHalts, between, within}
 pub use Rattle.vte.specs.BeginUpdate.{begin_count, begins_in_event, is_update_group, update_group_count}
 pub use Rattle.vte.specs.Calls.{calls_beyond, calls, calls_from, calls_of, last_printed_after, last_printed, last_printed_from}
@@ -42,7 +42,7 @@ pub use Rattle.vte.specs.ColorReading.{kind_reading}
 pub use Rattle.vte.specs.CommandCalls.{dynamic_calls, id_of, link_to, palette_entry_calls, palette_entries_calls}
 unfoldable pub use Rattle.vte.specs.CommandCalls.{all_reset}
 pub use Rattle.vte.specs.machine.ColorReader.{component_at_front}
-pub use Rattle.vte.specs.machine.Hold.{Adds, IsAdded, IsEnd, released_of}
+pub use Rattle.vte.specs.machine.Hold.{Adds, IsAdded, IsEnd, released_of, still_held}
 pub use Rattle.vte.specs.ProcessorCalls.{Advanced, HasParsedAll, HasParsedAndHolds, IsAt, IsTold, ReadsInTurns, Replayed, Replays, Standing, held_of}
 pub use Rattle.vte.specs.machine.Performing.{PerformsAll, PerformsUntilStop, performer_value, with_private_mode, with_private_modes}
 pub use Rattle.vte.specs.LongProcessor.{AdvancesLong, HasParsedAndHoldsLong, ReadsSome, ReservesRoom, StopsUpdate, TurnsStandAt}
@@ -53,7 +53,7 @@ pub use Rattle.vte.specs.machine.Performer.{FitsText, PerformerValue, with_event
 pub use Rattle.vte.specs.machine.Turns.{AreAt, AreNextAt, EndsOpen, EndsTurn, Halted, IsAtBegin, IsOpenAt, IsParsed, IsParsedOn, IsParsedWithRoom, Opened, Turned}
 pub use Rattle.vte.specs.machine.ShortMeaning.{short_meaning}
 pub use Rattle.vte.specs.Rendition.{attribute_calls, attributes_from}
-pub use Rattle.vte.specs.Synchronized.{begin_update, begins_among, begins_with, after_last_end, end_update, from_begin, still_held, last_part}
+pub use Rattle.vte.specs.Synchronized.{begin_update, begins_among, begins_with, after_last_end, end_update, from_begin, last_part}
 pub use Rattle.vte.specs.machine.Texts.{FitsRoom, fits_room, joined_size, parts_left, with_separator}
 pub use Rattle.vte_types.specs.Words.{after_word}
 pub use Rattle.vte.specs.Titles.{decimal_number, joined_texts, number_from, text_in}

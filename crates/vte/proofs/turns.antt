@@ -3,6 +3,7 @@ pub mod Fronts
 pub mod Grown
 pub mod HoldFacts
 pub mod HoldTurns
+pub mod Kinds
 pub mod Slices
 pub mod Turns
 pub mod Standings

@@ -1,14 +1,14 @@
 -- What a processor does, from top to bottom: what its parts mean; how it parses bytes, holds them
 -- back and stops updates; the turns of a call; what is true of held bytes; calls one after another,
 -- and what the handler has received of them.
-use Rattle.std.specs.Prelude.{ℕ, zero, suc, Bool, Option, ◌++◌, List, ◌≡◌, ◌-◌, ◌<◌, false, ◌&&◌, ◌||◌, [], ◌∷◌, length, take, drop, if◌then◌else◌, nat_lt, nat_le, ◌⊎◌, ◌≤◌, true, None}
+use Rattle.std.specs.Prelude.{ℕ, zero, suc, Bool, Option, ◌++◌, List, ◌≡◌, ◌-◌, ◌<◌, false, ◌&&◌, ◌||◌, [], ◌∷◌, length, take, drop, if◌then◌else◌, nat_lt, nat_le, ◌⊎◌, ◌≤◌, true, Some, None}
 use Rattle.vte_core.specs.Stream.{events, added}
 use Rattle.vte_handler.specs.Call.{Call}
 use Rattle.vte_handler.specs.Handler.{after}
 use Rattle.vte_handler.specs.Timeout.{TimeoutMeaning, timeout_meaning, AllowsAlone, IsSteady}
 use Rattle.vte.specs.BeginUpdate.{begin_count}
 use Rattle.vte.specs.Calls.{calls_beyond}
-use Rattle.vte.specs.Synchronized.{begins_among, still_held, last_part, update_ended, begin_update, begins_with, after_last_end}
+use Rattle.vte.specs.Synchronized.{begins_among, last_part, update_ended, begin_update, begins_with, after_last_end, from_begin}
 use Rattle.vte.specs.declared.ansi.laws.replays.Step.{Step}
 use Rattle.vte.specs.declared.ansi.laws.replays.Step.TheVariants.{Advance, StopSync}
 
@@ -101,20 +101,22 @@ extend m s bytes = let all = s.held ++ bytes in record s {
   timeout = set_times m.timeout (begins_among (length bytes) (last_part all)) s.timeout;
 }
 
--- The held bytes before a position are parsed, and the others stay.
-abbrev pub parse_held : {H W : Type 0} → Meaning H W → State H W → ℕ → State H W
-parse_held m s position = with_held (parse m s (take position s.held)) (drop position s.held)
-
 -- Bytes at the end of the hold are kept, and those before them parsed. If none are kept, the update
 -- is stopped.
 abbrev pub release : {H W : Type 0} → Meaning H W → State H W → List ℕ → State H W
 release m s [] = stop m s
-release m s (b ∷ kept) = parse_held m s (length s.held - length (b ∷ kept))
+release m s (b ∷ kept) =
+    with_held (parse m s (take (length s.held - length (b ∷ kept)) s.held)) (b ∷ kept)
 
--- A hold turn. Without an end-update everything stays held; after the last one, what the next
--- begin-update begins.
+-- Without an end-update everything stays held; after the last one, what the next begin-update
+-- begins.
+abbrev pub release_end : {H W : Type 0} → Meaning H W → State H W → Option (List ℕ) → State H W
+release_end m s None = s
+release_end m s (Some rest) = release m s (from_begin rest)
+
+-- A hold turn.
 abbrev pub hold_turn : {H W : Type 0} → Meaning H W → State H W → List ℕ → State H W
-hold_turn m s bytes = let t = extend m s bytes in release m t (still_held t.held)
+hold_turn m s bytes = let t = extend m s bytes in release_end m t (after_last_end t.held)
 
 -- While the timeout is pending, the bytes of a turn are held if there is room.
 abbrev pub is_held : {H W : Type 0} → Bool → State H W → List ℕ → Bool

@@ -30,15 +30,6 @@ abbrev pub from_begin : List ℕ → List ℕ
 from_begin [] = []
 from_begin (b ∷ text) = if begins_with begin_update (b ∷ text) then b ∷ text else from_begin text
 
--- What stays held of a text: all of it or, if there is an end-update, what follows the last one
--- from the earliest begin-update on.
-abbrev pub kept_part : List ℕ → Option (List ℕ) → List ℕ
-kept_part text (Some rest) = from_begin rest
-kept_part text None = text
-
-abbrev pub still_held : List ℕ → List ℕ
-still_held text = kept_part text (after_last_end text)
-
 -- How many begin-updates have their last byte among the last n bytes of the text.
 abbrev pub begins_among : ℕ → List ℕ → ℕ
 begins_among n [] = 0

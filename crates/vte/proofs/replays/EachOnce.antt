@@ -1,10 +1,12 @@
 -- Each given byte is parsed or held, once and in order. Each turn and stop keeps `Grows`: parsed, held and left bytes
 -- together are those of before, and `Grows` composes over the turns of a call and the calls of a run.
 use Rattle.vte.proofs.Common.{◌≡◌, ℕ, ◌-◌, suc, inl, inr, Bool, Option, List, [], ◌∷◌, ◌++◌, length, take, drop, refl, ap, sym, ◌∙◌, append_assoc, arith}
-use Rattle.vte.proofs.Common.{take-append-drop, Step, Advance, StopSync, Meaning, TakesSteps, given_bytes, still_held, State, TakesTurns, all_bytes, begin_front, extend, hold_turn, is_held, is_stopped, release}
+use Rattle.vte.proofs.Common.{take-append-drop, Step, Advance, StopSync, Meaning, TakesSteps, given_bytes, after_last_end, from_begin, State, TakesTurns, all_bytes, begin_front, extend, hold_turn, is_held, is_stopped, release}
 use Rattle.vte.proofs.Common.{cases_Bool, nat_tests, append-nil, stop_if_due, parse, stop, turn, done, turns}
 use Rattle.std.proofs.lemmas.List.{nil_from_length}
 use Rattle.vte.proofs.turns.Fronts.{is_front}
+use Rattle.vte.proofs.turns.Kinds.{holds_all, holds_rest}
+use Rattle.vte.proofs.updates.Sequences.{cases_Option, stays-is}
 
 pub front_rest : (limit : Option ℕ) (p r : List ℕ)
     → begin_front limit p r ++ drop (length (begin_front limit p r)) r ≡ r
@@ -67,20 +69,28 @@ module _ {V W : Type 0} (m : Meaning V W) where
       → Grows s (parse m s front) bytes left
   parse_grows s front left bytes none is = record { more = front; parsed_is = refl; each_once = rw none (sym is) }
 
-  release_grows : (s : State V W) (kept : List ℕ) → Grows s (release m s kept) [] []
-  release_grows s [] = stop_grows s []
-  release_grows s (b ∷ kept) =
+  release_grows : (s : State V W) (kept : List ℕ) → drop (length s.held - length kept) s.held ≡ kept
+      → Grows s (release m s kept) [] []
+  release_grows s [] is = stop_grows s []
+  release_grows s (b ∷ kept) is =
+      let before = length s.held - suc (length kept) in
       record {
-        more = take (length s.held - suc (length kept)) s.held;
+        more = take before s.held;
         parsed_is = refl;
-        each_once = simp (append-nil, take-append-drop);
+        each_once = cc (append-nil s.held, append-nil kept, take-append-drop before s.held, is);
       }
 
   hold_grows : (s : State V W) (r : List ℕ) → Grows s (hold_turn m s r) r []
   hold_grows s r =
       let held : Grows s (extend m s r) r [] =
       record { more = []; parsed_is = sym (append-nil s.parsed); each_once = sym (append-nil (s.held ++ r)) } in
-      grows_on held (release_grows (extend m s r) (still_held (s.held ++ r)))
+      elim (cases_Option (after_last_end (s.held ++ r))) [
+        | inl none ↦ rw (holds_all m s r none) held
+        | inr some ↦
+            rw (holds_rest m s r some.0 some.1)
+            (grows_on held (release_grows (extend m s r) (from_begin some.0)
+            (rw some.1 at (stays-is (s.held ++ r)))))
+      ]
 
   turn_grows : (answer : Bool) (s : State V W) (r : List ℕ)
       → Grows s (turn m answer s r).state r (turn m answer s r).rest

@@ -3,9 +3,11 @@
 -- grow.
 use Rattle.vte.proofs.Common.{◌≡◌, ◌≤◌, ℕ, ◌+◌, ◌-◌, inl, inr, Bool, Option, List, [], ◌∷◌, ◌++◌, length, take, refl, ap, sym, ◌∙◌, arith}
 use Rattle.vte.proofs.Common.{append_assoc, length-append, cases_Bool, append-nil, append_cancel_left, drop_all, take-append-add, take-append_seam, take_all, after, Step, Advance, StopSync, added_calls, Meaning}
-use Rattle.vte.proofs.Common.{TakesSteps, Replayed, calls_beyond, given_bytes, still_held, AreInOrder, IsTold, calls, calls_between, calls_with_stops, events}
+use Rattle.vte.proofs.Common.{TakesSteps, Replayed, calls_beyond, given_bytes, after_last_end, from_begin, hold_turn, AreInOrder, IsTold, calls, calls_between, calls_with_stops, events}
 use Rattle.vte.proofs.Common.{State, TakesAllTurns, begin_front, extend, is_held, is_stopped, release, open_turn, stop, turn, done, turns}
 use Rattle.vte.proofs.performing.CallLists.{after-append, added_calls-append}
+use Rattle.vte.proofs.turns.Kinds.{holds_all, holds_rest}
+use Rattle.vte.proofs.updates.Sequences.{cases_Option}
 
 -- ---- the calls between two positions
 
@@ -100,9 +102,15 @@ module _ {V W : Type 0} (m : Meaning V W) (u : State V W) where
   tells-release t [] = tells-stop t
   tells-release t (b ∷ kept) = tells-parse t.parsed _ t.stops t.handler
 
+  tells-hold : (t : State V W) (r : List ℕ) → TellsAt (hold_turn m t r) → TellsAt t
+  tells-hold t r = elim (cases_Option (after_last_end (t.held ++ r))) [
+    | inl none ↦ rw (holds_all m t r none) (λ e. e)
+    | inr some ↦ rw (holds_rest m t r some.0 some.1) (tells-release (extend m t r) (from_begin some.0))
+  ]
+
   tells-turn : (answer : Bool) (t : State V W) (r : List ℕ) → TellsAt (turn m answer t r).state → TellsAt t
   tells-turn answer t r = elim (cases_Bool (is_held answer t r)) [
-    | inl held ↦ rw held (tells-release (extend m t r) (still_held (t.held ++ r)))
+    | inl held ↦ rw held (tells-hold t r)
     | inr parses ↦ rw parses (elim (cases_Bool (is_stopped answer t)) [
       | inl stopped ↦ rw stopped (λ e. tells-stop t (tells-open (stop m t) r e))
       | inr none ↦ rw none (tells-open t r)

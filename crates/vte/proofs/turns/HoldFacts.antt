@@ -1,13 +1,14 @@
 -- The facts of a hold, `HoldsWell`, are kept by turns and stops: by cases of the timeout's answer and of what a hold
 -- turn keeps, which is all, or starts with a begin-update, or is nothing.
 use Rattle.vte.proofs.Common.{◌≡◌, ℕ, zero, suc, ◌-◌, ◌<◌, ◌≤◌, inl, inr, Bool, true, false, List, [], ◌∷◌, ◌++◌, length, take, refl, sym}
-use Rattle.vte.proofs.Common.{length-drop, arith, cases_Bool, cases_lt, false≢true, nat_tests, added}
+use Rattle.vte.proofs.Common.{arith, cases_Bool, cases_lt, false≢true, nat_tests, added}
 use Rattle.vte.proofs.Common.{TimeoutMeaning, AllowsAlone, IsSteady, begin_count, IsOutsideUpdate, IsInsideUpdate, Meaning, set_times}
-use Rattle.vte.proofs.Common.{update_nanos, HoldsWellAt, begin_update, begins_among, still_held, last_part, State, TakesTurns, stop, is_held, is_stopped, stop_if_due, begin_front, open_turn, release}
-use Rattle.vte.proofs.Common.{extend, hold_turn, turn, done, turns, most_held, drop, ap, append-nil}
+use Rattle.vte.proofs.Common.{update_nanos, HoldsWellAt, begin_update, begins_among, after_last_end, from_begin, last_part, State, TakesTurns, stop, is_held, is_stopped, stop_if_due, begin_front, open_turn, release}
+use Rattle.vte.proofs.Common.{extend, hold_turn, turn, done, turns, most_held, ap, append-nil}
 use Rattle.vte.proofs.replays.EachOnce.{stop_if_due_none}
 use Rattle.vte.proofs.turns.Fronts.{is_front}
-use Rattle.vte.proofs.updates.Sequences.{StaysHeld, begins_with-append, stays_held, stays-is}
+use Rattle.vte.proofs.turns.Kinds.{holds_all, holds_rest}
+use Rattle.vte.proofs.updates.Sequences.{StaysHeld, cases_Option, begins_with-append, stays_held, suffix-length}
 
 -- ---- the timeout
 
@@ -52,14 +53,13 @@ module _ {V W : Type 0} (m : Meaning V W) where
 
   -- ---- a turn that holds
 
-  keep_well : (t : State V W) (kept : List ℕ) → StaysHeld t.held kept → drop (length t.held - length kept) t.held ≡ kept
-      → length t.held ≤ most_held
+  keep_well : (t : State V W) (kept : List ℕ) → StaysHeld t.held kept → length t.held ≤ most_held
       → (IsSteady m.timeout → IsInsideUpdate m.limit m.timeout t.parsed t.held t.timeout)
       → HoldsWellAt m (release m t kept)
-  keep_well t [] is position fits inside = stop_well t
-  keep_well t (b ∷ kept) is position fits inside = record {
-    no_end = rw position is.no_end;
-    fits = rw length-drop (omega arith);
+  keep_well t [] is fits inside = stop_well t
+  keep_well t (b ∷ kept) is fits inside = record {
+    no_end = is.no_end;
+    fits = omega (arith, suffix-length is.suffix);
     kept = λ k. inr (record {
       pending =
           still_pending m.timeout k
@@ -67,8 +67,8 @@ module _ {V W : Type 0} (m : Meaning V W) where
           (inside k).pending;
       begun = elim is.begins [
         | inl all ↦ let none : length t.held - suc (length kept) ≡ 0 =
-            omega (arith, ap length all) in rw (none, append-nil) (inside k).begun
-        | inr begins ↦ inr (rw position (begins (omega arith)))
+            omega (arith, ap length all) in rw (none, append-nil) (rw (← all) at (inside k).begun)
+        | inr begins ↦ inr (begins (omega arith))
       ];
     });
   }
@@ -98,11 +98,19 @@ module _ {V W : Type 0} (m : Meaning V W) where
   hold_well : (s : State V W) (r : List ℕ) → HoldsWellAt m s → m.timeout.allows s.timeout true
       → length (s.held ++ r) ≤ most_held → HoldsWellAt m (hold_turn m s r)
   hold_well s r h allowed fits =
-      keep_well (extend m s r) (still_held (s.held ++ r)) (stays_held (s.held ++ r)) (stays-is (s.held ++ r)) fits
-      (λ k. (let i = inside_of s h allowed k in record {
+      let inside : IsSteady m.timeout
+      → IsInsideUpdate m.limit m.timeout s.parsed (s.held ++ r) (extend m s r).timeout =
+      λ k. (let i = inside_of s h allowed k in record {
         pending = still_pending m.timeout k (begins_among (length r) (last_part (s.held ++ r))) s.timeout i.pending;
         begun = elim i.begun [ inl p ↦ inl p | inr b ↦ inr (begins_with-append begin_update s.held r b) ];
-      }))
+      }) in
+      elim (cases_Option (after_last_end (s.held ++ r))) [
+        | inl none ↦
+            rw (holds_all m s r none) (record { no_end = none; fits = fits; kept = λ k. inr (inside k) })
+        | inr some ↦
+            rw (holds_rest m s r some.0 some.1)
+            (keep_well (extend m s r) (from_begin some.0) (rw some.1 at (stays_held (s.held ++ r))) fits inside)
+      ]
 
   -- ---- a turn, and turns of a call
 

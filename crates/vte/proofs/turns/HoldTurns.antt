@@ -1,16 +1,45 @@
 -- A hold turn by its parts: bytes join the hold, the timeout is set as often as they begin updates, and what the hold
--- releases is parsed. Parsing a front of the held bytes and keeping the rest is `release`.
+-- releases is parsed.
 use Rattle.vte.proofs.Common.{◌≡◌, ℕ, ◌+◌, ◌-◌, ◌<◌, List, [], ◌∷◌, ◌++◌, length, length-append, length-take, take, refl, sym, ◌∙◌, arith, take_all, Turns, IsAdded}
-use Rattle.vte.proofs.Common.{held_of, released_of, still_held, Meaning, set_times, AreAt, TurnsMeaning, AreNextAt, IsParsed, IsParsedOn, IsParsedWithRoom, State, parse_held, extend, hold_turn, release}
-use Rattle.vte.proofs.Common.{parse, stop}
+use Rattle.vte.proofs.Common.{held_of, released_of, still_held, Meaning, set_times, AreAt, TurnsMeaning, AreNextAt, IsParsed, IsParsedOn, IsParsedWithRoom, State, after_last_end, extend, from_begin, hold_turn, release}
+use Rattle.vte.proofs.Common.{None, Some, ap, inl, inr, parse, stop, with_held}
 use Rattle.std.proofs.lemmas.List.{nil_from_length}
-use Rattle.vte.proofs.updates.Sequences.{stays_held, stays-is, suffix-length}
+use Rattle.vte.proofs.turns.Kinds.{holds_all, holds_rest}
+use Rattle.vte.proofs.turns.Slices.{parse-nothing}
+use Rattle.vte.proofs.updates.Sequences.{cases_Option, stays_held, suffix-length}
 use Rattle.vte.specs.declared.ansi.hold.Hold.{Hold}
 
-keeps_some : {V W : Type 0} (m : Meaning V W) (t : State V W) (kept : List ℕ) → 0 < length kept
-    → release m t kept ≡ parse_held m t (length t.held - length kept)
-keeps_some m t [] some = absurd (omega arith)
-keeps_some m t (b ∷ kept) some = refl
+module _ {V W : Type 0} (m : Meaning V W) where
+  abbrev cut : State V W → List ℕ → State V W
+  cut t kept = with_held (parse m t (take (length t.held - length kept) t.held)) kept
+
+  keeps_some : (t : State V W) (kept : List ℕ) → 0 < length kept → release m t kept ≡ cut t kept
+  keeps_some t [] some = absurd (omega arith)
+  keeps_some t (b ∷ kept) some = refl
+
+  -- some bytes stay held, or none
+  holds_some : (s : State V W) (r : List ℕ) → 0 < length (still_held (s.held ++ r))
+      → hold_turn m s r ≡ cut (extend m s r) (still_held (s.held ++ r))
+  holds_some s r some = elim (cases_Option (after_last_end (s.held ++ r))) [
+    | inl none ↦
+        let all = s.held ++ r in
+        let is : still_held all ≡ all = rw none refl in
+        let no_front : length all - length all ≡ 0 = omega arith in
+        holds_all m s r none
+        ∙ rw (is, no_front) (sym (ap (λ t. with_held t all) (parse-nothing m (extend m s r))))
+    | inr last ↦
+        let is : still_held (s.held ++ r) ≡ from_begin last.0 = rw last.1 refl in
+        holds_rest m s r last.0 last.1 ∙ rw is (keeps_some (extend m s r) (from_begin last.0) (rw is at some))
+  ]
+
+  holds_none : (s : State V W) (r : List ℕ) → 0 < length (s.held ++ r) → still_held (s.held ++ r) ≡ []
+      → hold_turn m s r ≡ stop m (extend m s r)
+  holds_none s r some none = elim (cases_Option (after_last_end (s.held ++ r))) [
+    | inl whole ↦ let all : s.held ++ r ≡ [] = rw whole at none in absurd (omega (arith, some, ap length all))
+    | inr last ↦
+        let nothing : from_begin last.0 ≡ [] = rw last.1 at none in
+        holds_rest m s r last.0 last.1 ∙ rw nothing refl
+  ]
 
 -- the hold has the new bytes, and the timeout was set as often as they begin updates
 module _ {P J T A V W : Type 0} {w : TurnsMeaning P J T W} (m : Meaning V W) {s : State V W} {more : List ℕ}
@@ -58,16 +87,15 @@ module _ {P J T A V W : Type 0} {w : TurnsMeaning P J T W} (m : Meaning V W) {s 
       let parsed : IsParsed w last.parser last.state next
       (parse m t (take (length all - length (still_held all)) all)) =
       rw added.released_is at there.is_parsed in
-      rw (keeps_some m t (still_held all) (rw added.held_is at some)) (record {
+      rw (holds_some m s more (rw added.held_is at some)) (record {
         are_at = record {
           stands = record {
             has_parsed = parsed.has_parsed;
-            holds = rw kept (added.held_is ∙ sym (stays-is all));
+            holds = rw kept added.held_is;
             has_memory =
                 λ some.
-                rw stays-is
-                (rw (added.released_is, added.held_is) at (leaves t rest
-                (record { is_parsed = extended; room = ready })));
+                rw (added.released_is, added.held_is) at (leaves t rest
+                (record { is_parsed = extended; room = ready }));
           };
           handler_is = parsed.handler_is;
         };
@@ -75,13 +103,13 @@ module _ {P J T A V W : Type 0} {w : TurnsMeaning P J T W} (m : Meaning V W) {s 
       })
 
   -- the update is stopped
-  pub turned_stop : {last : Turns P J T A} {next : V} → length (held_of hold) ≡ 0
+  pub turned_stop : {last : Turns P J T A} {next : V} → 0 < length more → length (held_of hold) ≡ 0
       → ((t : State V W) (n : ℕ) → IsParsed w set.parser set.state value t → released_of hold ≡ t.held
       → held_of hold ≡ []
       → (0 < length t.held → w.reading.has_room set.parser (w.room_of set.state.text) t.parsed (length t.held + n))
       → AreNextAt w set last next (stop m t))
       → AreNextAt w old last next (hold_turn m s more)
-  turned_stop {last} {next} is stops =
+  turned_stop {last} {next} some is stops =
       let all = s.held ++ more in
       let none : held_of hold ≡ [] = nil_from_length (held_of hold) is in
       let nothing : still_held all ≡ [] = sym added.held_is ∙ none in
@@ -90,4 +118,5 @@ module _ {P J T A V W : Type 0} {w : TurnsMeaning P J T W} (m : Meaning V W) {s 
       let sum : length all + 0 ≡ length s.held + length more = omega (arith, length-append s.held more) in
       let there : AreNextAt w set last next (stop m (extend m s more)) =
       stops (extend m s more) 0 extended whole none (λ some. rw sum room) in
-      rw nothing (record { are_at = there.are_at; memory = there.memory })
+      rw (holds_none m s more (omega (arith, some, length-append s.held more)) nothing)
+      (record { are_at = there.are_at; memory = there.memory })

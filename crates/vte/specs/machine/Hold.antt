@@ -1,13 +1,22 @@
 -- The bytes of a hold.
-use Rattle.std.specs.Prelude.{◌≡◌, ℕ, ◌-◌, List, ◌++◌, length, take, drop}
+use Rattle.std.specs.Prelude.{◌≡◌, ℕ, ◌-◌, Option, Some, None, List, ◌++◌, length, take, drop}
 use Rattle.vte.specs.ProcessorCalls.{held_of}
-use Rattle.vte.specs.Synchronized.{begins_among, still_held, last_part}
+use Rattle.vte.specs.Synchronized.{after_last_end, begins_among, from_begin, last_part}
 use Rattle.vte.specs.declared.ansi.hold.Hold.{Hold}
 use Rattle.vte.specs.declared.ansi.release.Added.{Added}
 
 -- The bytes before the held ones, which the last turn released.
 abbrev pub released_of : {A : Type 0} → Hold A → List ℕ
 released_of hold = take hold.released hold.bytes.items
+
+-- What stays held of a text: all of it or, if there is an end-update, what follows the last one
+-- from the earliest begin-update on.
+abbrev pub kept_part : List ℕ → Option (List ℕ) → List ℕ
+kept_part text (Some rest) = from_begin rest
+kept_part text None = text
+
+abbrev pub still_held : List ℕ → List ℕ
+still_held text = kept_part text (after_last_end text)
 
 -- The end of a hold, from `start` on, to whose bytes others were added: these, and at most seven
 -- before them.

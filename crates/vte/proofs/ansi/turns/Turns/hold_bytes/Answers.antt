@@ -7,7 +7,7 @@ pub returns-then-len-eq0 : goal.returns-then-len-eq0
 returns-then-len-eq0 g c = λ s at room.
     let m = meaning g.P.EventParser.limit g.H.Handler.step g.T.Timeout.set g.T.Timeout.clear g.T.Timeout.allows in
     turned_stop m at (rw at.stands.holds at c.add-begins.ensures) c.set_timeout.ensures room
-    (sym c.len.ensures.count ∙ c.if-len-eq0.true) c.end_update.ensures.stops
+    c.requires.some (sym c.len.ensures.count ∙ c.if-len-eq0.true) c.end_update.ensures.stops
 
 pub returns-else-len-eq0 : goal.returns-else-len-eq0
 returns-else-len-eq0 g c = λ s at room.

@@ -47,7 +47,7 @@ pub use Rattle.vte.specs.ProcessorCalls.{Advanced, HasParsedAll, HasParsedAndHol
 pub use Rattle.vte.specs.machine.Performing.{PerformsAll, PerformsUntilStop, performer_value, with_private_mode, with_private_modes}
 pub use Rattle.vte.specs.LongProcessor.{AdvancesLong, HasParsedAndHoldsLong, ReadsSome, ReservesRoom, StopsUpdate, TurnsStandAt}
 pub use Rattle.vte.specs.Memory.{HasMemory, HasRoom, KeepsMemory, LacksMemoryOnTheWay, LacksSome, ParserMeaning, TurnsMeaning, long_meaning, of_turns, unlimited}
-pub use Rattle.vte.specs.Numbers.{first_number, first_numbers}
+pub use Rattle.vte.specs.Numbers.{decimal_number, first_number, first_numbers, number_from}
 pub use Rattle.vte.specs.Parts.{first_after, parts_of}
 pub use Rattle.vte.specs.machine.Performer.{FitsText, PerformerValue, with_event}
 pub use Rattle.vte.specs.machine.Turns.{AreAt, AreNextAt, EndsOpen, EndsTurn, Halted, IsAtBegin, IsOpenAt, IsParsed, IsParsedOn, IsParsedWithRoom, Opened, Turned}
@@ -56,7 +56,7 @@ pub use Rattle.vte.specs.Rendition.{attribute_calls, attributes_from}
 pub use Rattle.vte.specs.Synchronized.{begin_update, begins_among, begins_with, after_last_end, end_update, from_begin, still_held, last_part}
 pub use Rattle.vte.specs.machine.Texts.{FitsRoom, fits_room, joined_size, parts_left, with_separator}
 pub use Rattle.vte_types.specs.Words.{after_word}
-pub use Rattle.vte.specs.Titles.{decimal_number, joined_texts, number_from, text_in}
+pub use Rattle.vte.specs.Titles.{joined_texts, text_in}
 pub use Rattle.vte.specs.declared.ansi.laws.replays.Step.{Step}
 pub use Rattle.vte.specs.declared.ansi.laws.replays.Step.TheVariants.{Advance, StopSync}
 pub use Rattle.vte.specs.declared.ansi.performer.ProcessorState.{ProcessorState}

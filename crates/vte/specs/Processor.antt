@@ -154,7 +154,7 @@ TakesAllTurns m s bytes t = TakesTurns m s bytes t []
 pub record EndsInBegin (limit : Option ℕ) (parsed : List ℕ) : Type 0 where
   pub before : List ℕ
   pub byte : ℕ
-  pub is : parsed ≡ before ++ byte ∷ []
+  pub parsed_is : parsed ≡ before ++ byte ∷ []
   pub begins : 0 < begin_count (added limit before (byte ∷ []))
 
 -- Outside an update nothing is held.

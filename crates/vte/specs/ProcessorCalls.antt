@@ -36,25 +36,25 @@ pub record HasParsedAndHolds {T A W : Type 0} (timeout_of : T → W) (processor 
 abbrev pub Standing : Type 0 → Type 1
 Standing W = List ℕ → List ℕ → W → Type 0
 
--- A processor of which `standing` is true, and the handler's value, are as the state says.
-pub record IsAt {V W : Type 0} (standing : Standing W) (value : V) (s : State V W) : Type 0 where
-  pub stands : standing s.parsed s.held s.timeout
+-- A processor of which `Stands` is true, and the handler's value, are as the state says.
+pub record IsAt {V W : Type 0} (Stands : Standing W) (value : V) (s : State V W) : Type 0 where
+  pub stands : Stands s.parsed s.held s.timeout
   pub handler_is : value ≡ s.handler
 
--- A call led to a state by turns, and is there: `there` says so of the processor and the handler's
+-- A call led to a state by turns, and is there: `IsThere` says so of the processor and the handler's
 -- value. Each given byte is parsed or held, once and in order. The facts about the hold stay true.
 pub record Advanced {V W : Type 0} (m : Meaning V W) (s : State V W) (bytes : List ℕ)
-    (there : State V W → Type 0) : Type 0 where
+    (IsThere : State V W → Type 0) : Type 0 where
   pub next : State V W
   pub advances : TakesAllTurns m s bytes next
   pub each_once : all_bytes next ≡ all_bytes s ++ bytes
   pub holds_well : HoldsWellAt m s → HoldsWellAt m next
-  pub is_at : there next
+  pub is_at : IsThere next
 
 -- Calls led to a state, and are there. Each given byte is parsed or held, once and in order.
 -- The facts about the hold stay true. If the timeout is steady, they lead to no other state.
 pub record Replayed {V W : Type 0} (m : Meaning V W) (s : State V W) (steps : List Step)
-    (there : State V W → Type 0) : Type 0 where
+    (IsThere : State V W → Type 0) : Type 0 where
   pub next : State V W
   pub takes : TakesSteps m s steps next
   pub each_once : all_bytes next ≡ all_bytes s ++ given_bytes steps
@@ -62,14 +62,14 @@ pub record Replayed {V W : Type 0} (m : Meaning V W) (s : State V W) (steps : Li
   pub alone : IsSteady m.timeout → HoldsWellAt m s → (other : State V W)
       → TakesSteps m s steps other
       → other ≡ next
-  pub is_at : there next
+  pub is_at : IsThere next
 
 -- The calls led to where the processor and the handler's value are (`replayed`). The bytes held
 -- before and those given are those parsed and held now, each once and in order. The handler has
 -- received the calls of the bytes parsed since, and one more at each stop on that way.
 pub record IsTold {V W : Type 0} (m : Meaning V W) (s : State V W) (steps : List Step) (value : V)
-    (there : State V W → Type 0) : Type 0 where
-  pub replayed : Replayed m s steps there
+    (IsThere : State V W → Type 0) : Type 0 where
+  pub replayed : Replayed m s steps IsThere
   pub more : List ℕ
   pub parsed_is : replayed.next.parsed ≡ s.parsed ++ more
   pub each_once : s.held ++ given_bytes steps ≡ more ++ replayed.next.held
@@ -86,9 +86,9 @@ abbrev pub IsNeverPending : {W : Type 0} → (W → Bool → Type 0) → Type 0
 IsNeverPending {W} allows = (value : W) (answer : Bool) → allows value answer → answer ≡ false
 
 -- The whole stream was parsed, and nothing is held.
-pub record HasParsedAll {W : Type 0} (standing : Standing W) (stream : List ℕ) : Type 0 where
+pub record HasParsedAll {W : Type 0} (Stands : Standing W) (stream : List ℕ) : Type 0 where
   pub timeout : W
-  pub stands : standing stream [] timeout
+  pub stands : Stands stream [] timeout
 
 -- All steps are calls of `advance`.
 abbrev pub AreAdvances : List Step → Type 0

@@ -53,8 +53,8 @@ module _ {V W : Type 0} (m : Meaning V W) where
   replay_on s t u (Advance bytes ∷ steps) more (next, (a, q)) r = (next, (a, replay_on next t u steps more q r))
   replay_on s t u (StopSync ∷ steps) more q r = replay_on (stop m s) t u steps more q r
 
-  pub replayed : (s t : State V W) (steps : List Step) {there : State V W → Type 0} → TakesSteps m s steps t → there t
-      → Replayed m s steps there
+  pub replayed : (s t : State V W) (steps : List Step) {IsThere : State V W → Type 0} → TakesSteps m s steps t
+      → IsThere t → Replayed m s steps IsThere
   replayed s t steps run at = record {
     next = t;
     takes = run;
@@ -65,8 +65,8 @@ module _ {V W : Type 0} (m : Meaning V W) where
   }
 
   -- a call of `advance` is a run
-  pub advance_runs : (s : State V W) (bytes : Bor (List ℕ)) {there : State V W → Type 0} → Advanced m s bytes.now there
-      → Replayed m s (Advance bytes ∷ []) there
+  pub advance_runs : (s : State V W) (bytes : Bor (List ℕ)) {IsThere : State V W → Type 0}
+      → Advanced m s bytes.now IsThere → Replayed m s (Advance bytes ∷ []) IsThere
   advance_runs s bytes a = replayed s a.next (Advance bytes ∷ []) (a.next, (a.advances, refl)) a.is_at
 
   module _ (s : State V W) (steps : List Step) {i : ℕ} (d : Step) {old : State V W → Type 0} (new : State V W → Type 0)

@@ -119,9 +119,9 @@ module _ {V W : Type 0} (m : Meaning V W) (u : State V W) where
   tells-replay t (Advance bytes ∷ steps) (next, (a, r)) = tells-advances t next bytes.now a (tells-replay next steps r)
   tells-replay t (StopSync ∷ steps) r = tells-stop t (tells-replay (stop m t) steps r)
 
-pub told_replay : {V W : Type 0} (m : Meaning V W) (s : State V W) (value : V) {there : State V W → Type 0}
-    → ((t : State V W) → there t → value ≡ t.handler)
-    → (steps : List Step) → Replayed m s steps there → IsTold m s steps value there
+pub told_replay : {V W : Type 0} (m : Meaning V W) (s : State V W) (value : V) {IsThere : State V W → Type 0}
+    → ((t : State V W) → IsThere t → value ≡ t.handler)
+    → (steps : List Step) → Replayed m s steps IsThere → IsTold m s steps value IsThere
 told_replay m s value is steps r =
     let e = tells-replay m r.next s steps r.takes in
     record {

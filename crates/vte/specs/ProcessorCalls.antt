@@ -41,8 +41,9 @@ pub record IsAt {V W : Type 0} (Stands : Standing W) (value : V) (s : State V W)
   pub stands : Stands s.parsed s.held s.timeout
   pub handler_is : value ≡ s.handler
 
--- A call led to a state by turns, and is there: `IsThere` says so of the processor and the handler's
--- value. Each given byte is parsed or held, once and in order. The facts about the hold stay true.
+-- A call led to a state by turns, and is there: `IsThere` says so of the processor and the
+-- handler's value. Each given byte is parsed or held, once and in order. The facts about the hold
+-- stay true.
 pub record Advanced {V W : Type 0} (m : Meaning V W) (s : State V W) (bytes : List ℕ)
     (IsThere : State V W → Type 0) : Type 0 where
   pub next : State V W
@@ -96,15 +97,17 @@ AreAdvances [] = ⊤
 AreAdvances (Advance bytes ∷ steps) = AreAdvances steps
 AreAdvances (StopSync ∷ steps) = ⊥
 
--- Calls that give these bytes, while nothing is held, parse all bytes.
-pub record ParsesAll {V W : Type 0} (m : Meaning V W) (old new : Standing W) (before value : V)
+-- Calls that give these bytes, while nothing is held, parse all bytes. `Stood` and `old` say where
+-- the processor and the handler stood before, `Stands` and `new` where they stand now.
+pub record ParsesAll {V W : Type 0} (m : Meaning V W) (Stood Stands : Standing W) (old new : V)
     (bytes : List ℕ) : Type 0 where
   -- If the handler was as after the calls of the stream, which every handler is if the stream is
   -- empty, it is as after those of both.
-  pub follows : (start : V) (stream : List ℕ) → HasParsedAll old stream
-      → before ≡ after m.step start (calls (events m.limit stream))
-      → value ≡ after m.step start (calls (events m.limit (stream ++ bytes)))
-  pub parses_all : (stream : List ℕ) → HasParsedAll old stream → HasParsedAll new (stream ++ bytes)
+  pub follows : (start : V) (stream : List ℕ) → HasParsedAll Stood stream
+      → old ≡ after m.step start (calls (events m.limit stream))
+      → new ≡ after m.step start (calls (events m.limit (stream ++ bytes)))
+  pub parses_all : (stream : List ℕ) → HasParsedAll Stood stream
+      → HasParsedAll Stands (stream ++ bytes)
 
 -- `clone`: the copy stands where the processor does, if the copy of the timeout has its value.
 pub record IsCopyOf {T A W : Type 0} (is_clone : T → T → Type 0) (timeout_of : T → W)
@@ -121,22 +124,21 @@ pub record CountsHeld (held : List ℕ) (result : ℕ) : Type 0 where
   pub fits : result ≤ most_held
   pub no_end : after_last_end held ≡ None
 
--- `stop_sync` and `stop_sync_text`: `old` and `before` say where the processor and the handler
--- stood, `new` and `value` where they stand now
+-- `stop_sync` and `stop_sync_text`
 abbrev pub StopsSync : {V W : Type 0} → Meaning V W → Standing W → Standing W → V → V → Type 0
-StopsSync m old new before value =
-    (s : State _ _) → IsAt old before s → IsAt new value (stop m s)
+StopsSync m Stood Stands old new =
+    (s : State _ _) → IsAt Stood old s → IsAt Stands new (stop m s)
 
 -- `advance` and `advance_text`, which read all bytes
-pub record ReadsInTurns {V W : Type 0} (m : Meaning V W) (old new : Standing W) (before value : V)
+pub record ReadsInTurns {V W : Type 0} (m : Meaning V W) (Stood Stands : Standing W) (old new : V)
     (bytes : List ℕ) : Type 0 where
-  pub advances : (s : State V W) → IsAt old before s → Advanced m s bytes (IsAt new value)
-  pub plain : IsNeverPending m.timeout.allows → ParsesAll m old new before value bytes
+  pub advances : (s : State V W) → IsAt Stood old s → Advanced m s bytes (IsAt Stands new)
+  pub plain : IsNeverPending m.timeout.allows → ParsesAll m Stood Stands old new bytes
 
 -- `replay`
-pub record Replays {V W : Type 0} (m : Meaning V W) (old new : Standing W) (before value : V)
+pub record Replays {V W : Type 0} (m : Meaning V W) (Stood Stands : Standing W) (old new : V)
     (steps : List Step) : Type 0 where
-  pub told : (s : State V W) → IsAt old before s → IsTold m s steps value (IsAt new value)
+  pub told : (s : State V W) → IsAt Stood old s → IsTold m s steps new (IsAt Stands new)
   -- calls of `advance` alone, with all their bytes
   pub plain : IsNeverPending m.timeout.allows → AreAdvances steps
-      → ParsesAll m old new before value (given_bytes steps)
+      → ParsesAll m Stood Stands old new (given_bytes steps)

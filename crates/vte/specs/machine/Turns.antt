@@ -37,16 +37,16 @@ abbrev pub AreAt : {P J T A V W : Type 0} → TurnsMeaning P J T W → Turns P J
 AreAt w turns = IsAt (TurnsStandAt w turns)
 
 -- The turns are at a state, with the memory that was there before.
-pub record AreNextAt {P J T A V W : Type 0} (w : TurnsMeaning P J T W) (old new : Turns P J T A)
+pub record AreNextAt {P J T A V W : Type 0} (w : TurnsMeaning P J T W) (turns next : Turns P J T A)
     (value : V) (s : State V W) : Type 0 where
-  pub are_at : AreAt w new value s
-  pub memory : KeepsMemory (HasMemory w old) (HasMemory w new)
+  pub are_at : AreAt w next value s
+  pub memory : KeepsMemory (HasMemory w turns) (HasMemory w next)
 
 -- From each state that the turns are at, they lead on as `ends` says.
 abbrev pub LeadOn : {P J T A V W : Type 0} → TurnsMeaning P J T W → Turns P J T A → Turns P J T A
     → V → V → (State V W → (State V W → Type 0) → Type 0) → Type 0
-LeadOn w old new before value ends =
-    (s : State _ _) → AreAt w old before s → ends s (AreNextAt w old new value)
+LeadOn w turns next old new ends =
+    (s : State _ _) → AreAt w turns old s → ends s (AreNextAt w turns next new)
 
 -- The first `read` bytes were parsed: those up to the one that begins an update, or all if none
 -- begins.

@@ -7,7 +7,7 @@ pub use Rattle.std.proofs.Math.Bool.{and-false, or-false}
 pub use Rattle.std.proofs.Math.Seq.{drop-append-add, drop-append_seam, take-add, take-append-add, take-append_seam}
 pub use Rattle.std.proofs.lemmas.Bool.{cases_Bool, cases_lt, false_from_ne_true, false≢true}
 pub use Rattle.std.proofs.lemmas.Bool.Decides.{Decides-eqb, nat_tests}
-pub use Rattle.std.proofs.lemmas.List.{append-nil, append_cancel_left, append_cancel_right, drop-drop, drop_all, drop_more, get_or-append-add, get_or-drop, get_or-take, length-take-le, map-id}
+pub use Rattle.std.proofs.lemmas.List.{append-nil, append_cancel_right, drop-drop, drop_all, drop_more, get_or-append-add, get_or-drop, get_or-take, length-take-le, map-id}
 pub use Rattle.std.proofs.lemmas.List.{take-append-drop, take_all, take_at, take_more, take_rest}
 pub use Rattle.std.proofs.lemmas.List.Elements.{All-cons, All-drop, All-head, All-nil, All-tail, All-take}
 pub use Rattle.std.proofs.lemmas.List.Splits.{length-slice_split, slice_split_first, slice_split_none}
@@ -43,7 +43,7 @@ pub use Rattle.vte.specs.CommandCalls.{dynamic_calls, id_of, link_to, palette_en
 unfoldable pub use Rattle.vte.specs.CommandCalls.{all_reset}
 pub use Rattle.vte.specs.machine.ColorReader.{component_at_front}
 pub use Rattle.vte.specs.machine.Hold.{Adds, IsAdded, IsEnd, released_of}
-pub use Rattle.vte.specs.ProcessorCalls.{Advanced, HasParsedAll, HasParsedAndHolds, IsAt, IsTold, ReadsInTurns, Replayed, Replays, Standing, held_of}
+pub use Rattle.vte.specs.ProcessorCalls.{Advanced, HasParsedAll, HasParsedAndHolds, IsAt, ReadsInTurns, Replayed, Replays, Standing, held_of}
 pub use Rattle.vte.specs.machine.Performing.{PerformsAll, PerformsUntilStop, performer_value, with_private_mode, with_private_modes}
 pub use Rattle.vte.specs.LongProcessor.{AdvancesLong, HasParsedAndHoldsLong, ReadsSome, ReservesRoom, StopsUpdate, TurnsStandAt}
 pub use Rattle.vte.specs.Memory.{HasMemory, HasRoom, KeepsMemory, LacksMemoryOnTheWay, LacksSome, ParserMeaning, TurnsMeaning, long_meaning, of_turns, unlimited}

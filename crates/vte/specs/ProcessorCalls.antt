@@ -52,35 +52,30 @@ pub record Advanced {V W : Type 0} (m : Meaning V W) (s : State V W) (bytes : Li
   pub holds_well : HoldsWellAt m s → HoldsWellAt m next
   pub is_at : IsThere next
 
--- Calls led to a state, and are there. Each given byte is parsed or held, once and in order.
--- The facts about the hold stay true. If the timeout is steady, they lead to no other state.
+-- Calls led to a state, and are there. The bytes held before and those given are those parsed since
+-- and held now, each once and in order. The handler has received the calls of the bytes parsed
+-- since, and one more at each stop on that way. The facts about the hold stay true. If the timeout
+-- is steady, the calls lead to no other state.
 pub record Replayed {V W : Type 0} (m : Meaning V W) (s : State V W) (steps : List Step)
     (IsThere : State V W → Type 0) : Type 0 where
   pub next : State V W
   pub takes : TakesSteps m s steps next
-  pub each_once : all_bytes next ≡ all_bytes s ++ given_bytes steps
+  -- the bytes parsed since
+  pub more : List ℕ
+  pub parsed_is : next.parsed ≡ s.parsed ++ more
+  pub each_once : s.held ++ given_bytes steps ≡ more ++ next.held
+  -- the positions of these stops
+  pub positions : List ℕ
+  pub stops_are : next.stops ≡ s.stops ++ positions
+  pub in_order : AreInOrder (length s.parsed) positions (length next.parsed)
+  pub handler_is : next.handler
+      ≡ after m.step s.handler
+      (calls_with_stops m.limit next.parsed (length s.parsed) positions)
   pub holds_well : HoldsWellAt m s → HoldsWellAt m next
   pub alone : IsSteady m.timeout → HoldsWellAt m s → (other : State V W)
       → TakesSteps m s steps other
       → other ≡ next
   pub is_at : IsThere next
-
--- The calls led to where the processor and the handler's value are (`replayed`). The bytes held
--- before and those given are those parsed and held now, each once and in order. The handler has
--- received the calls of the bytes parsed since, and one more at each stop on that way.
-pub record IsTold {V W : Type 0} (m : Meaning V W) (s : State V W) (steps : List Step) (value : V)
-    (IsThere : State V W → Type 0) : Type 0 where
-  pub replayed : Replayed m s steps IsThere
-  pub more : List ℕ
-  pub parsed_is : replayed.next.parsed ≡ s.parsed ++ more
-  pub each_once : s.held ++ given_bytes steps ≡ more ++ replayed.next.held
-  -- the positions of these stops
-  pub positions : List ℕ
-  pub stops_are : replayed.next.stops ≡ s.stops ++ positions
-  pub in_order : AreInOrder (length s.parsed) positions (length replayed.next.parsed)
-  pub is_told : value
-      ≡ after m.step s.handler
-      (calls_with_stops m.limit replayed.next.parsed (length s.parsed) positions)
 
 -- No value allows the answer "pending".
 abbrev pub IsNeverPending : {W : Type 0} → (W → Bool → Type 0) → Type 0
@@ -138,7 +133,7 @@ pub record ReadsInTurns {V W : Type 0} (m : Meaning V W) (Stood Stands : Standin
 -- `replay`
 pub record Replays {V W : Type 0} (m : Meaning V W) (Stood Stands : Standing W) (old new : V)
     (steps : List Step) : Type 0 where
-  pub told : (s : State V W) → IsAt Stood old s → IsTold m s steps new (IsAt Stands new)
+  pub told : (s : State V W) → IsAt Stood old s → Replayed m s steps (IsAt Stands new)
   -- calls of `advance` alone, with all their bytes
   pub plain : IsNeverPending m.timeout.allows → AreAdvances steps
       → ParsesAll m Stood Stands old new (given_bytes steps)

@@ -1,12 +1,12 @@
 -- With a timeout that is never pending nothing is ever held, so a run has no stops and its calls are those of the
 -- whole stream. By induction over turns: each one is open, and ends with nothing held.
 use Rattle.vte.proofs.Common.{◌≡◌, ℕ, true, false, List, [], ◌∷◌, ◌++◌, refl, ap, sym, ◌∙◌, Bor, append-nil, events, after, Step, Advance, StopSync, added_calls, calls}
-use Rattle.vte.proofs.Common.{Meaning, Advanced, HasParsedAll, IsAt, Replayed, Replays, TakesSteps, Standing, given_bytes, IsTold, State, TakesAllTurns, done, turns, stop_if_due}
+use Rattle.vte.proofs.Common.{Meaning, Advanced, HasParsedAll, IsAt, Replayed, Replays, TakesSteps, Standing, given_bytes, State, TakesAllTurns, done, turns, stop_if_due}
 use Rattle.vte.specs.ProcessorCalls.{AreAdvances, IsNeverPending, ParsesAll}
 use Rattle.vte.proofs.performing.CallLists.{after-append, calls_whole}
 use Rattle.vte.proofs.replays.EachOnce.{stop_if_due_none}
 use Rattle.vte.proofs.replays.Replays.{advance_runs}
-use Rattle.vte.proofs.replays.Tellings.{between-whole, told_replay}
+use Rattle.vte.proofs.replays.Tellings.{between-whole}
 
 -- nothing is held, and there was no stop
 record IsPlain {V W : Type 0} (s t : State V W) : Type 0 where
@@ -43,20 +43,21 @@ module _ {V W : Type 0} {Stood : Standing W} (old : V) {stream : List ℕ} (all 
 
   module _ (m : Meaning V W) (never : IsNeverPending m.timeout.allows) {Stands : Standing W} {new : V}
       (steps : List Step) (only : AreAdvances steps)
-      (told : IsTold m here steps new (IsAt Stands new)) where
-    plain : IsPlain here told.replayed.next
-    plain = plain_run m never here told.replayed.next steps told.replayed.takes only refl
+      (told : Replayed m here steps (IsAt Stands new)) where
+    plain : IsPlain here told.next
+    plain = plain_run m never here told.next steps told.takes only refl
 
     more_is : told.more ≡ given_bytes steps
     more_is = sym (told.each_once ∙ ap (λ held. told.more ++ held) plain.none_held ∙ append-nil told.more)
 
-    parsed_all : told.replayed.next.parsed ≡ stream ++ given_bytes steps
+    parsed_all : told.next.parsed ≡ stream ++ given_bytes steps
     parsed_all = told.parsed_is ∙ ap (λ more. stream ++ more) more_is
 
     plain_follows : (start : V) → old ≡ after m.step start (calls (events m.limit stream))
         → new ≡ after m.step start (calls (events m.limit (stream ++ given_bytes steps)))
     plain_follows start was =
-        told.is_told
+        told.is_at.handler_is
+        ∙ told.handler_is
         ∙ rw (← told.stops_are, plain.no_stop, parsed_all, between-whole m.limit stream (given_bytes steps), was)
         (sym
         (after-append m.step start (calls (events m.limit stream)) (added_calls m.limit stream (given_bytes steps))))
@@ -64,15 +65,15 @@ module _ {V W : Type 0} {Stood : Standing W} (old : V) {stream : List ℕ} (all 
 
     plain_parses : HasParsedAll Stands (stream ++ given_bytes steps)
     plain_parses = record {
-      timeout = told.replayed.next.timeout;
-      stands = rw (parsed_all, plain.none_held) at told.replayed.is_at.stands;
+      timeout = told.next.timeout;
+      stands = rw (parsed_all, plain.none_held) at told.is_at.stands;
     }
 
 -- ---- what calls ensure then
 
 module _ {V W : Type 0} (m : Meaning V W) {Stood Stands : Standing W} {old new : V} where
   plain_calls : (steps : List Step)
-      → ((s : State V W) → IsAt Stood old s → IsTold m s steps new (IsAt Stands new))
+      → ((s : State V W) → IsAt Stood old s → Replayed m s steps (IsAt Stands new))
       → IsNeverPending m.timeout.allows → AreAdvances steps → ParsesAll m Stood Stands old new (given_bytes steps)
   plain_calls steps told never only = record {
     follows = λ start stream all. plain_follows old all m never steps only (told _ (is_here old all)) start;
@@ -82,10 +83,7 @@ module _ {V W : Type 0} (m : Meaning V W) {Stood Stands : Standing W} {old new :
   pub replays_all : (steps : List Step)
       → ((s : State V W) → IsAt Stood old s → Replayed m s steps (IsAt Stands new))
       → Replays m Stood Stands old new steps
-  replays_all steps replays =
-      let told : (s : State V W) → IsAt Stood old s → IsTold m s steps new (IsAt Stands new) =
-      λ s at. told_replay m s new (λ t there. there.handler_is) steps (replays s at) in
-      record { told = told; plain = plain_calls steps told }
+  replays_all steps told = record { told = told; plain = plain_calls steps told }
 
   -- a call is a run of one step
   pub plain_call : (bytes : Bor (List ℕ))

@@ -4,9 +4,10 @@ use Rattle.std.specs.Fmt.{decimal}
 use Rattle.std.specs.List.{filter_map, range_with_len}
 use Rattle.vte.specs.ColorText.{xparse_color_of}
 use Rattle.vte.specs.Maybe.{for_some}
+use Rattle.vte.specs.Numbers.{decimal_number}
 use Rattle.vte.specs.Parts.{first_after, parts_of}
 use Rattle.vte_types.specs.Rows.{Row, entry_of}
-use Rattle.vte.specs.Titles.{decimal_number, joined_texts, text_in, title_calls}
+use Rattle.vte.specs.Titles.{joined_texts, text_in, title_calls}
 use Rattle.vte_handler.specs.Call.{Call}
 use Rattle.vte_handler.specs.Call as call
 use Rattle.vte_handler.specs.Link.{Link}

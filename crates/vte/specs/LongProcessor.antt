@@ -65,14 +65,15 @@ Reserves timeout_of old new = ReservesRoom (unlimited timeout_of) old.turns new.
 
 -- `stop_sync` and `stop_sync_text`
 pub record StopsUpdate {P J T A V W : Type 0} (w : TurnsMeaning P J T W) (m : Meaning V W)
-    (old new : Turns P J T A) (before value : V) : Type 0 where
-  pub stops : StopsSync m (TurnsStandAt w old) (TurnsStandAt w new) before value
-  pub memory : (s : State V W) → IsAt (TurnsStandAt w old) before s
-      → KeepsMemory (HasMemory w old) (HasMemory w new)
+    (turns next : Turns P J T A) (old new : V) : Type 0 where
+  pub stops : StopsSync m (TurnsStandAt w turns) (TurnsStandAt w next) old new
+  pub memory : (s : State V W) → IsAt (TurnsStandAt w turns) old s
+      → KeepsMemory (HasMemory w turns) (HasMemory w next)
 
 abbrev pub StopsSyncLong : {T A V W : Type 0} → (T → W) → Meaning V W
-    → (old new : LongProcessor T A) → (before value : V) → Type 0
-StopsSyncLong timeout_of m old new = StopsUpdate (unlimited timeout_of) m old.turns new.turns
+    → (processor next : LongProcessor T A) → (old new : V) → Type 0
+StopsSyncLong timeout_of m processor next =
+    StopsUpdate (unlimited timeout_of) m processor.turns next.turns
 
 -- How many bytes a call read.
 abbrev pub read_of : Result (Unit {0}) Refused → List ℕ → ℕ
@@ -82,25 +83,25 @@ read_of (Err refused) bytes = refused.read
 -- A call reads bytes: all, or those that the first turns of such a call read before memory is
 -- refused.
 pub record ReadsSome {P J T A V W : Type 0} (w : TurnsMeaning P J T W) (m : Meaning V W)
-    (old new : Turns P J T A) (before value : V) (bytes : List ℕ)
+    (turns next : Turns P J T A) (old new : V) (bytes : List ℕ)
     (result : Result (Unit {0}) Refused) : Type 0 where
-  pub takes : (s : State V W) → IsAt (TurnsStandAt w old) before s
-      → HasTaken m s bytes (read_of result bytes) (IsAt (TurnsStandAt w new) value)
+  pub takes : (s : State V W) → IsAt (TurnsStandAt w turns) old s
+      → HasTaken m s bytes (read_of result bytes) (IsAt (TurnsStandAt w next) new)
   pub within : IfErr result (λ refused. refused.read < length bytes)
-  pub lacks : IfErr result (λ refused. LacksSome w new (length bytes - refused.read))
-  pub memory : (s : State V W) → IsAt (TurnsStandAt w old) before s
-      → KeepsMemory (HasMemory w old) (HasMemory w new)
+  pub lacks : IfErr result (λ refused. LacksSome w next (length bytes - refused.read))
+  pub memory : (s : State V W) → IsAt (TurnsStandAt w turns) old s
+      → KeepsMemory (HasMemory w turns) (HasMemory w next)
 
 -- `advance` and `advance_text`
 pub record AdvancesLong {T A V W : Type 0} (timeout_of : T → W) (m : Meaning V W)
-    (old new : LongProcessor T A) (before value : V) (bytes : List ℕ)
+    (processor next : LongProcessor T A) (old new : V) (bytes : List ℕ)
     (result : Result (Unit {0}) Refused) : Type 0 where
   -- The bytes read are those that the first turns of the call read.
-  pub reads : ReadsSome (unlimited timeout_of) m old.turns new.turns before value bytes result
+  pub reads : ReadsSome (unlimited timeout_of) m processor.turns next.turns old new bytes result
   -- If no memory is refused, all bytes are read.
-  pub all : IfOk result (λ all. ReadsInTurns m (HasParsedAndHoldsLong timeout_of old)
-      (HasParsedAndHoldsLong timeout_of new) before value bytes)
+  pub all : IfOk result (λ all. ReadsInTurns m (HasParsedAndHoldsLong timeout_of processor)
+      (HasParsedAndHoldsLong timeout_of next) old new bytes)
   -- If there was memory for all bytes, none is refused.
-  pub enough : (s : State V W) → IsAt (HasParsedAndHoldsLong timeout_of old) before s
-      → HasMemory (unlimited timeout_of) old.turns s.parsed (length s.held + length bytes)
+  pub enough : (s : State V W) → IsAt (HasParsedAndHoldsLong timeout_of processor) old s
+      → HasMemory (unlimited timeout_of) processor.turns s.parsed (length s.held + length bytes)
       → IsOk result

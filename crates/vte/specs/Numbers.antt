@@ -1,5 +1,6 @@
--- The numbers of a control sequence, read from its groups.
-use Rattle.std.specs.Prelude.{ℕ, Bool, false, List, [], ◌∷◌, map, if◌then◌else◌, ◌==◌, Option, Some, None}
+-- The numbers of a control sequence, read from its groups, and decimal numbers in commands.
+use Rattle.std.specs.Prelude.{ℕ, Bool, false, List, [], ◌∷◌, ◌+◌, ◌*◌, ◌==◌, ◌&&◌, Option, Some, None, map, nat_lt, if◌then◌else◌}
+use Rattle.std.specs.Char.{digit_value}
 
 abbrev pub first_of : {A : Type 0} → List A → Option A
 first_of [] = None
@@ -18,7 +19,18 @@ abbrev pub first_or : ℕ → List ℕ → ℕ
 first_or default [] = default
 first_or default (number ∷ numbers) = if number == 0 then default else number
 
--- The first group is just the number 4.
-abbrev pub is_four : List (List ℕ) → Bool
-is_four ((number ∷ []) ∷ groups) = number == 4
-is_four _ = false
+-- XTQMODKEYS asks for the other keys: the first group is just the number 4.
+abbrev pub asks_other_keys : List (List ℕ) → Bool
+asks_other_keys ((number ∷ []) ∷ groups) = number == 4
+asks_other_keys _ = false
+
+-- `number` with more decimal digits after it, or none if it exceeds 255 or a byte isn't a digit.
+abbrev pub number_from : ℕ → List ℕ → Option ℕ
+number_from number [] = Some number
+number_from number (byte ∷ bytes) =
+    if nat_lt (digit_value byte) 10 && nat_lt (10 * number + digit_value byte) 256
+    then number_from (10 * number + digit_value byte) bytes else None
+
+abbrev pub decimal_number : List ℕ → Option ℕ
+decimal_number [] = None
+decimal_number (byte ∷ bytes) = number_from 0 (byte ∷ bytes)

@@ -5,7 +5,7 @@ use Rattle.std.specs.Prelude.{ℕ, zero, suc, Bool, Option, ◌++◌, List, ◌�
 use Rattle.vte_core.specs.Stream.{events, added}
 use Rattle.vte_handler.specs.Call.{Call}
 use Rattle.vte_handler.specs.Handler.{after}
-use Rattle.vte_handler.specs.Timeout.{TimeoutMeaning, timeout_meaning, AllowsAlone, IsSteady}
+use Rattle.vte_handler.specs.Timeout.{TimeoutMeaning, timeout_meaning, AllowsOnly, IsSteady}
 use Rattle.vte.specs.BeginUpdate.{begin_count}
 use Rattle.vte.specs.Calls.{calls_beyond}
 use Rattle.vte.specs.Synchronized.{begins_among, last_part, update_ended, begin_update, begins_with, after_last_end, from_begin}
@@ -156,19 +156,19 @@ TakesAllTurns m s bytes t = TakesTurns m s bytes t []
 pub record EndsInBegin (limit : Option ℕ) (parsed : List ℕ) : Type 0 where
   pub before : List ℕ
   pub byte : ℕ
-  pub is : parsed ≡ before ++ byte ∷ []
+  pub parsed_is : parsed ≡ before ++ byte ∷ []
   pub begins : 0 < begin_count (added limit before (byte ∷ []))
 
 -- Outside an update nothing is held.
 pub record IsOutsideUpdate {W : Type 0} (m : TimeoutMeaning W) (held : List ℕ)
     (timeout : W) : Type 0 where
-  pub not_pending : AllowsAlone m timeout false
+  pub not_pending : AllowsOnly m timeout false
   pub none_held : held ≡ []
 
 -- Inside an update the held bytes follow its begin, or start with it.
 pub record IsInsideUpdate {W : Type 0} (limit : Option ℕ) (m : TimeoutMeaning W)
     (parsed held : List ℕ) (timeout : W) : Type 0 where
-  pub pending : AllowsAlone m timeout true
+  pub pending : AllowsOnly m timeout true
   pub begun : EndsInBegin limit parsed ⊎ (begins_with begin_update held ≡ true)
 
 -- The hold contains no end-update, and fits its room. If the timeout is steady, nothing is held

@@ -36,59 +36,55 @@ pub record HasParsedAndHolds {T A W : Type 0} (timeout_of : T → W) (processor 
 abbrev pub Standing : Type 0 → Type 1
 Standing W = List ℕ → List ℕ → W → Type 0
 
--- A processor of which `standing` is true, and the handler's value, are as the state says.
-pub record IsAt {V W : Type 0} (standing : Standing W) (value : V) (s : State V W) : Type 0 where
-  pub stands : standing s.parsed s.held s.timeout
+-- A processor of which `Stands` is true, and the handler's value, are as the state says.
+pub record IsAt {V W : Type 0} (Stands : Standing W) (value : V) (s : State V W) : Type 0 where
+  pub stands : Stands s.parsed s.held s.timeout
   pub handler_is : value ≡ s.handler
 
--- A call led to a state by turns, and is there: `there` says so of the processor and the handler's
--- value. Each given byte is parsed or held, once and in order. The facts about the hold stay true.
+-- A call led to a state by turns, and is there: `IsThere` says so of the processor and the
+-- handler's value. Each given byte is parsed or held, once and in order. The facts about the hold
+-- stay true.
 pub record Advanced {V W : Type 0} (m : Meaning V W) (s : State V W) (bytes : List ℕ)
-    (there : State V W → Type 0) : Type 0 where
+    (IsThere : State V W → Type 0) : Type 0 where
   pub next : State V W
   pub advances : TakesAllTurns m s bytes next
   pub each_once : all_bytes next ≡ all_bytes s ++ bytes
   pub holds_well : HoldsWellAt m s → HoldsWellAt m next
-  pub is_at : there next
+  pub is_at : IsThere next
 
--- Calls led to a state, and are there. Each given byte is parsed or held, once and in order.
--- The facts about the hold stay true. If the timeout is steady, they lead to no other state.
+-- Calls led to a state, and are there. The bytes held before and those given are those parsed since
+-- and held now, each once and in order. The handler has received the calls of the bytes parsed
+-- since, and one more at each stop on that way. The facts about the hold stay true. If the timeout
+-- is steady, the calls lead to no other state.
 pub record Replayed {V W : Type 0} (m : Meaning V W) (s : State V W) (steps : List Step)
-    (there : State V W → Type 0) : Type 0 where
+    (IsThere : State V W → Type 0) : Type 0 where
   pub next : State V W
   pub takes : TakesSteps m s steps next
-  pub each_once : all_bytes next ≡ all_bytes s ++ given_bytes steps
+  -- the bytes parsed since
+  pub more : List ℕ
+  pub parsed_is : next.parsed ≡ s.parsed ++ more
+  pub each_once : s.held ++ given_bytes steps ≡ more ++ next.held
+  -- the positions of these stops
+  pub positions : List ℕ
+  pub stops_are : next.stops ≡ s.stops ++ positions
+  pub in_order : AreInOrder (length s.parsed) positions (length next.parsed)
+  pub handler_is : next.handler
+      ≡ after m.step s.handler
+      (calls_with_stops m.limit next.parsed (length s.parsed) positions)
   pub holds_well : HoldsWellAt m s → HoldsWellAt m next
   pub alone : IsSteady m.timeout → HoldsWellAt m s → (other : State V W)
       → TakesSteps m s steps other
       → other ≡ next
-  pub is_at : there next
-
--- The calls led to where the processor and the handler's value are (`replayed`). The bytes held
--- before and those given are those parsed and held now, each once and in order. The handler has
--- received the calls of the bytes parsed since, and one more at each stop on that way.
-pub record IsTold {V W : Type 0} (m : Meaning V W) (s : State V W) (steps : List Step) (value : V)
-    (there : State V W → Type 0) : Type 0 where
-  pub replayed : Replayed m s steps there
-  pub more : List ℕ
-  pub parsed_is : replayed.next.parsed ≡ s.parsed ++ more
-  pub each_once : s.held ++ given_bytes steps ≡ more ++ replayed.next.held
-  -- the positions of these stops
-  pub positions : List ℕ
-  pub stops_are : replayed.next.stops ≡ s.stops ++ positions
-  pub in_order : AreInOrder (length s.parsed) positions (length replayed.next.parsed)
-  pub is_told : value
-      ≡ after m.step s.handler
-      (calls_with_stops m.limit replayed.next.parsed (length s.parsed) positions)
+  pub is_at : IsThere next
 
 -- No value allows the answer "pending".
 abbrev pub IsNeverPending : {W : Type 0} → (W → Bool → Type 0) → Type 0
 IsNeverPending {W} allows = (value : W) (answer : Bool) → allows value answer → answer ≡ false
 
 -- The whole stream was parsed, and nothing is held.
-pub record HasParsedAll {W : Type 0} (standing : Standing W) (stream : List ℕ) : Type 0 where
+pub record HasParsedAll {W : Type 0} (Stands : Standing W) (stream : List ℕ) : Type 0 where
   pub timeout : W
-  pub stands : standing stream [] timeout
+  pub stands : Stands stream [] timeout
 
 -- All steps are calls of `advance`.
 abbrev pub AreAdvances : List Step → Type 0
@@ -96,15 +92,17 @@ AreAdvances [] = ⊤
 AreAdvances (Advance bytes ∷ steps) = AreAdvances steps
 AreAdvances (StopSync ∷ steps) = ⊥
 
--- Calls that give these bytes, while nothing is held, parse all bytes.
-pub record ParsesAll {V W : Type 0} (m : Meaning V W) (old new : Standing W) (before value : V)
+-- Calls that give these bytes, while nothing is held, parse all bytes. `Stood` and `old` say where
+-- the processor and the handler stood before, `Stands` and `new` where they stand now.
+pub record ParsesAll {V W : Type 0} (m : Meaning V W) (Stood Stands : Standing W) (old new : V)
     (bytes : List ℕ) : Type 0 where
   -- If the handler was as after the calls of the stream, which every handler is if the stream is
   -- empty, it is as after those of both.
-  pub follows : (start : V) (stream : List ℕ) → HasParsedAll old stream
-      → before ≡ after m.step start (calls (events m.limit stream))
-      → value ≡ after m.step start (calls (events m.limit (stream ++ bytes)))
-  pub parses_all : (stream : List ℕ) → HasParsedAll old stream → HasParsedAll new (stream ++ bytes)
+  pub follows : (start : V) (stream : List ℕ) → HasParsedAll Stood stream
+      → old ≡ after m.step start (calls (events m.limit stream))
+      → new ≡ after m.step start (calls (events m.limit (stream ++ bytes)))
+  pub parses_all : (stream : List ℕ) → HasParsedAll Stood stream
+      → HasParsedAll Stands (stream ++ bytes)
 
 -- `clone`: the copy stands where the processor does, if the copy of the timeout has its value.
 pub record IsCopyOf {T A W : Type 0} (is_clone : T → T → Type 0) (timeout_of : T → W)
@@ -121,22 +119,21 @@ pub record CountsHeld (held : List ℕ) (result : ℕ) : Type 0 where
   pub fits : result ≤ most_held
   pub no_end : after_last_end held ≡ None
 
--- `stop_sync` and `stop_sync_text`: `old` and `before` say where the processor and the handler
--- stood, `new` and `value` where they stand now
+-- `stop_sync` and `stop_sync_text`
 abbrev pub StopsSync : {V W : Type 0} → Meaning V W → Standing W → Standing W → V → V → Type 0
-StopsSync m old new before value =
-    (s : State _ _) → IsAt old before s → IsAt new value (stop m s)
+StopsSync m Stood Stands old new =
+    (s : State _ _) → IsAt Stood old s → IsAt Stands new (stop m s)
 
 -- `advance` and `advance_text`, which read all bytes
-pub record ReadsInTurns {V W : Type 0} (m : Meaning V W) (old new : Standing W) (before value : V)
+pub record ReadsInTurns {V W : Type 0} (m : Meaning V W) (Stood Stands : Standing W) (old new : V)
     (bytes : List ℕ) : Type 0 where
-  pub advances : (s : State V W) → IsAt old before s → Advanced m s bytes (IsAt new value)
-  pub plain : IsNeverPending m.timeout.allows → ParsesAll m old new before value bytes
+  pub advances : (s : State V W) → IsAt Stood old s → Advanced m s bytes (IsAt Stands new)
+  pub plain : IsNeverPending m.timeout.allows → ParsesAll m Stood Stands old new bytes
 
 -- `replay`
-pub record Replays {V W : Type 0} (m : Meaning V W) (old new : Standing W) (before value : V)
+pub record Replays {V W : Type 0} (m : Meaning V W) (Stood Stands : Standing W) (old new : V)
     (steps : List Step) : Type 0 where
-  pub told : (s : State V W) → IsAt old before s → IsTold m s steps value (IsAt new value)
+  pub told : (s : State V W) → IsAt Stood old s → Replayed m s steps (IsAt Stands new)
   -- calls of `advance` alone, with all their bytes
   pub plain : IsNeverPending m.timeout.allows → AreAdvances steps
-      → ParsesAll m old new before value (given_bytes steps)
+      → ParsesAll m Stood Stands old new (given_bytes steps)

@@ -39,31 +39,31 @@ pub data TakesSome {H W : Type 0} (m : Meaning H W) (s : State H W) (bytes : Lis
 -- the way, and is at the state to which they led. Each byte that was read is parsed or held, once
 -- and in order. The facts about the hold stay true.
 pub record HasTaken {V W : Type 0} (m : Meaning V W) (s : State V W) (bytes : List ℕ) (read : ℕ)
-    (there : State V W → Type 0) : Type 0 where
+    (IsThere : State V W → Type 0) : Type 0 where
   pub next : State V W
   pub takes : TakesSome m s bytes next (drop read bytes)
   pub each_once : all_bytes next ≡ all_bytes s ++ take read bytes
   pub holds_well : HoldsWellAt m s → HoldsWellAt m next
-  pub is_at : there next
+  pub is_at : IsThere next
 
 -- A refused `Advance` has read `read` bytes, by its first turns. `StopSync` is never refused.
 abbrev pub IsRefused : {V W : Type 0} → Meaning V W → State V W → Step → ℕ
     → (State V W → Type 0) → Type 0
-IsRefused m s (Advance bytes) read there =
-    (read < length bytes.now) × HasTaken m s bytes.now read there
-IsRefused m s StopSync read there = ⊥
+IsRefused m s (Advance bytes) read IsThere =
+    (read < length bytes.now) × HasTaken m s bytes.now read IsThere
+IsRefused m s StopSync read IsThere = ⊥
 
 abbrev pub IsFirstRefused : {V W : Type 0} → Meaning V W → State V W → List Step → ℕ
     → (State V W → Type 0) → Type 0
-IsFirstRefused m s [] read there = ⊥
-IsFirstRefused m s (step ∷ steps) read there = IsRefused m s step read there
+IsFirstRefused m s [] read IsThere = ⊥
+IsFirstRefused m s (step ∷ steps) read IsThere = IsRefused m s step read IsThere
 
 -- The calls before the refused one led to a state, and there it was refused.
 abbrev pub ReplayedUntil : {V W : Type 0} → Meaning V W → State V W → List Step → RefusedStep
     → (State V W → Type 0) → Type 0
-ReplayedUntil m s steps refused there =
+ReplayedUntil m s steps refused IsThere =
     Replayed m s (take refused.index steps)
-    (λ next. IsFirstRefused m next (drop refused.index steps) refused.read there)
+    (λ next. IsFirstRefused m next (drop refused.index steps) refused.read IsThere)
 
 -- How many bytes of the refused call are left.
 abbrev pub left_of : Step → ℕ → ℕ

@@ -13,12 +13,12 @@ abbrev pub timeout_meaning : {W : Type 0} → (W → ℕ → W) → (W → W) �
 timeout_meaning set clear allows = record { set = set; clear = clear; allows = allows }
 
 -- The value allows only this answer.
-abbrev pub AllowsAlone : {W : Type 0} → TimeoutMeaning W → W → Bool → Type 0
-AllowsAlone m value answer =
+abbrev pub AllowsOnly : {W : Type 0} → TimeoutMeaning W → W → Bool → Type 0
+AllowsOnly m value answer =
     m.allows value answer × ((other : Bool) → m.allows value other → other ≡ answer)
 
 -- A steady timeout is pending from when it is set until it is cleared, no matter what a clock
 -- shows.
 pub record IsSteady {W : Type 0} (m : TimeoutMeaning W) : Type 0 where
-  pub set : (value : W) (nanos : ℕ) → AllowsAlone m (m.set value nanos) true
-  pub clear : (value : W) → AllowsAlone m (m.clear value) false
+  pub set : (value : W) (nanos : ℕ) → AllowsOnly m (m.set value nanos) true
+  pub clear : (value : W) → AllowsOnly m (m.clear value) false

@@ -40,12 +40,19 @@ grows_on {s = s} {u = u} {left = left} a b = record {
   each_once = cc (a.each_once, b.each_once, append_assoc a.more b.more (u.held ++ left));
 }
 
+-- bytes that follow are left
+grows_before : {V W : Type 0} {s t : State V W} {bytes : List ℕ} → Grows s t bytes [] → (left : List ℕ)
+    → Grows s t (bytes ++ left) left
+grows_before {s = s} {t = t} {bytes = bytes} g left = record {
+  more = g.more;
+  parsed_is = g.parsed_is;
+  each_once =
+      cc (g.each_once, append-nil t.held, append_assoc s.held bytes left, append_assoc g.more t.held left);
+}
+
 module _ {V W : Type 0} (m : Meaning V W) where
   same : (s : State V W) (bytes : List ℕ) → Grows s s bytes bytes
   same s bytes = record { more = []; parsed_is = sym (append-nil s.parsed); each_once = refl }
-
-  stop_bytes : (s : State V W) → all_bytes (stop m s) ≡ all_bytes s
-  stop_bytes s = append-nil (s.parsed ++ s.held)
 
   pub stop_grows : (s : State V W) (bytes : List ℕ) → Grows s (stop m s) bytes bytes
   stop_grows s bytes = record { more = s.held; parsed_is = refl; each_once = refl }
@@ -108,11 +115,9 @@ module _ {V W : Type 0} (m : Meaning V W) where
   turns_grow s t (b ∷ bytes) left (turns answer allowed more) =
       grows_on (turn_grows answer s (b ∷ bytes)) (turns_grow _ t _ left more)
 
-  pub replay_bytes : (s t : State V W) (steps : List Step) → TakesSteps m s steps t
-      → all_bytes t ≡ all_bytes s ++ given_bytes steps
-  replay_bytes s t [] e = rw (e, append-nil)
-  replay_bytes s t (Advance bytes ∷ steps) (next, (a, r)) =
-      let read : all_bytes next ≡ all_bytes s ++ bytes.now =
-      sym (append-nil (all_bytes next)) ∙ grown_bytes (turns_grow s next bytes.now [] a) in
-      replay_bytes next t steps r ∙ rw (read, append_assoc)
-  replay_bytes s t (StopSync ∷ steps) r = replay_bytes (stop m s) t steps r ∙ rw stop_bytes
+  pub replay_grows : (s t : State V W) (steps : List Step) → TakesSteps m s steps t → Grows s t (given_bytes steps) []
+  replay_grows s t [] e = rw e (same t [])
+  replay_grows s t (Advance bytes ∷ steps) (next, (a, r)) =
+      grows_on (grows_before (turns_grow s next bytes.now [] a) (given_bytes steps)) (replay_grows next t steps r)
+  replay_grows s t (StopSync ∷ steps) r =
+      grows_on (stop_grows s (given_bytes steps)) (replay_grows (stop m s) t steps r)

@@ -1,12 +1,12 @@
 -- With a timeout that is never pending nothing is ever held, so a run has no stops and its calls are those of the
 -- whole stream. By induction over turns: each one is open, and ends with nothing held.
 use Rattle.vte.proofs.Common.{◌≡◌, ℕ, true, false, List, [], ◌∷◌, ◌++◌, refl, ap, sym, ◌∙◌, Bor, append-nil, events, after, Step, Advance, StopSync, added_calls, calls}
-use Rattle.vte.proofs.Common.{Meaning, Advanced, HasParsedAll, IsAt, Replayed, Replays, TakesSteps, Standing, given_bytes, IsTold, State, TakesAllTurns, done, turns, stop_if_due}
+use Rattle.vte.proofs.Common.{Meaning, Advanced, HasParsedAll, IsAt, Replayed, Replays, TakesSteps, Standing, given_bytes, State, TakesAllTurns, done, turns, stop_if_due}
 use Rattle.vte.specs.ProcessorCalls.{AreAdvances, IsNeverPending, ParsesAll}
 use Rattle.vte.proofs.performing.CallLists.{after-append, calls_whole}
 use Rattle.vte.proofs.replays.EachOnce.{stop_if_due_none}
 use Rattle.vte.proofs.replays.Replays.{advance_runs}
-use Rattle.vte.proofs.replays.Tellings.{between-whole, told_replay}
+use Rattle.vte.proofs.replays.Tellings.{between-whole}
 
 -- nothing is held, and there was no stop
 record IsPlain {V W : Type 0} (s t : State V W) : Type 0 where
@@ -34,63 +34,61 @@ module _ {V W : Type 0} (m : Meaning V W) (never : IsNeverPending m.timeout.allo
 
 -- ---- from the beginning of the stream on
 
-module _ {V W : Type 0} {old : Standing W} (before : V) {stream : List ℕ} (all : HasParsedAll old stream) where
+module _ {V W : Type 0} {Stood : Standing W} (old : V) {stream : List ℕ} (all : HasParsedAll Stood stream) where
   abbrev here : State V W
-  here = record { parsed = stream; stops = []; held = []; timeout = all.timeout; handler = before }
+  here = record { parsed = stream; stops = []; held = []; timeout = all.timeout; handler = old }
 
-  is_here : IsAt old before here
+  is_here : IsAt Stood old here
   is_here = record { stands = all.stands; handler_is = refl }
 
-  module _ (m : Meaning V W) (never : IsNeverPending m.timeout.allows) {new : Standing W} {next : V}
+  module _ (m : Meaning V W) (never : IsNeverPending m.timeout.allows) {Stands : Standing W} {new : V}
       (steps : List Step) (only : AreAdvances steps)
-      (told : IsTold m here steps next (IsAt new next)) where
-    plain : IsPlain here told.replayed.next
-    plain = plain_run m never here told.replayed.next steps told.replayed.takes only refl
+      (told : Replayed m here steps (IsAt Stands new)) where
+    plain : IsPlain here told.next
+    plain = plain_run m never here told.next steps told.takes only refl
 
     more_is : told.more ≡ given_bytes steps
     more_is = sym (told.each_once ∙ ap (λ held. told.more ++ held) plain.none_held ∙ append-nil told.more)
 
-    parsed_all : told.replayed.next.parsed ≡ stream ++ given_bytes steps
+    parsed_all : told.next.parsed ≡ stream ++ given_bytes steps
     parsed_all = told.parsed_is ∙ ap (λ more. stream ++ more) more_is
 
-    plain_follows : (start : V) → before ≡ after m.step start (calls (events m.limit stream))
-        → next ≡ after m.step start (calls (events m.limit (stream ++ given_bytes steps)))
+    plain_follows : (start : V) → old ≡ after m.step start (calls (events m.limit stream))
+        → new ≡ after m.step start (calls (events m.limit (stream ++ given_bytes steps)))
     plain_follows start was =
-        told.is_told
+        told.is_at.handler_is
+        ∙ told.handler_is
         ∙ rw (← told.stops_are, plain.no_stop, parsed_all, between-whole m.limit stream (given_bytes steps), was)
         (sym
         (after-append m.step start (calls (events m.limit stream)) (added_calls m.limit stream (given_bytes steps))))
         ∙ ap (after m.step start) (sym (calls_whole m.limit stream (given_bytes steps)))
 
-    plain_parses : HasParsedAll new (stream ++ given_bytes steps)
+    plain_parses : HasParsedAll Stands (stream ++ given_bytes steps)
     plain_parses = record {
-      timeout = told.replayed.next.timeout;
-      stands = rw (parsed_all, plain.none_held) at told.replayed.is_at.stands;
+      timeout = told.next.timeout;
+      stands = rw (parsed_all, plain.none_held) at told.is_at.stands;
     }
 
 -- ---- what calls ensure then
 
-module _ {V W : Type 0} (m : Meaning V W) {old new : Standing W} {before value : V} where
+module _ {V W : Type 0} (m : Meaning V W) {Stood Stands : Standing W} {old new : V} where
   plain_calls : (steps : List Step)
-      → ((s : State V W) → IsAt old before s → IsTold m s steps value (IsAt new value))
-      → IsNeverPending m.timeout.allows → AreAdvances steps → ParsesAll m old new before value (given_bytes steps)
+      → ((s : State V W) → IsAt Stood old s → Replayed m s steps (IsAt Stands new))
+      → IsNeverPending m.timeout.allows → AreAdvances steps → ParsesAll m Stood Stands old new (given_bytes steps)
   plain_calls steps told never only = record {
-    follows = λ start stream all. plain_follows before all m never steps only (told _ (is_here before all)) start;
-    parses_all = λ stream all. plain_parses before all m never steps only (told _ (is_here before all));
+    follows = λ start stream all. plain_follows old all m never steps only (told _ (is_here old all)) start;
+    parses_all = λ stream all. plain_parses old all m never steps only (told _ (is_here old all));
   }
 
   pub replays_all : (steps : List Step)
-      → ((s : State V W) → IsAt old before s → Replayed m s steps (IsAt new value))
-      → Replays m old new before value steps
-  replays_all steps replays =
-      let told : (s : State V W) → IsAt old before s → IsTold m s steps value (IsAt new value) =
-      λ s at. told_replay m s value (λ t there. there.handler_is) steps (replays s at) in
-      record { told = told; plain = plain_calls steps told }
+      → ((s : State V W) → IsAt Stood old s → Replayed m s steps (IsAt Stands new))
+      → Replays m Stood Stands old new steps
+  replays_all steps told = record { told = told; plain = plain_calls steps told }
 
   -- a call is a run of one step
   pub plain_call : (bytes : Bor (List ℕ))
-      → ((s : State V W) → IsAt old before s → Advanced m s bytes.now (IsAt new value))
-      → IsNeverPending m.timeout.allows → ParsesAll m old new before value bytes.now
+      → ((s : State V W) → IsAt Stood old s → Advanced m s bytes.now (IsAt Stands new))
+      → IsNeverPending m.timeout.allows → ParsesAll m Stood Stands old new bytes.now
   plain_call bytes advances never =
       let r = replays_all (Advance bytes ∷ []) (λ s at. advance_runs m s bytes (advances s at)) in
       rw append-nil at (r.plain never tt)

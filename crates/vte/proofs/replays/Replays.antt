@@ -1,9 +1,10 @@
 -- From calls to a list of them: a loop over calls makes `TakesSteps`, call by call. A steady timeout allows one answer
 -- in each state, so where the list leads is then a function of its calls.
-use Rattle.vte.proofs.Common.{ℕ, ◌+◌, ◌<◌, List, [], ◌∷◌, ◌++◌, length, take, drop, get_or, refl, Bor, drop_more, take_more, Step, Advance, StopSync, Meaning, Advanced}
+use Rattle.vte.proofs.Common.{ℕ, ◌+◌, ◌<◌, List, [], ◌∷◌, ◌++◌, length, take, drop, get_or, refl, ap, append-nil, Bor, drop_more, take_more, Step, Advance, StopSync, Meaning, Advanced}
 use Rattle.vte.proofs.Common.{HoldsWellAt, TakesSteps, Replayed, State, stop, ◌≡◌, ◌-◌, HasTaken, inl, inr, Bool, sym, ◌∙◌, IsSteady, TakesAllTurns, done, turns}
 use Rattle.vte.specs.Refusal.{IsFirstRefused, left_of_first}
-use Rattle.vte.proofs.replays.EachOnce.{replay_bytes}
+use Rattle.vte.proofs.replays.EachOnce.{replay_grows}
+use Rattle.vte.proofs.replays.Tellings.{tells-replay}
 use Rattle.vte.proofs.turns.HoldFacts.{stop_well, taken_well, turn_well}
 
 -- the refused step is the first of those that are left
@@ -53,20 +54,29 @@ module _ {V W : Type 0} (m : Meaning V W) where
   replay_on s t u (Advance bytes ∷ steps) more (next, (a, q)) r = (next, (a, replay_on next t u steps more q r))
   replay_on s t u (StopSync ∷ steps) more q r = replay_on (stop m s) t u steps more q r
 
-  pub replayed : (s t : State V W) (steps : List Step) {there : State V W → Type 0} → TakesSteps m s steps t → there t
-      → Replayed m s steps there
-  replayed s t steps run at = record {
-    next = t;
-    takes = run;
-    each_once = replay_bytes m s t steps run;
-    holds_well = replay_well s t steps run;
-    alone = λ kept well other r. replay_alone m kept s t other steps well run r;
-    is_at = at;
-  }
+  pub replayed : (s t : State V W) (steps : List Step) {IsThere : State V W → Type 0} → TakesSteps m s steps t
+      → IsThere t → Replayed m s steps IsThere
+  replayed s t steps run at =
+      let g = replay_grows m s t steps run in
+      let e = tells-replay m t s steps run in
+      record {
+        next = t;
+        takes = run;
+        more = g.more;
+        parsed_is = g.parsed_is;
+        each_once = g.each_once ∙ ap (λ held. g.more ++ held) (append-nil t.held);
+        positions = e.positions;
+        stops_are = e.stops_are;
+        in_order = e.in_order;
+        handler_is = e.told;
+        holds_well = replay_well s t steps run;
+        alone = λ kept well other r. replay_alone m kept s t other steps well run r;
+        is_at = at;
+      }
 
   -- a call of `advance` is a run
-  pub advance_runs : (s : State V W) (bytes : Bor (List ℕ)) {there : State V W → Type 0} → Advanced m s bytes.now there
-      → Replayed m s (Advance bytes ∷ []) there
+  pub advance_runs : (s : State V W) (bytes : Bor (List ℕ)) {IsThere : State V W → Type 0}
+      → Advanced m s bytes.now IsThere → Replayed m s (Advance bytes ∷ []) IsThere
   advance_runs s bytes a = replayed s a.next (Advance bytes ∷ []) (a.next, (a.advances, refl)) a.is_at
 
   module _ (s : State V W) (steps : List Step) {i : ℕ} (d : Step) {old : State V W → Type 0} (new : State V W → Type 0)

@@ -2,8 +2,8 @@
 -- induction over the run; the calls before a stop are those of the bytes up to it, and positions of later stops only
 -- grow.
 use Rattle.vte.proofs.Common.{◌≡◌, ◌≤◌, ℕ, ◌+◌, ◌-◌, inl, inr, Bool, Option, List, [], ◌∷◌, ◌++◌, length, take, refl, ap, sym, ◌∙◌, arith}
-use Rattle.vte.proofs.Common.{append_assoc, length-append, cases_Bool, append-nil, append_cancel_left, drop_all, take-append-add, take-append_seam, take_all, after, Step, Advance, StopSync, added_calls, Meaning}
-use Rattle.vte.proofs.Common.{TakesSteps, Replayed, calls_beyond, given_bytes, after_last_end, from_begin, hold_turn, AreInOrder, IsTold, calls, calls_between, calls_with_stops, events}
+use Rattle.vte.proofs.Common.{append_assoc, length-append, cases_Bool, append-nil, drop_all, take-append-add, take-append_seam, take_all, after, Step, Advance, StopSync, added_calls, Meaning}
+use Rattle.vte.proofs.Common.{TakesSteps, calls_beyond, after_last_end, from_begin, hold_turn, AreInOrder, calls, calls_between, calls_with_stops, events}
 use Rattle.vte.proofs.Common.{State, TakesAllTurns, begin_front, extend, is_held, is_stopped, release, open_turn, stop, turn, done, turns}
 use Rattle.vte.proofs.performing.CallLists.{after-append, added_calls-append}
 use Rattle.vte.proofs.turns.Kinds.{holds_all, holds_rest}
@@ -51,7 +51,7 @@ stops-later limit p f rest (position ∷ positions) all is (from, order) =
 
 module _ {V W : Type 0} (m : Meaning V W) (u : State V W) where
   -- what the handler is still told if bytes were parsed, with these stops, and its value is this
-  record Tells (parsed stops : List ℕ) (value : V) : Type 0 where
+  pub record Tells (parsed stops : List ℕ) (value : V) : Type 0 where
     pub more : List ℕ
     pub parsed_is : u.parsed ≡ parsed ++ more
     pub positions : List ℕ
@@ -122,29 +122,7 @@ module _ {V W : Type 0} (m : Meaning V W) (u : State V W) where
   tells-advances t v (b ∷ r) (turns answer allowed more) e =
       tells-turn answer t (b ∷ r) (tells-advances _ v _ more e)
 
-  tells-replay : (t : State V W) (steps : List Step) → TakesSteps m t steps u → TellsAt t
+  pub tells-replay : (t : State V W) (steps : List Step) → TakesSteps m t steps u → TellsAt t
   tells-replay t [] same = rw same tells-nothing
   tells-replay t (Advance bytes ∷ steps) (next, (a, r)) = tells-advances t next bytes.now a (tells-replay next steps r)
   tells-replay t (StopSync ∷ steps) r = tells-stop t (tells-replay (stop m t) steps r)
-
-pub told_replay : {V W : Type 0} (m : Meaning V W) (s : State V W) (value : V) {there : State V W → Type 0}
-    → ((t : State V W) → there t → value ≡ t.handler)
-    → (steps : List Step) → Replayed m s steps there → IsTold m s steps value there
-told_replay m s value is steps r =
-    let e = tells-replay m r.next s steps r.takes in
-    record {
-      replayed = r;
-      more = e.more;
-      parsed_is = e.parsed_is;
-      each_once = append_cancel_left s.parsed (s.held ++ given_bytes steps) (e.more ++ r.next.held)
-          (rw (
-            ← append_assoc s.parsed s.held
-                (given_bytes steps),
-            ← append_assoc s.parsed e.more r.next.held,
-            ← e.parsed_is,
-          ) (sym r.each_once));
-      positions = e.positions;
-      stops_are = e.stops_are;
-      in_order = e.in_order;
-      is_told = is r.next r.is_at ∙ e.told;
-    }

@@ -62,7 +62,7 @@ is_front limit p (b ∷ rest) = elim (cases_Bool (nat_lt 0 (begin_count (added l
     is = rw some refl;
     before = λ i l. (let first : i ≡ 0 = omega arith in rw first (none_begin limit p));
     begins = λ l. grind (arith, nat_tests);
-    ends = λ begins. record { before = p; byte = b; is = refl; begins = begins };
+    ends = λ begins. record { before = p; byte = b; parsed_is = refl; begins = begins };
   })
   | inr no_begin ↦
       let none : begin_count (added limit p (b ∷ [])) ≡ 0 = grind (arith, nat_tests) in
@@ -85,7 +85,7 @@ is_front limit p (b ∷ rest) = elim (cases_Bool (nat_lt 0 (begin_count (added l
 -- no character is open after a byte that begins an update
 closed : (limit : Option ℕ) (p : List ℕ) → EndsInBegin limit p → open_end p ≡ []
 closed limit p e = elim (opens_silently limit e.before e.byte) [
-  | inl none ↦ rw e.is none
+  | inl none ↦ rw e.parsed_is none
   | inr silent ↦ absurd (elim silent [
     | inl nothing ↦ omega (arith, e.begins, ap begin_count nothing)
     | inr once ↦ omega (arith, e.begins, ap begin_count once)

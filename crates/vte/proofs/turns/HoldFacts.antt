@@ -2,7 +2,7 @@
 -- turn keeps, which is all, or starts with a begin-update, or is nothing.
 use Rattle.vte.proofs.Common.{◌≡◌, ℕ, zero, suc, ◌-◌, ◌<◌, ◌≤◌, inl, inr, Bool, true, false, List, [], ◌∷◌, ◌++◌, length, take, refl, sym}
 use Rattle.vte.proofs.Common.{arith, cases_Bool, cases_lt, false≢true, nat_tests, added}
-use Rattle.vte.proofs.Common.{TimeoutMeaning, AllowsAlone, IsSteady, begin_count, IsOutsideUpdate, IsInsideUpdate, Meaning, set_times}
+use Rattle.vte.proofs.Common.{TimeoutMeaning, AllowsOnly, IsSteady, begin_count, IsOutsideUpdate, IsInsideUpdate, Meaning, set_times}
 use Rattle.vte.proofs.Common.{update_nanos, HoldsWellAt, begin_update, begins_among, after_last_end, from_begin, last_part, State, TakesTurns, stop, is_held, is_stopped, stop_if_due, begin_front, open_turn, release}
 use Rattle.vte.proofs.Common.{extend, hold_turn, turn, done, turns, most_held, ap, append-nil}
 use Rattle.vte.proofs.replays.EachOnce.{stop_if_due_none}
@@ -13,11 +13,11 @@ use Rattle.vte.proofs.updates.Sequences.{StaysHeld, cases_Option, begins_with-ap
 -- ---- the timeout
 
 module _ {W : Type 0} (m : TimeoutMeaning W) (k : IsSteady m) where
-  still_pending : (n : ℕ) (value : W) → AllowsAlone m value true → AllowsAlone m (set_times m n value) true
+  still_pending : (n : ℕ) (value : W) → AllowsOnly m value true → AllowsOnly m (set_times m n value) true
   still_pending zero value a = a
   still_pending (suc n) value a = still_pending n (m.set value update_nanos) (k.set value update_nanos)
 
-  pending : (n : ℕ) (value : W) → 0 < n → AllowsAlone m (set_times m n value) true
+  pending : (n : ℕ) (value : W) → 0 < n → AllowsOnly m (set_times m n value) true
   pending zero value some = absurd (omega arith)
   pending (suc n) value some = still_pending n (m.set value update_nanos) (k.set value update_nanos)
 

@@ -46,8 +46,8 @@ module _ {V W : Type 0} (m : Meaning V W) where
       (ap (λ t. record { state = t; rest = drop (length front) left }) (parse-append s h.front front))
 
 -- where no update begins in bytes, they are their own front
-module _ {V W : Type 0} {m : Meaning V W} {s : State V W} {bytes : List ℕ} {n : ℕ} {b : Bool} {there : State V W
-    → Type 0} (at : IsAtBegin m s bytes n b there) (whole : b ≡ false) where
+module _ {V W : Type 0} {m : Meaning V W} {s : State V W} {bytes : List ℕ} {n : ℕ} {b : Bool} {IsThere : State V W
+    → Type 0} (at : IsAtBegin m s bytes n b IsThere) (whole : b ≡ false) where
   none_begins : begin_count (added m.limit s.parsed (begin_front m.limit s.parsed bytes)) ≡ 0
   none_begins =
       let test : nat_lt 0 (begin_count (added m.limit s.parsed (begin_front m.limit s.parsed bytes))) ≡ false =
@@ -60,11 +60,11 @@ module _ {V W : Type 0} {m : Meaning V W} {s : State V W} {bytes : List ℕ} {n 
   begin-whole = at.count ∙ ap length front_whole
 
 module _ {V W : Type 0} (m : Meaning V W) (s : State V W) (bytes : List ℕ) where
-  pub open-nothing : {there : State V W → Type 0} → there s → IsOpenAt m s bytes 0 there
+  pub open-nothing : {IsThere : State V W → Type 0} → IsThere s → IsOpenAt m s bytes 0 IsThere
   open-nothing at = record { none_begin = none_begin m.limit s.parsed; is_at = rw (parse-nothing m s) at }
 
-  pub open-all : {read : ℕ} {there : State V W → Type 0} → IsOpenAt m s bytes read there → length bytes ≤ read
-      → Opened m s bytes read there
+  pub open-all : {read : ℕ} {IsThere : State V W → Type 0} → IsOpenAt m s bytes read IsThere → length bytes ≤ read
+      → Opened m s bytes read IsThere
   open-all {read} o all =
       let whole = take_all read bytes all in
       let none : begin_count (added m.limit s.parsed bytes) ≡ 0 = rw whole at o.none_begin in
@@ -123,7 +123,7 @@ module _ {V W : Type 0} (m : Meaning V W) (s : State V W) (bytes : List ℕ) whe
         is_at = rw (all, ← parse-append m s (take read bytes) front) at.is_at;
       }
 
-  pub halts : {read : ℕ} {there : State V W → Type 0} → IsOpenAt m s bytes read there → read < length bytes
+  pub halts : {read : ℕ} {IsThere : State V W → Type 0} → IsOpenAt m s bytes read IsThere → read < length bytes
       → OpenTurnHalts m s bytes (parse m s (take read bytes)) (drop read bytes)
   halts {read} o less = record {
     front = take read bytes;
@@ -135,8 +135,8 @@ module _ {V W : Type 0} (m : Meaning V W) (s : State V W) (bytes : List ℕ) whe
 
 -- ---- a turn that is refused memory
 
-pub halted_nothing : {V W : Type 0} (m : Meaning V W) {s : State V W} {bytes : List ℕ} {there : State V W → Type 0}
-    → there s → Halted m s bytes 0 there
+pub halted_nothing : {V W : Type 0} (m : Meaning V W) {s : State V W} {bytes : List ℕ} {IsThere : State V W → Type 0}
+    → IsThere s → Halted m s bytes 0 IsThere
 halted_nothing m {s} at = record { next = s; takes = between done; is_at = at }
 
 -- ---- turns of a call, and one after them that is refused memory

@@ -37,19 +37,19 @@ module _ {T A V W : Type 0} {timeout_of : T → W} {processor : Processor T A} {
   }
 
 -- a call that has read all its bytes, of any processor
-module _ {V W : Type 0} {m : Meaning V W} {old new : Standing W} {before value : V} (bytes : Bor (List ℕ)) {read : ℕ}
-    (takes : (s : State V W) → IsAt old before s → HasTaken m s bytes.now read (IsAt new value))
+module _ {V W : Type 0} {m : Meaning V W} {Stood Stands : Standing W} {old new : V} (bytes : Bor (List ℕ)) {read : ℕ}
+    (takes : (s : State V W) → IsAt Stood old s → HasTaken m s bytes.now read (IsAt Stands new))
     (all : read ≡ length bytes.now) where
-  advances_so : (s : State V W) → IsAt old before s → Advanced m s bytes.now (IsAt new value)
+  advances_so : (s : State V W) → IsAt Stood old s → Advanced m s bytes.now (IsAt Stands new)
   advances_so s at = has_advanced m s bytes.now (takes s at) (omega (arith, all))
 
-  pub reads_in_turns : ReadsInTurns m old new before value bytes.now
+  pub reads_in_turns : ReadsInTurns m Stood Stands old new bytes.now
   reads_in_turns = record { advances = advances_so; plain = plain_call m bytes advances_so }
 
-pub never_refused : {T A V W : Type 0} {timeout_of : T → W} {m : Meaning V W} {old new : Processor T A}
-    {before value : V} (bytes : Bor (List ℕ)) (result : Result (Unit {0}) Refused)
-    → ReadsSome (limited timeout_of) m old.turns new.turns before value bytes.now result
-    → ReadsInTurns m (HasParsedAndHolds timeout_of old) (HasParsedAndHolds timeout_of new) before value bytes.now
+pub never_refused : {T A V W : Type 0} {timeout_of : T → W} {m : Meaning V W} {processor next : Processor T A}
+    {old new : V} (bytes : Bor (List ℕ)) (result : Result (Unit {0}) Refused)
+    → ReadsSome (limited timeout_of) m processor.turns next.turns old new bytes.now result
+    → ReadsInTurns m (HasParsedAndHolds timeout_of processor) (HasParsedAndHolds timeout_of next) old new bytes.now
 never_refused bytes (Ok all) r = reads_in_turns bytes (λ s at. taken-to is_at (r.takes s (turns_at s at))) refl
 never_refused bytes (Err refused) r =
     reads_in_turns bytes {read = length bytes.now} (λ s at. absurd (

@@ -115,9 +115,10 @@ ends_turn {m = m} {s = s} {bytes = bytes} answer allowed parses keeps (Err refus
 
 -- ---- one turn
 
-module _ {V W : Type 0} (m : Meaning V W) {s : State V W} {bytes : List ℕ} {n : ℕ} {there : State V W → Type 0} where
+module _ {V W : Type 0} (m : Meaning V W) {s : State V W} {bytes : List ℕ} {n : ℕ}
+    {IsThere : State V W → Type 0} where
   pub turned_hold : {answer : Bool} → m.timeout.allows s.timeout answer → is_held answer s bytes ≡ true
-      → n ≡ length bytes → there (hold_turn m s bytes) → Turned m s bytes n there
+      → n ≡ length bytes → IsThere (hold_turn m s bytes) → Turned m s bytes n IsThere
   turned_hold {answer} allowed held all at =
       record {
         answer = answer;
@@ -140,13 +141,13 @@ rest_size bytes read inside = rw (rest_is bytes read inside, length-drop)
 
 module _ {V W : Type 0} (m : Meaning V W) (s : State V W) (bytes : List ℕ) where
   -- `count` turns have read `read` bytes, at least one each.
-  pub record HasReached (count read : ℕ) (there : State V W → Type 0) : Type 0 where
+  pub record HasReached (count read : ℕ) (IsThere : State V W → Type 0) : Type 0 where
     pub here : State V W
     pub enough : count ≤ read
     pub takes : TakesTurns m s bytes here (drop read bytes)
-    pub is_at : there here
+    pub is_at : IsThere here
 
-  pub reaches-nothing : {there : State V W → Type 0} → there s → HasReached 0 0 there
+  pub reaches-nothing : {IsThere : State V W → Type 0} → IsThere s → HasReached 0 0 IsThere
   reaches-nothing at = record { here = s; enough = omega arith; takes = done; is_at = at }
 
   pub reaches-more : {P J T A : Type 0} {w : TurnsMeaning P J T W} {first mid new : Turns P J T A} {before value : V}
@@ -167,8 +168,8 @@ module _ {V W : Type 0} (m : Meaning V W) (s : State V W) (bytes : List ℕ) whe
         is_at = after-next r.is_at.memory u.is_at;
       }
 
-  taken : {read : ℕ} {there : State V W → Type 0} (t : State V W) → TakesSome m s bytes t (drop read bytes) → there t
-      → HasTaken m s bytes read there
+  taken : {read : ℕ} {IsThere : State V W → Type 0} (t : State V W) → TakesSome m s bytes t (drop read bytes)
+      → IsThere t → HasTaken m s bytes read IsThere
   taken {read = read} t takes at = record {
     next = t;
     takes = takes;
@@ -180,8 +181,8 @@ module _ {V W : Type 0} (m : Meaning V W) (s : State V W) (bytes : List ℕ) whe
     is_at = at;
   }
 
-  pub has_taken : {count read : ℕ} {there : State V W → Type 0} → HasReached count read there
-      → HasTaken m s bytes read there
+  pub has_taken : {count read : ℕ} {IsThere : State V W → Type 0} → HasReached count read IsThere
+      → HasTaken m s bytes read IsThere
   has_taken r = taken r.here (between r.takes) r.is_at
 
   -- a turn was refused memory
@@ -198,8 +199,8 @@ module _ {V W : Type 0} (m : Meaning V W) (s : State V W) (bytes : List ℕ) whe
       (after-next r.is_at.memory h.is_at)
 
   -- a call that has read all its bytes
-  pub has_advanced : {read : ℕ} {there : State V W → Type 0} → HasTaken m s bytes read there → length bytes ≤ read
-      → Advanced m s bytes there
+  pub has_advanced : {read : ℕ} {IsThere : State V W → Type 0} → HasTaken m s bytes read IsThere → length bytes ≤ read
+      → Advanced m s bytes IsThere
   has_advanced {read} h all = record {
     next = h.next;
     advances = all_taken m s h.next bytes (rw (drop_all read bytes all) at h.takes);
@@ -210,8 +211,8 @@ module _ {V W : Type 0} (m : Meaning V W) (s : State V W) (bytes : List ℕ) whe
 
 -- what follows where a call is
 module _ {V W : Type 0} {m : Meaning V W} {s : State V W} {bytes : List ℕ} {read : ℕ} where
-  pub taken-to : {there other : State V W → Type 0} → ((t : State V W) → there t → other t)
-      → HasTaken m s bytes read there → HasTaken m s bytes read other
+  pub taken-to : {IsThere other : State V W → Type 0} → ((t : State V W) → IsThere t → other t)
+      → HasTaken m s bytes read IsThere → HasTaken m s bytes read other
   taken-to follows h =
       record {
         next = h.next;

@@ -37,64 +37,64 @@ abbrev pub AreAt : {P J T A V W : Type 0} → TurnsMeaning P J T W → Turns P J
 AreAt w turns = IsAt (TurnsStandAt w turns)
 
 -- The turns are at a state, with the memory that was there before.
-pub record AreNextAt {P J T A V W : Type 0} (w : TurnsMeaning P J T W) (old new : Turns P J T A)
+pub record AreNextAt {P J T A V W : Type 0} (w : TurnsMeaning P J T W) (turns next : Turns P J T A)
     (value : V) (s : State V W) : Type 0 where
-  pub are_at : AreAt w new value s
-  pub memory : KeepsMemory (HasMemory w old) (HasMemory w new)
+  pub are_at : AreAt w next value s
+  pub memory : KeepsMemory (HasMemory w turns) (HasMemory w next)
 
 -- From each state that the turns are at, they lead on as `ends` says.
 abbrev pub LeadOn : {P J T A V W : Type 0} → TurnsMeaning P J T W → Turns P J T A → Turns P J T A
     → V → V → (State V W → (State V W → Type 0) → Type 0) → Type 0
-LeadOn w old new before value ends =
-    (s : State _ _) → AreAt w old before s → ends s (AreNextAt w old new value)
+LeadOn w turns next old new ends =
+    (s : State _ _) → AreAt w turns old s → ends s (AreNextAt w turns next new)
 
 -- The first `read` bytes were parsed: those up to the one that begins an update, or all if none
 -- begins.
 pub record IsAtBegin {V W : Type 0} (m : Meaning V W) (s : State V W) (bytes : List ℕ) (read : ℕ)
-    (begins : Bool) (there : State V W → Type 0) : Type 0 where
+    (begins : Bool) (IsThere : State V W → Type 0) : Type 0 where
   pub count : read ≡ length (begin_front m.limit s.parsed bytes)
   pub begins_is : begins
       ≡ nat_lt 0 (begin_count (added m.limit s.parsed (begin_front m.limit s.parsed bytes)))
-  pub is_at : there (parse m s (begin_front m.limit s.parsed bytes))
+  pub is_at : IsThere (parse m s (begin_front m.limit s.parsed bytes))
 
 -- One turn has read `read` bytes, and at least one if there were any. It is at the state to which
 -- it leads.
 pub record Turned {V W : Type 0} (m : Meaning V W) (s : State V W) (bytes : List ℕ) (read : ℕ)
-    (there : State V W → Type 0) : Type 0 where
+    (IsThere : State V W → Type 0) : Type 0 where
   pub answer : Bool
   pub allowed : m.timeout.allows s.timeout answer
   pub progress : 0 < length bytes → 0 < read
   pub rest : (turn m answer s bytes).rest ≡ drop read bytes
-  pub is_at : there (turn m answer s bytes).state
+  pub is_at : IsThere (turn m answer s bytes).state
 
 -- An open turn has read `read` bytes, and at least one if there were any.
 pub record Opened {V W : Type 0} (m : Meaning V W) (s : State V W) (bytes : List ℕ) (read : ℕ)
-    (there : State V W → Type 0) : Type 0 where
+    (IsThere : State V W → Type 0) : Type 0 where
   pub progress : 0 < length bytes → 0 < read
   pub rest : (open_turn m s bytes).rest ≡ drop read bytes
-  pub is_at : there (open_turn m s bytes).state
+  pub is_at : IsThere (open_turn m s bytes).state
 
 -- An open turn has parsed the first `read` bytes, and no update begins in them.
 pub record IsOpenAt {V W : Type 0} (m : Meaning V W) (s : State V W) (bytes : List ℕ) (read : ℕ)
-    (there : State V W → Type 0) : Type 0 where
+    (IsThere : State V W → Type 0) : Type 0 where
   pub none_begin : begin_count (added m.limit s.parsed (take read bytes)) ≡ 0
-  pub is_at : there (parse m s (take read bytes))
+  pub is_at : IsThere (parse m s (take read bytes))
 
 -- A turn that was refused memory has read `read` bytes.
 pub record Halted {V W : Type 0} (m : Meaning V W) (s : State V W) (bytes : List ℕ) (read : ℕ)
-    (there : State V W → Type 0) : Type 0 where
+    (IsThere : State V W → Type 0) : Type 0 where
   pub next : State V W
   pub takes : TakesSome m s bytes next (drop read bytes)
-  pub is_at : there next
+  pub is_at : IsThere next
 
 -- How a turn ends, if memory for it may be refused.
 pub record EndsTurn {V W : Type 0} (m : Meaning V W) (s : State V W) (bytes : List ℕ)
-    (result : Result ℕ Refused) (there : State V W → Type 0) : Type 0 where
-  pub turned : IfOk result (λ read. Turned m s bytes read there)
-  pub halted : IfErr result (λ refused. Halted m s bytes refused.read there)
+    (result : Result ℕ Refused) (IsThere : State V W → Type 0) : Type 0 where
+  pub turned : IfOk result (λ read. Turned m s bytes read IsThere)
+  pub halted : IfErr result (λ refused. Halted m s bytes refused.read IsThere)
 
 -- How an open turn ends, if memory for it may be refused.
 pub record EndsOpen {V W : Type 0} (m : Meaning V W) (s : State V W) (bytes : List ℕ)
-    (result : Result ℕ Refused) (there : State V W → Type 0) : Type 0 where
-  pub opened : IfOk result (λ read. Opened m s bytes read there)
-  pub halted : IfErr result (λ refused. IsOpenAt m s bytes refused.read there)
+    (result : Result ℕ Refused) (IsThere : State V W → Type 0) : Type 0 where
+  pub opened : IfOk result (λ read. Opened m s bytes read IsThere)
+  pub halted : IfErr result (λ refused. IsOpenAt m s bytes refused.read IsThere)

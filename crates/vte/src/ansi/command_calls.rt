@@ -4,7 +4,7 @@ ghost use Rattle.vte.specs.CommandCalls.{all_reset, clipboard_calls, color_calls
 ghost use Rattle.vte.specs.CommandCalls.{reset_calls, shape_calls, system_command_calls, palette_entry_calls};
 ghost use Rattle.vte_types.specs.Rows.{entry_of};
 ghost use Rattle.vte.specs.machine.Texts.{FitsRoom};
-ghost use Rattle.vte.specs.Titles.{decimal_number};
+ghost use Rattle.vte.specs.Numbers.{decimal_number};
 ghost use Rattle.vte_handler.specs.Call.{SetHyperlink};
 ghost use Rattle.vte_handler.specs.Handler.{after};
 ghost use Rattle.vte_types.specs.CursorIcon.{icon_of};

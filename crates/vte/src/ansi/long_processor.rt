@@ -1,7 +1,7 @@
 //! The processor without a limit.
 ghost use Rattle.std.specs.Prelude.{◌≡◌, ℕ, ◌+◌, false, List, [], length, None, IfOk, MatchResult};
 ghost use Rattle.vte_core.specs.LongParser.{open_size};
-ghost use Rattle.vte_handler.specs.Timeout.{AllowsAlone, IsSteady, timeout_meaning};
+ghost use Rattle.vte_handler.specs.Timeout.{AllowsOnly, IsSteady, timeout_meaning};
 ghost use Rattle.vte.specs.Processor.{HoldsWell, meaning};
 ghost use Rattle.vte.specs.LongProcessor.{AdvancesLong, HasParsedAndHoldsLong, IsCopyOfLong, Reserves, StopsSyncLong, held_long, timeout_long};
 ghost use Rattle.vte.specs.Memory.{HasNoMemory};
@@ -52,7 +52,7 @@ impl<T: Timeout + Drop, A: Allocator + Copy> LongProcessor<T, A> {
             (λ processor. HasParsedAndHoldsLong T.value_of processor [] [] (T.value_of timeout))
             (λ back. back ≡ timeout) }
         ensures holds_well { let m = timeout_meaning T.set T.clear T.allows in
-            (IsSteady m → AllowsAlone m (T.value_of timeout) false)
+            (IsSteady m → AllowsOnly m (T.value_of timeout) false)
             → HoldsWell None m [] [] (T.value_of timeout) }
         ensures timeout { IfOk result (λ processor. timeout_long processor ≡ timeout) }
         ensures parses_all { IfOk result

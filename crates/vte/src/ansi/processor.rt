@@ -1,6 +1,6 @@
 //! The processor. A call of `advance` takes turns, and each turn parses bytes or holds them back.
 ghost use Rattle.std.specs.Prelude.{◌≡◌, [], IfOk, MatchResult, false};
-ghost use Rattle.vte_handler.specs.Timeout.{AllowsAlone, IsSteady, timeout_meaning};
+ghost use Rattle.vte_handler.specs.Timeout.{AllowsOnly, IsSteady, timeout_meaning};
 ghost use Rattle.vte.specs.Processor.{HoldsWell, meaning};
 ghost use Rattle.vte.specs.ProcessorCalls.{CountsHeld, HasParsedAll, HasParsedAndHolds, IsCopyOf, ReadsInTurns, StopsSync, held_in, timeout_in};
 ghost use Rattle.vte_core.specs.Stream.{usual_limit};
@@ -63,7 +63,7 @@ impl<T: Timeout + Drop, A: Allocator> Processor<T, A> {
             (λ processor. HasParsedAndHolds T.value_of processor [] [] (T.value_of timeout))
             (λ back. back ≡ timeout) }
         ensures holds_well { let m = timeout_meaning T.set T.clear T.allows in
-            (IsSteady m → AllowsAlone m (T.value_of timeout) false)
+            (IsSteady m → AllowsOnly m (T.value_of timeout) false)
             → HoldsWell usual_limit m [] [] (T.value_of timeout) }
         ensures timeout { IfOk result (λ processor. timeout_in processor ≡ timeout) }
         ensures parses_all { IfOk result

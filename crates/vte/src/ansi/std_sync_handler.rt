@@ -1,7 +1,7 @@
 //! A timeout over a clock.
 ghost use Rattle.std.specs.Duration.{as_nanos};
 ghost use Rattle.std.specs.Prelude.{◌≡◌, None, Bool, true, false, IsSomeAnd};
-ghost use Rattle.vte_handler.specs.Timeout.{AllowsAlone, IsSteady};
+ghost use Rattle.vte_handler.specs.Timeout.{AllowsOnly, IsSteady};
 ghost use Rattle.vte.specs.StdSyncHandler.{ExpiresAfter, clock_in, expiry_in, is_pending, pending_meaning};
 
 use crate::ansi::clock::Clock;
@@ -35,7 +35,7 @@ impl<C: Clock + Drop> StdSyncHandler<C> {
         ensures none { expiry_in result ≡ None }
         // A timeout stays pending until it is cleared, whatever the clock tells.
         ensures kept { IsSteady pending_meaning }
-        ensures not_pending { AllowsAlone pending_meaning (is_pending result) false }
+        ensures not_pending { AllowsOnly pending_meaning (is_pending result) false }
     {
         StdSyncHandler {
             clock,

@@ -1,7 +1,8 @@
 //! Texts that are joined from pieces, and numbers in commands.
 ghost use Rattle.std.specs.Prelude.{◌≡◌, ◌≤◌, ◌+◌, ◌++◌, length, map, option_map};
 ghost use Rattle.std.specs.Fmt.{decimal};
-ghost use Rattle.vte.specs.Titles.{decimal_number, joined_texts, text_in, title_calls};
+ghost use Rattle.vte.specs.Numbers.{decimal_number};
+ghost use Rattle.vte.specs.Titles.{joined_texts, text_in, title_calls};
 ghost use Rattle.vte.specs.machine.Texts.{FitsRoom, with_separator};
 ghost use Rattle.vte_handler.specs.Handler.{after};
 

@@ -240,9 +240,9 @@ impl<P: EventParser + Drop, J: TextBuffer + Drop, T: Timeout + Drop, A: Allocato
         requires room { length (held_of self.old.hold) + length bytes.now ≤ most_held }
         ensures { LeadOn (of_turns P.limit P.reading J.room T.value_of) self.old self.new
             (H.value_of handler.old) (H.value_of handler.new)
-            (λ s there. P.reading.has_room self.old.parser (J.room self.old.state.text) s.parsed
+            (λ s IsThere. P.reading.has_room self.old.parser (J.room self.old.state.text) s.parsed
             (length s.held + length bytes.now) →
-            there (hold_turn (meaning P.limit H.step T.set T.clear T.allows) s bytes.now)) }
+            IsThere (hold_turn (meaning P.limit H.step T.set T.clear T.allows) s bytes.now)) }
     {
         let begins = self.hold.add(bytes);
         set_timeout(&mut self.state.timeout, begins);

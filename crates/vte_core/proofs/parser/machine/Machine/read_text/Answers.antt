@@ -2,7 +2,8 @@
 -- by one of five branches (`read`). Goals after such joins take these three; the others are one branch alone.
 use Rattle.vte_core.proofs.Common.{◌≡◌, ◌+◌, ◌<◌, not, eqb, true, length, sym, ◌∙◌, arith, rules, false≢true, Advances, Text, Nothing}
 use Rattle.vte_core.specs.machine.Prelude.{MayReadByte}
-use Rattle.vte_core.proofs.calls.Stretches.{advances-byte, advances-moved, advances-part, advances-then, settled-by}
+use Rattle.vte_core.proofs.calls.Ends.{settled-by}
+use Rattle.vte_core.proofs.calls.Stretches.{advances-byte, advances-moved, advances-part, advances-then}
 use Rattle.vte_core.proofs.calls.TextRuns.{advances-text, may_go_on-malformed, may_go_on-text}
 use Rattle.vte_core.proofs.calls.BetweenCharacters.{performs-printed, performs-single}
 use Rattle.vte_core.proofs.parser.machine.Machine.read_text.Given.{Over}
@@ -76,15 +77,9 @@ loop-position-2-preserved-in-None g c =
           (v.between within) run.progress run.high run.prints);
       may_go_on = may_go_on-text (c.requires.no_stop runs) v.may_go_on run.prints;
       between = λ _. v.between within;
-      low = search rules;
-      high = search rules;
+      reads = search (rules, runs);
       moves = search rules;
       progress = search rules;
-      count = λ singly. absurd (false≢true (sym singly ∙ runs));
-      escape = λ singly. absurd (false≢true (sym singly ∙ runs));
-      near = search rules;
-      least = search rules;
-      memory = search rules;
     }
 
 -- The three functions that read on begin where the call stands.
@@ -163,15 +158,9 @@ loop-position-2-preserved-then-this-ne0-2 g c =
       advances = advances-then (reached g places.Joined-IN_RUNS-2) (advances-part read.advances);
       may_go_on = search rules;
       between = λ inside. read.text inside;
-      low = search rules;
-      high = search rules;
+      reads = search rules;
       moves = search rules;
       progress = search rules;
-      count = search rules;
-      escape = search rules;
-      near = search rules;
-      least = search rules;
-      memory = search rules;
     }
 
 -- In runs, from A0 on: what a lead byte begins, which may be a control, or U+FFFD, which is a character.
@@ -203,15 +192,9 @@ loop-position-2-preserved-then-byte-ge160 g c =
         | then-is_lead+else-this-ne0 w ↦ rw (w.self-is, w.position-is) w.read_at_lead-position.ensures.text
         | else-is_lead w ↦ rw w.self-is (λ _. here.begun)
       ];
-      low = search rules;
-      high = search rules;
+      reads = search (rules, runs);
       moves = search rules;
       progress = search rules;
-      count = λ singly. absurd (false≢true (sym singly ∙ runs));
-      escape = λ singly. absurd (false≢true (sym singly ∙ runs));
-      near = search rules;
-      least = search rules;
-      memory = search rules;
     }
 
 -- A round that goes on. Only a longer character can change the state, and does so only with the last bytes of the call.
@@ -232,15 +215,9 @@ loop-position-2-preserved g c =
         | else-is_printed_ascii-2+else-IN_RUNS-3+else-is_lead-2+else-byte-eq-ESCAPE w ↦
             rw w.self-is (λ _. here.begun)
       ];
-      low = search rules;
-      high = search rules;
+      reads = search rules;
       moves = search rules;
       progress = search rules;
-      count = search rules;
-      escape = search rules;
-      near = search rules;
-      least = search rules;
-      memory = search rules;
     }
 
 -- The places and looks add up in each branch.

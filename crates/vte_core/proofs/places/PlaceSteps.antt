@@ -58,8 +58,10 @@ step-escape limit b Control is no_end =
     (λ _ _. executed_low b (spans b Control is)) (λ _. tt)
 step-escape limit b Intermediate is no_end = silent is no_end absurd refl refl (escape-intermediate limit b is) tt
 step-escape limit b Final is no_end = step-final limit b (key_of b) is refl
-step-escape limit b Delete is no_end = silent is no_end absurd refl refl (byte-dropped limit AtEscape b Delete refl is refl) tt
-step-escape limit b High is no_end = silent is no_end absurd refl refl (byte-dropped limit AtEscape b High refl is refl) tt
+step-escape limit b Delete is no_end =
+    silent is no_end absurd refl refl (byte-dropped limit AtEscape b Delete refl is refl) tt
+step-escape limit b High is no_end =
+    silent is no_end absurd refl refl (byte-dropped limit AtEscape b High refl is refl) tt
 step-escape limit b Cancel is no_end = cc
 step-escape limit b Escape is no_end = cc
 step-escape limit b k is no_end =
@@ -74,7 +76,8 @@ step-intermediate : (limit : Option ℕ) (ints : List ℕ) (b : ℕ) (k : Class)
 step-intermediate limit ints b Control is no_end =
     sequenced absurd refl refl (plain b Control is no_end) (intermediate-control limit ints b is) tt
     (λ _ _. executed_low b (spans b Control is)) (λ _. tt)
-step-intermediate limit ints b Intermediate is no_end = silent is no_end absurd refl refl (intermediate-more limit ints b is) tt
+step-intermediate limit ints b Intermediate is no_end =
+    silent is no_end absurd refl refl (intermediate-more limit ints b is) tt
 step-intermediate limit ints b Delete is no_end =
     silent is no_end absurd refl refl (byte-dropped limit (InEscape ints) b Delete refl is refl) tt
 step-intermediate limit ints b High is no_end =
@@ -112,7 +115,8 @@ step-control limit head b k is no_end = silent is no_end absurd refl refl (contr
 
 step-device : (limit : Option ℕ) (head : List ℕ) (b : ℕ) (k : Class) → class_of b ≡ k → ends_all k ≡ false
     → Steps limit (InDeviceControl head) b
-step-device limit head b Control is no_end = silent is no_end absurd refl refl (device-dropped limit head b Control is refl) tt
+step-device limit head b Control is no_end =
+    silent is no_end absurd refl refl (device-dropped limit head b Control is refl) tt
 step-device limit head b Final is no_end = elim (cases_Bool (is_well_shaped (head_of head))) [
   | inl well ↦
       sequenced absurd refl refl (plain b Final is no_end) (device-well_shaped limit head b is well) tt
@@ -120,8 +124,10 @@ step-device limit head b Final is no_end = elim (cases_Bool (is_well_shaped (hea
   | inr ill ↦
       silent is no_end absurd refl refl (device-malformed limit head b is ill) tt
 ]
-step-device limit head b Delete is no_end = silent is no_end absurd refl refl (device-dropped limit head b Delete is refl) tt
-step-device limit head b High is no_end = silent is no_end absurd refl refl (device-dropped limit head b High is refl) tt
+step-device limit head b Delete is no_end =
+    silent is no_end absurd refl refl (device-dropped limit head b Delete is refl) tt
+step-device limit head b High is no_end =
+    silent is no_end absurd refl refl (device-dropped limit head b High is refl) tt
 step-device limit head b Cancel is no_end = cc
 step-device limit head b Escape is no_end = cc
 step-device limit head b k is no_end = silent is no_end absurd refl refl (device-head limit head b (rw is refl)) tt
@@ -139,7 +145,9 @@ step-data limit b Delete is no_end =
     sequenced absurd refl refl (plain b Delete is no_end)
     (data-dropped limit b (rw is (delete_is_no_terminator b (spans b Delete is))) (rw is refl)) tt (λ _ _. tt) (λ _. tt)
 step-data limit b High is no_end = elim (cases_Bool (eqb b 0x9c)) [
-  | inl ends ↦ sequenced absurd refl refl (plain b High is no_end) (data-terminator limit b is ends) refl (λ _ _. tt) (λ _. tt)
+  | inl ends ↦
+      sequenced absurd refl refl (plain b High is no_end) (data-terminator limit b is ends) refl (λ _ _. tt)
+      (λ _. tt)
   | inr other ↦
       silent is no_end absurd refl refl (data-dropped limit b (rw is other) (rw is refl)) tt
 ]
@@ -158,8 +166,8 @@ step-command limit items b Control is no_end = elim (cases_Bool (eqb b bell)) [
       sequenced absurd refl refl (plain b Control is no_end) (command-bell limit items b is ends) refl
       (λ _ fits. (few_pieces limit items, fits, some_pieces limit items)) (λ _. tt)
   | inr other ↦
-      leads_on absurd (inl refl) (λ _. omega arith) (plain b Control is no_end) (command-control limit items b is other) tt
-      (λ _ _. tt) (λ _. tt)
+      leads_on absurd (inl refl) (λ _. omega arith) (plain b Control is no_end)
+      (command-control limit items b is other) tt (λ _ _. tt) (λ _. tt)
 ]
 step-command limit items b Cancel is no_end = cc
 step-command limit items b Escape is no_end = cc

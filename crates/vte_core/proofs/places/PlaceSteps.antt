@@ -138,7 +138,7 @@ delete_is_no_terminator : (b : ℕ) → Spans Delete b → eqb b 0x9c ≡ false
 delete_is_no_terminator b s = grind (arith, nat_tests)
 
 data_quiet : (b : ℕ) (k : Class) → class_of b ≡ k → is_device_data k ≡ true → is_device_data (class_of b) ≡ false → ⊥
-data_quiet b k is data quiet = false≢true (sym quiet ∙ rw is data)
+data_quiet b k is put quiet = false≢true (sym quiet ∙ rw is put)
 
 step-data : (limit : Option ℕ) (b : ℕ) (k : Class) → class_of b ≡ k → ends_all k ≡ false → Steps limit InData b
 step-data limit b Delete is no_end =

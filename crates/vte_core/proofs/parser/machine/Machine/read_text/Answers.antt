@@ -77,9 +77,15 @@ loop-position-2-preserved-in-None g c =
           (v.between within) run.progress run.high run.prints);
       may_go_on = may_go_on-text (c.requires.no_stop runs) v.may_go_on run.prints;
       between = λ _. v.between within;
-      reads = search (rules, runs);
+      low = search rules;
+      high = search rules;
       moves = search rules;
       progress = search rules;
+      count = λ singly. absurd (false≢true (sym singly ∙ runs));
+      escape = λ singly. absurd (false≢true (sym singly ∙ runs));
+      near = search rules;
+      least = search rules;
+      memory = search rules;
     }
 
 -- The three functions that read on begin where the call stands.
@@ -158,9 +164,15 @@ loop-position-2-preserved-then-this-ne0-2 g c =
       advances = advances-then (reached g places.Joined-IN_RUNS-2) (advances-part read.advances);
       may_go_on = search rules;
       between = λ inside. read.text inside;
-      reads = search rules;
+      low = search rules;
+      high = search rules;
       moves = search rules;
       progress = search rules;
+      count = search rules;
+      escape = search rules;
+      near = search rules;
+      least = search rules;
+      memory = search rules;
     }
 
 -- In runs, from A0 on: what a lead byte begins, which may be a control, or U+FFFD, which is a character.
@@ -192,9 +204,15 @@ loop-position-2-preserved-then-byte-ge160 g c =
         | then-is_lead+else-this-ne0 w ↦ rw (w.self-is, w.position-is) w.read_at_lead-position.ensures.text
         | else-is_lead w ↦ rw w.self-is (λ _. here.begun)
       ];
-      reads = search (rules, runs);
+      low = search rules;
+      high = search rules;
       moves = search rules;
       progress = search rules;
+      count = λ singly. absurd (false≢true (sym singly ∙ runs));
+      escape = λ singly. absurd (false≢true (sym singly ∙ runs));
+      near = search rules;
+      least = search rules;
+      memory = search rules;
     }
 
 -- A round that goes on. Only a longer character can change the state, and does so only with the last bytes of the call.
@@ -215,9 +233,15 @@ loop-position-2-preserved g c =
         | else-is_printed_ascii-2+else-IN_RUNS-3+else-is_lead-2+else-byte-eq-ESCAPE w ↦
             rw w.self-is (λ _. here.begun)
       ];
-      reads = search rules;
+      low = search rules;
+      high = search rules;
       moves = search rules;
       progress = search rules;
+      count = search rules;
+      escape = search rules;
+      near = search rules;
+      least = search rules;
+      memory = search rules;
     }
 
 -- The places and looks add up in each branch.

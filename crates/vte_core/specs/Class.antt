@@ -89,7 +89,7 @@ abbrev pub is_final : Class → Bool
 is_final Final = true
 is_final _ = false
 
--- 20..7E, CAN and SUB: the byte that selects the kind of a sequence
+-- Cancel, Final and those of a head (18, 1A, 20..7E): the byte that selects the kind of a sequence
 abbrev pub is_key : Class → Bool
 is_key Cancel = true
 is_key Final = true

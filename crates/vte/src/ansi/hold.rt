@@ -76,6 +76,7 @@ impl<A: Allocator> Hold<A> {
         let len = self.bytes.len();
         // There is room, so nothing is allocated.
         let _ = self.bytes.extend_from_slice(more);
+        // An end may begin in the last seven of the old bytes.
         let start = len.saturating_sub(7);
         let added = find_release(&self.bytes.as_slice()[start..], start);
         self.released = added.released;

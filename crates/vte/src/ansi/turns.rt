@@ -21,8 +21,8 @@ use vte_types::{NamedPrivateMode, PrivateMode};
 /// For how many bytes an open turn takes memory at once.
 const SLICE: usize = 65_536;
 
-/// What takes the turns of a processor: a parser, the bytes that are held back, and what is kept
-/// between events.
+/// The parser, the hold and the state of a processor, whatever its limit. `P`: parser, `J`: buffer
+/// for joined texts, `T`: timeout.
 #[derive(Clone, Drop)]
 pub(crate) struct Turns<P: Drop, J: Drop, T: Drop, A: Allocator> {
     pub(crate) parser: P,

@@ -2,7 +2,7 @@
 -- stretches of which each tells none.
 use Rattle.vte_core.proofs.Common.{◌≡◌, ℕ, inl, inr, Option, List, [], ◌++◌, ap, sym, subst, ◌∙◌, false, All, All-append, All-nil, Event, Machine, HasReadUnder, IsSettled, told_before, open_end, AddsOthers, IsOther, IsWide, TellsOthers}
 use Rattle.vte_core.specs.machine.Completes.{AddsCharacter}
-use Rattle.vte_core.proofs.calls.Stretches.{starts-at}
+use Rattle.vte_core.proofs.calls.Ends.{starts-at}
 use Rattle.vte_core.proofs.calls.AddedEvents.{keep, never, told-at}
 use Rattle.vte_core.proofs.streams.After.{added-nothing}
 use Rattle.vte_core.proofs.streams.Others.{wide, wide_all, wide_character}

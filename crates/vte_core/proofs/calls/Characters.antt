@@ -6,7 +6,7 @@ use Rattle.vte_core.specs.declared.utf8.Carried.TheVariants.{Unfinished as Still
 use Rattle.vte_core.proofs.bytes.CarriedLemmas.{second_open, third_open}
 use Rattle.vte_core.specs.machine.Completes.{Completes}
 use Rattle.vte_core.proofs.calls.InsideCharacters.{carried-broken, carried-more, carried-whole, in_text, inside-open, inside-same, some, truncated-some}
-use Rattle.vte_core.proofs.calls.Stretches.{inside-all, inside-moved}
+use Rattle.vte_core.proofs.calls.Ends.{inside-all, inside-moved}
 use Rattle.vte_core.proofs.streams.Others.{longer}
 use Rattle.vte_core.proofs.calls.AddedEvents.{added-inside, keep, keeps-inside, never, told-at}
 use Rattle.vte_core.proofs.streams.Performing.{open_truncated}

@@ -3,7 +3,8 @@ use Rattle.vte_core.proofs.Common.{◌≡◌, ℕ, zero, suc, ◌+◌, ◌-◌, 
 use Rattle.vte_core.proofs.bytes.Between.{each-both, each-one}
 use Rattle.vte_core.proofs.bytes.ClassCases.{data_ends_nothing}
 use Rattle.vte_core.proofs.calls.Arms.{advances-in, in_data, taken}
-use Rattle.vte_core.proofs.calls.Stretches.{advances-moved, advances-nothing, advances-part, advances-then, settled-by}
+use Rattle.vte_core.proofs.calls.Ends.{settled-by}
+use Rattle.vte_core.proofs.calls.Stretches.{advances-moved, advances-nothing, advances-part, advances-then}
 use Rattle.vte_core.proofs.fields.PlaceOfState.{stands-by}
 use Rattle.vte_core.proofs.places.PlaceLeads.{data-put}
 

@@ -10,7 +10,7 @@ use Rattle.vte_core.specs.LongParser.{HasReadLong, memory_of}
 use Rattle.vte_core.specs.machine.Moves.{Costs}
 use Rattle.vte_core.specs.Looks.{looks_long}
 use Rattle.vte_core.proofs.calls.Refusals.{by_count, inside-reads, meets_data, never_refused, ok_only, refuses-inside, stores_pieces}
-use Rattle.vte_core.proofs.calls.Stretches.{ends-performs, ends-reads, ends-reads_all, ends-stops}
+use Rattle.vte_core.proofs.calls.Ends.{ends-performs, ends-reads, ends-reads_all, ends-stops}
 use Rattle.vte_core.proofs.calls.States.{reads-all}
 
 pub goes-on : {A V Answer : Type 0} (asks : Bool) (step : V → Event → V) (is_terminated : V → Bool) (old new : V)

@@ -4,7 +4,8 @@ use Rattle.vte_core.proofs.Common.{◌≡◌, ℕ, ◌+◌, ◌<◌, Bool, false
 use Rattle.vte_core.proofs.bytes.ClassCases.{left_is_dropped}
 use Rattle.vte_core.proofs.calls.Arms.{advances-in, at_escape, performs-escape, performs-in, taken}
 use Rattle.vte_core.proofs.fields.PlaceOfState.{stands-by, stands-in}
-use Rattle.vte_core.proofs.calls.Stretches.{advances-byte, advances-when, settled-by}
+use Rattle.vte_core.proofs.calls.Ends.{settled-by}
+use Rattle.vte_core.proofs.calls.Stretches.{advances-byte, advances-when}
 use Rattle.vte_core.proofs.places.PlaceLeads.{byte-dropped, escape-control_sequence}
 
 again : {V B : Type 0} (step : V → Event → V) (value : V) (limit : Option ℕ) (b : ℕ) (parser : Machine B)

@@ -13,7 +13,7 @@ use Rattle.vte_core.proofs.streams.After.{added-reads}
 use Rattle.vte_core.proofs.stops.Told.{told-between, told-broken}
 use Rattle.vte_core.proofs.stops.Units.{added_both}
 use Rattle.vte_core.proofs.calls.States.{between_characters}
-use Rattle.vte_core.proofs.calls.Stretches.{settled-by, settles}
+use Rattle.vte_core.proofs.calls.Ends.{settled-by, settles}
 use Rattle.vte_core.proofs.streams.Performing.{after-append}
 use Rattle.vte_core.proofs.shapes.OutcomeLemmas.{with_bodies-tell}
 use Rattle.vte_core.proofs.streams.StreamSteps.{told_by_stream}

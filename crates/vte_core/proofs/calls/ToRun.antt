@@ -13,7 +13,7 @@ use Rattle.vte_core.specs.declared.scan.taken.Taken.{Taken}
 use Rattle.vte_core.specs.declared.scan.taken.Taken.TheVariants.{Text as TakenText, Data, Nothing as TakenNothing}
 use Rattle.vte_core.specs.Text.{IsRunText}
 use Rattle.vte_core.proofs.bytes.ClassCases.{data_ends_nothing}
-use Rattle.vte_core.proofs.calls.Stretches.{ends-comes, ends-reads}
+use Rattle.vte_core.proofs.calls.Ends.{ends-comes, ends-reads}
 use Rattle.vte_core.proofs.calls.States.{between_characters}
 use Rattle.vte_core.proofs.calls.TextRuns.{reads-text}
 use Rattle.vte_core.proofs.fields.PlaceOfState.{IsPlace, stands-in}

@@ -28,102 +28,109 @@ sequenced other closed none = leads_on (λ text. absurd (other text)) (inl close
 
 -- a byte of the class, of which the class says that it is not ESC
 pub plain : (b : ℕ) (k : Class) → class_of b ≡ k → ends_all k ≡ false → eqb b escape ≡ false
-plain b k e o = no_escape b (rw e o)
+plain b k is no_end = no_escape b (rw is no_end)
 
--- a byte outside text, by its class, that tells nothing
+-- a byte outside text, by its class, that tells nothing. Of places that are known, the three premises on them, here and
+-- in `sequenced`, are `absurd refl refl`.
 silent : {limit : Option ℕ} {place next : Place} {b : ℕ} {k : Class} → class_of b ≡ k → ends_all k ≡ false
     → (IsText place → ⊥) → open_at next ≡ [] → data_left (left_at limit next) ≡ 0 → Leads limit place b [] next
     → IsPlace next → Steps limit place b
-silent e o other closed none leads is =
-    sequenced other closed none (plain _ _ e o) leads is (λ _ _. tt) (λ _. tt)
+silent is no_end other closed none leads placed =
+    sequenced other closed none (plain _ _ is no_end) leads placed (λ _ _. tt) (λ _. tt)
 
 -- ---- after ESC
 
 step-final : (limit : Option ℕ) (b : ℕ) (k : Key) → class_of b ≡ Final → key_of b ≡ k → Steps limit AtEscape b
 unfolding pieces_of kept_items
-step-final limit b ControlSequence e k = silent e refl absurd refl refl (escape-control_sequence limit b e k) tt
-step-final limit b DeviceControl e k = silent e refl absurd refl refl (escape-device_control limit b e k) tt
-step-final limit b SystemCommand e k = silent e refl absurd refl refl (escape-system_command limit b e k) tt
-step-final limit b IgnoredString e k = silent e refl absurd refl refl (escape-ignored_string limit b e k) tt
-step-final limit b Dispatch e k =
+step-final limit b ControlSequence is k = silent is refl absurd refl refl (escape-control_sequence limit b is k) tt
+step-final limit b DeviceControl is k = silent is refl absurd refl refl (escape-device_control limit b is k) tt
+step-final limit b SystemCommand is k = silent is refl absurd refl refl (escape-system_command limit b is k) tt
+step-final limit b IgnoredString is k = silent is refl absurd refl refl (escape-ignored_string limit b is k) tt
+step-final limit b Dispatch is k =
     let s : Spans Final b =
-    spans b Final e in
-    sequenced absurd refl refl (plain b Final e refl) (escape-end limit b Final e refl k) refl
+    spans b Final is in
+    sequenced absurd refl refl (plain b Final is refl) (escape-end limit b Final is refl k) refl
     (λ _ _. (omega arith, s.1, omega arith)) (λ _. tt)
 
 step-escape : (limit : Option ℕ) (b : ℕ) (k : Class) → class_of b ≡ k → ends_all k ≡ false → Steps limit AtEscape b
-step-escape limit b Control e o =
-    sequenced absurd refl refl (plain b Control e o) (escape-control limit b e) tt
-    (λ _ _. executed_low b (spans b Control e)) (λ _. tt)
-step-escape limit b Intermediate e o = silent e o absurd refl refl (escape-intermediate limit b e) tt
-step-escape limit b Final e o = step-final limit b (key_of b) e refl
-step-escape limit b Delete e o = silent e o absurd refl refl (byte-dropped limit AtEscape b Delete refl e refl) tt
-step-escape limit b High e o = silent e o absurd refl refl (byte-dropped limit AtEscape b High refl e refl) tt
-step-escape limit b Cancel e o = cc
-step-escape limit b Escape e o = cc
-step-escape limit b k e o =
-    let s : Spans k b = spans b k e in
-    sequenced absurd refl refl (plain b k e o) (escape-end limit b k e refl (below_finals b (omega arith))) refl
+step-escape limit b Control is no_end =
+    sequenced absurd refl refl (plain b Control is no_end) (escape-control limit b is) tt
+    (λ _ _. executed_low b (spans b Control is)) (λ _. tt)
+step-escape limit b Intermediate is no_end = silent is no_end absurd refl refl (escape-intermediate limit b is) tt
+step-escape limit b Final is no_end = step-final limit b (key_of b) is refl
+step-escape limit b Delete is no_end =
+    silent is no_end absurd refl refl (byte-dropped limit AtEscape b Delete refl is refl) tt
+step-escape limit b High is no_end =
+    silent is no_end absurd refl refl (byte-dropped limit AtEscape b High refl is refl) tt
+step-escape limit b Cancel is no_end = cc
+step-escape limit b Escape is no_end = cc
+step-escape limit b k is no_end =
+    let s : Spans k b = spans b k is in
+    sequenced absurd refl refl (plain b k is no_end) (escape-end limit b k is refl (below_finals b (omega arith))) refl
     (λ _ _. (omega arith, omega arith, omega arith)) (λ _. tt)
 
 -- ---- after ESC and intermediates
 
 step-intermediate : (limit : Option ℕ) (ints : List ℕ) (b : ℕ) (k : Class) → class_of b ≡ k → ends_all k ≡ false
     → Steps limit (InEscape ints) b
-step-intermediate limit ints b Control e o =
-    sequenced absurd refl refl (plain b Control e o) (intermediate-control limit ints b e) tt
-    (λ _ _. executed_low b (spans b Control e)) (λ _. tt)
-step-intermediate limit ints b Intermediate e o = silent e o absurd refl refl (intermediate-more limit ints b e) tt
-step-intermediate limit ints b Delete e o =
-    silent e o absurd refl refl (byte-dropped limit (InEscape ints) b Delete refl e refl) tt
-step-intermediate limit ints b High e o =
-    silent e o absurd refl refl (byte-dropped limit (InEscape ints) b High refl e refl) tt
-step-intermediate limit ints b Cancel e o = cc
-step-intermediate limit ints b Escape e o = cc
-step-intermediate limit ints b k e o =
-    let s : Spans k b = spans b k e in
-    sequenced absurd refl refl (plain b k e o) (intermediate-end limit ints b k e refl) refl
+step-intermediate limit ints b Control is no_end =
+    sequenced absurd refl refl (plain b Control is no_end) (intermediate-control limit ints b is) tt
+    (λ _ _. executed_low b (spans b Control is)) (λ _. tt)
+step-intermediate limit ints b Intermediate is no_end =
+    silent is no_end absurd refl refl (intermediate-more limit ints b is) tt
+step-intermediate limit ints b Delete is no_end =
+    silent is no_end absurd refl refl (byte-dropped limit (InEscape ints) b Delete refl is refl) tt
+step-intermediate limit ints b High is no_end =
+    silent is no_end absurd refl refl (byte-dropped limit (InEscape ints) b High refl is refl) tt
+step-intermediate limit ints b Cancel is no_end = cc
+step-intermediate limit ints b Escape is no_end = cc
+step-intermediate limit ints b k is no_end =
+    let s : Spans k b = spans b k is in
+    sequenced absurd refl refl (plain b k is no_end) (intermediate-end limit ints b k is refl) refl
     (λ _ _. (two_at_most ints, omega arith, omega arith)) (λ _. tt)
 
 -- ---- in the head of a control sequence
 
 step-control : (limit : Option ℕ) (head : List ℕ) (b : ℕ) (k : Class) → class_of b ≡ k → ends_all k ≡ false
     → Steps limit (InControlSequence head) b
-step-control limit head b Control e o =
-    sequenced absurd refl refl (plain b Control e o) (control-control limit head b e) tt
-    (λ _ _. executed_low b (spans b Control e)) (λ _. tt)
-step-control limit head b Final e o = elim (cases_Bool (is_well_shaped (head_of head))) [
+step-control limit head b Control is no_end =
+    sequenced absurd refl refl (plain b Control is no_end) (control-control limit head b is) tt
+    (λ _ _. executed_low b (spans b Control is)) (λ _. tt)
+step-control limit head b Final is no_end = elim (cases_Bool (is_well_shaped (head_of head))) [
   | inl well ↦
-      sequenced absurd refl refl (plain b Final e o) (control-dispatched limit head b e well) refl
-      (λ size _. bounded-csi size (head_of head) b (spans b Final e)) (λ _. other-csi (head_of head) b)
+      sequenced absurd refl refl (plain b Final is no_end) (control-dispatched limit head b is well) refl
+      (λ size _. bounded-csi size (head_of head) b (spans b Final is)) (λ _. other-csi (head_of head) b)
   | inr ill ↦
-      silent e o absurd refl refl (control-silent limit head b e ill) refl
+      silent is no_end absurd refl refl (control-silent limit head b is ill) refl
 ]
-step-control limit head b Delete e o =
-    silent e o absurd refl refl (byte-dropped limit (InControlSequence head) b Delete refl e refl) tt
-step-control limit head b High e o =
-    silent e o absurd refl refl (byte-dropped limit (InControlSequence head) b High refl e refl) tt
-step-control limit head b Cancel e o = cc
-step-control limit head b Escape e o = cc
-step-control limit head b k e o = silent e o absurd refl refl (control-head limit head b (rw e refl)) tt
+step-control limit head b Delete is no_end =
+    silent is no_end absurd refl refl (byte-dropped limit (InControlSequence head) b Delete refl is refl) tt
+step-control limit head b High is no_end =
+    silent is no_end absurd refl refl (byte-dropped limit (InControlSequence head) b High refl is refl) tt
+step-control limit head b Cancel is no_end = cc
+step-control limit head b Escape is no_end = cc
+step-control limit head b k is no_end = silent is no_end absurd refl refl (control-head limit head b (rw is refl)) tt
 
 -- ---- in a device control string
 
 step-device : (limit : Option ℕ) (head : List ℕ) (b : ℕ) (k : Class) → class_of b ≡ k → ends_all k ≡ false
     → Steps limit (InDeviceControl head) b
-step-device limit head b Control e o = silent e o absurd refl refl (device-dropped limit head b Control e refl) tt
-step-device limit head b Final e o = elim (cases_Bool (is_well_shaped (head_of head))) [
+step-device limit head b Control is no_end =
+    silent is no_end absurd refl refl (device-dropped limit head b Control is refl) tt
+step-device limit head b Final is no_end = elim (cases_Bool (is_well_shaped (head_of head))) [
   | inl well ↦
-      sequenced absurd refl refl (plain b Final e o) (device-well_shaped limit head b e well) tt
-      (λ size _. bounded-hook size (head_of head) b (spans b Final e)) (λ _. other-hook (head_of head) b)
+      sequenced absurd refl refl (plain b Final is no_end) (device-well_shaped limit head b is well) tt
+      (λ size _. bounded-hook size (head_of head) b (spans b Final is)) (λ _. other-hook (head_of head) b)
   | inr ill ↦
-      silent e o absurd refl refl (device-malformed limit head b e ill) tt
+      silent is no_end absurd refl refl (device-malformed limit head b is ill) tt
 ]
-step-device limit head b Delete e o = silent e o absurd refl refl (device-dropped limit head b Delete e refl) tt
-step-device limit head b High e o = silent e o absurd refl refl (device-dropped limit head b High e refl) tt
-step-device limit head b Cancel e o = cc
-step-device limit head b Escape e o = cc
-step-device limit head b k e o = silent e o absurd refl refl (device-head limit head b (rw e refl)) tt
+step-device limit head b Delete is no_end =
+    silent is no_end absurd refl refl (device-dropped limit head b Delete is refl) tt
+step-device limit head b High is no_end =
+    silent is no_end absurd refl refl (device-dropped limit head b High is refl) tt
+step-device limit head b Cancel is no_end = cc
+step-device limit head b Escape is no_end = cc
+step-device limit head b k is no_end = silent is no_end absurd refl refl (device-head limit head b (rw is refl)) tt
 
 -- ---- in its data
 
@@ -131,40 +138,42 @@ delete_is_no_terminator : (b : ℕ) → Spans Delete b → eqb b 0x9c ≡ false
 delete_is_no_terminator b s = grind (arith, nat_tests)
 
 data_quiet : (b : ℕ) (k : Class) → class_of b ≡ k → is_device_data k ≡ true → is_device_data (class_of b) ≡ false → ⊥
-data_quiet b k e is quiet = false≢true (sym quiet ∙ rw e is)
+data_quiet b k is put quiet = false≢true (sym quiet ∙ rw is put)
 
 step-data : (limit : Option ℕ) (b : ℕ) (k : Class) → class_of b ≡ k → ends_all k ≡ false → Steps limit InData b
-step-data limit b Delete e o =
-    sequenced absurd refl refl (plain b Delete e o)
-    (data-dropped limit b (rw e (delete_is_no_terminator b (spans b Delete e))) (rw e refl)) tt (λ _ _. tt) (λ _. tt)
-step-data limit b High e o = elim (cases_Bool (eqb b 0x9c)) [
-  | inl is ↦ sequenced absurd refl refl (plain b High e o) (data-terminator limit b e is) refl (λ _ _. tt) (λ _. tt)
+step-data limit b Delete is no_end =
+    sequenced absurd refl refl (plain b Delete is no_end)
+    (data-dropped limit b (rw is (delete_is_no_terminator b (spans b Delete is))) (rw is refl)) tt (λ _ _. tt) (λ _. tt)
+step-data limit b High is no_end = elim (cases_Bool (eqb b 0x9c)) [
+  | inl ends ↦
+      sequenced absurd refl refl (plain b High is no_end) (data-terminator limit b is ends) refl (λ _ _. tt)
+      (λ _. tt)
   | inr other ↦
-      silent e o absurd refl refl (data-dropped limit b (rw e other) (rw e refl)) tt
+      silent is no_end absurd refl refl (data-dropped limit b (rw is other) (rw is refl)) tt
 ]
-step-data limit b Cancel e o = cc
-step-data limit b Escape e o = cc
-step-data limit b k e o =
-    sequenced absurd refl refl (plain b k e o) (data-put limit b (rw e refl)) tt (λ _ _. rw e refl)
-    (λ quiet. absurd (data_quiet b k e refl quiet))
+step-data limit b Cancel is no_end = cc
+step-data limit b Escape is no_end = cc
+step-data limit b k is no_end =
+    sequenced absurd refl refl (plain b k is no_end) (data-put limit b (rw is refl)) tt (λ _ _. rw is refl)
+    (λ quiet. absurd (data_quiet b k is refl quiet))
 
 -- ---- in an operating system command
 
 step-command : (limit : Option ℕ) (items : List ℕ) (b : ℕ) (k : Class) → class_of b ≡ k → ends_all k ≡ false
     → Steps limit (InSystemCommand items) b
-step-command limit items b Control e o = elim (cases_Bool (eqb b bell)) [
-  | inl is ↦
-      sequenced absurd refl refl (plain b Control e o) (command-bell limit items b e is) refl
+step-command limit items b Control is no_end = elim (cases_Bool (eqb b bell)) [
+  | inl ends ↦
+      sequenced absurd refl refl (plain b Control is no_end) (command-bell limit items b is ends) refl
       (λ _ fits. (few_pieces limit items, fits, some_pieces limit items)) (λ _. tt)
   | inr other ↦
-      leads_on absurd (inl refl) (λ _. omega arith) (plain b Control e o) (command-control limit items b e other) tt
-      (λ _ _. tt) (λ _. tt)
+      leads_on absurd (inl refl) (λ _. omega arith) (plain b Control is no_end)
+      (command-control limit items b is other) tt (λ _ _. tt) (λ _. tt)
 ]
-step-command limit items b Cancel e o = cc
-step-command limit items b Escape e o = cc
-step-command limit items b k e o =
-    let s : Spans k b = spans b k e in
-    leads_on absurd (inl refl) (λ none. rw none (pieces_push items b)) (plain b k e o)
+step-command limit items b Cancel is no_end = cc
+step-command limit items b Escape is no_end = cc
+step-command limit items b k is no_end =
+    let s : Spans k b = spans b k is in
+    leads_on absurd (inl refl) (λ none. rw none (pieces_push items b)) (plain b k is no_end)
     (command-item limit items b (omega arith)) tt (λ _ _. tt) (λ _. tt)
 
 -- ---- any place
@@ -172,15 +181,15 @@ step-command limit items b k e o =
 step-ordinary : (limit : Option ℕ) (place : Place) (b : ℕ) (k : Class) → IsPlace place → class_of b ≡ k
     → ends_all k ≡ false
     → Steps limit place b
-step-ordinary limit (InText u) b k is e o = steps-text limit u b (plain b k e o) is
-step-ordinary limit AtEscape b k is e o = step-escape limit b k e o
-step-ordinary limit (InEscape intermediates) b k is e o = step-intermediate limit intermediates b k e o
-step-ordinary limit (InControlSequence head) b k is e o = step-control limit head b k e o
-step-ordinary limit (InDeviceControl head) b k is e o = step-device limit head b k e o
-step-ordinary limit InData b k is e o = step-data limit b k e o
-step-ordinary limit (InSystemCommand items) b k is e o = step-command limit items b k e o
-step-ordinary limit InIgnoredString b k is e o =
-    silent e o absurd refl refl (ignored-more limit b (rw e (ends_not_cancel k o))) tt
+step-ordinary limit (InText u) b k placed is no_end = steps-text limit u b (plain b k is no_end) placed
+step-ordinary limit AtEscape b k placed is no_end = step-escape limit b k is no_end
+step-ordinary limit (InEscape intermediates) b k placed is no_end = step-intermediate limit intermediates b k is no_end
+step-ordinary limit (InControlSequence head) b k placed is no_end = step-control limit head b k is no_end
+step-ordinary limit (InDeviceControl head) b k placed is no_end = step-device limit head b k is no_end
+step-ordinary limit InData b k placed is no_end = step-data limit b k is no_end
+step-ordinary limit (InSystemCommand items) b k placed is no_end = step-command limit items b k is no_end
+step-ordinary limit InIgnoredString b k placed is no_end =
+    silent is no_end absurd refl refl (ignored-more limit b (rw is (ends_not_cancel k no_end))) tt
 
 -- ESC breaks a character
 escape_little : (limit : Option ℕ) (place : Place) → IsPlace place → IsText place
@@ -206,25 +215,25 @@ cancel_others limit (InSystemCommand items) b quiet = (tt, tt)
 cancel_others limit _ b quiet = tt
 
 by_class : (limit : Option ℕ) (place : Place) (b : ℕ) (k : Class) → IsPlace place → class_of b ≡ k → Steps limit place b
-by_class limit place b Escape is e =
-    let same : Spans Escape b = spans b Escape e in
+by_class limit place b Escape placed is =
+    let same : Spans Escape b = spans b Escape is in
     rw same (record {
       told = closing_events_at limit place;
       next = AtEscape;
       is_place = tt;
-      reads = reads-escape limit place is;
+      reads = reads-escape limit place placed;
       brief = λ size fits. closing_alone_brief limit size place fits;
       grows = λ _. omega arith;
       leaves = inl refl;
-      little = escape_little limit place is;
+      little = escape_little limit place placed;
       others = closing_others limit place _;
     })
-by_class limit (InText u) b Cancel is e = steps-text limit u b (cancel_is_no_escape b e) is
-by_class limit place b Cancel is e =
-    sequenced absurd refl refl (cancel_is_no_escape b e) (cancel limit place b is e) refl
-    (λ size fits. closing_brief limit size place b fits (spans b Cancel e)) (cancel_others limit place b)
-by_class limit place b k is e = step-ordinary limit place b k is e refl
+by_class limit (InText u) b Cancel placed is = steps-text limit u b (cancel_is_no_escape b is) placed
+by_class limit place b Cancel placed is =
+    sequenced absurd refl refl (cancel_is_no_escape b is) (cancel limit place b placed is) refl
+    (λ size fits. closing_brief limit size place b fits (spans b Cancel is)) (cancel_others limit place b)
+by_class limit place b k placed is = step-ordinary limit place b k placed is refl
 
 -- Each byte reports at most two events after each place, and leads to a next place.
 pub steps : (limit : Option ℕ) (place : Place) (b : ℕ) → IsPlace place → Steps limit place b
-steps limit place b is = by_class limit place b (class_of b) is refl
+steps limit place b placed = by_class limit place b (class_of b) placed refl

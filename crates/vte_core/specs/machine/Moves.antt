@@ -8,8 +8,8 @@ use Rattle.vte_core.specs.Looks.{looked}
 use Rattle.vte_core.specs.machine.Progress.{IsRefusedAt, IsSettled, MayGoOn}
 
 -- The bounds of each state's function, which reads from position i to position j, and gives back no
--- memory. It takes at least one look per byte and at most `rate`; the caller has taken `seen` of
--- them.
+-- memory. It takes at least one look per byte and at most `rate`. The caller has taken `seen` of
+-- them: those at the first bytes, by which it chose this function.
 pub record Moves (rate seen : ℕ) {B : Type 0} (bytes : List ℕ) (i j : ℕ) (parser next : Machine B)
     (before after : Looks B) : Type 0 where
   pub low : i ≤ j

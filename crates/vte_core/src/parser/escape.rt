@@ -31,7 +31,8 @@ impl<B: Buffer> Machine<B> {
             (P.value_of performer.new) B.limit input.entry.bytes.now from result self.old self.new }
         ensures moves { Moves 5 1 input.entry.bytes.now from result self.old self.new
             looks.old looks.new }
-        // ESC, at which the caller looked, leaves its other looks to the search that found it.
+        // The caller paid one look for ESC; the four others that a byte may cost are left for
+        // `search_text`.
         ensures count { looked looks.new + 5 * from + 5 ≤ looked looks.old + 5 * result }
     {
         self.collected.begin_escape();

@@ -72,8 +72,8 @@ impl<B: Buffer> Machine<B> {
                         None => continue,
                     }
                 }
-                // Branches that meet again below leave `position` at the last byte they read: one
-                // `+= 1` steps past it.
+                // Here `position` is the last byte that was read; the `+= 1` below steps past it,
+                // for all branches without `continue`.
                 if is_printed_ascii(byte) {
                     performer.print_char(char::from(byte));
                 } else if G::IN_RUNS && byte >= 0xa0 {

@@ -3,7 +3,7 @@
 use Rattle.vte_core.proofs.Common.{false, [], ◌∷◌, refl, ◌∙◌, arith, key_of, EscDispatch, InText, InDeviceControl, InSystemCommand, InIgnoredString}
 use Rattle.vte_core.proofs.bytes.ClassCases.{final}
 use Rattle.vte_core.proofs.calls.Arms.{taken}
-use Rattle.vte_core.proofs.calls.Stretches.{settled-by}
+use Rattle.vte_core.proofs.calls.Ends.{settled-by}
 use Rattle.vte_core.proofs.fields.PlaceOfState.{stands-escape, stands-text_begun}
 use Rattle.vte_core.proofs.places.PlaceLeads.{escape-device_control, escape-system_command, escape-ignored_string, escape-end}
 use Rattle.vte_core.proofs.shapes.PlainKeys.{other_key}

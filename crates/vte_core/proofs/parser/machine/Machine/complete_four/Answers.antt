@@ -26,10 +26,15 @@ counted next = omega arith
 pub returns-then-not-may_begin_four-clause-advances : goal.returns-then-not-may_begin_four-clause-advances
 returns-then-not-may_begin_four-clause-advances g c =
     let r = c.requires in
+    -- The call's `ensures` says what its result means, and the test that it is false.
     let misfits = sym c.may_begin_four.ensures ∙ c.if-not-may_begin_four.true in
+    -- The first byte is a lead byte, C2 to F4, so the call goes on by a character.
     advances-first r.may_read (leads-all _ r.lead.low) r.lead.high
+    -- No byte more belongs to it (`goes-nowhere`), and the next one breaks it.
     (completes-broken (goes-nowhere c.args.self.now (some _ _))
+    -- So the definition says, and U+FFFD is what the code printed.
     (λ more. second_broken c.args.first c.args.second more misfits) r.may_read.begun c.print_char.ensures.value
+    -- The next byte is within the call, and the one that was read.
     r.within r.is)
 
 -- The call has two bytes or three: another function reads the last ones, one at a time.

@@ -3,7 +3,8 @@ use Rattle.vte_core.proofs.Common.{[], ◌∷◌, refl, sym, ◌∙◌, Unhook, 
 use Rattle.vte_core.proofs.bytes.ClassCases.{ends_no_data, terminator_is_high}
 use Rattle.vte_core.proofs.calls.Arms.{advances-in, in_data, taken}
 use Rattle.vte_core.proofs.fields.PlaceOfState.{stands-by}
-use Rattle.vte_core.proofs.calls.Stretches.{advances-when, settled-by}
+use Rattle.vte_core.proofs.calls.Ends.{settled-by}
+use Rattle.vte_core.proofs.calls.Stretches.{advances-when}
 use Rattle.vte_core.proofs.places.PlaceLeads.{data-dropped, data-terminator}
 use Rattle.vte_core.proofs.parser.machine.Machine.end_device_data.Goals.{then-byte-eq-STRING_TERMINATOR, else-byte-eq-STRING_TERMINATOR}
 use Rattle.vte_core.proofs.parser.machine.Machine.end_device_data.Goals as goal

@@ -4,7 +4,7 @@ use Rattle.vte_core.proofs.Common.{false, [], ◌∷◌, refl, sym, ◌∙◌, a
 use Rattle.vte_core.proofs.bytes.ClassCases.{control, final_ends_nothing, intermediate, left_dispatches, head_ends_nothing}
 use Rattle.vte_core.proofs.bytes.ClassLemmas.{below_final}
 use Rattle.vte_core.proofs.calls.Arms.{performs-in, at_escape, taken}
-use Rattle.vte_core.proofs.calls.Stretches.{settled-by}
+use Rattle.vte_core.proofs.calls.Ends.{settled-by}
 use Rattle.vte_core.proofs.calls.Sequences.{performs-dropped}
 use Rattle.vte_core.proofs.fields.PlaceOfState.{stands-by, stands-text_begun}
 use Rattle.vte_core.proofs.places.PlaceLeads.{escape-control, escape-intermediate, escape-end}

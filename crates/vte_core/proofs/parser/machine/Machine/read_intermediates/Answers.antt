@@ -3,7 +3,8 @@
 use Rattle.vte_core.proofs.Common.{[], ◌∷◌, ◌++◌, refl, sym, ◌∙◌, arith, rules, class_of, EscDispatch, Execute, first_two, are_too_many, InText, InEscape}
 use Rattle.vte_core.proofs.bytes.ClassCases.{control, dispatch_ends_nothing, intermediate, left_of_intermediates}
 use Rattle.vte_core.proofs.calls.Arms.{advances-in, in_escape, taken}
-use Rattle.vte_core.proofs.calls.Stretches.{advances-byte, advances-nothing, advances-when, advances-then, settled-by}
+use Rattle.vte_core.proofs.calls.Ends.{settled-by}
+use Rattle.vte_core.proofs.calls.Stretches.{advances-byte, advances-nothing, advances-when, advances-then}
 use Rattle.vte_core.proofs.fields.PlaceOfState.{stands-by, stands-text_begun}
 use Rattle.vte_core.proofs.places.PlaceLeads.{byte-dropped, intermediate-control, intermediate-end, intermediate-more}
 use Rattle.vte_core.proofs.parser.machine.Machine.read_intermediates.Goals.{then-is_intermediate, else-is_intermediate+else-dispatches_escape+else-ends_all+else-is_control}

@@ -1,0 +1,128 @@
+-- Where a call starts (`starts-*`), stops or ends (`ends-*`), and where no character is open, so that something may
+-- start (`settles`).
+use Rattle.vte_core.proofs.Common.{◌≡◌, ℕ, ◌<◌, ◌≤◌, Bool, true, Option, List, [], ◌++◌, length, refl, sym, subst, arith, Machine, State, Text, Nothing, StopsExactly, stream_at, IsSettled, ReadsUpTo, StandsAt, StandsInside, Event, Stands, StandsBy, HasReadUnder, after, Place, InText}
+use Rattle.vte_core.proofs.Common.{IsBetween, added, bytes_of, Unfinished, ComesTo}
+use Rattle.vte_core.proofs.calls.Places.{come-all, come-between, come-nowhere, come-performs, come-starts, come-to}
+use Rattle.vte_core.proofs.fields.PlaceOfState.{stands-place}
+use Rattle.vte_core.proofs.stops.Told.{stream_at-all}
+
+-- ---- between characters
+
+by_settled : {B : Type 0} (limit : Option ℕ) (state : State) (parser : Machine B) (place : Place) → IsSettled state
+    → StandsBy limit state parser place → IsBetween place
+by_settled limit (Text Nothing) parser (InText bytes) settled s = sym s.0
+by_settled limit (Text _) parser (InText bytes) settled s = absurd settled
+by_settled limit _ parser (InText bytes) settled s = absurd s
+by_settled limit _ parser _ settled s = tt
+
+pub between-settled : {B : Type 0} {limit : Option ℕ} (parser : Machine B) → IsSettled parser.state → (place : Place)
+    → Stands limit parser place → IsBetween place
+between-settled {limit = limit} parser settled place s = by_settled limit parser.state parser place settled s.by
+
+pub settled-by : (state other : State) → state ≡ other → IsSettled other → IsSettled state
+settled-by state other e settled = subst IsSettled (sym e) settled
+
+pub settled-nothing : (u : Unfinished) → bytes_of u ≡ [] → IsSettled (Text u)
+settled-nothing Nothing e = tt
+settled-nothing _ e = cc
+
+pub settled-outside : (state : State) → ((unfinished : Unfinished) → state ≡ Text unfinished → ⊥) → IsSettled state
+settled-outside (Text u) n = absurd (n u refl)
+settled-outside _ n = tt
+
+module _ {V B : Type 0} {asks : Bool} {step : V → Event → V} {is_terminated : V → Bool} {limit : Option ℕ}
+    {bytes : List ℕ} where
+  -- ---- from inside a character to where something starts
+
+  pub settles : {old value : V} {stream : List ℕ} {i : ℕ} {parser : Machine B} → IsSettled parser.state
+      → StandsInside asks step is_terminated old value limit stream bytes i parser
+      → StandsAt asks step is_terminated old value limit stream bytes i parser
+  settles {parser = parser} settled s =
+      let between = between-settled parser settled s.place s.stands in
+      record {
+        place = s.place;
+        stands = s.stands;
+        between = λ _. between;
+        has_come = come-between (stands-place parser s.place s.stands) between s.has_come;
+      }
+
+  pub inside-all : {old value : V} {stream : List ℕ} {i : ℕ} {parser : Machine B}
+      → StandsInside asks step is_terminated old value limit stream bytes i parser → length bytes ≤ i
+      → StandsAt asks step is_terminated old value limit stream bytes i parser
+  inside-all s all =
+      record {
+        place = s.place;
+        stands = s.stands;
+        between = λ within. absurd (omega arith);
+        has_come = come-all all s.has_come;
+      }
+
+  pub inside-moved : {old value : V} {stream : List ℕ} {i j : ℕ} {parser : Machine B} → i ≡ j
+      → StandsInside asks step is_terminated old value limit stream bytes i parser
+      → StandsInside asks step is_terminated old value limit stream bytes j parser
+  inside-moved {old = old} {value = value} {stream = stream} {parser = parser} e s =
+      subst (λ n. StandsInside asks step is_terminated old value limit stream bytes n parser) e s
+
+  -- ---- the start and the end of a call
+
+  pub starts-inside : {old : V} {stream : List ℕ} {parser : Machine B} → HasReadUnder limit parser stream
+      → StandsInside asks step is_terminated old old limit stream bytes 0 parser
+  starts-inside h = record { place = h.place; stands = h.stands; has_come = come-nowhere h.is_after }
+
+  pub starts-at : {old : V} {stream : List ℕ} {parser : Machine B} → IsSettled parser.state
+      → HasReadUnder limit parser stream
+      → StandsAt asks step is_terminated old old limit stream bytes 0 parser
+  starts-at settled h = settles settled (starts-inside h)
+
+  pub ends-comes : {old value : V} {stream : List ℕ} {n : ℕ} {parser : Machine B} → asks ≡ true → n ≤ length bytes
+      → StandsAt asks step is_terminated old value limit stream bytes n parser
+      → ComesTo step is_terminated old value limit stream bytes n
+  ends-comes {parser = parser} does within s =
+      come-to does within
+      (λ left. come-starts (stands-place parser s.place s.stands) (s.between left) left s.has_come) s.has_come
+
+  pub ends-stops : {old value : V} {stream : List ℕ} {n : ℕ} {parser : Machine B} → asks ≡ true → n ≤ length bytes
+      → (n < length bytes → is_terminated value ≡ true)
+      → StandsAt asks step is_terminated old value limit stream bytes n parser
+      → StopsExactly step is_terminated old value limit stream bytes n
+  ends-stops does within stops s =
+      record { comes = ends-comes does within s; stops = stops; all = λ all. come-performs all s.has_come }
+
+  pub ends-reads : {old value : V} {stream : List ℕ} {n : ℕ} {parser : Machine B}
+      → StandsAt asks step is_terminated old value limit stream bytes n parser
+      → HasReadUnder limit parser (stream_at stream bytes n)
+  ends-reads s = record { place = s.place; stands = s.stands; is_after = s.has_come.is_after }
+
+  -- of a call that reads all bytes
+  pub ends-performs : {old value : V} {stream : List ℕ} {n : ℕ} {parser : Machine B} → n ≡ length bytes
+      → StandsAt asks step is_terminated old value limit stream bytes n parser
+      → value ≡ after step old (added limit stream bytes)
+  ends-performs all s = come-performs all s.has_come
+
+  pub ends-reads_all : {old value : V} {stream : List ℕ} {n : ℕ} {parser : Machine B} → n ≡ length bytes
+      → StandsAt asks step is_terminated old value limit stream bytes n parser
+      → HasReadUnder limit parser (stream ++ bytes)
+  ends-reads_all {stream = stream} {n = n} {parser = parser} all s =
+      subst (HasReadUnder limit parser) (stream_at-all stream bytes n all) (ends-reads s)
+
+  -- ---- where the loop of a call ends: at a stop, or with all bytes read
+
+  pub ends-at_stop : {old value : V} {n : ℕ} {before parser : Machine B} → asks ≡ true → is_terminated value ≡ true
+      → n ≤ length bytes
+      → ((stream : List ℕ) → HasReadUnder limit before stream
+      → StandsAt asks step is_terminated old value limit stream bytes n parser)
+      → ReadsUpTo asks step is_terminated old value limit bytes n before parser
+  ends-at_stop does stopped within stands =
+      record { within = within; asked = λ _. does; stops = λ _. stopped; stands_at = stands }
+
+  pub ends-with_all : {old value : V} {n : ℕ} {before parser : Machine B} → n ≡ length bytes
+      → ((stream : List ℕ) → HasReadUnder limit before stream
+      → StandsAt asks step is_terminated old value limit stream bytes n parser)
+      → ReadsUpTo asks step is_terminated old value limit bytes n before parser
+  ends-with_all all stands =
+      record {
+        within = omega (arith, all);
+        asked = λ left. absurd (omega (arith, all, left));
+        stops = λ left. absurd (omega (arith, all, left));
+        stands_at = stands;
+      }

@@ -155,9 +155,7 @@ VTE = Plan(
              f"{event}(&self.collected.params, self.collected.intermediates.as_slice(), ignore, "
              "char::from(byte))")]
            for module, event in (("control_sequence", "csi_dispatch"), ("device_control", "hook"))},
-        # newer Rust has it
-        "vte_core/store": [("ends.is_sorted()", "ends.windows(2).all(|pair| pair[0] <= pair[1])")],
-        # .. whose `clear` writes nothing over what it held
+        # `clear` writes nothing over what it held
         "vte_core/params": [
             ("*self = Params::new();", "self.numbers.clear(); self.lengths.clear();")],
         "vte_core/utf8": [

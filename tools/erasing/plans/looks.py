@@ -22,8 +22,7 @@ def _as_functions(names):
 
 COUNTS = [
     ("impl<B> Looks<B> { $$$b }", _as_functions),
-    ("looks: Looks::$f(),", ""),
-    ("looks: &mut Looks<B>,", ""), ("looks: Looks<$$t>,", ""),
+    ("looks: Looks::$f(),", ""), ("looks: &mut Looks<B>,", ""), ("looks: Looks<$$t>,", ""),
     ("looks.at($i, $$k)", "$i[$k]"),
     ("looks.copy_to_array($i, $$a, $$b, $v)", "$v.try_extend_from_slice(&$i[$a..$b])"),
     ("looks.copy_to_vec($i, $$a, $$b, $v)", "$v.extend_from_slice(&$i[$a..$b])"),
@@ -37,8 +36,7 @@ COUNTS = [
     ("input.up_to(", "up_to(input, "),
     ("input.take_run(", "take_run(input, "),
     ("fn $f<B>", "fn $f"), ("fn $f<B, ", "fn $f<"),
-    ("CountedPerform<B, $g>", "PerformAs<$g>"),
-    ("CountedPerform<$$b>, $g>", "PerformAs<$g>"),
+    ("CountedPerform<B, $g>", "PerformAs<$g>"), ("CountedPerform<$$b>, $g>", "PerformAs<$g>"),
 ]
 
 # The functions that may stop: the others only pass this parameter on.
@@ -85,8 +83,7 @@ OF_FILES = {
         ("unsafe {", f"{OF_TEXT}unsafe {{"),
     ],
     "vte_core/scan/search": [
-        ("self.add($$$x);", ""),
-        ("$a.bytes", "input"),
+        ("self.add($$$x);", ""), ("$a.bytes", "input"),
         # as a value, the answer would take two instructions more per byte
         ("is_command_data($$x)", "$x >= 0x20 && $x != b';'"),
     ],

@@ -273,8 +273,7 @@ VTE = Plan(
                                ("vte_core/parser/to_run", "Parser, Perform, Taken"))},
         "vte_core/perform": (
             "use vte::{Parser, Perform, PerformText};", "#[derive(Default)]",
-            "struct Image { data: Vec<u8> }", "impl Perform for Image {}",
-            "..",
+            "struct Image { data: Vec<u8> }", "impl Perform for Image {}", "..",
             "let mut image = Image::default();",
             "Parser::new().advance_text(&mut image, b\"\\x1bPq#0~~\\x1b\\\\\");",
             "assert_eq!(image.data, b\"#0~~\");"),

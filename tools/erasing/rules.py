@@ -6,32 +6,24 @@ from erasing.patterns import rewrite
 # What Rust lacks, or has without saying so.
 GENERAL = [
     ("laws::$f();", ""),
-    ("impl<$$x> Model for $$t {}", ""),
-    ("impl Model for $$t {}", ""),
+    ("impl<$$x> Model for $$t {}", ""), ("impl Model for $$t {}", ""),
     # `T: Drop` says that a `T` may be let go, which Rust allows of all types
-    ("+ Drop", ""),
-    (": Drop", ""),
+    ("+ Drop", ""), (": Drop", ""),
     # a `Formatter` of Rattle has its writer's type as a parameter
-    ("<W: fmt::Write>", ""),
-    ("Formatter<W>", "Formatter<'_>"),
+    ("<W: fmt::Write>", ""), ("Formatter<W>", "Formatter<'_>"),
 ]
 
 # There is one allocator: its parameter `A`, and values `alloc` of it, go.
 ALLOCATORS = [
-    ("<A: Allocator>", ""),
-    (", A: Allocator>", ">"),
-    (", A: Allocator + Copy>", ">"),
-    ("<A>", ""),
-    (", A>", ">"),
-    (", A, >", ">"),
-    ("alloc: A,", ""),
-    ("(alloc: A)", "()"),
-    ("(alloc,", "("),
-    ("(alloc)", "()"),
+    ("<A: Allocator>", ""), (", A: Allocator>", ">"), (", A: Allocator + Copy>", ">"),
+    ("<A>", ""), (", A>", ">"), (", A, >", ">"),
+    ("alloc: A,", ""), ("(alloc: A)", "()"), ("(alloc,", "("), ("(alloc)", "()"),
 ]
 
-# What the oldest Rust lacks: `let .. else`, and ranges of patterns without their last number.
+# What the oldest Rust lacks: `is_sorted`, `let .. else`, and ranges of patterns without their last
+# number.
 OLDER = [
+    ("$v.is_sorted()", "$v.windows(2).all(|pair| pair[0] <= pair[1])"),
     ("let $v($$p) = $$e else { $$$body };", lambda names: _match(**names)),
     ("$a..$b =>", lambda names: f"{names['a']}..={_before(names['b'])} =>",
      lambda names: names["b"][0].isdigit()),

@@ -229,7 +229,7 @@ def test_what_the_plan_drops_may_be_left_out():
 
 # ---- mutate
 
-MUTANT = "# A rule.\nfile: src/lib.rt\nold: one\nnew: two\n# refused at abc1234: why\n"
+MUTANT = "# A rule.\nfile: src/lib.rt\nold: one\nnew: two\n# refused at abc1234 by goal\n"
 
 
 @pytest.fixture
@@ -245,7 +245,11 @@ def crate():
     ("old: one", "old: f(", "crates/c/src/lib.rt hasn't exactly one 'f('"),
     ("lib.rt", "gone.rt", "crates/c/src/gone.rt hasn't exactly one 'one'"),
     ("# A rule.\n", "", "it names no rule"),
-    ("# refused at abc1234: why\n", "", "it wasn't refused: run tools/mutate"),
+    ("# refused at abc1234 by goal\n", "", "it wasn't refused: run tools/mutate"),
+    ("by goal", "by returns-then-x of a::B+C::d", None),
+    ("by goal", "by a goal of src/a/b.rt:1", None),
+    ("by goal", "by a goal", "its verdict names no goal"),
+    (" by goal", ": `goal`: why", "its verdict names no goal"),
 ])
 def test_faults_of_mutants(crate, old, new, fault):
     write("tools/mutants/c/m.edit", MUTANT.replace(old, new))
@@ -262,12 +266,18 @@ def test_mutants_stand_once(crate):
 
 # what `rt must-fail` says in the end, and the last line of the mutant then
 @pytest.mark.parametrize("said, status, line", [
-    ("refused, as it must be: why", 0, "# refused at abc1234: why"),
-    ("NOT TRIED", 1, "# refused at abc1200: old"),
+    ("NOT TRIED", 1, "# refused at abc1200 by old"),
     ("not refused", 1, "new: two"),
+    ("refused, as it must be: why", 1, "new: two"),
+    *((f"refused, as it must be: {why}", 0, f"# refused at abc1234 by {goal}") for goal, why in {
+        "x-y": "`x-y`: why (`x`)",
+        "x of src/a/b.rt:2": "note: src/a/b.rt:2:1: what `q` requires isn't proved (`x`); `y`",
+        "x of a::b": "./proofs/a/b/Answers.antt:1:2: error: `x`: `y`",
+        "x of a": "answers in ./proofs/a/Answers.antt; `search` did not prove `x`, `y`",
+        "a goal of a": "answers in ./proofs/a/Answers.antt"}.items()),
 ])
 def test_verdicts(crate, tmp_path_factory, said, status, line):
-    mutant = write("tools/mutants/c/m.edit", MUTANT.replace("abc1234: why", "abc1200: old"))
+    mutant = write("tools/mutants/c/m.edit", MUTANT.replace("abc1234 by goal", "abc1200 by old"))
     told = SimpleNamespace(stdout=f"rt: must-fail c/m.edit: {said}\n")
     ran = SimpleNamespace(run=lambda *_, **__: told, check_output=lambda *_, **__: "abc1234\n",
                           DEVNULL=None, PIPE=None)

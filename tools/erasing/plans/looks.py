@@ -22,28 +22,21 @@ def _as_functions(names):
 
 COUNTS = [
     ("impl<B> Looks<B> { $$$b }", _as_functions),
-    ("looks: Looks::$f(),", ""),
-    ("looks: &mut Looks<B>,", ""),
-    ("looks: Looks<$$t>,", ""),
+    ("looks: Looks::$f(),", ""), ("looks: &mut Looks<B>,", ""), ("looks: Looks<$$t>,", ""),
     ("looks.at($i, $$k)", "$i[$k]"),
     ("looks.copy_to_array($i, $$a, $$b, $v)", "$v.try_extend_from_slice(&$i[$a..$b])"),
     ("looks.copy_to_vec($i, $$a, $$b, $v)", "$v.extend_from_slice(&$i[$a..$b])"),
     # inlined by rustc before LLVM sees its caller, each would move a branch of the loop over text
     ("looks.tell_text(performer, input, $$p)", "performer.print_text(text(input, $p))"),
     ("looks.tell_data(performer, input, $$p)", "performer.put_slice(data(input, $p))"),
-    ("looks.$f(", "$f("),
-    ("looks.$f::<$n>(", "$f::<$n>("),
-    ("&mut self.looks,", ""),
-    ("looks,", ""),
-    ("(looks)", "()"),
+    ("looks.$f(", "$f("), ("looks.$f::<$n>(", "$f::<$n>("),
+    ("&mut self.looks,", ""), ("looks,", ""), ("(looks)", "()"),
     ("Input::new($x)", "$x"),
     ("Input<$a, B>", lambda names: "&[u8]" if names["a"] == "'_" else f"&{names['a']} [u8]"),
     ("input.up_to(", "up_to(input, "),
     ("input.take_run(", "take_run(input, "),
-    ("fn $f<B>", "fn $f"),
-    ("fn $f<B, ", "fn $f<"),
-    ("CountedPerform<B, $g>", "PerformAs<$g>"),
-    ("CountedPerform<$$b>, $g>", "PerformAs<$g>"),
+    ("fn $f<B>", "fn $f"), ("fn $f<B, ", "fn $f<"),
+    ("CountedPerform<B, $g>", "PerformAs<$g>"), ("CountedPerform<$$b>, $g>", "PerformAs<$g>"),
 ]
 
 # The functions that may stop: the others only pass this parameter on.
@@ -72,8 +65,7 @@ PARAMETERS = [
 # the files that count
 OF_FILES = {
     "vte_core/scan": [
-        ("mod grain;", "pub(crate) mod grain;"),
-        ("mod search;", "pub(crate) mod search;"),
+        ("mod grain;", "pub(crate) mod grain;"), ("mod search;", "pub(crate) mod search;"),
         ("impl<'a, B> Input<'a, B> { $$$b }", "$b"),
         ("self.add($$$x);", ""),
         ("Input { bytes: $$x, buffer: PhantomData, }", "$x"),
@@ -91,8 +83,7 @@ OF_FILES = {
         ("unsafe {", f"{OF_TEXT}unsafe {{"),
     ],
     "vte_core/scan/search": [
-        ("self.add($$$x);", ""),
-        ("$a.bytes", "input"),
+        ("self.add($$$x);", ""), ("$a.bytes", "input"),
         # as a value, the answer would take two instructions more per byte
         ("is_command_data($$x)", "$x >= 0x20 && $x != b';'"),
     ],

@@ -14,8 +14,7 @@ VTLOG = Plan(
         # what only other programs and tests name
         "event_log/lib": ("use lines", "use plain", "use recorder"),
         "event_log/lines": ("fn len", "fn lost"),
-        "event_log/plain": ("fn lost",),
-        "event_log/recorder": ("fn lost",),
+        "event_log/plain": ("fn lost",), "event_log/recorder": ("fn lost",),
     },
     rules={"vtlog/main": [("fn main(", "pub(crate) fn main(")]},
     comments=wording.VTLOG,

@@ -1,7 +1,11 @@
 // Written by tools/erase from crates/: edit those.
 //! The proved text.
 // The code has the form that is proved.
-#![allow(clippy::manual_range_contains, clippy::needless_range_loop)]
+#![allow(
+    clippy::explicit_counter_loop,
+    clippy::manual_range_contains,
+    clippy::needless_range_loop
+)]
 
 #[cfg(feature = "ansi")]
 pub(crate) mod vte;

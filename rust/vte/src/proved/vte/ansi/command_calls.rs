@@ -125,8 +125,10 @@ fn set_dynamic_colors<H: Handler>(
     texts: &[&[u8]],
     terminator: &str,
 ) {
-    for (code, text) in (first..).zip(texts) {
+    let mut code = first;
+    for text in texts {
         set_dynamic_color(handler, code, terminator, text);
+        code += 1;
     }
 }
 

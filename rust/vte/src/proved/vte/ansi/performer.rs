@@ -92,7 +92,7 @@ impl<'s, 'h, H: HandlerText, T: Timeout, J: TextBuffer> PerformText
     #[inline(always)]
     fn print_text(&mut self, text: &str) {
         self.handler.input_text(text);
-        self.state.preceding_char = text.chars().next_back().or(self.state.preceding_char);
+        self.state.preceding_char = last_char(text, self.state.preceding_char);
     }
 }
 
@@ -114,6 +114,12 @@ impl<'s, 'h, H: Handler, T: Timeout, J: TextBuffer, G> Performer<'s, 'h, H, T, J
         }
         change_mode(self.handler, Change::SetPrivate, number);
     }
+}
+
+/// Returns the last character of a text, or the one before it if the text is empty.
+#[inline(always)]
+fn last_char(text: &str, before: Option<char>) -> Option<char> {
+    text.chars().next_back().or(before)
 }
 
 /// Returns whether the joined pieces fit a buffer of this size.

@@ -1,7 +1,7 @@
 -- What a processor does, from top to bottom: what its parts mean; how it parses bytes, holds them
 -- back and stops updates; the turns of a call; what is true of held bytes; calls one after another,
 -- and what the handler has received of them.
-use Rattle.std.specs.Prelude.{ℕ, zero, suc, Bool, Option, ◌++◌, List, ◌≡◌, ◌-◌, ◌<◌, false, ◌&&◌, ◌||◌, [], ◌∷◌, length, take, drop, if◌then◌else◌, nat_lt, nat_le, ◌⊎◌, ◌≤◌, true, Some, None}
+use Rattle.std.specs.Prelude.{ℕ, zero, suc, Bool, Option, ◌++◌, List, ◌≡◌, ◌+◌, ◌-◌, ◌<◌, false, [], ◌∷◌, length, take, drop, if◌then◌else◌, nat_lt, nat_le, ◌⊎◌, ◌≤◌, true, Some, None}
 use Rattle.vte_core.specs.Stream.{events, added}
 use Rattle.vte_handler.specs.Call.{Call}
 use Rattle.vte_handler.specs.Handler.{after}
@@ -118,25 +118,28 @@ release_end m s (Some rest) = release m s (from_begin rest)
 abbrev pub hold_turn : {H W : Type 0} → Meaning H W → State H W → List ℕ → State H W
 hold_turn m s bytes = let t = extend m s bytes in release_end m t (after_last_end t.held)
 
--- While the timeout is pending, the bytes of a turn are held if there is room.
-abbrev pub is_held : {H W : Type 0} → Bool → State H W → List ℕ → Bool
-is_held answer s bytes = answer && nat_le (length (s.held ++ bytes)) most_held
+-- The kinds of turns.
+pub data TurnKind : Type 0 where
+  OpenTurn : TurnKind
+  ExpiredTurn : TurnKind
+  HoldTurn : TurnKind
+  FullTurn : TurnKind
 
--- Bytes that aren't held are parsed. If the timeout is pending, or bytes are held whose update has
--- expired, the update is stopped first.
-abbrev pub is_stopped : {H W : Type 0} → Bool → State H W → Bool
-is_stopped answer s = answer || nat_lt 0 (length s.held)
+-- By whether the timeout is pending, and how many bytes are held and given.
+abbrev pub kind_of : Bool → ℕ → ℕ → TurnKind
+kind_of false zero given = OpenTurn
+kind_of false (suc held) given = ExpiredTurn
+kind_of true held given = if nat_le (held + given) most_held then HoldTurn else FullTurn
 
-abbrev pub stop_if_due : {H W : Type 0} → Meaning H W → Bool → State H W → State H W
-stop_if_due m answer s = if is_stopped answer s then stop m s else s
+abbrev pub turn_of : {H W : Type 0} → Meaning H W → TurnKind → State H W → List ℕ → Turn H W
+turn_of m OpenTurn s bytes = open_turn m s bytes
+turn_of m ExpiredTurn s bytes = open_turn m (stop m s) bytes
+turn_of m HoldTurn s bytes = record { state = hold_turn m s bytes; rest = [] }
+turn_of m FullTurn s bytes = open_turn m (stop m s) bytes
 
--- A turn, by the timeout's answer, and its name in docs/UPDATES.md.
+-- A turn, by the timeout's answer.
 abbrev pub turn : {H W : Type 0} → Meaning H W → Bool → State H W → List ℕ → Turn H W
-turn m answer s bytes =
-    -- hold
-    if is_held answer s bytes then record { state = hold_turn m s bytes; rest = [] }
-    -- full if the timeout is pending, else expired if bytes are held, and open if none are
-    else open_turn m (stop_if_due m answer s) bytes
+turn m answer s bytes = turn_of m (kind_of answer (length s.held) (length bytes)) s bytes
 
 -- Turns of a call that led to a state and left these bytes, each with an answer that the timeout's
 -- value allows.

@@ -1,9 +1,9 @@
 -- What turns, a call and a list of calls have led to if memory is refused. Only for
 -- `LongProcessor`.
-use Rattle.std.specs.Prelude.{◌≡◌, ℕ, ◌-◌, ◌<◌, ◌++◌, Bool, false, List, [], ◌∷◌, length, take, drop}
+use Rattle.std.specs.Prelude.{◌≡◌, ℕ, ◌-◌, ◌<◌, ◌++◌, Bool, List, [], ◌∷◌, length, take, drop}
 use Rattle.vte_core.specs.Stream.{added}
 use Rattle.vte.specs.BeginUpdate.{begin_count}
-use Rattle.vte.specs.Processor.{HoldsWellAt, Meaning, State, TakesTurns, all_bytes, is_held, stop_if_due, parse}
+use Rattle.vte.specs.Processor.{HoldsWellAt, Meaning, State, TakesTurns, TurnKind, OpenTurn, ExpiredTurn, HoldTurn, FullTurn, all_bytes, kind_of, parse, stop}
 use Rattle.vte.specs.ProcessorCalls.{Replayed}
 use Rattle.vte.specs.declared.ansi.laws.replays.RefusedStep.{RefusedStep}
 use Rattle.vte.specs.declared.ansi.laws.replays.Step.{Step}
@@ -20,12 +20,18 @@ pub record OpenTurnHalts {H W : Type 0} (m : Meaning H W) (s : State H W) (bytes
   pub none_begin : begin_count (added m.limit s.parsed front) ≡ 0
   pub state_is : t ≡ parse m s front
 
--- A turn was refused memory, by the timeout's answer: an open one, since a turn that holds bytes
--- takes its memory before.
+-- A turn of this kind was refused memory: never a hold turn, which takes its memory before.
+abbrev pub KindHalts : {H W : Type 0} → Meaning H W → TurnKind → State H W → List ℕ → State H W
+    → List ℕ → Type 0
+KindHalts m OpenTurn s bytes t left = OpenTurnHalts m s bytes t left
+KindHalts m ExpiredTurn s bytes t left = OpenTurnHalts m (stop m s) bytes t left
+KindHalts m HoldTurn s bytes t left = ⊥
+KindHalts m FullTurn s bytes t left = OpenTurnHalts m (stop m s) bytes t left
+
+-- A turn was refused memory, by the timeout's answer.
 abbrev pub TurnHalts : {H W : Type 0} → Meaning H W → Bool → State H W → List ℕ → State H W
     → List ℕ → Type 0
-TurnHalts m answer s bytes t left =
-    (is_held answer s bytes ≡ false) × OpenTurnHalts m (stop_if_due m answer s) bytes t left
+TurnHalts m answer s bytes = KindHalts m (kind_of answer (length s.held) (length bytes)) s bytes
 
 -- Turns of a call, after which a further one may have been refused memory on the way.
 pub data TakesSome {H W : Type 0} (m : Meaning H W) (s : State H W) (bytes : List ℕ) (t : State H W)

@@ -1,11 +1,11 @@
 -- Each given byte is parsed or held, once and in order. Each turn and stop keeps `Grows`: parsed, held and left bytes
 -- together are those of before, and `Grows` composes over the turns of a call and the calls of a run.
 use Rattle.vte.proofs.Common.{◌≡◌, ℕ, ◌-◌, suc, inl, inr, Bool, Option, List, [], ◌∷◌, ◌++◌, length, take, drop, refl, ap, sym, ◌∙◌, append_assoc, arith}
-use Rattle.vte.proofs.Common.{take-append-drop, Step, Advance, StopSync, Meaning, TakesSteps, given_bytes, after_last_end, from_begin, State, TakesTurns, all_bytes, begin_front, extend, hold_turn, is_held, is_stopped, release}
-use Rattle.vte.proofs.Common.{cases_Bool, nat_tests, append-nil, stop_if_due, parse, stop, turn, done, turns}
+use Rattle.vte.proofs.Common.{take-append-drop, Step, Advance, StopSync, Meaning, TakesSteps, given_bytes, after_last_end, from_begin, State, TakesTurns, all_bytes, begin_front, extend, hold_turn, release}
+use Rattle.vte.proofs.Common.{cases_Bool, nat_tests, append-nil, parse, stop, turn, done, turns}
 use Rattle.std.proofs.lemmas.List.{nil_from_length}
 use Rattle.vte.proofs.turns.Fronts.{is_front}
-use Rattle.vte.proofs.turns.Kinds.{holds_all, holds_rest}
+use Rattle.vte.proofs.turns.Kinds.{holds_all, holds_rest, is_held, is_stopped, stop_if_due, turn_holds, turn_parses}
 use Rattle.vte.proofs.updates.Sequences.{cases_Option, stays-is}
 
 pub front_rest : (limit : Option ℕ) (p r : List ℕ)
@@ -102,9 +102,9 @@ module _ {V W : Type 0} (m : Meaning V W) where
   turn_grows : (answer : Bool) (s : State V W) (r : List ℕ)
       → Grows s (turn m answer s r).state r (turn m answer s r).rest
   turn_grows answer s r = elim (cases_Bool (is_held answer s r)) [
-    | inl held ↦ rw held (hold_grows s r)
+    | inl held ↦ rw (turn_holds m answer s r held) (hold_grows s r)
     | inr parses ↦
-        rw parses
+        rw (turn_parses m answer s r parses)
         (grows_on (stop_if_due_grows answer s r)
         (parse_grows (stop_if_due m answer s) _ _ r (stop_if_due_none answer s)
         (front_rest m.limit (stop_if_due m answer s).parsed r)))

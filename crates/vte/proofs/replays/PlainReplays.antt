@@ -1,10 +1,9 @@
 -- With a timeout that is never pending nothing is ever held, so a run has no stops and its calls are those of the
 -- whole stream. By induction over turns: each one is open, and ends with nothing held.
 use Rattle.vte.proofs.Common.{◌≡◌, ℕ, true, false, List, [], ◌∷◌, ◌++◌, refl, ap, sym, ◌∙◌, Bor, append-nil, events, after, Step, Advance, StopSync, added_calls, calls}
-use Rattle.vte.proofs.Common.{Meaning, Advanced, HasParsedAll, IsAt, Replayed, Replays, TakesSteps, Standing, given_bytes, State, TakesAllTurns, done, turns, stop_if_due}
+use Rattle.vte.proofs.Common.{Meaning, Advanced, HasParsedAll, IsAt, Replayed, Replays, TakesSteps, Standing, given_bytes, State, TakesAllTurns, done, turns, turn}
 use Rattle.vte.specs.ProcessorCalls.{AreAdvances, IsNeverPending, ParsesAll}
 use Rattle.vte.proofs.performing.CallLists.{after-append, calls_whole}
-use Rattle.vte.proofs.replays.EachOnce.{stop_if_due_none}
 use Rattle.vte.proofs.replays.Replays.{advance_runs}
 use Rattle.vte.proofs.replays.Tellings.{between-whole}
 
@@ -19,8 +18,10 @@ module _ {V W : Type 0} (m : Meaning V W) (never : IsNeverPending m.timeout.allo
   plain_advances s t (b ∷ r) (turns true allowed more) none =
       absurd (let e : true ≡ false = never s.timeout true allowed in cc)
   plain_advances s t (b ∷ r) (turns false allowed more) none =
-      let rest = plain_advances _ t _ more (stop_if_due_none m false s) in
-      let no_stop : (stop_if_due m false s).stops ≡ s.stops = rw none refl in
+      let first = (turn m false s (b ∷ r)).state in
+      let held : first.held ≡ [] = rw none refl in
+      let no_stop : first.stops ≡ s.stops = rw none refl in
+      let rest = plain_advances _ t _ more held in
       record { none_held = rest.none_held; no_stop = rest.no_stop ∙ no_stop }
 
   plain_run : (s t : State V W) (steps : List Step) → TakesSteps m s steps t → AreAdvances steps → s.held ≡ []

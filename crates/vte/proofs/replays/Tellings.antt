@@ -4,9 +4,9 @@
 use Rattle.vte.proofs.Common.{◌≡◌, ◌≤◌, ℕ, ◌+◌, ◌-◌, inl, inr, Bool, Option, List, [], ◌∷◌, ◌++◌, length, take, refl, ap, sym, ◌∙◌, arith}
 use Rattle.vte.proofs.Common.{append_assoc, length-append, cases_Bool, append-nil, drop_all, take-append-add, take-append_seam, take_all, after, Step, Advance, StopSync, added_calls, Meaning}
 use Rattle.vte.proofs.Common.{TakesSteps, calls_beyond, after_last_end, from_begin, hold_turn, AreInOrder, calls, calls_between, calls_with_stops, events}
-use Rattle.vte.proofs.Common.{State, TakesAllTurns, begin_front, extend, is_held, is_stopped, release, open_turn, stop, turn, done, turns}
+use Rattle.vte.proofs.Common.{State, TakesAllTurns, begin_front, extend, release, open_turn, stop, turn, done, turns}
 use Rattle.vte.proofs.performing.CallLists.{after-append, added_calls-append}
-use Rattle.vte.proofs.turns.Kinds.{holds_all, holds_rest}
+use Rattle.vte.proofs.turns.Kinds.{holds_all, holds_rest, is_held, is_stopped, turn_holds, turn_parses}
 use Rattle.vte.proofs.updates.Sequences.{cases_Option}
 
 -- ---- the calls between two positions
@@ -110,8 +110,8 @@ module _ {V W : Type 0} (m : Meaning V W) (u : State V W) where
 
   tells-turn : (answer : Bool) (t : State V W) (r : List ℕ) → TellsAt (turn m answer t r).state → TellsAt t
   tells-turn answer t r = elim (cases_Bool (is_held answer t r)) [
-    | inl held ↦ rw held (tells-hold t r)
-    | inr parses ↦ rw parses (elim (cases_Bool (is_stopped answer t)) [
+    | inl held ↦ rw (turn_holds m answer t r held) (tells-hold t r)
+    | inr parses ↦ rw (turn_parses m answer t r parses) (elim (cases_Bool (is_stopped answer t)) [
       | inl stopped ↦ rw stopped (λ e. tells-stop t (tells-open (stop m t) r e))
       | inr none ↦ rw none (tells-open t r)
     ])

@@ -1,13 +1,13 @@
 -- The facts of a hold, `HoldsWell`, are kept by turns and stops: by cases of the timeout's answer and of what a hold
 -- turn keeps, which is all, or starts with a begin-update, or is nothing.
 use Rattle.vte.proofs.Common.{◌≡◌, ℕ, zero, suc, ◌-◌, ◌<◌, ◌≤◌, inl, inr, Bool, true, false, List, [], ◌∷◌, ◌++◌, length, take, refl, sym}
-use Rattle.vte.proofs.Common.{arith, cases_Bool, cases_lt, false≢true, nat_tests, added}
+use Rattle.vte.proofs.Common.{length-append, arith, cases_Bool, cases_lt, false≢true, nat_tests, added}
 use Rattle.vte.proofs.Common.{TimeoutMeaning, AllowsOnly, IsSteady, begin_count, IsOutsideUpdate, IsInsideUpdate, Meaning, set_times}
-use Rattle.vte.proofs.Common.{update_nanos, HoldsWellAt, begin_update, begins_among, after_last_end, from_begin, last_part, State, TakesTurns, stop, is_held, is_stopped, stop_if_due, begin_front, open_turn, release}
+use Rattle.vte.proofs.Common.{update_nanos, HoldsWellAt, begin_update, begins_among, after_last_end, from_begin, last_part, State, TakesTurns, stop, begin_front, open_turn, release}
 use Rattle.vte.proofs.Common.{extend, hold_turn, turn, done, turns, most_held, ap, append-nil}
 use Rattle.vte.proofs.replays.EachOnce.{stop_if_due_none}
 use Rattle.vte.proofs.turns.Fronts.{is_front}
-use Rattle.vte.proofs.turns.Kinds.{holds_all, holds_rest}
+use Rattle.vte.proofs.turns.Kinds.{holds_all, holds_rest, is_held, is_stopped, stop_if_due, turn_holds, turn_parses}
 use Rattle.vte.proofs.updates.Sequences.{StaysHeld, cases_Option, begins_with-append, stays_held, suffix-length}
 
 -- ---- the timeout
@@ -118,9 +118,11 @@ module _ {V W : Type 0} (m : Meaning V W) where
       → HoldsWellAt m (turn m answer s r).state
   turn_well answer s r allowed h = elim (cases_Bool (is_held answer s r)) [
     | inl held ↦ let yes : answer ≡ true =
-        grind (arith, nat_tests) in rw held (hold_well s r h (rw yes at allowed) (grind (arith, nat_tests)))
+        grind (arith, nat_tests) in
+        rw (turn_holds m answer s r held)
+        (hold_well s r h (rw yes at allowed) (grind (arith, nat_tests, length-append s.held r)))
     | inr parses ↦
-        rw parses
+        rw (turn_parses m answer s r parses)
         (open_well (stop_if_due m answer s) r (stop_if_due_none m answer s)
         (stop_if_due_outside answer s allowed h))
   ]

@@ -1,5 +1,7 @@
--- Turns by their cases: a hold turn by whether the hold has an end-update.
-use Rattle.vte.proofs.Common.{◌≡◌, refl, List, Some, None, ◌++◌, ℕ, Meaning, State, after_last_end, extend, from_begin, hold_turn, release}
+-- Turns by their cases: a hold turn by whether the hold has an end-update, and a turn by whether its bytes are held.
+use Rattle.vte.proofs.Common.{◌≡◌, ◌⊎◌, inl, inr, refl, Bool, true, false, List, [], Some, None, ◌++◌, ◌+◌, ◌||◌, ℕ, zero, suc, length, nat_le, nat_lt, cases_Bool, arith, nat_tests}
+use Rattle.vte.proofs.Common.{ExpiredTurn, Meaning, OpenTurn, OpenTurnHalts, State, TurnHalts, after_last_end, extend, from_begin, hold_turn, kind_of, most_held, open_turn, release, stop, turn}
+use Rattle.std.specs.Prelude.{◌&&◌, if◌then◌else◌}
 
 module _ {V W : Type 0} (m : Meaning V W) (s : State V W) (r : List ℕ) where
   pub holds_all : after_last_end (s.held ++ r) ≡ None → hold_turn m s r ≡ extend m s r
@@ -8,3 +10,57 @@ module _ {V W : Type 0} (m : Meaning V W) (s : State V W) (r : List ℕ) where
   pub holds_rest : (rest : List ℕ) → after_last_end (s.held ++ r) ≡ Some rest
       → hold_turn m s r ≡ release m (extend m s r) (from_begin rest)
   holds_rest rest is = rw is refl
+
+-- ---- whether bytes are held, and what is stopped before they are parsed
+
+abbrev pub is_held : {V W : Type 0} → Bool → State V W → List ℕ → Bool
+is_held answer s bytes = answer && nat_le (length s.held + length bytes) most_held
+
+abbrev pub is_stopped : {V W : Type 0} → Bool → State V W → Bool
+is_stopped answer s = answer || nat_lt 0 (length s.held)
+
+abbrev pub stop_if_due : {V W : Type 0} → Meaning V W → Bool → State V W → State V W
+stop_if_due m answer s = if is_stopped answer s then stop m s else s
+
+-- An open turn, after a stop if need be, was refused memory.
+abbrev pub OpensAndHalts : {V W : Type 0} → Meaning V W → Bool → State V W → List ℕ → State V W → List ℕ → Type 0
+OpensAndHalts m answer s bytes t left =
+    (is_held answer s bytes ≡ false) × OpenTurnHalts m (stop_if_due m answer s) bytes t left
+
+not_pending : (held given : ℕ) → ((kind_of false held given ≡ OpenTurn) × (nat_lt 0 held ≡ false))
+    ⊎ ((kind_of false held given ≡ ExpiredTurn) × (nat_lt 0 held ≡ true))
+not_pending zero given = inl (refl, refl)
+not_pending (suc held) given = inr (refl, grind (arith, nat_tests))
+
+module _ {V W : Type 0} (m : Meaning V W) where
+  pub turn_holds : (answer : Bool) (s : State V W) (r : List ℕ) → is_held answer s r ≡ true
+      → turn m answer s r ≡ record { state = hold_turn m s r; rest = [] }
+  turn_holds true s r held = rw held refl
+  turn_holds false s r held = absurd (let e : false ≡ true = held in cc)
+
+  pub turn_parses : (answer : Bool) (s : State V W) (r : List ℕ) → is_held answer s r ≡ false
+      → turn m answer s r ≡ open_turn m (stop_if_due m answer s) r
+  turn_parses true s r parses = rw parses refl
+  turn_parses false s r parses = elim (not_pending (length s.held) (length r)) [
+    | inl e ↦ rw (e.0, e.1) refl
+    | inr e ↦ rw (e.0, e.1) refl
+  ]
+
+  pub opens_first : (answer : Bool) (s t : State V W) (r left : List ℕ) → TurnHalts m answer s r t left
+      → OpensAndHalts m answer s r t left
+  opens_first true s t r left h = elim (cases_Bool (nat_le (length s.held + length r) most_held)) [
+    | inl fits ↦ absurd (rw fits at h)
+    | inr full ↦ (full, rw full at h)
+  ]
+  opens_first false s t r left h = elim (not_pending (length s.held) (length r)) [
+    | inl e ↦ (refl, rw e.1 (rw e.0 at h))
+    | inr e ↦ (refl, rw e.1 (rw e.0 at h))
+  ]
+
+  pub halts_open : (answer : Bool) (s t : State V W) (r left : List ℕ) → OpensAndHalts m answer s r t left
+      → TurnHalts m answer s r t left
+  halts_open true s t r left (parses, h) = rw parses h
+  halts_open false s t r left (parses, h) = elim (not_pending (length s.held) (length r)) [
+    | inl e ↦ rw e.0 (rw e.1 at h)
+    | inr e ↦ rw e.0 (rw e.1 at h)
+  ]

@@ -4,10 +4,11 @@
 use Rattle.vte.proofs.Common.{◌≡◌, ℕ, ◌+◌, ◌-◌, ◌<◌, ◌≤◌, inl, Bool, true, false, nat_lt, List, [], ◌∷◌, ◌++◌, length, take, drop, refl, ap, sym, subst}
 use Rattle.vte.proofs.Common.{◌∙◌, arith, length-append, length-drop, append_assoc, drop-append-add, take-add, nat_tests, append-nil, drop_all, length-take-le}
 use Rattle.vte.proofs.Common.{take-append-drop, take_all, take_at, added, IsSteady, begin_count, IsOutsideUpdate, Meaning, HoldsWellAt, Halted, IsAtBegin, IsOpenAt, Opened}
-use Rattle.vte.proofs.Common.{TakesAllTurns, OpenTurnHalts, State, TakesSome, TakesTurns, TurnHalts, begin_front, between, done, is_stopped, open_turn, stop_if_due, parse, turn, turns, within}
+use Rattle.vte.proofs.Common.{TakesAllTurns, OpenTurn, OpenTurnHalts, State, TakesSome, TakesTurns, begin_front, between, done, kind_of, open_turn, parse, turn, turns, within}
 use Rattle.vte.proofs.performing.CallLists.{after-append, added_calls-append, added_calls-nothing, set_times-add}
 use Rattle.vte.proofs.replays.EachOnce.{Grows, grows_on, stop_if_due_grows, stop_if_due_none, parse_grows, turns_grow}
 use Rattle.vte.proofs.turns.Fronts.{begins_in, front_after, front_is_all, front_of_more, front_some, none_begin, none_begin_in}
+use Rattle.vte.proofs.turns.Kinds.{OpensAndHalts, opens_first, stop_if_due, turn_parses}
 use Rattle.vte.proofs.turns.HoldFacts.{stop_if_due_outside, taken_well}
 
 -- ---- the slices of an open turn
@@ -164,11 +165,12 @@ module _ {V W : Type 0} (m : Meaning V W) where
   -- where nothing is left, no turn was refused memory
   pub all_taken : (s t : State V W) (bytes : List ℕ) → TakesSome m s bytes t [] → TakesTurns m s bytes t []
   all_taken s t bytes (between taken) = taken
-  all_taken s t bytes (within taken answer allowed halts) = absurd (omega (arith, halts.1.some_left))
+  all_taken s t bytes (within {u} {rest} taken answer allowed halts) =
+      absurd (omega (arith, (opens_first m answer u t rest [] halts).1.some_left))
 
   -- ---- what is parsed and held then
 
-  turn_halts_grow : (answer : Bool) (s t : State V W) (bytes left : List ℕ) → TurnHalts m answer s bytes t left
+  turn_halts_grow : (answer : Bool) (s t : State V W) (bytes left : List ℕ) → OpensAndHalts m answer s bytes t left
       → Grows s t bytes left
   turn_halts_grow answer s t bytes left (parses, h) =
       rw h.state_is
@@ -178,42 +180,45 @@ module _ {V W : Type 0} (m : Meaning V W) where
   pub some_grow : (s t : State V W) (bytes left : List ℕ) → TakesSome m s bytes t left → Grows s t bytes left
   some_grow s t bytes left (between taken) = turns_grow m s t bytes left taken
   some_grow s t bytes left (within {u} {rest} taken answer allowed halts) =
-      grows_on (turns_grow m s u bytes rest taken) (turn_halts_grow answer u t rest left halts)
+      grows_on (turns_grow m s u bytes rest taken)
+      (turn_halts_grow answer u t rest left (opens_first m answer u t rest left halts))
 
   -- outside an update, and with nothing held
   turn_halts_outside : (answer : Bool) (s t : State V W) (bytes left : List ℕ) → IsSteady m.timeout → HoldsWellAt m s
       → m.timeout.allows s.timeout answer
-      → TurnHalts m answer s bytes t left → IsOutsideUpdate m.timeout t.held t.timeout
+      → OpensAndHalts m answer s bytes t left → IsOutsideUpdate m.timeout t.held t.timeout
   turn_halts_outside answer s t bytes left kept well allowed (parses, h) =
       rw (h.state_is, h.none_begin) (stop_if_due_outside m answer s allowed well kept)
 
   turn_halts_held : (answer : Bool) (s t : State V W) (bytes left : List ℕ)
-      → TurnHalts m answer s bytes t left → t.held ≡ []
+      → OpensAndHalts m answer s bytes t left → t.held ≡ []
   turn_halts_held answer s t bytes left (parses, h) = ap (λ t. t.held) h.state_is ∙ stop_if_due_none m answer s
 
   pub some_well : (s t : State V W) (bytes left : List ℕ) → TakesSome m s bytes t left → HoldsWellAt m s
       → HoldsWellAt m t
   some_well s t bytes left (between taken) well = taken_well m s t bytes left taken well
   some_well s t bytes left (within {u} {rest} taken answer allowed halts) well =
-      let nothing = turn_halts_held answer u t rest left halts in
+      let opens = opens_first m answer u t rest left halts in
+      let nothing = turn_halts_held answer u t rest left opens in
       record {
         no_end = rw nothing refl;
         fits = rw nothing (omega arith);
         kept =
             λ kept.
-            inl (turn_halts_outside answer u t rest left kept (taken_well m s u bytes rest taken well) allowed halts);
+            inl (turn_halts_outside answer u t rest left kept (taken_well m s u bytes rest taken well) allowed opens);
       }
 
   -- ---- the unread bytes in a further call
 
-  turn_goes_on : (answer : Bool) (s t : State V W) (bytes left : List ℕ) → TurnHalts m answer s bytes t left
+  turn_goes_on : (answer : Bool) (s t : State V W) (bytes left : List ℕ) → OpensAndHalts m answer s bytes t left
       → turn m false t left ≡ turn m answer s bytes
   turn_goes_on answer s t bytes left (parses, h) =
-      let none : is_stopped false t ≡ false = rw (turn_halts_held answer s t bytes left (parses, h)) refl in
-      rw (none, parses) (open_on m (stop_if_due m answer s) t bytes left h)
+      let none : kind_of false (length t.held) (length left) ≡ OpenTurn =
+      rw (turn_halts_held answer s t bytes left (parses, h)) refl in
+      rw (none, turn_parses m answer s bytes parses) (open_on m (stop_if_due m answer s) t bytes left h)
 
   halted_goes_on : (answer : Bool) (s t end : State V W) (bytes left : List ℕ) → m.timeout.allows s.timeout answer
-      → TurnHalts m answer s bytes t left
+      → OpensAndHalts m answer s bytes t left
       → IsOutsideUpdate m.timeout t.held t.timeout → TakesTurns m t left end [] → TakesTurns m s bytes end []
   halted_goes_on answer s t end bytes left allowed h out done = absurd (omega (arith, h.1.some_left))
   halted_goes_on answer s t end bytes (b ∷ left) allowed h out (turns other allows more) =
@@ -228,5 +233,6 @@ module _ {V W : Type 0} (m : Meaning V W) where
       → TakesSome m s bytes t left → TakesAllTurns m t left end → TakesAllTurns m s bytes end
   goes_on s t end bytes left kept well (between taken) more = taken_on s t end bytes left [] taken more
   goes_on s t end bytes left kept well (within {u} {rest} taken answer allowed halts) more =
-      let out = turn_halts_outside answer u t rest left kept (taken_well m s u bytes rest taken well) allowed halts in
-      taken_on s u end bytes rest [] taken (halted_goes_on answer u t end rest left allowed halts out more)
+      let opens = opens_first m answer u t rest left halts in
+      let out = turn_halts_outside answer u t rest left kept (taken_well m s u bytes rest taken well) allowed opens in
+      taken_on s u end bytes rest [] taken (halted_goes_on answer u t end rest left allowed opens out more)

@@ -4,8 +4,9 @@ use Rattle.vte.proofs.Common.{◌≡◌, ℕ, ◌+◌, ◌-◌, ◌<◌, ◌≤�
 use Rattle.vte.proofs.Common.{append_assoc, Result, Ok, Err, append_cancel_right, drop_all, drop-drop, take_all, take-append-drop, Refused, ProcessorState, Turns, Meaning}
 use Rattle.vte.proofs.Common.{held_of, false, MatchResult, EndsTurn, within}
 use Rattle.vte.proofs.Common.{Advanced, AreAt, HasTaken, TurnsMeaning, HasMemory, KeepsMemory, ReadsSome, StopsUpdate, AreNextAt, EndsOpen, Halted, IsAtBegin, IsOpenAt, IsParsed, IsParsedOn}
-use Rattle.vte.proofs.Common.{IsParsedWithRoom, Turned, State, TakesSome, TakesTurns, all_bytes, turn, hold_turn, parse, stop, between, done, LacksSome, ReservesRoom, is_held, stop_if_due}
+use Rattle.vte.proofs.Common.{IsParsedWithRoom, Turned, State, TakesSome, TakesTurns, all_bytes, turn, hold_turn, parse, stop, between, done, LacksSome, ReservesRoom}
 use Rattle.vte.proofs.replays.EachOnce.{grown_bytes}
+use Rattle.vte.proofs.turns.Kinds.{halts_open, is_held, stop_if_due, turn_holds, turn_parses}
 use Rattle.vte.proofs.turns.Slices.{all_taken, halts, one_taken, some_grow, some_on, some_well, taken_on}
 
 -- turns stand where their parts do
@@ -93,14 +94,14 @@ pub ends_turn : {P J T A V W : Type 0} {w : TurnsMeaning P J T W} {m : Meaning V
     → MatchResult result (λ read. read ≤ length bytes) (λ refused. refused.read < length bytes)
     → EndsOpen m (stop_if_due m answer s) bytes result (AreNextAt w mid new value)
     → EndsTurn m s bytes result (AreNextAt w old new value)
-ends_turn answer allowed parses keeps (Ok read) less e = record {
+ends_turn {m = m} {s = s} {bytes = bytes} answer allowed parses keeps (Ok read) less e = record {
   turned =
       record {
         answer = answer;
         allowed = allowed;
         progress = e.opened.progress;
-        rest = rw parses e.opened.rest;
-        is_at = rw parses (after-next keeps e.opened.is_at);
+        rest = rw (turn_parses m answer s bytes parses) e.opened.rest;
+        is_at = rw (turn_parses m answer s bytes parses) (after-next keeps e.opened.is_at);
       };
   halted = tt;
 }
@@ -108,7 +109,8 @@ ends_turn {m = m} {s = s} {bytes = bytes} answer allowed parses keeps (Err refus
   turned = tt;
   halted = record {
     next = parse m (stop_if_due m answer s) (take refused.read bytes);
-    takes = within done answer allowed (parses, halts m (stop_if_due m answer s) bytes e.halted less);
+    takes = within done answer allowed
+        (halts_open m answer s _ bytes _ (parses, halts m (stop_if_due m answer s) bytes e.halted less));
     is_at = after-next keeps e.halted.is_at;
   };
 }
@@ -124,8 +126,8 @@ module _ {V W : Type 0} (m : Meaning V W) {s : State V W} {bytes : List ℕ} {n 
         answer = answer;
         allowed = allowed;
         progress = λ some. omega arith;
-        rest = rw held (sym (drop_all n bytes (omega arith)));
-        is_at = rw held at;
+        rest = rw (turn_holds m answer s bytes held) (sym (drop_all n bytes (omega arith)));
+        is_at = rw (turn_holds m answer s bytes held) at;
       }
 
 -- ---- the turns of a call

@@ -1,7 +1,8 @@
 -- By the timeout's answer: the bytes are held while an update is pending and there is room. Otherwise it is stopped if
 -- it is pending or bytes are held, and the turn is an open one.
-use Rattle.vte.proofs.Common.{◌≡◌, ◌<◌, ◌++◌, length, length-append, refl, sym, ◌∙◌, arith, nat_tests, nat_le, most_held, true, false, and-false, is_held}
-use Rattle.vte.proofs.Common.{is_stopped, meaning, of_turns, AreNextAt, stop_if_due}
+use Rattle.vte.proofs.Common.{◌≡◌, ◌<◌, length, refl, sym, ◌∙◌, arith, nat_tests, nat_le, most_held, true, false, and-false, ◌+◌}
+use Rattle.vte.proofs.Common.{meaning, of_turns, AreNextAt}
+use Rattle.vte.proofs.turns.Kinds.{is_held, is_stopped, stop_if_due}
 use Rattle.vte.proofs.turns.Slices.{halted_nothing}
 use Rattle.vte.proofs.turns.Turns.{after-next, ends_turn, kept-next, next-at, stops-next, turned_hold}
 use Rattle.vte.proofs.ansi.turns.Turns.turn.Goals as goal
@@ -15,8 +16,8 @@ returns-clause-turned g c = λ s at.
     let parses : is_held pending s c.args.bytes.now ≡ false = elim c.else-pending.branch [
       -- No room.
       | else-pending-via-then-pending+else-has_room w ↦
-          let full : nat_le (length (s.held ++ c.args.bytes.now)) most_held ≡ false =
-          rw (length-append, ← at.stands.holds) (sym w.has_room.ensures ∙ w.if-has_room.false) in
+          let full : nat_le (length s.held + length c.args.bytes.now) most_held ≡ false =
+          rw (← at.stands.holds) (sym w.has_room.ensures ∙ w.if-has_room.false) in
           rw (full, and-false) refl
       -- No update is pending.
       | else-pending-via-else-pending w ↦ rw w.if-pending.false refl
@@ -50,8 +51,8 @@ returns-clause-turned g c = λ s at.
 pub returns-then-has_room-clause-turned : goal.returns-then-has_room-clause-turned
 returns-then-has_room-clause-turned g c = λ s at.
     let here = kept-next c.reserve.ensures.reserved (next-at at) in
-    let room : nat_le (length (s.held ++ c.args.bytes.now)) most_held ≡ true =
-    rw (length-append, ← at.stands.holds) (sym c.has_room.ensures ∙ c.if-has_room.true) in
+    let room : nat_le (length s.held + length c.args.bytes.now) most_held ≡ true =
+    rw (← at.stands.holds) (sym c.has_room.ensures ∙ c.if-has_room.true) in
     let held : is_held c.pending_timeout-pending.result s c.args.bytes.now ≡ true = rw (c.if-pending.true, room) refl in
     record {
       turned = turned_hold _ (rw at.stands.has_parsed.timeout_is at c.pending_timeout-pending.ensures) held refl

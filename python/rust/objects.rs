@@ -184,8 +184,8 @@ impl Class {
             let fields = tuple(py, count, field)?;
             return new!(py, PyObject_CallObject(class, fields.as_ptr()));
         }
-        // SAFETY: a tuple, whose places are null or set before anything sees it. What they hold is in
-        // no cycle, so the collector needn't look at it
+        // SAFETY: a tuple, whose places are null or set before anything sees it. What they hold is
+        // in no cycle, so the collector needn't look at it
         unsafe {
             let made = ffi::_PyObject_GC_NewVar(class.cast(), size(count));
             let made = PyObject::from_owned_ptr_or_opt(py, made.cast())?;

@@ -1,5 +1,5 @@
 -- From what a collector holds to what a run has written: what was collected is appended, and each read that gives
--- something takes a piece off the input (`HasCome`), until one fails or gives nothing.
+-- something takes a piece off the input (`HasReadPart`), until one fails or gives nothing.
 use Rattle.event_log.proofs.Common.{◌≡◌, ℕ, ◌+◌, ◌<◌, ◌≤◌, ◌⊎◌, Bool, true, List, [], ◌++◌, length, Option, Some, None, IfSome, inl, inr, refl, sym, ap, ◌∙◌, usual_limit}
 use Rattle.event_log.proofs.Common.{append_assoc, append-nil, length-append, arith, flat_map, Event, HasRead, events, Parser, AddsUpTo, HasWritten}
 use Rattle.std.specs.Io.KnownBytes.{Appends, Consumes, IsAtEnd, Keeps}
@@ -84,7 +84,7 @@ abbrev pub means : (Event → List ℕ) → List ℕ → List ℕ
 means text_of stream = flat_map text_of (events usual_limit stream)
 
 -- A run has made this many reads, and each gave something.
-pub record HasCome (text_of : Event → List ℕ) (input held : List ℕ) (reads : ℕ) (parser : Parser 1024)
+pub record HasReadPart (text_of : Event → List ℕ) (input held : List ℕ) (reads : ℕ) (parser : Parser 1024)
     (to_come taken : Option (List ℕ)) : Type 0 where
   pub stream : List ℕ
   pub rest : List ℕ
@@ -97,7 +97,7 @@ pub record HasCome (text_of : Event → List ℕ) (input held : List ℕ) (reads
 
 module _ {text_of : Event → List ℕ} {input held : List ℕ} {parser : Parser 1024} {to_come taken : Option (List ℕ)} where
   pub come_first : events usual_limit [] ≡ [] → to_come ≡ Some input → taken ≡ Some held → HasRead parser []
-      → HasCome text_of input held 0 parser to_come taken
+      → HasReadPart text_of input held 0 parser to_come taken
   come_first none e f parsed = record {
     stream = [];
     rest = input;
@@ -114,10 +114,11 @@ module _ {text_of : Event → List ℕ} {input held : List ℕ} {parser : Parser
   }
 
   pub come_more : {reads : ℕ} {parser_then : Parser 1024} {to_come_then taken_then : Option (List ℕ)} (piece : List ℕ)
-      → HasCome text_of input held reads parser to_come taken → Consumes to_come to_come_then piece → 0 < length piece
+      → HasReadPart text_of input held reads parser to_come taken → Consumes to_come to_come_then piece
+      → 0 < length piece
       → ((whole : List ℕ → List ℕ) → HasWritten text_of whole taken parser []
       → HasWritten text_of (λ more. whole (piece ++ more)) taken_then parser_then [])
-      → HasCome text_of input held (reads + 1) parser_then to_come_then taken_then
+      → HasReadPart text_of input held (reads + 1) parser_then to_come_then taken_then
   come_more {to_come_then = to_come_then} piece h consumes some writes =
       let left = consumed to_come_then h.rest piece (rw h.left at consumes) in
       record {
@@ -132,7 +133,7 @@ module _ {text_of : Event → List ℕ} {input held : List ℕ} {parser : Parser
       }
 
   -- All that was read is written.
-  written_all : {reads : ℕ} → (h : HasCome text_of input held reads parser to_come taken)
+  written_all : {reads : ℕ} → (h : HasReadPart text_of input held reads parser to_come taken)
       → taken ≡ Some (held ++ means text_of h.stream)
   written_all h =
       let w = h.written in
@@ -143,7 +144,7 @@ module _ {text_of : Event → List ℕ} {input held : List ℕ} {parser : Parser
 
   -- A read that fails ends a run, and so do as many reads as there may be.
   pub come_to_front : {reads : ℕ} {to_come_then : Option (List ℕ)} {failed : Bool}
-      → HasCome text_of input held reads parser to_come taken
+      → HasReadPart text_of input held reads parser to_come taken
       → KeepsWhereTold to_come to_come_then → (failed ≡ true) ⊎ (most_reads ≤ reads)
       → WritesFront (means text_of) input held to_come_then taken failed
   come_to_front {to_come_then = to_come_then} h keeps cause = record {
@@ -159,7 +160,8 @@ module _ {text_of : Event → List ℕ} {input held : List ℕ} {parser : Parser
   }
 
   -- A read that gives nothing ends a run.
-  pub come_to_end : {reads : ℕ} {to_come_then : Option (List ℕ)} → HasCome text_of input held reads parser to_come taken
+  pub come_to_end : {reads : ℕ} {to_come_then : Option (List ℕ)} → HasReadPart text_of input held reads parser to_come
+      taken
       → Consumes to_come to_come_then [] → IsAtEnd to_come_then
       → WritesAll (means text_of) input held to_come_then taken
   come_to_end {to_come_then = to_come_then} h consumes end =

@@ -53,7 +53,7 @@ pub use Rattle.vte.specs.machine.Performer.{FitsText, PerformerValue, with_event
 pub use Rattle.vte.specs.machine.Turns.{AreAt, AreNextAt, EndsOpen, EndsTurn, Halted, IsAtBegin, IsOpenAt, IsParsed, IsParsedOn, IsParsedWithRoom, Opened, Turned}
 pub use Rattle.vte.specs.machine.ShortMeaning.{short_meaning}
 pub use Rattle.vte.specs.Rendition.{attribute_calls, attributes_from}
-pub use Rattle.vte.specs.Synchronized.{begin_update, begins_among, begins_with, after_last_end, end_update, from_begin, last_part}
+pub use Rattle.vte.specs.Synchronized.{begin_update, held_begin_count, begins_with, after_last_end, end_update, from_begin, last_part}
 pub use Rattle.vte.specs.machine.Texts.{FitsRoom, fits_room, joined_size, parts_left, with_separator}
 pub use Rattle.vte_types.specs.Words.{after_word}
 pub use Rattle.vte.specs.Titles.{joined_texts, text_in}

@@ -98,8 +98,11 @@ module _ (last : Option ℕ) (groups : List (List ℕ)) where
       (0x57, unwrap_or (entry_of set_tabs_rows ps) []) ∷  -- W: DECST8C
       (0x68, change_calls change.SetPrivate (first_numbers groups)) ∷  -- h: DECSET
       (0x6c, change_calls change.ResetPrivate (first_numbers groups)) ∷  -- l: DECRST
-      (0x6d, if asks_other_keys groups then call.ReportModifyOtherKeys ∷ []
-          else []) ∷  -- m: XTQMODKEYS
+      (
+        0x6d,
+        if asks_other_keys groups then call.ReportModifyOtherKeys ∷ []
+            else [],
+      ) ∷  -- m: XTQMODKEYS
       (0x75, call.ReportKeyboardMode ∷ []) ∷  -- u: kitty
       []
 

@@ -1,5 +1,5 @@
 -- What calls of a processor without a limit ensure: the same as those of `Processor`, unless memory
--- is refused. It is said of turns, whose parts mean what `w` says (`Memory`).
+-- is refused. It is said of turns, whose parts mean what `parts` says (`Memory`).
 use Rattle.std.specs.Prelude.{◌≡◌, ℕ, ◌+◌, ◌-◌, ◌<◌, Bool, true, false, List, length, IsOk, IfErr, IfOk, Result, Ok, Err}
 use Rattle.vte_core.specs.Stream.{events}
 use Rattle.vte_core.specs.declared.parser.refused.Refused.{Refused}
@@ -20,18 +20,18 @@ timeout_long processor = processor.turns.state.timeout
 
 -- The parser has read the parsed bytes, and the state has the last printed character and the
 -- timeout.
-pub record HasParsed {P J T W : Type 0} (w : TurnsMeaning P J T W) (parser : P)
-    (state : ProcessorState T J) (parsed : List ℕ) (timeout : W) : Type 0 where
-  pub has_read : w.reading.has_read parser parsed
-  pub last : state.preceding_char ≡ last_printed (events w.limit parsed)
-  pub timeout_is : w.timeout_of state.timeout ≡ timeout
+pub record HasParsed {P B T W : Type 0} (parts : TurnsMeaning P B T W) (parser : P)
+    (state : ProcessorState T B) (parsed : List ℕ) (timeout : W) : Type 0 where
+  pub has_read : parts.reading.has_read parser parsed
+  pub last : state.preceding_char ≡ last_printed (events parts.limit parsed)
+  pub timeout_is : parts.timeout_of state.timeout ≡ timeout
 
 -- The turns have parsed bytes, and hold those that follow, with memory to parse them.
-pub record TurnsStandAt {P J T A W : Type 0} (w : TurnsMeaning P J T W) (turns : Turns P J T A)
+pub record TurnsStandAt {P B T A W : Type 0} (parts : TurnsMeaning P B T W) (turns : Turns P B T A)
     (parsed held : List ℕ) (timeout : W) : Type 0 where
-  pub has_parsed : HasParsed w turns.parser turns.state parsed timeout
+  pub has_parsed : HasParsed parts turns.parser turns.state parsed timeout
   pub holds : held_of turns.hold ≡ held
-  pub has_memory : 0 < length held → HasMemory w turns parsed (length held)
+  pub has_memory : 0 < length held → HasMemory parts turns parsed (length held)
 
 -- `HasParsedAndHolds`, with memory to parse the held bytes.
 abbrev pub HasParsedAndHoldsLong : {T A W : Type 0} → (T → W) → LongProcessor T A → Standing W
@@ -49,26 +49,27 @@ pub record IsCopyOfLong {T A W : Type 0} (is_clone : T → T → Type 0) (timeou
       (HasMemory (unlimited timeout_of) copy.turns)
 
 -- `reserve`: memory for the held bytes and `more` others
-pub record ReservesRoom {P J T A W : Type 0} (w : TurnsMeaning P J T W) (old new : Turns P J T A)
+pub record ReservesRoom {P B T A W : Type 0} (parts : TurnsMeaning P B T W)
+    (old new : Turns P B T A)
     (more : ℕ) (result : Bool) : Type 0 where
-  pub same : (parsed held : List ℕ) (timeout : W) → TurnsStandAt w old parsed held timeout
-      → TurnsStandAt w new parsed held timeout
+  pub same : (parsed held : List ℕ) (timeout : W) → TurnsStandAt parts old parsed held timeout
+      → TurnsStandAt parts new parsed held timeout
   pub room : result ≡ true → (parsed held : List ℕ) (timeout : W)
-      → TurnsStandAt w new parsed held timeout → HasMemory w new parsed (length held + more)
-  pub memory : KeepsMemory (HasMemory w old) (HasMemory w new)
-  pub lacks : result ≡ false → (stream : List ℕ) → w.reading.has_read new.parser stream
-      → LacksMemoryFor w new stream (length (held_of new.hold) + more)
+      → TurnsStandAt parts new parsed held timeout → HasMemory parts new parsed (length held + more)
+  pub memory : KeepsMemory (HasMemory parts old) (HasMemory parts new)
+  pub lacks : result ≡ false → (stream : List ℕ) → parts.reading.has_read new.parser stream
+      → LacksMemoryFor parts new stream (length (held_of new.hold) + more)
 
 abbrev pub Reserves : {T A W : Type 0} → (T → W) → (old new : LongProcessor T A) → (more : ℕ)
     → (result : Bool) → Type 0
 Reserves timeout_of old new = ReservesRoom (unlimited timeout_of) old.turns new.turns
 
 -- `stop_sync` and `stop_sync_text`
-pub record StopsUpdate {P J T A V W : Type 0} (w : TurnsMeaning P J T W) (m : Meaning V W)
-    (turns next : Turns P J T A) (old new : V) : Type 0 where
-  pub stops : StopsSync m (TurnsStandAt w turns) (TurnsStandAt w next) old new
-  pub memory : (s : State V W) → IsAt (TurnsStandAt w turns) old s
-      → KeepsMemory (HasMemory w turns) (HasMemory w next)
+pub record StopsUpdate {P B T A V W : Type 0} (parts : TurnsMeaning P B T W) (m : Meaning V W)
+    (turns next : Turns P B T A) (old new : V) : Type 0 where
+  pub stops : StopsSync m (TurnsStandAt parts turns) (TurnsStandAt parts next) old new
+  pub memory : (s : State V W) → IsAt (TurnsStandAt parts turns) old s
+      → KeepsMemory (HasMemory parts turns) (HasMemory parts next)
 
 abbrev pub StopsSyncLong : {T A V W : Type 0} → (T → W) → Meaning V W
     → (processor next : LongProcessor T A) → (old new : V) → Type 0
@@ -82,15 +83,15 @@ read_of (Err refused) bytes = refused.read
 
 -- A call reads bytes: all, or those that the first turns of such a call read before memory is
 -- refused.
-pub record ReadsSome {P J T A V W : Type 0} (w : TurnsMeaning P J T W) (m : Meaning V W)
-    (turns next : Turns P J T A) (old new : V) (bytes : List ℕ)
+pub record ReadsSome {P B T A V W : Type 0} (parts : TurnsMeaning P B T W) (m : Meaning V W)
+    (turns next : Turns P B T A) (old new : V) (bytes : List ℕ)
     (result : Result (Unit {0}) Refused) : Type 0 where
-  pub takes : (s : State V W) → IsAt (TurnsStandAt w turns) old s
-      → HasTaken m s bytes (read_of result bytes) (IsAt (TurnsStandAt w next) new)
+  pub takes : (s : State V W) → IsAt (TurnsStandAt parts turns) old s
+      → HasTaken m s bytes (read_of result bytes) (IsAt (TurnsStandAt parts next) new)
   pub within : IfErr result (λ refused. refused.read < length bytes)
-  pub lacks : IfErr result (λ refused. LacksSome w next (length bytes - refused.read))
-  pub memory : (s : State V W) → IsAt (TurnsStandAt w turns) old s
-      → KeepsMemory (HasMemory w turns) (HasMemory w next)
+  pub lacks : IfErr result (λ refused. LacksSome parts next (length bytes - refused.read))
+  pub memory : (s : State V W) → IsAt (TurnsStandAt parts turns) old s
+      → KeepsMemory (HasMemory parts turns) (HasMemory parts next)
 
 -- `advance` and `advance_text`
 pub record AdvancesLong {T A V W : Type 0} (timeout_of : T → W) (m : Meaning V W)

@@ -1,6 +1,6 @@
 -- Memory of a processor without a limit: for how many bytes it has taken some, and for which it is
 -- refused some. `Processor` takes the same turns with another parser, so what turns ensure is said
--- of turns with any parser. Their parts mean what `w` says: of a `LongProcessor`, `unlimited`.
+-- of turns with any parser. Their parts mean what `parts` says: of a `LongProcessor`, `unlimited`.
 use Rattle.std.specs.Prelude.{◌≡◌, ◌⊎◌, ℕ, ◌+◌, ◌<◌, ◌≤◌, ◌^◌, None, Option, List, length, string_capacity}
 use Rattle.vte_core.specs.LongParser.{HasReadLong, memory_of, open_size}
 use Rattle.vte_core.specs.declared.parser.long.LongParser.{LongParser}
@@ -32,22 +32,22 @@ LacksRoom parser size stream count =
 -- after each, with a text of `size` bytes, or lacks it.
 pub record ParserMeaning (P : Type 0) : Type 1 where
   pub has_read : P → List ℕ → Type 0
-  pub has_room : P → (size : ℕ) → List ℕ → ℕ → Type 0
-  pub lacks_room : P → (size : ℕ) → List ℕ → ℕ → Type 0
+  pub has_memory : P → (size : ℕ) → List ℕ → ℕ → Type 0
+  pub lacks_memory : P → (size : ℕ) → List ℕ → ℕ → Type 0
 
 abbrev pub long_meaning : {A : Type 0} → ParserMeaning (LongParser A)
-long_meaning = record { has_read = HasReadLong; has_room = HasRoom; lacks_room = LacksRoom }
+long_meaning = record { has_read = HasReadLong; has_memory = HasRoom; lacks_memory = LacksRoom }
 
 -- What the parts of turns mean: their parser, with its limit, their buffer for texts and their
 -- timeout.
-pub record TurnsMeaning (P J T W : Type 0) : Type 1 where
+pub record TurnsMeaning (P B T W : Type 0) : Type 1 where
   pub limit : Option ℕ
   pub reading : ParserMeaning P
-  pub room_of : J → ℕ
+  pub room_of : B → ℕ
   pub timeout_of : T → W
 
-abbrev pub of_turns : {P J T W : Type 0} → Option ℕ → ParserMeaning P → (J → ℕ) → (T → W)
-    → TurnsMeaning P J T W
+abbrev pub of_turns : {P B T W : Type 0} → Option ℕ → ParserMeaning P → (B → ℕ) → (T → W)
+    → TurnsMeaning P B T W
 of_turns limit reading room_of timeout_of =
     record { limit = limit; reading = reading; room_of = room_of; timeout_of = timeout_of }
 
@@ -56,13 +56,14 @@ abbrev pub unlimited : {T A W : Type 0} → (T → W) → TurnsMeaning (LongPars
 unlimited timeout_of = of_turns None long_meaning (λ text. text.size) timeout_of
 
 -- After a stream turns have memory for `count` more bytes, or lack it.
-abbrev pub HasMemory : {P J T A W : Type 0} → TurnsMeaning P J T W → Turns P J T A
+abbrev pub HasMemory : {P B T A W : Type 0} → TurnsMeaning P B T W → Turns P B T A
     → (stream : List ℕ) → (count : ℕ) → Type 0
-HasMemory w turns = w.reading.has_room turns.parser (w.room_of turns.state.text)
+HasMemory parts turns = parts.reading.has_memory turns.parser (parts.room_of turns.state.text)
 
-abbrev pub LacksMemoryFor : {P J T A W : Type 0} → TurnsMeaning P J T W → Turns P J T A
+abbrev pub LacksMemoryFor : {P B T A W : Type 0} → TurnsMeaning P B T W → Turns P B T A
     → (stream : List ℕ) → (count : ℕ) → Type 0
-LacksMemoryFor w turns = w.reading.lacks_room turns.parser (w.room_of turns.state.text)
+LacksMemoryFor parts turns = parts.reading.lacks_memory turns.parser
+    (parts.room_of turns.state.text)
 
 -- Memory that was there stays.
 abbrev pub KeepsMemory : (had has : List ℕ → ℕ → Type 0) → Type 0
@@ -82,10 +83,10 @@ pub record LacksPart (lacks : ℕ → Type 0) (held count : ℕ) : Type 0 where
   pub is_lacking : lacks (held + more)
 
 -- Of the held bytes and `left` ones that a call left, turns have no memory for a part.
-abbrev pub LacksSome : {P J T A W : Type 0} → TurnsMeaning P J T W → Turns P J T A → (left : ℕ)
+abbrev pub LacksSome : {P B T A W : Type 0} → TurnsMeaning P B T W → Turns P B T A → (left : ℕ)
     → Type 0
-LacksSome w turns left = (stream : List ℕ) → w.reading.has_read turns.parser stream
-    → LacksPart (LacksMemoryFor w turns stream) (length (held_of turns.hold))
+LacksSome parts turns left = (stream : List ℕ) → parts.reading.has_read turns.parser stream
+    → LacksPart (LacksMemoryFor parts turns stream) (length (held_of turns.hold))
     (length (held_of turns.hold) + left)
 
 -- The same of a processor, whatever its timeout means.

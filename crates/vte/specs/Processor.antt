@@ -8,19 +8,19 @@ use Rattle.vte_handler.specs.Handler.{after}
 use Rattle.vte_handler.specs.Timeout.{TimeoutMeaning, timeout_meaning, AllowsOnly, IsSteady}
 use Rattle.vte.specs.BeginUpdate.{begin_count}
 use Rattle.vte.specs.Calls.{calls_beyond}
-use Rattle.vte.specs.Synchronized.{begins_among, last_part, update_ended, begin_update, begins_with, after_last_end, from_begin}
+use Rattle.vte.specs.Synchronized.{held_begin_count, last_part, update_ended, begin_update, begins_with, after_last_end, from_begin}
 use Rattle.vte.specs.declared.ansi.laws.replays.Step.{Step}
 use Rattle.vte.specs.declared.ansi.laws.replays.Step.TheVariants.{Advance, StopSync}
 
 -- What a processor's parser, handler and timeout mean.
-pub record Meaning (H W : Type 0) : Type 1 where
+pub record Meaning (V W : Type 0) : Type 1 where
   -- how many data bytes of an operating system command the parser keeps, if there is a limit
   pub limit : Option ℕ
-  pub step : H → Call → H
+  pub step : V → Call → V
   pub timeout : TimeoutMeaning W
 
-abbrev pub meaning : {H W : Type 0} → Option ℕ → (H → Call → H) → (W → ℕ → W) → (W → W)
-    → (W → Bool → Type 0) → Meaning H W
+abbrev pub meaning : {V W : Type 0} → Option ℕ → (V → Call → V) → (W → ℕ → W) → (W → W)
+    → (W → Bool → Type 0) → Meaning V W
 meaning limit step set clear allows =
     record { limit = limit; step = step; timeout = timeout_meaning set clear allows }
 
@@ -39,14 +39,14 @@ added_calls limit stream more = calls_beyond (events limit stream) (events limit
 
 -- The state between calls: the bytes parsed so far, the positions among them at which updates were
 -- stopped, the bytes held after them, and the values of the timeout and the handler.
-pub record State (H W : Type 0) : Type 0 where
+pub record State (V W : Type 0) : Type 0 where
   pub parsed : List ℕ
   pub stops : List ℕ
   pub held : List ℕ
   pub timeout : W
-  pub handler : H
+  pub handler : V
 
-abbrev pub all_bytes : {H W : Type 0} → State H W → List ℕ
+abbrev pub all_bytes : {V W : Type 0} → State V W → List ℕ
 all_bytes s = s.parsed ++ s.held
 
 -- The maximum number of held bytes.
@@ -55,19 +55,19 @@ most_held = 2097150
 
 -- Bytes are parsed: the handler receives the calls that they add, and each update that they begin
 -- sets the timeout.
-abbrev pub parse : {H W : Type 0} → Meaning H W → State H W → List ℕ → State H W
+abbrev pub parse : {V W : Type 0} → Meaning V W → State V W → List ℕ → State V W
 parse m s bytes = record s {
   parsed = s.parsed ++ bytes;
   timeout = set_times m.timeout (begin_count (added m.limit s.parsed bytes)) s.timeout;
   handler = after m.step s.handler (added_calls m.limit s.parsed bytes);
 }
 
-abbrev pub with_held : {H W : Type 0} → State H W → List ℕ → State H W
+abbrev pub with_held : {V W : Type 0} → State V W → List ℕ → State V W
 with_held s bytes = record s { held = bytes }
 
 -- A stop: the whole hold is parsed, the handler receives the call that reports the end of an
 -- update, and the timeout is cleared. The stop's position is how many bytes were parsed by then.
-abbrev pub stop : {H W : Type 0} → Meaning H W → State H W → State H W
+abbrev pub stop : {V W : Type 0} → Meaning V W → State V W → State V W
 stop m s = let p = parse m s s.held in record p {
   stops = p.stops ++ length p.parsed ∷ [];
   held = [];
@@ -76,8 +76,8 @@ stop m s = let p = parse m s s.held in record p {
 }
 
 -- The result of a turn: a state, and the unread bytes of the call.
-pub record Turn (H W : Type 0) : Type 0 where
-  pub state : State H W
+pub record Turn (V W : Type 0) : Type 0 where
+  pub state : State V W
   pub rest : List ℕ
 
 -- The shortest prefix whose last byte begins an update, or all bytes if there is none.
@@ -88,34 +88,34 @@ begin_front limit parsed (b ∷ rest) =
     else b ∷ begin_front limit (parsed ++ b ∷ []) rest
 
 -- An open turn: bytes are parsed up to the one that begins an update.
-abbrev pub open_turn : {H W : Type 0} → Meaning H W → State H W → List ℕ → Turn H W
+abbrev pub open_turn : {V W : Type 0} → Meaning V W → State V W → List ℕ → Turn V W
 open_turn m s bytes =
     let front = begin_front m.limit s.parsed bytes in
     record { state = parse m s front; rest = drop (length front) bytes }
 
 -- The bytes join the hold. Each begin-update that ends among them, and after the last end-update,
 -- sets the timeout.
-abbrev pub extend : {H W : Type 0} → Meaning H W → State H W → List ℕ → State H W
+abbrev pub extend : {V W : Type 0} → Meaning V W → State V W → List ℕ → State V W
 extend m s bytes = let all = s.held ++ bytes in record s {
   held = all;
-  timeout = set_times m.timeout (begins_among (length bytes) (last_part all)) s.timeout;
+  timeout = set_times m.timeout (held_begin_count (length bytes) (last_part all)) s.timeout;
 }
 
 -- Bytes at the end of the hold are kept, and those before them parsed. If none are kept, the update
 -- is stopped.
-abbrev pub release : {H W : Type 0} → Meaning H W → State H W → List ℕ → State H W
+abbrev pub release : {V W : Type 0} → Meaning V W → State V W → List ℕ → State V W
 release m s [] = stop m s
 release m s (b ∷ kept) =
     with_held (parse m s (take (length s.held - length (b ∷ kept)) s.held)) (b ∷ kept)
 
 -- Without an end-update everything stays held; after the last one, what the next begin-update
 -- begins.
-abbrev pub release_end : {H W : Type 0} → Meaning H W → State H W → Option (List ℕ) → State H W
+abbrev pub release_end : {V W : Type 0} → Meaning V W → State V W → Option (List ℕ) → State V W
 release_end m s None = s
 release_end m s (Some rest) = release m s (from_begin rest)
 
 -- A hold turn.
-abbrev pub hold_turn : {H W : Type 0} → Meaning H W → State H W → List ℕ → State H W
+abbrev pub hold_turn : {V W : Type 0} → Meaning V W → State V W → List ℕ → State V W
 hold_turn m s bytes = let t = extend m s bytes in release_end m t (after_last_end t.held)
 
 -- The kinds of turns.
@@ -131,28 +131,28 @@ kind_of false zero given = OpenTurn
 kind_of false (suc held) given = ExpiredTurn
 kind_of true held given = if nat_le (held + given) most_held then HoldTurn else FullTurn
 
-abbrev pub turn_of : {H W : Type 0} → Meaning H W → TurnKind → State H W → List ℕ → Turn H W
+abbrev pub turn_of : {V W : Type 0} → Meaning V W → TurnKind → State V W → List ℕ → Turn V W
 turn_of m OpenTurn s bytes = open_turn m s bytes
 turn_of m ExpiredTurn s bytes = open_turn m (stop m s) bytes
 turn_of m HoldTurn s bytes = record { state = hold_turn m s bytes; rest = [] }
 turn_of m FullTurn s bytes = open_turn m (stop m s) bytes
 
 -- A turn, by the timeout's answer.
-abbrev pub turn : {H W : Type 0} → Meaning H W → Bool → State H W → List ℕ → Turn H W
-turn m answer s bytes = turn_of m (kind_of answer (length s.held) (length bytes)) s bytes
+abbrev pub turn : {V W : Type 0} → Meaning V W → Bool → State V W → List ℕ → Turn V W
+turn m pending s bytes = turn_of m (kind_of pending (length s.held) (length bytes)) s bytes
 
 -- Turns of a call that led to a state and left these bytes, each with an answer that the timeout's
 -- value allows.
-pub data TakesTurns {H W : Type 0} (m : Meaning H W) : State H W → List ℕ → State H W → List ℕ
+pub data TakesTurns {V W : Type 0} (m : Meaning V W) : State V W → List ℕ → State V W → List ℕ
     → Type 0 where
-  done : {s : State H W} {bytes : List ℕ} → TakesTurns m s bytes s bytes
-  turns : {s t : State H W} {b : ℕ} {rest left : List ℕ} → (answer : Bool)
-      → m.timeout.allows s.timeout answer
-      → TakesTurns m (turn m answer s (b ∷ rest)).state (turn m answer s (b ∷ rest)).rest t left
+  done : {s : State V W} {bytes : List ℕ} → TakesTurns m s bytes s bytes
+  turns : {s t : State V W} {b : ℕ} {rest left : List ℕ} → (pending : Bool)
+      → m.timeout.allows s.timeout pending
+      → TakesTurns m (turn m pending s (b ∷ rest)).state (turn m pending s (b ∷ rest)).rest t left
       → TakesTurns m s (b ∷ rest) t left
 
 -- A call of `advance`: turns until all bytes are read.
-abbrev pub TakesAllTurns : {H W : Type 0} → Meaning H W → State H W → List ℕ → State H W → Type 0
+abbrev pub TakesAllTurns : {V W : Type 0} → Meaning V W → State V W → List ℕ → State V W → Type 0
 TakesAllTurns m s bytes t = TakesTurns m s bytes t []
 
 -- The last parsed byte began an update.
@@ -180,16 +180,16 @@ pub record HoldsWell {W : Type 0} (limit : Option ℕ) (m : TimeoutMeaning W) (p
     (timeout : W) : Type 0 where
   pub no_end : after_last_end held ≡ None
   pub fits : length held ≤ most_held
-  pub kept : IsSteady m → IsOutsideUpdate m held timeout
+  pub steady : IsSteady m → IsOutsideUpdate m held timeout
       ⊎ IsInsideUpdate limit m parsed held timeout
 
 -- The facts about the hold at a state.
-abbrev pub HoldsWellAt : {H W : Type 0} → Meaning H W → State H W → Type 0
+abbrev pub HoldsWellAt : {V W : Type 0} → Meaning V W → State V W → Type 0
 HoldsWellAt m s = HoldsWell m.limit m.timeout s.parsed s.held s.timeout
 
 -- Calls one after another lead from a state to another. `Advance` takes turns until all bytes are
 -- read; `StopSync` is one stop.
-abbrev pub TakesSteps : {H W : Type 0} → Meaning H W → State H W → List Step → State H W → Type 0
+abbrev pub TakesSteps : {V W : Type 0} → Meaning V W → State V W → List Step → State V W → Type 0
 TakesSteps m s [] t = s ≡ t
 TakesSteps m s (Advance bytes ∷ steps) t =
     (next : State _ _) × (TakesAllTurns m s bytes.now next × TakesSteps m next steps t)

@@ -79,7 +79,7 @@ pub record Replayed {V W : Type 0} (m : Meaning V W) (s : State V W) (steps : Li
 
 -- No value allows the answer "pending".
 abbrev pub IsNeverPending : {W : Type 0} → (W → Bool → Type 0) → Type 0
-IsNeverPending {W} allows = (value : W) (answer : Bool) → allows value answer → answer ≡ false
+IsNeverPending {W} allows = (value : W) (pending : Bool) → allows value pending → pending ≡ false
 
 -- The whole stream was parsed, and nothing is held.
 pub record HasParsedAll {W : Type 0} (Stands : Standing W) (stream : List ℕ) : Type 0 where

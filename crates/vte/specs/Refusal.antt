@@ -11,8 +11,8 @@ use Rattle.vte.specs.declared.ansi.laws.replays.Step.TheVariants.{Advance, StopS
 
 -- An open turn that was refused memory: it has parsed a front of its bytes, in which no update
 -- begins, and left some.
-pub record OpenTurnHalts {H W : Type 0} (m : Meaning H W) (s : State H W) (bytes : List ℕ)
-    (t : State H W)
+pub record OpenTurnHalts {V W : Type 0} (m : Meaning V W) (s : State V W) (bytes : List ℕ)
+    (t : State V W)
     (left : List ℕ) : Type 0 where
   pub front : List ℕ
   pub bytes_are : front ++ left ≡ bytes
@@ -21,7 +21,7 @@ pub record OpenTurnHalts {H W : Type 0} (m : Meaning H W) (s : State H W) (bytes
   pub state_is : t ≡ parse m s front
 
 -- A turn of this kind was refused memory: never a hold turn, which takes its memory before.
-abbrev pub KindHalts : {H W : Type 0} → Meaning H W → TurnKind → State H W → List ℕ → State H W
+abbrev pub KindHalts : {V W : Type 0} → Meaning V W → TurnKind → State V W → List ℕ → State V W
     → List ℕ → Type 0
 KindHalts m OpenTurn s bytes t left = OpenTurnHalts m s bytes t left
 KindHalts m ExpiredTurn s bytes t left = OpenTurnHalts m (stop m s) bytes t left
@@ -29,17 +29,17 @@ KindHalts m HoldTurn s bytes t left = ⊥
 KindHalts m FullTurn s bytes t left = OpenTurnHalts m (stop m s) bytes t left
 
 -- A turn was refused memory, by the timeout's answer.
-abbrev pub TurnHalts : {H W : Type 0} → Meaning H W → Bool → State H W → List ℕ → State H W
+abbrev pub TurnHalts : {V W : Type 0} → Meaning V W → Bool → State V W → List ℕ → State V W
     → List ℕ → Type 0
-TurnHalts m answer s bytes = KindHalts m (kind_of answer (length s.held) (length bytes)) s bytes
+TurnHalts m pending s bytes = KindHalts m (kind_of pending (length s.held) (length bytes)) s bytes
 
 -- Turns of a call, after which a further one may have been refused memory on the way.
-pub data TakesSome {H W : Type 0} (m : Meaning H W) (s : State H W) (bytes : List ℕ) (t : State H W)
+pub data TakesSome {V W : Type 0} (m : Meaning V W) (s : State V W) (bytes : List ℕ) (t : State V W)
     (left : List ℕ) : Type 0 where
   between : TakesTurns m s bytes t left → TakesSome m s bytes t left
-  within : {u : State H W} {rest : List ℕ} → TakesTurns m s bytes u rest → (answer : Bool)
-      → m.timeout.allows u.timeout answer
-      → TurnHalts m answer u rest t left → TakesSome m s bytes t left
+  within : {u : State V W} {rest : List ℕ} → TakesTurns m s bytes u rest → (pending : Bool)
+      → m.timeout.allows u.timeout pending
+      → TurnHalts m pending u rest t left → TakesSome m s bytes t left
 
 -- A call has read `read` of its bytes, by turns, of which the last may have been refused memory on
 -- the way, and is at the state to which they led. Each byte that was read is parsed or held, once

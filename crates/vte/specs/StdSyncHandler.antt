@@ -20,7 +20,7 @@ pending_meaning =
     record {
       set = λ value nanos. true;
       clear = λ value. false;
-      allows = λ value answer. answer ≡ value;
+      allows = λ value pending. pending ≡ value;
     }
 
 -- The expiry is a moment that the clock tells plus this many nanoseconds, at most the greatest

@@ -31,12 +31,12 @@ from_begin [] = []
 from_begin (b ∷ text) = if begins_with begin_update (b ∷ text) then b ∷ text else from_begin text
 
 -- How many begin-updates have their last byte among the last n bytes of the text.
-abbrev pub begins_among : ℕ → List ℕ → ℕ
-begins_among n [] = 0
-begins_among n (b ∷ text) =
+abbrev pub held_begin_count : ℕ → List ℕ → ℕ
+held_begin_count n [] = 0
+held_begin_count n (b ∷ text) =
     option_map_or (λ rest. if nat_lt (length rest) n then 1 else 0)
     (after_word begin_update (b ∷ text)) 0
-    + begins_among n text
+    + held_begin_count n text
 
 -- The part of a text in which begin-updates count: what follows the last end-update or, without
 -- one, all of it.

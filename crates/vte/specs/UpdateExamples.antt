@@ -22,7 +22,7 @@ plain_meaning = record {
       record {
         set = λ pending nanos. true;
         clear = λ pending. false;
-        allows = λ pending answer. answer ≡ pending;
+        allows = λ pending pending. pending ≡ pending;
       };
 }
 

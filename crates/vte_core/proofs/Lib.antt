@@ -2,14 +2,14 @@
 
 -- Words from std and specs/.
 pub mod Common
-
 -- From a byte to its class, and from bytes to UTF-8 and to texts cut at a byte. All other folders use it.
 pub mod bytes
 -- From a text to its division, which is std's too. `calls`, `scanning` and the laws use it.
 pub mod dividing
 -- From a text, head, key or CAN to what it gives, by its definition alone. `places` and `streams` use it most.
 pub mod shapes
--- From a byte at a place to its events and the next place: `PlaceLeads` by cases, `steps` for all bytes. `calls` uses it.
+-- From a byte at a place to its events and the next place: `PlaceLeads` by cases, `steps` for all bytes. `calls` uses
+-- it.
 pub mod places
 -- From a text or body to a stream (`after-reads`), and what follows a broken character. `calls` and `stops` use it.
 pub mod streams

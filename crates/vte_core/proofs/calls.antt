@@ -4,28 +4,23 @@
 pub mod States
 pub mod Places
 pub mod AddedEvents
-
 -- Any stretch of a call: where it starts and ends, and how stretches and bytes compose.
 pub mod Ends
 pub mod Stretches
 pub mod Arms
-
 -- Text: a byte between characters, the bytes inside one, and runs.
 pub mod BetweenCharacters
 pub mod InsideCharacters
 pub mod Characters
 pub mod LeadBytes
 pub mod TextRuns
-
 -- What is after ESC: sequences, heads and data.
 pub mod Sequences
 pub mod Heads
 pub mod Data
-
 -- Calls that return at a run.
 pub mod BeforeRun
 pub mod ToRun
-
 -- Parsers between characters, and calls without a limit, which may be refused memory.
 pub mod Open
 pub mod Refusals

@@ -194,25 +194,25 @@ impl<const OSC_RAW_BUF_SIZE: usize> Parser<OSC_RAW_BUF_SIZE> {
         self.machine.command_lost_data()
     }
 
-    /// Reads the bytes of a call, all of them or, if it `ASKS`, until the performer is terminated,
-    /// and returns how many were read.
-    fn drive<P: CountedPerform<ArrayVec<u8, OSC_RAW_BUF_SIZE>, G>, G: Grain, const ASKS: bool>(
+    /// Reads the bytes of a call, all of them or, if it `MAY_STOP`, until the performer is
+    /// terminated, and returns how many were read.
+    fn drive<P: CountedPerform<ArrayVec<u8, OSC_RAW_BUF_SIZE>, G>, G: Grain, const MAY_STOP: bool>(
         &mut self,
         performer: &mut P,
         bytes: &[u8],
     ) -> usize
-        requires no_stop { G.IN_RUNS ≡ true → ASKS ≡ true
+        requires no_stop { G.IN_RUNS ≡ true → MAY_STOP ≡ true
             → NoCharacterStops P.keeps P.step P.is_terminated }
-        ensures all { ASKS ≡ false
+        ensures all { MAY_STOP ≡ false
             → ReadsBytes P.step (P.value_of performer.old)
             (P.value_of performer.new) bytes.now self.old self.new }
-        ensures stops { ASKS ≡ true
+        ensures stops { MAY_STOP ≡ true
             → ReadsUntilTerminated P.step P.is_terminated (P.value_of performer.old)
             (P.value_of performer.new) bytes.now result self.old self.new }
     {
         match self
             .machine
-            .drive::<P, G, ASKS>(&mut self.looks, performer, Input::new(bytes))
+            .drive::<P, G, MAY_STOP>(&mut self.looks, performer, Input::new(bytes))
         {
             Ok(read) => read,
             // Never: with a limit no memory is refused.

@@ -14,8 +14,8 @@ timeout_meaning set clear allows = record { set = set; clear = clear; allows = a
 
 -- The value allows only this answer.
 abbrev pub AllowsOnly : {W : Type 0} → TimeoutMeaning W → W → Bool → Type 0
-AllowsOnly m value answer =
-    m.allows value answer × ((other : Bool) → m.allows value other → other ≡ answer)
+AllowsOnly m value pending =
+    m.allows value pending × ((other : Bool) → m.allows value other → other ≡ pending)
 
 -- A steady timeout is pending from when it is set until it is cleared, no matter what a clock
 -- shows.

@@ -45,7 +45,7 @@ ASKING = {"drive", "end_device_data", "read_by_state", "read_device_data", "read
 
 
 def _head(names):
-    asks = ", const ASKS: bool" * (names["f"] in ASKING)
+    asks = ", const MAY_STOP: bool" * (names["f"] in ASKING)
     return f"fn {names['f']}<P: PerformAs<G>, G: Grain{asks}>("
 
 
@@ -58,7 +58,7 @@ def _call(names):
 
 
 PARAMETERS = [
-    ("fn $f<P: PerformAs<G>, G: Grain, const ASKS: bool>(", _head),
+    ("fn $f<P: PerformAs<G>, G: Grain, const MAY_STOP: bool>(", _head),
     ("$f::<P, $g, $a>(", _call),
 ]
 

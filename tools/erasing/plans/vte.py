@@ -92,7 +92,7 @@ VTE = Plan(
         # their expressions stand where they are called
         "vte_core/class": ("fn is_command_data",),
         "vte/ansi/performer": (
-            "impl<'s, 'h, H: HandlerText, T: Timeout + Drop, J: TextBuffer + Drop> "
+            "impl<'s, 'h, H: HandlerText, T: Timeout + Drop, B: TextBuffer + Drop> "
             "PerformThroughText",),
         # the macro `bitflags!` writes them in the adapter
         "vte_types/keyboard": (

@@ -66,7 +66,7 @@ begun_more : (b t : Bool) (n : ℕ) → ((b || t) || nat_lt 0 n) ≡ (b || nat_l
 begun_more b t n = grind (arith, nat_tests)
 
 -- one mode more is set
-pub modes_more : {H W : Type 0} (step : H → Call → H) (timeout : TimeoutMeaning W) (lent : PerformerValue H W)
+pub modes_more : {V W : Type 0} (step : V → Call → V) (timeout : TimeoutMeaning W) (lent : PerformerValue V W)
     (group : List ℕ) (groups : List (List ℕ))
     → with_private_modes step timeout (with_private_mode step timeout lent (first_number group)) groups
     ≡ with_private_modes step timeout lent (group ∷ groups)

@@ -15,7 +15,7 @@ or_some : (b : Bool) (m n : ℕ) → ((b || nat_lt 0 m) || nat_lt 0 n) ≡ (b ||
 or_some b m n = grind (arith, nat_tests)
 
 -- what all events together make of a performer's value
-abbrev with_events : {H W : Type 0} → Meaning H W → PerformerValue H W → List Event → PerformerValue H W
+abbrev with_events : {V W : Type 0} → Meaning V W → PerformerValue V W → List Event → PerformerValue V W
 with_events m lent events = record {
   handler = after m.step lent.handler (calls_from lent.last events);
   timeout = set_times m.timeout (begin_count events) lent.timeout;
@@ -26,7 +26,7 @@ with_events m lent events = record {
   handler_name = lent.handler_name;
 }
 
-performed-events : {H W : Type 0} (m : Meaning H W) (lent : PerformerValue H W) (events : List Event)
+performed-events : {V W : Type 0} (m : Meaning V W) (lent : PerformerValue V W) (events : List Event)
     → All (FitsText lent.room) events
     → performed (with_event m.step m.timeout) lent events ≡ with_events m lent events
 performed-events m lent [] fit = rw or-false
@@ -42,9 +42,9 @@ performed-events m lent (event ∷ events) fit =
 
 -- ---- the performer gives back what it was lent
 
-module _ {H T J G V W : Type 0} (handler_of : H → V) (timeout_of : T → W) (room_of : J → ℕ) (m : Meaning V W)
+module _ {H T B G V W : Type 0} (handler_of : H → V) (timeout_of : T → W) (room_of : B → ℕ) (m : Meaning V W)
     (s : State V W) (f : List ℕ)
-    (old : PerformerValue V W) (new : Performer H T J G) {state : ProcessorState T J}
+    (old : PerformerValue V W) (new : Performer H T B G) {state : ProcessorState T B}
     (fit : All (FitsText old.room) (added m.limit s.parsed f))
     (made : performer_value handler_of timeout_of room_of new
     ≡ performed (with_event m.step m.timeout) old (added m.limit s.parsed f))
@@ -59,7 +59,7 @@ module _ {H T J G V W : Type 0} (handler_of : H → V) (timeout_of : T → W) (r
   pub room_back : room_of state.text ≡ old.room
   room_back = rw is_state (ap (λ lent. lent.room) all_made)
 
-  pub given_back : {P : Type 0} {reading : ParserMeaning P} {parser next : P} {lent : ProcessorState T J} {value : V}
+  pub given_back : {P : Type 0} {reading : ParserMeaning P} {parser next : P} {lent : ProcessorState T B} {value : V}
       {handler : H} → IsParsed (of_turns m.limit reading room_of timeout_of) parser lent value s
       → old.last ≡ lent.preceding_char → old.timeout ≡ timeout_of lent.timeout → old.handler ≡ value
       → old.room ≡ room_of lent.text
@@ -89,7 +89,7 @@ module _ {H T J G V W : Type 0} (handler_of : H → V) (timeout_of : T → W) (r
 
 -- ---- an early stop reads the front
 
-terminated_by : {H W : Type 0} (m : Meaning H W) (lent : PerformerValue H W) (events : List Event)
+terminated_by : {V W : Type 0} (m : Meaning V W) (lent : PerformerValue V W) (events : List Event)
     → (performed (with_event m.step m.timeout) lent events).terminated
     ≡ (lent.terminated || nat_lt 0 (begin_count events))
 terminated_by m lent [] = sym (or-false lent.terminated)

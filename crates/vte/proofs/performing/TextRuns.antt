@@ -9,7 +9,7 @@ use Rattle.std.specs.Str.Iter.{chars_rest, chars_steps_back}
 use Rattle.vte_core.specs.Perform.{after as performed}
 
 -- A run calls `input` for each character, and neither sets the timeout nor terminates.
-pub performed_run : {H W : Type 0} (step : H → Call → H) (timeout : TimeoutMeaning W) (lent : PerformerValue H W)
+pub performed_run : {V W : Type 0} (step : V → Call → V) (timeout : TimeoutMeaning W) (lent : PerformerValue V W)
     (cs : List ℕ)
     → performed (with_event step timeout) lent (map Print cs)
     ≡ record lent {

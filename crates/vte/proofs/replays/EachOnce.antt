@@ -1,5 +1,5 @@
--- Each given byte is parsed or held, once and in order. Each turn and stop keeps `Grows`: parsed, held and left bytes
--- together are those of before, and `Grows` composes over the turns of a call and the calls of a run.
+-- Each given byte is parsed or held, once and in order. Each turn and stop keeps `Progresses`: parsed, held and left
+-- bytes together are those of before, and `Progresses` composes over the turns of a call and the calls of a run.
 use Rattle.vte.proofs.Common.{◌≡◌, ℕ, ◌-◌, suc, inl, inr, Bool, Option, List, [], ◌∷◌, ◌++◌, length, take, drop, refl, ap, sym, ◌∙◌, append_assoc, arith}
 use Rattle.vte.proofs.Common.{take-append-drop, Step, Advance, StopSync, Meaning, TakesSteps, given_bytes, after_last_end, from_begin, State, TakesTurns, all_bytes, begin_front, extend, hold_turn, release}
 use Rattle.vte.proofs.Common.{cases_Bool, nat_tests, append-nil, parse, stop, turn, done, turns}
@@ -15,12 +15,12 @@ front_rest limit p r =
 
 -- A state has parsed what another had, and more of the bytes that were held there or given since.
 -- The others are held, or left.
-pub record Grows {V W : Type 0} (s t : State V W) (bytes left : List ℕ) : Type 0 where
+pub record Progresses {V W : Type 0} (s t : State V W) (bytes left : List ℕ) : Type 0 where
   pub more : List ℕ
   pub parsed_is : t.parsed ≡ s.parsed ++ more
   pub each_once : s.held ++ bytes ≡ more ++ (t.held ++ left)
 
-pub grown_bytes : {V W : Type 0} {s t : State V W} {bytes left : List ℕ} → Grows s t bytes left
+pub grown_bytes : {V W : Type 0} {s t : State V W} {bytes left : List ℕ} → Progresses s t bytes left
     → all_bytes t ++ left ≡ all_bytes s ++ bytes
 grown_bytes {s = s} {t = t} {bytes = bytes} {left = left} g =
     cc (
@@ -32,8 +32,8 @@ grown_bytes {s = s} {t = t} {bytes = bytes} {left = left} g =
       append_assoc s.parsed s.held bytes,
     )
 
-pub grows_on : {V W : Type 0} {s t u : State V W} {bytes rest left : List ℕ} → Grows s t bytes rest
-    → Grows t u rest left → Grows s u bytes left
+pub grows_on : {V W : Type 0} {s t u : State V W} {bytes rest left : List ℕ} → Progresses s t bytes rest
+    → Progresses t u rest left → Progresses s u bytes left
 grows_on {s = s} {u = u} {left = left} a b = record {
   more = a.more ++ b.more;
   parsed_is = cc (a.parsed_is, b.parsed_is, append_assoc s.parsed a.more b.more);
@@ -41,8 +41,8 @@ grows_on {s = s} {u = u} {left = left} a b = record {
 }
 
 -- bytes that follow are left
-grows_before : {V W : Type 0} {s t : State V W} {bytes : List ℕ} → Grows s t bytes [] → (left : List ℕ)
-    → Grows s t (bytes ++ left) left
+grows_before : {V W : Type 0} {s t : State V W} {bytes : List ℕ} → Progresses s t bytes [] → (left : List ℕ)
+    → Progresses s t (bytes ++ left) left
 grows_before {s = s} {t = t} {bytes = bytes} g left = record {
   more = g.more;
   parsed_is = g.parsed_is;
@@ -51,33 +51,33 @@ grows_before {s = s} {t = t} {bytes = bytes} g left = record {
 }
 
 module _ {V W : Type 0} (m : Meaning V W) where
-  same : (s : State V W) (bytes : List ℕ) → Grows s s bytes bytes
+  same : (s : State V W) (bytes : List ℕ) → Progresses s s bytes bytes
   same s bytes = record { more = []; parsed_is = sym (append-nil s.parsed); each_once = refl }
 
-  pub stop_grows : (s : State V W) (bytes : List ℕ) → Grows s (stop m s) bytes bytes
+  pub stop_grows : (s : State V W) (bytes : List ℕ) → Progresses s (stop m s) bytes bytes
   stop_grows s bytes = record { more = s.held; parsed_is = refl; each_once = refl }
 
   -- before bytes are parsed
-  pub stop_if_due_none : (answer : Bool) (s : State V W) → (stop_if_due m answer s).held ≡ []
-  stop_if_due_none answer s = elim (cases_Bool (is_stopped answer s)) [
+  pub stop_if_due_none : (pending : Bool) (s : State V W) → (stop_if_due m pending s).held ≡ []
+  stop_if_due_none pending s = elim (cases_Bool (is_stopped pending s)) [
     | inl stopped ↦ rw stopped refl
     | inr none ↦ rw none (nil_from_length s.held (grind (arith, nat_tests)))
   ]
 
-  pub stop_if_due_grows : (answer : Bool) (s : State V W) (bytes : List ℕ)
-      → Grows s (stop_if_due m answer s) bytes bytes
-  stop_if_due_grows answer s bytes =
-      elim (cases_Bool (is_stopped answer s)) [
+  pub stop_if_due_grows : (pending : Bool) (s : State V W) (bytes : List ℕ)
+      → Progresses s (stop_if_due m pending s) bytes bytes
+  stop_if_due_grows pending s bytes =
+      elim (cases_Bool (is_stopped pending s)) [
         | inl stopped ↦ rw stopped (stop_grows s bytes)
         | inr none ↦ rw none (same s bytes)
       ]
 
   pub parse_grows : (s : State V W) (front left bytes : List ℕ) → s.held ≡ [] → front ++ left ≡ bytes
-      → Grows s (parse m s front) bytes left
+      → Progresses s (parse m s front) bytes left
   parse_grows s front left bytes none is = record { more = front; parsed_is = refl; each_once = rw none (sym is) }
 
   release_grows : (s : State V W) (kept : List ℕ) → drop (length s.held - length kept) s.held ≡ kept
-      → Grows s (release m s kept) [] []
+      → Progresses s (release m s kept) [] []
   release_grows s [] is = stop_grows s []
   release_grows s (b ∷ kept) is =
       let before = length s.held - suc (length kept) in
@@ -87,9 +87,9 @@ module _ {V W : Type 0} (m : Meaning V W) where
         each_once = cc (append-nil s.held, append-nil kept, take-append-drop before s.held, is);
       }
 
-  hold_grows : (s : State V W) (r : List ℕ) → Grows s (hold_turn m s r) r []
+  hold_grows : (s : State V W) (r : List ℕ) → Progresses s (hold_turn m s r) r []
   hold_grows s r =
-      let held : Grows s (extend m s r) r [] =
+      let held : Progresses s (extend m s r) r [] =
       record { more = []; parsed_is = sym (append-nil s.parsed); each_once = sym (append-nil (s.held ++ r)) } in
       elim (cases_Option (after_last_end (s.held ++ r))) [
         | inl none ↦ rw (holds_all m s r none) held
@@ -99,23 +99,24 @@ module _ {V W : Type 0} (m : Meaning V W) where
             (rw some.1 at (stays-is (s.held ++ r)))))
       ]
 
-  turn_grows : (answer : Bool) (s : State V W) (r : List ℕ)
-      → Grows s (turn m answer s r).state r (turn m answer s r).rest
-  turn_grows answer s r = elim (cases_Bool (is_held answer s r)) [
-    | inl held ↦ rw (turn_holds m answer s r held) (hold_grows s r)
+  turn_grows : (pending : Bool) (s : State V W) (r : List ℕ)
+      → Progresses s (turn m pending s r).state r (turn m pending s r).rest
+  turn_grows pending s r = elim (cases_Bool (is_held pending s r)) [
+    | inl held ↦ rw (turn_holds m pending s r held) (hold_grows s r)
     | inr parses ↦
-        rw (turn_parses m answer s r parses)
-        (grows_on (stop_if_due_grows answer s r)
-        (parse_grows (stop_if_due m answer s) _ _ r (stop_if_due_none answer s)
-        (front_rest m.limit (stop_if_due m answer s).parsed r)))
+        rw (turn_parses m pending s r parses)
+        (grows_on (stop_if_due_grows pending s r)
+        (parse_grows (stop_if_due m pending s) _ _ r (stop_if_due_none pending s)
+        (front_rest m.limit (stop_if_due m pending s).parsed r)))
   ]
 
-  pub turns_grow : (s t : State V W) (bytes left : List ℕ) → TakesTurns m s bytes t left → Grows s t bytes left
+  pub turns_grow : (s t : State V W) (bytes left : List ℕ) → TakesTurns m s bytes t left → Progresses s t bytes left
   turns_grow s t bytes left done = same s bytes
-  turns_grow s t (b ∷ bytes) left (turns answer allowed more) =
-      grows_on (turn_grows answer s (b ∷ bytes)) (turns_grow _ t _ left more)
+  turns_grow s t (b ∷ bytes) left (turns pending allowed more) =
+      grows_on (turn_grows pending s (b ∷ bytes)) (turns_grow _ t _ left more)
 
-  pub replay_grows : (s t : State V W) (steps : List Step) → TakesSteps m s steps t → Grows s t (given_bytes steps) []
+  pub replay_grows : (s t : State V W) (steps : List Step) → TakesSteps m s steps t
+      → Progresses s t (given_bytes steps) []
   replay_grows s t [] e = rw e (same t [])
   replay_grows s t (Advance bytes ∷ steps) (next, (a, r)) =
       grows_on (grows_before (turns_grow s next bytes.now [] a) (given_bytes steps)) (replay_grows next t steps r)

@@ -13,12 +13,12 @@ pub first_lacks : {i : ℕ} {bytes : Bor (List ℕ)} (lacks : ℕ → Type 0) (s
     → lacks (length bytes.now - read) → lacks (left_of_first (drop i steps) read)
 first_lacks {i = i} lacks steps d read inside is lacking = rw (drop_more steps i d inside, is) lacking
 
--- ---- for a timeout that is kept, a run is a function of the calls
+-- ---- for a timeout that is steady, a run is a function of the calls
 
-module _ {V W : Type 0} (m : Meaning V W) (kept : IsSteady m.timeout) where
+module _ {V W : Type 0} (m : Meaning V W) (steady : IsSteady m.timeout) where
   answers_alone : (s : State V W) (a b : Bool) → HoldsWellAt m s → m.timeout.allows s.timeout a
       → m.timeout.allows s.timeout b → a ≡ b
-  answers_alone s a b h first second = elim (h.kept kept) [
+  answers_alone s a b h first second = elim (h.steady steady) [
     | inl out ↦ out.not_pending.1 a first ∙ sym (out.not_pending.1 b second)
     | inr i ↦ i.pending.1 a first ∙ sym (i.pending.1 b second)
   ]
@@ -26,9 +26,9 @@ module _ {V W : Type 0} (m : Meaning V W) (kept : IsSteady m.timeout) where
   advances_alone : (s t u : State V W) (r : List ℕ) → HoldsWellAt m s → TakesAllTurns m s r t
       → TakesAllTurns m s r u → u ≡ t
   advances_alone s t u [] h done done = refl
-  advances_alone s t u (b ∷ r) h (turns answer allowed more) (turns other allowed_too further) =
-      advances_alone _ t u _ (turn_well m answer s (b ∷ r) allowed h) more
-      (rw (answers_alone s other answer h allowed_too allowed) at further)
+  advances_alone s t u (b ∷ r) h (turns pending allowed more) (turns other allowed_too further) =
+      advances_alone _ t u _ (turn_well m pending s (b ∷ r) allowed h) more
+      (rw (answers_alone s other pending h allowed_too allowed) at further)
 
   replay_alone : (s t u : State V W) (steps : List Step) → HoldsWellAt m s → TakesSteps m s steps t
       → TakesSteps m s steps u → u ≡ t
@@ -70,7 +70,7 @@ module _ {V W : Type 0} (m : Meaning V W) where
         in_order = e.in_order;
         handler_is = e.told;
         holds_well = replay_well s t steps run;
-        alone = λ kept well other r. replay_alone m kept s t other steps well run r;
+        alone = λ steady well other r. replay_alone m steady s t other steps well run r;
         is_at = at;
       }
 

@@ -51,7 +51,7 @@ stops-later limit p f rest (position ∷ positions) all is (from, order) =
 
 module _ {V W : Type 0} (m : Meaning V W) (u : State V W) where
   -- what the handler is still told if bytes were parsed, with these stops, and its value is this
-  pub record Tells (parsed stops : List ℕ) (value : V) : Type 0 where
+  pub record HasStillToTell (parsed stops : List ℕ) (value : V) : Type 0 where
     pub more : List ℕ
     pub parsed_is : u.parsed ≡ parsed ++ more
     pub positions : List ℕ
@@ -60,7 +60,7 @@ module _ {V W : Type 0} (m : Meaning V W) (u : State V W) where
     pub told : u.handler ≡ after m.step value (calls_with_stops m.limit u.parsed (length parsed) positions)
 
   abbrev TellsAt : State V W → Type 0
-  TellsAt t = Tells t.parsed t.stops t.handler
+  TellsAt t = HasStillToTell t.parsed t.stops t.handler
 
   tells-nothing : TellsAt u
   tells-nothing = record {
@@ -73,7 +73,7 @@ module _ {V W : Type 0} (m : Meaning V W) (u : State V W) where
   }
 
   tells-parse : (p f stops : List ℕ) (value : V)
-      → Tells (p ++ f) stops (after m.step value (added_calls m.limit p f)) → Tells p stops value
+      → HasStillToTell (p ++ f) stops (after m.step value (added_calls m.limit p f)) → HasStillToTell p stops value
   tells-parse p f stops value e = record {
     more = f ++ e.more;
     parsed_is = e.parsed_is ∙ append_assoc p f e.more;
@@ -108,10 +108,10 @@ module _ {V W : Type 0} (m : Meaning V W) (u : State V W) where
     | inr some ↦ rw (holds_rest m t r some.0 some.1) (tells-release (extend m t r) (from_begin some.0))
   ]
 
-  tells-turn : (answer : Bool) (t : State V W) (r : List ℕ) → TellsAt (turn m answer t r).state → TellsAt t
-  tells-turn answer t r = elim (cases_Bool (is_held answer t r)) [
-    | inl held ↦ rw (turn_holds m answer t r held) (tells-hold t r)
-    | inr parses ↦ rw (turn_parses m answer t r parses) (elim (cases_Bool (is_stopped answer t)) [
+  tells-turn : (pending : Bool) (t : State V W) (r : List ℕ) → TellsAt (turn m pending t r).state → TellsAt t
+  tells-turn pending t r = elim (cases_Bool (is_held pending t r)) [
+    | inl held ↦ rw (turn_holds m pending t r held) (tells-hold t r)
+    | inr parses ↦ rw (turn_parses m pending t r parses) (elim (cases_Bool (is_stopped pending t)) [
       | inl stopped ↦ rw stopped (λ e. tells-stop t (tells-open (stop m t) r e))
       | inr none ↦ rw none (tells-open t r)
     ])
@@ -119,8 +119,8 @@ module _ {V W : Type 0} (m : Meaning V W) (u : State V W) where
 
   tells-advances : (t v : State V W) (r : List ℕ) → TakesAllTurns m t r v → TellsAt v → TellsAt t
   tells-advances t v [] done e = e
-  tells-advances t v (b ∷ r) (turns answer allowed more) e =
-      tells-turn answer t (b ∷ r) (tells-advances _ v _ more e)
+  tells-advances t v (b ∷ r) (turns pending allowed more) e =
+      tells-turn pending t (b ∷ r) (tells-advances _ v _ more e)
 
   pub tells-replay : (t : State V W) (steps : List Step) → TakesSteps m t steps u → TellsAt t
   tells-replay t [] same = rw same tells-nothing

@@ -3,7 +3,7 @@
 use Rattle.vte.proofs.Common.{◌≡◌, ℕ, zero, suc, ◌-◌, ◌<◌, ◌≤◌, inl, inr, Bool, true, false, List, [], ◌∷◌, ◌++◌, length, take, refl, sym}
 use Rattle.vte.proofs.Common.{length-append, arith, cases_Bool, cases_lt, false≢true, nat_tests, added}
 use Rattle.vte.proofs.Common.{TimeoutMeaning, AllowsOnly, IsSteady, begin_count, IsOutsideUpdate, IsInsideUpdate, Meaning, set_times}
-use Rattle.vte.proofs.Common.{update_nanos, HoldsWellAt, begin_update, begins_among, after_last_end, from_begin, last_part, State, TakesTurns, stop, begin_front, open_turn, release}
+use Rattle.vte.proofs.Common.{update_nanos, HoldsWellAt, begin_update, held_begin_count, after_last_end, from_begin, last_part, State, TakesTurns, stop, begin_front, open_turn, release}
 use Rattle.vte.proofs.Common.{extend, hold_turn, turn, done, turns, most_held, ap, append-nil}
 use Rattle.vte.proofs.replays.EachOnce.{stop_if_due_none}
 use Rattle.vte.proofs.turns.Fronts.{is_front}
@@ -28,7 +28,7 @@ module _ {V W : Type 0} (m : Meaning V W) where
   stop_outside s k = record { not_pending = k.clear _; none_held = refl }
 
   pub stop_well : (s : State V W) → HoldsWellAt m (stop m s)
-  stop_well s = record { no_end = refl; fits = omega arith; kept = λ k. inl (stop_outside s k) }
+  stop_well s = record { no_end = refl; fits = omega arith; steady = λ k. inl (stop_outside s k) }
 
   -- ---- an open turn
 
@@ -39,7 +39,7 @@ module _ {V W : Type 0} (m : Meaning V W) where
       record {
         no_end = rw nothing refl;
         fits = rw nothing (omega arith);
-        kept = λ k. elim (cases_lt 0 (begin_count (added m.limit s.parsed (begin_front m.limit s.parsed r)))) [
+        steady = λ k. elim (cases_lt 0 (begin_count (added m.limit s.parsed (begin_front m.limit s.parsed r)))) [
           | inl some ↦
               inr (record {
                 pending = pending m.timeout k _ s.timeout some;
@@ -60,7 +60,7 @@ module _ {V W : Type 0} (m : Meaning V W) where
   keep_well t (b ∷ kept) is fits inside = record {
     no_end = is.no_end;
     fits = omega (arith, suffix-length is.suffix);
-    kept = λ k. inr (record {
+    steady = λ k. inr (record {
       pending =
           still_pending m.timeout k
           (begin_count (added m.limit t.parsed (take (length t.held - suc (length kept)) t.held))) t.timeout
@@ -75,24 +75,24 @@ module _ {V W : Type 0} (m : Meaning V W) where
 
   inside_of : (s : State V W) → HoldsWellAt m s → m.timeout.allows s.timeout true → IsSteady m.timeout
       → IsInsideUpdate m.limit m.timeout s.parsed s.held s.timeout
-  inside_of s h allowed k = elim (h.kept k) [
+  inside_of s h allowed k = elim (h.steady k) [
     | inl out ↦ absurd (false≢true (sym (out.not_pending.1 true allowed)))
     | inr i ↦ i
   ]
 
   outside_of : (s : State V W) → HoldsWellAt m s → m.timeout.allows s.timeout false → IsSteady m.timeout
       → IsOutsideUpdate m.timeout s.held s.timeout
-  outside_of s h allowed k = elim (h.kept k) [
+  outside_of s h allowed k = elim (h.steady k) [
     | inl out ↦ out
     | inr i ↦ absurd (false≢true (i.pending.1 false allowed))
   ]
 
-  pub stop_if_due_outside : (answer : Bool) (s : State V W) → m.timeout.allows s.timeout answer → HoldsWellAt m s
+  pub stop_if_due_outside : (pending : Bool) (s : State V W) → m.timeout.allows s.timeout pending → HoldsWellAt m s
       → IsSteady m.timeout
-      → IsOutsideUpdate m.timeout (stop_if_due m answer s).held (stop_if_due m answer s).timeout
-  stop_if_due_outside answer s allowed h k = elim (cases_Bool (is_stopped answer s)) [
+      → IsOutsideUpdate m.timeout (stop_if_due m pending s).held (stop_if_due m pending s).timeout
+  stop_if_due_outside pending s allowed h k = elim (cases_Bool (is_stopped pending s)) [
     | inl stopped ↦ rw stopped (stop_outside s k)
-    | inr none ↦ let no : answer ≡ false = grind (arith, nat_tests) in rw none (outside_of s h (rw no at allowed) k)
+    | inr none ↦ let no : pending ≡ false = grind (arith, nat_tests) in rw none (outside_of s h (rw no at allowed) k)
   ]
 
   hold_well : (s : State V W) (r : List ℕ) → HoldsWellAt m s → m.timeout.allows s.timeout true
@@ -101,12 +101,12 @@ module _ {V W : Type 0} (m : Meaning V W) where
       let inside : IsSteady m.timeout
       → IsInsideUpdate m.limit m.timeout s.parsed (s.held ++ r) (extend m s r).timeout =
       λ k. (let i = inside_of s h allowed k in record {
-        pending = still_pending m.timeout k (begins_among (length r) (last_part (s.held ++ r))) s.timeout i.pending;
+        pending = still_pending m.timeout k (held_begin_count (length r) (last_part (s.held ++ r))) s.timeout i.pending;
         begun = elim i.begun [ inl p ↦ inl p | inr b ↦ inr (begins_with-append begin_update s.held r b) ];
       }) in
       elim (cases_Option (after_last_end (s.held ++ r))) [
         | inl none ↦
-            rw (holds_all m s r none) (record { no_end = none; fits = fits; kept = λ k. inr (inside k) })
+            rw (holds_all m s r none) (record { no_end = none; fits = fits; steady = λ k. inr (inside k) })
         | inr some ↦
             rw (holds_rest m s r some.0 some.1)
             (keep_well (extend m s r) (from_begin some.0) (rw some.1 at (stays_held (s.held ++ r))) fits inside)
@@ -114,21 +114,21 @@ module _ {V W : Type 0} (m : Meaning V W) where
 
   -- ---- a turn, and turns of a call
 
-  pub turn_well : (answer : Bool) (s : State V W) (r : List ℕ) → m.timeout.allows s.timeout answer → HoldsWellAt m s
-      → HoldsWellAt m (turn m answer s r).state
-  turn_well answer s r allowed h = elim (cases_Bool (is_held answer s r)) [
-    | inl held ↦ let yes : answer ≡ true =
+  pub turn_well : (pending : Bool) (s : State V W) (r : List ℕ) → m.timeout.allows s.timeout pending → HoldsWellAt m s
+      → HoldsWellAt m (turn m pending s r).state
+  turn_well pending s r allowed h = elim (cases_Bool (is_held pending s r)) [
+    | inl held ↦ let yes : pending ≡ true =
         grind (arith, nat_tests) in
-        rw (turn_holds m answer s r held)
+        rw (turn_holds m pending s r held)
         (hold_well s r h (rw yes at allowed) (grind (arith, nat_tests, length-append s.held r)))
     | inr parses ↦
-        rw (turn_parses m answer s r parses)
-        (open_well (stop_if_due m answer s) r (stop_if_due_none m answer s)
-        (stop_if_due_outside answer s allowed h))
+        rw (turn_parses m pending s r parses)
+        (open_well (stop_if_due m pending s) r (stop_if_due_none m pending s)
+        (stop_if_due_outside pending s allowed h))
   ]
 
   pub taken_well : (s t : State V W) (bytes left : List ℕ) → TakesTurns m s bytes t left → HoldsWellAt m s
       → HoldsWellAt m t
   taken_well s t bytes left done h = h
-  taken_well s t (b ∷ bytes) left (turns answer allowed more) h =
-      taken_well _ t _ left more (turn_well answer s (b ∷ bytes) allowed h)
+  taken_well s t (b ∷ bytes) left (turns pending allowed more) h =
+      taken_well _ t _ left more (turn_well pending s (b ∷ bytes) allowed h)

@@ -42,12 +42,12 @@ module _ {V W : Type 0} (m : Meaning V W) where
   ]
 
 -- the hold has the new bytes, and the timeout was set as often as they begin updates
-module _ {P J T A V W : Type 0} {w : TurnsMeaning P J T W} (m : Meaning V W) {s : State V W} {more : List ℕ}
-    {old : Turns P J T A} {hold : Hold A} {timeout : T} {begins : ℕ} {value : V}
+module _ {P B T A V W : Type 0} {w : TurnsMeaning P B T W} (m : Meaning V W) {s : State V W} {more : List ℕ}
+    {old : Turns P B T A} {hold : Hold A} {timeout : T} {begins : ℕ} {value : V}
     (at : AreAt w old value s) (added : IsAdded s.held more hold begins)
     (is_set : w.timeout_of timeout ≡ set_times m.timeout begins (w.timeout_of old.state.timeout))
-    (room : w.reading.has_room old.parser (w.room_of old.state.text) s.parsed (length s.held + length more)) where
-  abbrev set : Turns P J T A
+    (room : w.reading.has_memory old.parser (w.room_of old.state.text) s.parsed (length s.held + length more)) where
+  abbrev set : Turns P B T A
   set = record old { hold = hold; state = record old.state { timeout = timeout } }
 
   extended : IsParsed w set.parser set.state value (extend m s more)
@@ -61,13 +61,13 @@ module _ {P J T A V W : Type 0} {w : TurnsMeaning P J T W} (m : Meaning V W) {s 
   }
 
   -- the released bytes are parsed, and the others stay held, with memory to parse them
-  pub turned_cut : {last : Turns P J T A} {next : V} → 0 < length (held_of hold)
+  pub turned_cut : {last : Turns P B T A} {next : V} → 0 < length (held_of hold)
       → ((t : State V W) (n : ℕ) → IsParsed w set.parser set.state value t
       → (0 < length (released_of hold)
-      → w.reading.has_room set.parser (w.room_of set.state.text) t.parsed (length (released_of hold) + n))
+      → w.reading.has_memory set.parser (w.room_of set.state.text) t.parsed (length (released_of hold) + n))
       → IsParsedOn w set.parser set.state last.parser last.state next (parse m t (released_of hold)))
       → ((t : State V W) (n : ℕ) → IsParsedWithRoom w set.parser set.state value t (length (released_of hold) + n)
-      → w.reading.has_room last.parser (w.room_of last.state.text) (t.parsed ++ released_of hold) n)
+      → w.reading.has_memory last.parser (w.room_of last.state.text) (t.parsed ++ released_of hold) n)
       → last.hold ≡ hold → AreNextAt w old last next (hold_turn m s more)
   turned_cut {last} {next} some parses leaves kept =
       let t = extend m s more in
@@ -81,7 +81,8 @@ module _ {P J T A V W : Type 0} {w : TurnsMeaning P J T W} (m : Meaning V W) {s 
             (stays_held all).suffix,
         length-append s.held more,
       )) in
-      let ready : w.reading.has_room set.parser (w.room_of set.state.text) s.parsed (length (released_of hold) + rest) =
+      let ready : w.reading.has_memory set.parser (w.room_of set.state.text) s.parsed (length (released_of hold) + rest)
+      =
       rw sum room in
       let there = parses t rest extended (λ some. ready) in
       let parsed : IsParsed w last.parser last.state next
@@ -103,10 +104,10 @@ module _ {P J T A V W : Type 0} {w : TurnsMeaning P J T W} (m : Meaning V W) {s 
       })
 
   -- the update is stopped
-  pub turned_stop : {last : Turns P J T A} {next : V} → 0 < length more → length (held_of hold) ≡ 0
+  pub turned_stop : {last : Turns P B T A} {next : V} → 0 < length more → length (held_of hold) ≡ 0
       → ((t : State V W) (n : ℕ) → IsParsed w set.parser set.state value t → released_of hold ≡ t.held
       → held_of hold ≡ []
-      → (0 < length t.held → w.reading.has_room set.parser (w.room_of set.state.text) t.parsed (length t.held + n))
+      → (0 < length t.held → w.reading.has_memory set.parser (w.room_of set.state.text) t.parsed (length t.held + n))
       → AreNextAt w set last next (stop m t))
       → AreNextAt w old last next (hold_turn m s more)
   turned_stop {last} {next} some is stops =

@@ -14,18 +14,18 @@ module _ {V W : Type 0} (m : Meaning V W) (s : State V W) (r : List ℕ) where
 -- ---- whether bytes are held, and what is stopped before they are parsed
 
 abbrev pub is_held : {V W : Type 0} → Bool → State V W → List ℕ → Bool
-is_held answer s bytes = answer && nat_le (length s.held + length bytes) most_held
+is_held pending s bytes = pending && nat_le (length s.held + length bytes) most_held
 
 abbrev pub is_stopped : {V W : Type 0} → Bool → State V W → Bool
-is_stopped answer s = answer || nat_lt 0 (length s.held)
+is_stopped pending s = pending || nat_lt 0 (length s.held)
 
 abbrev pub stop_if_due : {V W : Type 0} → Meaning V W → Bool → State V W → State V W
-stop_if_due m answer s = if is_stopped answer s then stop m s else s
+stop_if_due m pending s = if is_stopped pending s then stop m s else s
 
 -- An open turn, after a stop if need be, was refused memory.
 abbrev pub OpensAndHalts : {V W : Type 0} → Meaning V W → Bool → State V W → List ℕ → State V W → List ℕ → Type 0
-OpensAndHalts m answer s bytes t left =
-    (is_held answer s bytes ≡ false) × OpenTurnHalts m (stop_if_due m answer s) bytes t left
+OpensAndHalts m pending s bytes t left =
+    (is_held pending s bytes ≡ false) × OpenTurnHalts m (stop_if_due m pending s) bytes t left
 
 not_pending : (held given : ℕ) → ((kind_of false held given ≡ OpenTurn) × (nat_lt 0 held ≡ false))
     ⊎ ((kind_of false held given ≡ ExpiredTurn) × (nat_lt 0 held ≡ true))
@@ -33,21 +33,21 @@ not_pending zero given = inl (refl, refl)
 not_pending (suc held) given = inr (refl, grind (arith, nat_tests))
 
 module _ {V W : Type 0} (m : Meaning V W) where
-  pub turn_holds : (answer : Bool) (s : State V W) (r : List ℕ) → is_held answer s r ≡ true
-      → turn m answer s r ≡ record { state = hold_turn m s r; rest = [] }
+  pub turn_holds : (pending : Bool) (s : State V W) (r : List ℕ) → is_held pending s r ≡ true
+      → turn m pending s r ≡ record { state = hold_turn m s r; rest = [] }
   turn_holds true s r held = rw held refl
   turn_holds false s r held = absurd (let e : false ≡ true = held in cc)
 
-  pub turn_parses : (answer : Bool) (s : State V W) (r : List ℕ) → is_held answer s r ≡ false
-      → turn m answer s r ≡ open_turn m (stop_if_due m answer s) r
+  pub turn_parses : (pending : Bool) (s : State V W) (r : List ℕ) → is_held pending s r ≡ false
+      → turn m pending s r ≡ open_turn m (stop_if_due m pending s) r
   turn_parses true s r parses = rw parses refl
   turn_parses false s r parses = elim (not_pending (length s.held) (length r)) [
     | inl e ↦ rw (e.0, e.1) refl
     | inr e ↦ rw (e.0, e.1) refl
   ]
 
-  pub opens_first : (answer : Bool) (s t : State V W) (r left : List ℕ) → TurnHalts m answer s r t left
-      → OpensAndHalts m answer s r t left
+  pub opens_first : (pending : Bool) (s t : State V W) (r left : List ℕ) → TurnHalts m pending s r t left
+      → OpensAndHalts m pending s r t left
   opens_first true s t r left h = elim (cases_Bool (nat_le (length s.held + length r) most_held)) [
     | inl fits ↦ absurd (rw fits at h)
     | inr full ↦ (full, rw full at h)
@@ -57,8 +57,8 @@ module _ {V W : Type 0} (m : Meaning V W) where
     | inr e ↦ (refl, rw e.1 (rw e.0 at h))
   ]
 
-  pub halts_open : (answer : Bool) (s t : State V W) (r left : List ℕ) → OpensAndHalts m answer s r t left
-      → TurnHalts m answer s r t left
+  pub halts_open : (pending : Bool) (s t : State V W) (r left : List ℕ) → OpensAndHalts m pending s r t left
+      → TurnHalts m pending s r t left
   halts_open true s t r left (parses, h) = rw parses h
   halts_open false s t r left (parses, h) = elim (not_pending (length s.held) (length r)) [
     | inl e ↦ rw e.0 (rw e.1 at h)

@@ -143,96 +143,98 @@ halted_nothing m {s} at = record { next = s; takes = between done; is_at = at }
 -- ---- turns of a call, and one after them that is refused memory
 
 module _ {V W : Type 0} (m : Meaning V W) where
-  pub one_taken : {s : State V W} {bytes : List ℕ} (answer : Bool) → 0 < length bytes
-      → m.timeout.allows s.timeout answer
-      → TakesTurns m s bytes (turn m answer s bytes).state (turn m answer s bytes).rest
-  one_taken {bytes = []} answer some allowed = absurd (omega arith)
-  one_taken {bytes = b ∷ bytes} answer some allowed = turns answer allowed done
+  pub one_taken : {s : State V W} {bytes : List ℕ} (pending : Bool) → 0 < length bytes
+      → m.timeout.allows s.timeout pending
+      → TakesTurns m s bytes (turn m pending s bytes).state (turn m pending s bytes).rest
+  one_taken {bytes = []} pending some allowed = absurd (omega arith)
+  one_taken {bytes = b ∷ bytes} pending some allowed = turns pending allowed done
 
   -- turns go on with those of the rest
   pub taken_on : (s t u : State V W) (bytes left rest : List ℕ) → TakesTurns m s bytes t left
       → TakesTurns m t left u rest → TakesTurns m s bytes u rest
   taken_on s t u bytes left rest done more = more
-  taken_on s t u (b ∷ bytes) left rest (turns answer allowed first) more =
-      turns answer allowed (taken_on _ t u _ left rest first more)
+  taken_on s t u (b ∷ bytes) left rest (turns pending allowed first) more =
+      turns pending allowed (taken_on _ t u _ left rest first more)
 
   pub some_on : (s t u : State V W) (bytes left rest : List ℕ) → TakesTurns m s bytes t left → TakesSome m t left u rest
       → TakesSome m s bytes u rest
   some_on s t u bytes left rest first (between more) = between (taken_on s t u bytes left rest first more)
-  some_on s t u bytes left rest first (within more answer allowed halts) =
-      within (taken_on s t _ bytes left _ first more) answer allowed halts
+  some_on s t u bytes left rest first (within more pending allowed halts) =
+      within (taken_on s t _ bytes left _ first more) pending allowed halts
 
   -- where nothing is left, no turn was refused memory
   pub all_taken : (s t : State V W) (bytes : List ℕ) → TakesSome m s bytes t [] → TakesTurns m s bytes t []
   all_taken s t bytes (between taken) = taken
-  all_taken s t bytes (within {u} {rest} taken answer allowed halts) =
-      absurd (omega (arith, (opens_first m answer u t rest [] halts).1.some_left))
+  all_taken s t bytes (within {u} {rest} taken pending allowed halts) =
+      absurd (omega (arith, (opens_first m pending u t rest [] halts).1.some_left))
 
   -- ---- what is parsed and held then
 
-  turn_halts_grow : (answer : Bool) (s t : State V W) (bytes left : List ℕ) → OpensAndHalts m answer s bytes t left
+  turn_halts_grow : (pending : Bool) (s t : State V W) (bytes left : List ℕ) → OpensAndHalts m pending s bytes t left
       → Grows s t bytes left
-  turn_halts_grow answer s t bytes left (parses, h) =
+  turn_halts_grow pending s t bytes left (parses, h) =
       rw h.state_is
-      (grows_on (stop_if_due_grows m answer s bytes)
-      (parse_grows m (stop_if_due m answer s) h.front left bytes (stop_if_due_none m answer s) h.bytes_are))
+      (grows_on (stop_if_due_grows m pending s bytes)
+      (parse_grows m (stop_if_due m pending s) h.front left bytes (stop_if_due_none m pending s) h.bytes_are))
 
   pub some_grow : (s t : State V W) (bytes left : List ℕ) → TakesSome m s bytes t left → Grows s t bytes left
   some_grow s t bytes left (between taken) = turns_grow m s t bytes left taken
-  some_grow s t bytes left (within {u} {rest} taken answer allowed halts) =
+  some_grow s t bytes left (within {u} {rest} taken pending allowed halts) =
       grows_on (turns_grow m s u bytes rest taken)
-      (turn_halts_grow answer u t rest left (opens_first m answer u t rest left halts))
+      (turn_halts_grow pending u t rest left (opens_first m pending u t rest left halts))
 
   -- outside an update, and with nothing held
-  turn_halts_outside : (answer : Bool) (s t : State V W) (bytes left : List ℕ) → IsSteady m.timeout → HoldsWellAt m s
-      → m.timeout.allows s.timeout answer
-      → OpensAndHalts m answer s bytes t left → IsOutsideUpdate m.timeout t.held t.timeout
-  turn_halts_outside answer s t bytes left kept well allowed (parses, h) =
-      rw (h.state_is, h.none_begin) (stop_if_due_outside m answer s allowed well kept)
+  turn_halts_outside : (pending : Bool) (s t : State V W) (bytes left : List ℕ) → IsSteady m.timeout → HoldsWellAt m s
+      → m.timeout.allows s.timeout pending
+      → OpensAndHalts m pending s bytes t left → IsOutsideUpdate m.timeout t.held t.timeout
+  turn_halts_outside pending s t bytes left steady well allowed (parses, h) =
+      rw (h.state_is, h.none_begin) (stop_if_due_outside m pending s allowed well steady)
 
-  turn_halts_held : (answer : Bool) (s t : State V W) (bytes left : List ℕ)
-      → OpensAndHalts m answer s bytes t left → t.held ≡ []
-  turn_halts_held answer s t bytes left (parses, h) = ap (λ t. t.held) h.state_is ∙ stop_if_due_none m answer s
+  turn_halts_held : (pending : Bool) (s t : State V W) (bytes left : List ℕ)
+      → OpensAndHalts m pending s bytes t left → t.held ≡ []
+  turn_halts_held pending s t bytes left (parses, h) = ap (λ t. t.held) h.state_is ∙ stop_if_due_none m pending s
 
   pub some_well : (s t : State V W) (bytes left : List ℕ) → TakesSome m s bytes t left → HoldsWellAt m s
       → HoldsWellAt m t
   some_well s t bytes left (between taken) well = taken_well m s t bytes left taken well
-  some_well s t bytes left (within {u} {rest} taken answer allowed halts) well =
-      let opens = opens_first m answer u t rest left halts in
-      let nothing = turn_halts_held answer u t rest left opens in
+  some_well s t bytes left (within {u} {rest} taken pending allowed halts) well =
+      let opens = opens_first m pending u t rest left halts in
+      let nothing = turn_halts_held pending u t rest left opens in
       record {
         no_end = rw nothing refl;
         fits = rw nothing (omega arith);
-        kept =
-            λ kept.
-            inl (turn_halts_outside answer u t rest left kept (taken_well m s u bytes rest taken well) allowed opens);
+        steady =
+            λ steady.
+            inl (turn_halts_outside pending u t rest left steady (taken_well m s u bytes rest taken well) allowed
+            opens);
       }
 
   -- ---- the unread bytes in a further call
 
-  turn_goes_on : (answer : Bool) (s t : State V W) (bytes left : List ℕ) → OpensAndHalts m answer s bytes t left
-      → turn m false t left ≡ turn m answer s bytes
-  turn_goes_on answer s t bytes left (parses, h) =
+  turn_goes_on : (pending : Bool) (s t : State V W) (bytes left : List ℕ) → OpensAndHalts m pending s bytes t left
+      → turn m false t left ≡ turn m pending s bytes
+  turn_goes_on pending s t bytes left (parses, h) =
       let none : kind_of false (length t.held) (length left) ≡ OpenTurn =
-      rw (turn_halts_held answer s t bytes left (parses, h)) refl in
-      rw (none, turn_parses m answer s bytes parses) (open_on m (stop_if_due m answer s) t bytes left h)
+      rw (turn_halts_held pending s t bytes left (parses, h)) refl in
+      rw (none, turn_parses m pending s bytes parses) (open_on m (stop_if_due m pending s) t bytes left h)
 
-  halted_goes_on : (answer : Bool) (s t end : State V W) (bytes left : List ℕ) → m.timeout.allows s.timeout answer
-      → OpensAndHalts m answer s bytes t left
+  halted_goes_on : (pending : Bool) (s t end : State V W) (bytes left : List ℕ) → m.timeout.allows s.timeout pending
+      → OpensAndHalts m pending s bytes t left
       → IsOutsideUpdate m.timeout t.held t.timeout → TakesTurns m t left end [] → TakesTurns m s bytes end []
-  halted_goes_on answer s t end bytes left allowed h out done = absurd (omega (arith, h.1.some_left))
-  halted_goes_on answer s t end bytes (b ∷ left) allowed h out (turns other allows more) =
-      let same : turn m other t (b ∷ left) ≡ turn m answer s bytes =
-      rw (out.not_pending.1 other allows) (turn_goes_on answer s t bytes (b ∷ left) h) in
+  halted_goes_on pending s t end bytes left allowed h out done = absurd (omega (arith, h.1.some_left))
+  halted_goes_on pending s t end bytes (b ∷ left) allowed h out (turns other allows more) =
+      let same : turn m other t (b ∷ left) ≡ turn m pending s bytes =
+      rw (out.not_pending.1 other allows) (turn_goes_on pending s t bytes (b ∷ left) h) in
       let some : 0 < length bytes =
       omega (arith, h.1.some_left, ap length h.1.bytes_are, length-append h.1.front (b ∷ left)) in
-      taken_on s _ end bytes _ [] (one_taken answer some allowed)
+      taken_on s _ end bytes _ [] (one_taken pending some allowed)
       (subst (λ x. TakesTurns m x.state x.rest end []) same more)
 
   pub goes_on : (s t end : State V W) (bytes left : List ℕ) → IsSteady m.timeout → HoldsWellAt m s
       → TakesSome m s bytes t left → TakesAllTurns m t left end → TakesAllTurns m s bytes end
-  goes_on s t end bytes left kept well (between taken) more = taken_on s t end bytes left [] taken more
-  goes_on s t end bytes left kept well (within {u} {rest} taken answer allowed halts) more =
-      let opens = opens_first m answer u t rest left halts in
-      let out = turn_halts_outside answer u t rest left kept (taken_well m s u bytes rest taken well) allowed opens in
-      taken_on s u end bytes rest [] taken (halted_goes_on answer u t end rest left allowed opens out more)
+  goes_on s t end bytes left steady well (between taken) more = taken_on s t end bytes left [] taken more
+  goes_on s t end bytes left steady well (within {u} {rest} taken pending allowed halts) more =
+      let opens = opens_first m pending u t rest left halts in
+      let out = turn_halts_outside pending u t rest left steady (taken_well m s u bytes rest taken well) allowed opens
+      in
+      taken_on s u end bytes rest [] taken (halted_goes_on pending u t end rest left allowed opens out more)

@@ -8,7 +8,7 @@ use Rattle.vte.proofs.turns.Turns.{has_advanced, taken-to}
 use Rattle.vte.specs.declared.ansi.processor.Processor.{Processor}
 use Rattle.vte.specs.declared.ansi.titles.TheConstants.{TEXT_ROOM}
 
-abbrev pub limited : {N : ℕ} {J T W : Type 0} → (T → W) → TurnsMeaning (Parser N) J T W
+abbrev pub limited : {N : ℕ} {B T W : Type 0} → (T → W) → TurnsMeaning (Parser N) B T W
 limited timeout_of = of_turns usual_limit short_meaning (λ text. TEXT_ROOM) timeout_of
 
 module _ {T A V W : Type 0} {timeout_of : T → W} {processor : Processor T A} {value : V} (s : State V W) where

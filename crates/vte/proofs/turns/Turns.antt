@@ -10,7 +10,7 @@ use Rattle.vte.proofs.turns.Kinds.{halts_open, is_held, stop_if_due, turn_holds,
 use Rattle.vte.proofs.turns.Slices.{all_taken, halts, one_taken, some_grow, some_on, some_well, taken_on}
 
 -- turns stand where their parts do
-module _ {P J T A V W : Type 0} {w : TurnsMeaning P J T W} {turns : Turns P J T A} {value : V} {s : State V W} where
+module _ {P B T A V W : Type 0} {w : TurnsMeaning P B T W} {turns : Turns P B T A} {value : V} {s : State V W} where
   pub parts-at : AreAt w turns value s → IsParsed w turns.parser turns.state value s
   parts-at at = record { has_parsed = at.stands.has_parsed; handler_is = at.handler_is }
 
@@ -28,17 +28,17 @@ module _ {P J T A V W : Type 0} {w : TurnsMeaning P J T W} {turns : Turns P J T 
   }
 
 -- turns that go on, with the memory that was there before
-module _ {P J T A V W : Type 0} {w : TurnsMeaning P J T W} {value : V} {s : State V W} where
-  pub next-at : {turns : Turns P J T A} → AreAt w turns value s → AreNextAt w turns turns value s
+module _ {P B T A V W : Type 0} {w : TurnsMeaning P B T W} {value : V} {s : State V W} where
+  pub next-at : {turns : Turns P B T A} → AreAt w turns value s → AreNextAt w turns turns value s
   next-at at = record { are_at = at; memory = λ stream count had. had }
 
-  pub after-next : {old mid new : Turns P J T A} → KeepsMemory (HasMemory w old) (HasMemory w mid)
+  pub after-next : {old mid new : Turns P B T A} → KeepsMemory (HasMemory w old) (HasMemory w mid)
       → AreNextAt w mid new value s → AreNextAt w old new value s
   after-next keeps next =
       record { are_at = next.are_at; memory = λ stream count had. next.memory stream count (keeps stream count had) }
 
   -- they stand where they stood, and the handler is the same
-  pub kept-next : {old mid new : Turns P J T A} {more : ℕ} {result : Bool} → ReservesRoom w mid new more result
+  pub kept-next : {old mid new : Turns P B T A} {more : ℕ} {result : Bool} → ReservesRoom w mid new more result
       → AreNextAt w old mid value s → AreNextAt w old new value s
   kept-next r at = record {
     are_at = record { stands = r.same s.parsed s.held s.timeout at.are_at.stands; handler_is = at.are_at.handler_is };
@@ -46,9 +46,9 @@ module _ {P J T A V W : Type 0} {w : TurnsMeaning P J T W} {value : V} {s : Stat
   }
 
 -- a slice is parsed with the memory that was taken for it
-module _ {P J T A V W : Type 0} {w : TurnsMeaning P J T W} {m : Meaning V W} {s : State V W} {bytes slice : List ℕ}
+module _ {P B T A V W : Type 0} {w : TurnsMeaning P B T W} {m : Meaning V W} {s : State V W} {bytes slice : List ℕ}
     {read count n : ℕ} {b : Bool}
-    {first old taken : Turns P J T A} {parser : P} {state : ProcessorState T J} {before value : V} where
+    {first old taken : Turns P B T A} {parser : P} {state : ProcessorState T B} {before value : V} where
   pub slice_parsed : IsOpenAt m s bytes read (AreNextAt w first old before) → ReservesRoom w old taken count true
       → length slice ≡ count → s.held ≡ []
       → ((t : State V W) (k : ℕ) → IsParsedWithRoom w taken.parser taken.state before t (length slice + k)
@@ -72,7 +72,7 @@ module _ {P J T A V W : Type 0} {w : TurnsMeaning P J T W} {m : Meaning V W} {s 
       }
 
 -- after a stop
-pub stops_update : {P J T A V W : Type 0} {w : TurnsMeaning P J T W} {m : Meaning V W} {old mid new : Turns P J T A}
+pub stops_update : {P B T A V W : Type 0} {w : TurnsMeaning P B T W} {m : Meaning V W} {old mid new : Turns P B T A}
     {before value : V} → KeepsMemory (HasMemory w old) (HasMemory w mid)
     → ((s : State V W) → AreAt w old before s → AreNextAt w mid new value (stop m s))
     → StopsUpdate w m old new before value
@@ -81,36 +81,36 @@ stops_update {m = m} keeps ends = record {
   memory = λ s at stream count had. (ends s at).memory stream count (keeps stream count had);
 }
 
-pub stops-next : {P J T A V W : Type 0} {w : TurnsMeaning P J T W} {m : Meaning V W} {old new : Turns P J T A}
+pub stops-next : {P B T A V W : Type 0} {w : TurnsMeaning P B T W} {m : Meaning V W} {old new : Turns P B T A}
     {before value : V} {s : State V W} → StopsUpdate w m old new before value
     → AreAt w old before s → AreNextAt w old new value (stop m s)
 stops-next stopped at = record { are_at = stopped.stops _ at; memory = stopped.memory _ at }
 
 -- a turn that parses bytes, after a stop if need be
-pub ends_turn : {P J T A V W : Type 0} {w : TurnsMeaning P J T W} {m : Meaning V W} {old mid new : Turns P J T A}
-    {value : V} {s : State V W} {bytes : List ℕ} (answer : Bool)
-    → m.timeout.allows s.timeout answer → is_held answer s bytes ≡ false
+pub ends_turn : {P B T A V W : Type 0} {w : TurnsMeaning P B T W} {m : Meaning V W} {old mid new : Turns P B T A}
+    {value : V} {s : State V W} {bytes : List ℕ} (pending : Bool)
+    → m.timeout.allows s.timeout pending → is_held pending s bytes ≡ false
     → KeepsMemory (HasMemory w old) (HasMemory w mid) → (result : Result ℕ Refused)
     → MatchResult result (λ read. read ≤ length bytes) (λ refused. refused.read < length bytes)
-    → EndsOpen m (stop_if_due m answer s) bytes result (AreNextAt w mid new value)
+    → EndsOpen m (stop_if_due m pending s) bytes result (AreNextAt w mid new value)
     → EndsTurn m s bytes result (AreNextAt w old new value)
-ends_turn {m = m} {s = s} {bytes = bytes} answer allowed parses keeps (Ok read) less e = record {
+ends_turn {m = m} {s = s} {bytes = bytes} pending allowed parses keeps (Ok read) less e = record {
   turned =
       record {
-        answer = answer;
+        pending = pending;
         allowed = allowed;
         progress = e.opened.progress;
-        rest = rw (turn_parses m answer s bytes parses) e.opened.rest;
-        is_at = rw (turn_parses m answer s bytes parses) (after-next keeps e.opened.is_at);
+        rest = rw (turn_parses m pending s bytes parses) e.opened.rest;
+        is_at = rw (turn_parses m pending s bytes parses) (after-next keeps e.opened.is_at);
       };
   halted = tt;
 }
-ends_turn {m = m} {s = s} {bytes = bytes} answer allowed parses keeps (Err refused) less e = record {
+ends_turn {m = m} {s = s} {bytes = bytes} pending allowed parses keeps (Err refused) less e = record {
   turned = tt;
   halted = record {
-    next = parse m (stop_if_due m answer s) (take refused.read bytes);
-    takes = within done answer allowed
-        (halts_open m answer s _ bytes _ (parses, halts m (stop_if_due m answer s) bytes e.halted less));
+    next = parse m (stop_if_due m pending s) (take refused.read bytes);
+    takes = within done pending allowed
+        (halts_open m pending s _ bytes _ (parses, halts m (stop_if_due m pending s) bytes e.halted less));
     is_at = after-next keeps e.halted.is_at;
   };
 }
@@ -119,15 +119,15 @@ ends_turn {m = m} {s = s} {bytes = bytes} answer allowed parses keeps (Err refus
 
 module _ {V W : Type 0} (m : Meaning V W) {s : State V W} {bytes : List ℕ} {n : ℕ}
     {IsThere : State V W → Type 0} where
-  pub turned_hold : {answer : Bool} → m.timeout.allows s.timeout answer → is_held answer s bytes ≡ true
+  pub turned_hold : {pending : Bool} → m.timeout.allows s.timeout pending → is_held pending s bytes ≡ true
       → n ≡ length bytes → IsThere (hold_turn m s bytes) → Turned m s bytes n IsThere
-  turned_hold {answer} allowed held all at =
+  turned_hold {pending} allowed held all at =
       record {
-        answer = answer;
+        pending = pending;
         allowed = allowed;
         progress = λ some. omega arith;
-        rest = rw (turn_holds m answer s bytes held) (sym (drop_all n bytes (omega arith)));
-        is_at = rw (turn_holds m answer s bytes held) at;
+        rest = rw (turn_holds m pending s bytes held) (sym (drop_all n bytes (omega arith)));
+        is_at = rw (turn_holds m pending s bytes held) at;
       }
 
 -- ---- the turns of a call
@@ -152,7 +152,7 @@ module _ {V W : Type 0} (m : Meaning V W) (s : State V W) (bytes : List ℕ) whe
   pub reaches-nothing : {IsThere : State V W → Type 0} → IsThere s → HasReached 0 0 IsThere
   reaches-nothing at = record { here = s; enough = omega arith; takes = done; is_at = at }
 
-  pub reaches-more : {P J T A : Type 0} {w : TurnsMeaning P J T W} {first mid new : Turns P J T A} {before value : V}
+  pub reaches-more : {P B T A : Type 0} {w : TurnsMeaning P B T W} {first mid new : Turns P B T A} {before value : V}
       {count read n : ℕ}
       → (r : HasReached count read (AreNextAt w first mid before)) → read < length bytes
       → Turned m r.here (take (length bytes - read) (drop read bytes)) n (AreNextAt w mid new value)
@@ -161,12 +161,12 @@ module _ {V W : Type 0} (m : Meaning V W) (s : State V W) (bytes : List ℕ) whe
       let slice = take (length bytes - read) (drop read bytes) in
       let is : slice ≡ drop read bytes = rest_is bytes read (omega arith) in
       let left : 0 < length slice = rw (is, length-drop read bytes) (omega arith) in
-      let rest : (turn m u.answer r.here slice).rest ≡ drop (read + n) bytes =
+      let rest : (turn m u.pending r.here slice).rest ≡ drop (read + n) bytes =
       u.rest ∙ rw (is, drop-drop n read bytes) in
       record {
-        here = (turn m u.answer r.here slice).state;
+        here = (turn m u.pending r.here slice).state;
         enough = omega (arith, r.enough, u.progress left);
-        takes = rw rest at (taken_on m s r.here _ bytes slice _ (rw is r.takes) (one_taken m u.answer left u.allowed));
+        takes = rw rest at (taken_on m s r.here _ bytes slice _ (rw is r.takes) (one_taken m u.pending left u.allowed));
         is_at = after-next r.is_at.memory u.is_at;
       }
 
@@ -188,7 +188,7 @@ module _ {V W : Type 0} (m : Meaning V W) (s : State V W) (bytes : List ℕ) whe
   has_taken r = taken r.here (between r.takes) r.is_at
 
   -- a turn was refused memory
-  pub has_halted : {P J T A : Type 0} {w : TurnsMeaning P J T W} {first mid new : Turns P J T A} {before value : V}
+  pub has_halted : {P B T A : Type 0} {w : TurnsMeaning P B T W} {first mid new : Turns P B T A} {before value : V}
       {count read n : ℕ}
       → (r : HasReached count read (AreNextAt w first mid before)) → read ≤ length bytes
       → Halted m r.here (take (length bytes - read) (drop read bytes)) n (AreNextAt w mid new value)
@@ -224,12 +224,12 @@ module _ {V W : Type 0} {m : Meaning V W} {s : State V W} {bytes : List ℕ} {re
         is_at = follows h.next h.is_at;
       }
 
-  taken-at : {P J T A : Type 0} {w : TurnsMeaning P J T W} {old new : Turns P J T A} {value : V}
+  taken-at : {P B T A : Type 0} {w : TurnsMeaning P B T W} {old new : Turns P B T A} {value : V}
       → HasTaken m s bytes read (AreNextAt w old new value) → HasTaken m s bytes read (AreAt w new value)
   taken-at = taken-to (λ t next. next.are_at)
 
 -- what a call ensures by its turns
-module _ {P J T A V W : Type 0} {w : TurnsMeaning P J T W} {m : Meaning V W} {old new : Turns P J T A}
+module _ {P B T A V W : Type 0} {w : TurnsMeaning P B T W} {m : Meaning V W} {old new : Turns P B T A}
     {before value : V} (bytes : List ℕ) where
   pub all_read : {count read : ℕ}
       → ((s : State V W) → AreAt w old before s → HasReached m s bytes count read (AreNextAt w old new value))

@@ -12,8 +12,8 @@ use Rattle.vte_handler.specs.Call.{Call}
 use Rattle.vte_handler.specs.Handler.{after}
 use Rattle.vte_handler.specs.Timeout.{TimeoutMeaning}
 
-pub record PerformerValue (H W : Type 0) : Type 0 where
-  pub handler : H
+pub record PerformerValue (V W : Type 0) : Type 0 where
+  pub handler : V
   pub timeout : W
   pub last : Option ℕ
   pub room : ℕ
@@ -32,8 +32,8 @@ abbrev pub FitsText : ℕ → Event → Type 0
 FitsText room event = (last : Option ℕ) → calls_made room last event ≡ calls_of last event
 
 -- An event that begins an update terminates the performer.
-abbrev pub with_event : {H W : Type 0}
-    → (H → Call → H) → TimeoutMeaning W → PerformerValue H W → Event → PerformerValue H W
+abbrev pub with_event : {V W : Type 0}
+    → (V → Call → V) → TimeoutMeaning W → PerformerValue V W → Event → PerformerValue V W
 with_event step timeout lent event = record {
   handler = after step lent.handler (calls_made lent.room lent.last event);
   timeout = set_times timeout (begins_in_event event) lent.timeout;

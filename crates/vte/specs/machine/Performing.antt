@@ -18,8 +18,8 @@ use Rattle.vte_handler.specs.Call.{Call}
 use Rattle.vte_handler.specs.Handler.{after}
 use Rattle.vte_handler.specs.Timeout.{TimeoutMeaning}
 
-abbrev pub performer_value : {H T J G V W : Type 0}
-    → (H → V) → (T → W) → (J → ℕ) → Performer H T J G → PerformerValue V W
+abbrev pub performer_value : {H T B G V W : Type 0}
+    → (H → V) → (T → W) → (B → ℕ) → Performer H T B G → PerformerValue V W
 performer_value handler_of timeout_of room_of performer = record {
   handler = handler_of performer.handler.now;
   timeout = timeout_of performer.state.now.timeout;
@@ -31,8 +31,8 @@ performer_value handler_of timeout_of room_of performer = record {
 }
 
 -- A private mode is set. The handler receives the call, and the update mode also begins an update.
-abbrev pub with_private_mode : {H W : Type 0}
-    → (H → Call → H) → TimeoutMeaning W → PerformerValue H W → ℕ → PerformerValue H W
+abbrev pub with_private_mode : {V W : Type 0}
+    → (V → Call → V) → TimeoutMeaning W → PerformerValue V W → ℕ → PerformerValue V W
 with_private_mode step timeout lent number = record lent {
   handler = step lent.handler (change_call SetPrivate number);
   timeout = set_times timeout (if number == update_mode then 1 else 0) lent.timeout;
@@ -40,8 +40,8 @@ with_private_mode step timeout lent number = record lent {
 }
 
 -- One is set for each group.
-abbrev pub with_private_modes : {H W : Type 0}
-    → (H → Call → H) → TimeoutMeaning W → PerformerValue H W → List (List ℕ) → PerformerValue H W
+abbrev pub with_private_modes : {V W : Type 0}
+    → (V → Call → V) → TimeoutMeaning W → PerformerValue V W → List (List ℕ) → PerformerValue V W
 with_private_modes step timeout lent groups = record lent {
   handler = after step lent.handler (change_calls SetPrivate (first_numbers groups));
   timeout = set_times timeout (update_group_count groups) lent.timeout;

@@ -14,4 +14,4 @@ LacksShortRoom parser size stream count = size < TEXT_ROOM
 
 abbrev pub short_meaning : {N : ℕ} → ParserMeaning (Parser N)
 short_meaning =
-    record { has_read = HasRead; has_room = HasShortRoom; lacks_room = LacksShortRoom }
+    record { has_read = HasRead; has_memory = HasShortRoom; lacks_memory = LacksShortRoom }

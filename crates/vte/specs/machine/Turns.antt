@@ -12,41 +12,42 @@ use Rattle.vte.specs.declared.ansi.performer.ProcessorState.{ProcessorState}
 use Rattle.vte.specs.declared.ansi.turns.Turns.{Turns}
 
 -- The parser, the state lent to it and the handler's value are as the state says, whatever is held.
-pub record IsParsed {P J T V W : Type 0} (w : TurnsMeaning P J T W) (parser : P)
-    (lent : ProcessorState T J) (value : V) (s : State V W) : Type 0 where
-  pub has_parsed : HasParsed w parser lent s.parsed s.timeout
+pub record IsParsed {P B T V W : Type 0} (parts : TurnsMeaning P B T W) (parser : P)
+    (lent : ProcessorState T B) (value : V) (s : State V W) : Type 0 where
+  pub has_parsed : HasParsed parts parser lent s.parsed s.timeout
   pub handler_is : value ≡ s.handler
 
 -- `IsParsed`, and there is memory for `count` bytes.
-pub record IsParsedWithRoom {P J T V W : Type 0} (w : TurnsMeaning P J T W) (parser : P)
-    (lent : ProcessorState T J) (value : V) (s : State V W) (count : ℕ) : Type 0 where
-  pub is_parsed : IsParsed w parser lent value s
-  pub room : w.reading.has_room parser (w.room_of lent.text) s.parsed count
+pub record IsParsedWithRoom {P B T V W : Type 0} (parts : TurnsMeaning P B T W) (parser : P)
+    (lent : ProcessorState T B) (value : V) (s : State V W) (count : ℕ) : Type 0 where
+  pub is_parsed : IsParsed parts parser lent value s
+  pub room : parts.reading.has_room parser (parts.room_of lent.text) s.parsed count
 
 -- `IsParsed`, with the memory that was there before.
-pub record IsParsedOn {P J T V W : Type 0} (w : TurnsMeaning P J T W) (parser : P)
-    (lent : ProcessorState T J) (next : P) (back : ProcessorState T J) (value : V) (s : State V W)
+pub record IsParsedOn {P B T V W : Type 0} (parts : TurnsMeaning P B T W) (parser : P)
+    (lent : ProcessorState T B) (next : P) (back : ProcessorState T B) (value : V) (s : State V W)
     : Type 0 where
-  pub is_parsed : IsParsed w next back value s
-  pub memory : KeepsMemory (w.reading.has_room parser (w.room_of lent.text))
-      (w.reading.has_room next (w.room_of back.text))
+  pub is_parsed : IsParsed parts next back value s
+  pub memory : KeepsMemory (parts.reading.has_room parser (parts.room_of lent.text))
+      (parts.reading.has_room next (parts.room_of back.text))
 
 -- The turns and the handler's value are as the state says.
-abbrev pub AreAt : {P J T A V W : Type 0} → TurnsMeaning P J T W → Turns P J T A → V → State V W
+abbrev pub AreAt : {P B T A V W : Type 0} → TurnsMeaning P B T W → Turns P B T A → V → State V W
     → Type 0
-AreAt w turns = IsAt (TurnsStandAt w turns)
+AreAt parts turns = IsAt (TurnsStandAt parts turns)
 
 -- The turns are at a state, with the memory that was there before.
-pub record AreNextAt {P J T A V W : Type 0} (w : TurnsMeaning P J T W) (turns next : Turns P J T A)
+pub record AreNextAt {P B T A V W : Type 0} (parts : TurnsMeaning P B T W)
+    (turns next : Turns P B T A)
     (value : V) (s : State V W) : Type 0 where
-  pub are_at : AreAt w next value s
-  pub memory : KeepsMemory (HasMemory w turns) (HasMemory w next)
+  pub are_at : AreAt parts next value s
+  pub memory : KeepsMemory (HasMemory parts turns) (HasMemory parts next)
 
 -- From each state that the turns are at, they lead on as `ends` says.
-abbrev pub LeadOn : {P J T A V W : Type 0} → TurnsMeaning P J T W → Turns P J T A → Turns P J T A
+abbrev pub LeadOn : {P B T A V W : Type 0} → TurnsMeaning P B T W → Turns P B T A → Turns P B T A
     → V → V → (State V W → (State V W → Type 0) → Type 0) → Type 0
-LeadOn w turns next old new ends =
-    (s : State _ _) → AreAt w turns old s → ends s (AreNextAt w turns next new)
+LeadOn parts turns next old new ends =
+    (s : State _ _) → AreAt parts turns old s → ends s (AreNextAt parts turns next new)
 
 -- The first `read` bytes were parsed: those up to the one that begins an update, or all if none
 -- begins.
@@ -61,11 +62,11 @@ pub record IsAtBegin {V W : Type 0} (m : Meaning V W) (s : State V W) (bytes : L
 -- it leads.
 pub record Turned {V W : Type 0} (m : Meaning V W) (s : State V W) (bytes : List ℕ) (read : ℕ)
     (IsThere : State V W → Type 0) : Type 0 where
-  pub answer : Bool
-  pub allowed : m.timeout.allows s.timeout answer
+  pub pending : Bool
+  pub allowed : m.timeout.allows s.timeout pending
   pub progress : 0 < length bytes → 0 < read
-  pub rest : (turn m answer s bytes).rest ≡ drop read bytes
-  pub is_at : IsThere (turn m answer s bytes).state
+  pub rest : (turn m pending s bytes).rest ≡ drop read bytes
+  pub is_at : IsThere (turn m pending s bytes).state
 
 -- An open turn has read `read` bytes, and at least one if there were any.
 pub record Opened {V W : Type 0} (m : Meaning V W) (s : State V W) (bytes : List ℕ) (read : ℕ)

@@ -21,17 +21,17 @@ use vte_types::{CursorShape, laws};
 
 /// Makes the calls of an operating system command.
 #[tactic(auto, unfolding(vte_types::specs::NamedColor::number_of_color))]
-pub(crate) fn perform_system_command<H: Handler, J: TextBuffer>(
+pub(crate) fn perform_system_command<H: Handler, B: TextBuffer>(
     handler: &mut H,
-    text: &mut J,
+    text: &mut B,
     pieces: &[&[u8]],
     bell_terminated: bool,
 )
-    requires { FitsRoom (J.room text.old) (map (λ piece. piece.now) pieces.now) }
+    requires { FitsRoom (B.room text.old) (map (λ piece. piece.now) pieces.now) }
     ensures told { H.value_of handler.new
         ≡ after H.step (H.value_of handler.old)
         (system_command_calls (map (λ piece. piece.now) pieces.now) bell_terminated) }
-    ensures same { J.room text.new ≡ J.room text.old }
+    ensures same { B.room text.new ≡ B.room text.old }
 {
     laws::words_differ_from_other_texts();
     if let [first, texts @ ..] = pieces {
@@ -115,11 +115,11 @@ fn set_colors<H: Handler>(handler: &mut H, texts: &[&[u8]], terminator: &str)
 
 /// Sets the link that these pieces make. A URI of one piece is lent, and not copied.
 #[tactic(auto, using(crate::proofs::Joining::one_text))]
-fn set_link<H: Handler, J: TextBuffer>(handler: &mut H, text: &mut J, texts: &[&[u8]])
-    requires { FitsRoom (J.room text.old) (map (λ piece. piece.now) texts.now) }
+fn set_link<H: Handler, B: TextBuffer>(handler: &mut H, text: &mut B, texts: &[&[u8]])
+    requires { FitsRoom (B.room text.old) (map (λ piece. piece.now) texts.now) }
     ensures told { H.value_of handler.new
         ≡ after H.step (H.value_of handler.old) (link_calls (map (λ piece. piece.now) texts.now)) }
-    ensures same { J.room text.new ≡ J.room text.old }
+    ensures same { B.room text.new ≡ B.room text.old }
 {
     match texts {
         [] | [_] => {}

@@ -17,7 +17,7 @@ impl<A: Allocator> EventParser for LongParser<A> {
 
     ghost reading = { long_meaning };
 
-    fn reserve<J: TextBuffer>(&mut self, text: &mut J, held: usize, more: usize) -> bool {
+    fn reserve<B: TextBuffer>(&mut self, text: &mut B, held: usize, more: usize) -> bool {
         let Some(count) = held.checked_add(more) else {
             return false;
         };
@@ -42,9 +42,9 @@ fn joined_size(stored: usize, more: usize) -> Option<usize>
 #[tactic(auto, using(crate::proofs::performing::Rooms::long_parses, crate::proofs::performing::Rooms::long_stops))]
 impl<H: Handler, T: Timeout + Drop, A: Allocator> ParseAs<H, T, LongParser<A>> for Singly {
     #[inline(always)]
-    fn advance<J: TextBuffer + Drop>(
+    fn advance<B: TextBuffer + Drop>(
         parser: &mut LongParser<A>,
-        performer: &mut Performer<'_, '_, H, T, J, Self>,
+        performer: &mut Performer<'_, '_, H, T, B, Self>,
         bytes: &[u8],
     ) {
         // There is memory.
@@ -52,9 +52,9 @@ impl<H: Handler, T: Timeout + Drop, A: Allocator> ParseAs<H, T, LongParser<A>> f
     }
 
     #[inline(always)]
-    fn advance_until_begin<J: TextBuffer + Drop>(
+    fn advance_until_begin<B: TextBuffer + Drop>(
         parser: &mut LongParser<A>,
-        performer: &mut Performer<'_, '_, H, T, J, Self>,
+        performer: &mut Performer<'_, '_, H, T, B, Self>,
         bytes: &[u8],
     ) -> usize {
         match parser.advance_until_terminated(performer, bytes) {
@@ -67,9 +67,9 @@ impl<H: Handler, T: Timeout + Drop, A: Allocator> ParseAs<H, T, LongParser<A>> f
 #[tactic(auto, using(crate::proofs::performing::Rooms::long_parses, crate::proofs::performing::Rooms::long_stops))]
 impl<H: HandlerText, T: Timeout + Drop, A: Allocator> ParseAs<H, T, LongParser<A>> for InRuns {
     #[inline(always)]
-    fn advance<J: TextBuffer + Drop>(
+    fn advance<B: TextBuffer + Drop>(
         parser: &mut LongParser<A>,
-        performer: &mut Performer<'_, '_, H, T, J, Self>,
+        performer: &mut Performer<'_, '_, H, T, B, Self>,
         bytes: &[u8],
     ) {
         // There is memory.
@@ -77,9 +77,9 @@ impl<H: HandlerText, T: Timeout + Drop, A: Allocator> ParseAs<H, T, LongParser<A
     }
 
     #[inline(always)]
-    fn advance_until_begin<J: TextBuffer + Drop>(
+    fn advance_until_begin<B: TextBuffer + Drop>(
         parser: &mut LongParser<A>,
-        performer: &mut Performer<'_, '_, H, T, J, Self>,
+        performer: &mut Performer<'_, '_, H, T, B, Self>,
         bytes: &[u8],
     ) -> usize {
         match parser.advance_text_until_terminated(performer, bytes) {

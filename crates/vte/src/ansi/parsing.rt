@@ -34,15 +34,15 @@ pub(crate) trait EventParser {
 
     /// Takes memory for held bytes and for more, and for the texts that are joined from them.
     /// Returns whether it is there.
-    fn reserve<J: TextBuffer>(&mut self, text: &mut J, held: usize, more: usize) -> bool
+    fn reserve<B: TextBuffer>(&mut self, text: &mut B, held: usize, more: usize) -> bool
         ensures reads { (stream : List ℕ) → reading.has_read self.old stream
             → reading.has_read self.new stream }
         ensures room { result ≡ true → (stream : List ℕ) → reading.has_read self.new stream
-            → reading.has_room self.new (J.room text.new) stream (held + more) }
-        ensures memory { KeepsMemory (reading.has_room self.old (J.room text.old))
-            (reading.has_room self.new (J.room text.new)) }
+            → reading.has_room self.new (B.room text.new) stream (held + more) }
+        ensures memory { KeepsMemory (reading.has_room self.old (B.room text.old))
+            (reading.has_room self.new (B.room text.new)) }
         ensures lacks { result ≡ false → (stream : List ℕ) → reading.has_read self.new stream
-            → reading.lacks_room self.new (J.room text.new) stream (held + more) };
+            → reading.lacks_memory self.new (B.room text.new) stream (held + more) };
 }
 
 impl EventParser for ProcessorParser {
@@ -50,7 +50,7 @@ impl EventParser for ProcessorParser {
 
     ghost reading = { short_meaning };
 
-    fn reserve<J: TextBuffer>(&mut self, text: &mut J, _held: usize, _more: usize) -> bool {
+    fn reserve<B: TextBuffer>(&mut self, text: &mut B, _held: usize, _more: usize) -> bool {
         text.reserve(TEXT_ROOM)
     }
 }
@@ -58,23 +58,23 @@ impl EventParser for ProcessorParser {
 /// Parses for a handler that receives text in a grain: `Singly` or `InRuns`.
 pub(crate) trait ParseAs<H: Handler, T: Timeout + Drop, P: EventParser>: Sized {
     /// Parses all bytes.
-    fn advance<J: TextBuffer + Drop>(
+    fn advance<B: TextBuffer + Drop>(
         parser: &mut P,
-        performer: &mut Performer<'_, '_, H, T, J, Self>,
+        performer: &mut Performer<'_, '_, H, T, B, Self>,
         bytes: &[u8],
     )
-        ensures { let value = performer_value H.value_of T.value_of J.room in
+        ensures { let value = performer_value H.value_of T.value_of B.room in
             PerformsAll P.reading P.limit
             (with_event H.step (timeout_meaning T.set T.clear T.allows))
             parser.old parser.new (value performer.old) (value performer.new) bytes.now };
 
     /// Parses bytes until an update begins, and returns how many it parsed.
-    fn advance_until_begin<J: TextBuffer + Drop>(
+    fn advance_until_begin<B: TextBuffer + Drop>(
         parser: &mut P,
-        performer: &mut Performer<'_, '_, H, T, J, Self>,
+        performer: &mut Performer<'_, '_, H, T, B, Self>,
         bytes: &[u8],
     ) -> usize
-        ensures { let value = performer_value H.value_of T.value_of J.room in
+        ensures { let value = performer_value H.value_of T.value_of B.room in
             PerformsUntilStop P.reading P.limit
             (with_event H.step (timeout_meaning T.set T.clear T.allows))
             parser.old parser.new (value performer.old) (value performer.new)
@@ -84,18 +84,18 @@ pub(crate) trait ParseAs<H: Handler, T: Timeout + Drop, P: EventParser>: Sized {
 #[tactic(auto, using(crate::proofs::performing::Rooms::short_parses))]
 impl<H: Handler, T: Timeout + Drop> ParseAs<H, T, ProcessorParser> for Singly {
     #[inline(always)]
-    fn advance<J: TextBuffer + Drop>(
+    fn advance<B: TextBuffer + Drop>(
         parser: &mut ProcessorParser,
-        performer: &mut Performer<'_, '_, H, T, J, Self>,
+        performer: &mut Performer<'_, '_, H, T, B, Self>,
         bytes: &[u8],
     ) {
         parser.advance(performer, bytes);
     }
 
     #[inline(always)]
-    fn advance_until_begin<J: TextBuffer + Drop>(
+    fn advance_until_begin<B: TextBuffer + Drop>(
         parser: &mut ProcessorParser,
-        performer: &mut Performer<'_, '_, H, T, J, Self>,
+        performer: &mut Performer<'_, '_, H, T, B, Self>,
         bytes: &[u8],
     ) -> usize {
         parser.advance_until_terminated(performer, bytes)
@@ -105,18 +105,18 @@ impl<H: Handler, T: Timeout + Drop> ParseAs<H, T, ProcessorParser> for Singly {
 #[tactic(auto, using(crate::proofs::performing::Rooms::short_parses))]
 impl<H: HandlerText, T: Timeout + Drop> ParseAs<H, T, ProcessorParser> for InRuns {
     #[inline(always)]
-    fn advance<J: TextBuffer + Drop>(
+    fn advance<B: TextBuffer + Drop>(
         parser: &mut ProcessorParser,
-        performer: &mut Performer<'_, '_, H, T, J, Self>,
+        performer: &mut Performer<'_, '_, H, T, B, Self>,
         bytes: &[u8],
     ) {
         parser.advance_text(performer, bytes);
     }
 
     #[inline(always)]
-    fn advance_until_begin<J: TextBuffer + Drop>(
+    fn advance_until_begin<B: TextBuffer + Drop>(
         parser: &mut ProcessorParser,
-        performer: &mut Performer<'_, '_, H, T, J, Self>,
+        performer: &mut Performer<'_, '_, H, T, B, Self>,
         bytes: &[u8],
     ) -> usize {
         parser.advance_text_until_terminated(performer, bytes)
@@ -126,22 +126,22 @@ impl<H: HandlerText, T: Timeout + Drop> ParseAs<H, T, ProcessorParser> for InRun
 /// Parses all bytes.
 pub(crate) fn parse_all<
     H: Handler,
-    J: TextBuffer + Drop,
+    B: TextBuffer + Drop,
     T: Timeout + Drop,
     P: EventParser,
     G: ParseAs<H, T, P>,
->(parser: &mut P, state: &mut ProcessorState<T, J>, handler: &mut H, bytes: &[u8])
+>(parser: &mut P, state: &mut ProcessorState<T, B>, handler: &mut H, bytes: &[u8])
     ensures parsed { (s : State H.Value T.Value) (n : ℕ)
-        → IsParsedWithRoom (of_turns P.limit P.reading J.room T.value_of) parser.old state.old
+        → IsParsedWithRoom (of_turns P.limit P.reading B.room T.value_of) parser.old state.old
         (H.value_of handler.old) s (length bytes.now + n) →
         IsParsedOn
-        (of_turns P.limit P.reading J.room T.value_of) parser.old state.old parser.new state.new
+        (of_turns P.limit P.reading B.room T.value_of) parser.old state.old parser.new state.new
         (H.value_of handler.new)
         (parse (meaning P.limit H.step T.set T.clear T.allows) s bytes.now) }
     ensures room { (s : State H.Value T.Value) (n : ℕ)
-        → IsParsedWithRoom (of_turns P.limit P.reading J.room T.value_of) parser.old state.old
+        → IsParsedWithRoom (of_turns P.limit P.reading B.room T.value_of) parser.old state.old
         (H.value_of handler.old) s (length bytes.now + n) →
-        P.reading.has_room parser.new (J.room state.new.text) (s.parsed ++ bytes.now) n }
+        P.reading.has_room parser.new (B.room state.new.text) (s.parsed ++ bytes.now) n }
 {
     let mut performer = Performer {
         state,
@@ -156,18 +156,18 @@ pub(crate) fn parse_all<
 /// update begins.
 pub(crate) fn parse_until_begin<
     H: Handler,
-    J: TextBuffer + Drop,
+    B: TextBuffer + Drop,
     T: Timeout + Drop,
     P: EventParser,
     G: ParseAs<H, T, P>,
->(parser: &mut P, state: &mut ProcessorState<T, J>, handler: &mut H, bytes: &[u8]) -> (usize, bool)
+>(parser: &mut P, state: &mut ProcessorState<T, B>, handler: &mut H, bytes: &[u8]) -> (usize, bool)
     ensures within { result.0 ≤ length bytes.now }
     ensures stops { (s : State H.Value T.Value) (n : ℕ)
-        → IsParsedWithRoom (of_turns P.limit P.reading J.room T.value_of) parser.old state.old
+        → IsParsedWithRoom (of_turns P.limit P.reading B.room T.value_of) parser.old state.old
         (H.value_of handler.old) s (length bytes.now + n) →
         IsAtBegin (meaning P.limit H.step T.set T.clear T.allows) s bytes.now result.0 result.1
         (IsParsedOn
-        (of_turns P.limit P.reading J.room T.value_of) parser.old state.old parser.new state.new
+        (of_turns P.limit P.reading B.room T.value_of) parser.old state.old parser.new state.new
         (H.value_of handler.new)) }
 {
     let mut performer = Performer {

@@ -24,29 +24,29 @@ pub(crate) const UPDATE_TIMEOUT_MILLIS: u64 = 150;
 
 /// What a processor keeps between events.
 #[derive(Clone, Drop)]
-pub(crate) struct ProcessorState<T: Drop, J: Drop> {
+pub(crate) struct ProcessorState<T: Drop, B: Drop> {
     pub(crate) preceding_char: Option<char>,
-    pub(crate) text: J,
+    pub(crate) text: B,
     pub(crate) timeout: T,
 }
 
 /// Calls a handler for each event, while it borrows the handler and the processor's state.
 #[derive(Drop)]
-pub(crate) struct Performer<'s, 'h, H: Handler, T: Timeout + Drop, J: TextBuffer + Drop, G> {
-    pub(crate) state: &'s mut ProcessorState<T, J>,
+pub(crate) struct Performer<'s, 'h, H: Handler, T: Timeout + Drop, B: TextBuffer + Drop, G> {
+    pub(crate) state: &'s mut ProcessorState<T, B>,
     pub(crate) handler: &'h mut H,
     /// Whether an update has begun, so that the next turn reads the bytes that follow.
     pub(crate) terminated: bool,
     pub(crate) grain: PhantomData<G>,
 }
 
-impl<'s, 'h, H: InputAs<G>, T: Timeout + Drop, J: TextBuffer + Drop, G> Perform
-    for Performer<'s, 'h, H, T, J, G> {
+impl<'s, 'h, H: InputAs<G>, T: Timeout + Drop, B: TextBuffer + Drop, G> Perform
+    for Performer<'s, 'h, H, T, B, G> {
     ghost use Rattle.vte.specs.machine.Performer.{PerformerValue, with_event};
 
     ghost Value = { PerformerValue H.Value T.Value };
 
-    ghost value_of = { performer_value H.value_of T.value_of J.room };
+    ghost value_of = { performer_value H.value_of T.value_of B.room };
 
     ghost step = { with_event H.step (timeout_meaning T.set T.clear T.allows) };
 
@@ -94,8 +94,8 @@ impl<'s, 'h, H: InputAs<G>, T: Timeout + Drop, J: TextBuffer + Drop, G> Perform
     }
 }
 
-impl<'s, 'h, H: HandlerText, T: Timeout + Drop, J: TextBuffer + Drop> PerformText
-    for Performer<'s, 'h, H, T, J, InRuns> {
+impl<'s, 'h, H: HandlerText, T: Timeout + Drop, B: TextBuffer + Drop> PerformText
+    for Performer<'s, 'h, H, T, B, InRuns> {
     ghost keeps = { false };
 
     fn keeps_layout(&self) -> bool {
@@ -110,8 +110,8 @@ impl<'s, 'h, H: HandlerText, T: Timeout + Drop, J: TextBuffer + Drop> PerformTex
     }
 }
 
-impl<'s, 'h, H: HandlerText, T: Timeout + Drop, J: TextBuffer + Drop> PerformThroughText
-    for Performer<'s, 'h, H, T, J, InRuns> {
+impl<'s, 'h, H: HandlerText, T: Timeout + Drop, B: TextBuffer + Drop> PerformThroughText
+    for Performer<'s, 'h, H, T, B, InRuns> {
     ghost use Rattle.std.proofs.Common.{◌∙◌};
     ghost use Rattle.std.proofs.Math.Bool.{or-false};
 
@@ -119,12 +119,12 @@ impl<'s, 'h, H: HandlerText, T: Timeout + Drop, J: TextBuffer + Drop> PerformThr
     ghost goes_on = { λ lent c goes_on. or-false lent.terminated ∙ goes_on };
 }
 
-impl<'s, 'h, H: Handler, T: Timeout + Drop, J: TextBuffer + Drop, G> Performer<'s, 'h, H, T, J, G> {
+impl<'s, 'h, H: Handler, T: Timeout + Drop, B: TextBuffer + Drop, G> Performer<'s, 'h, H, T, B, G> {
     /// Sets the private modes, group by group.
     fn set_private_modes(&mut self, params: &Params)
-        ensures { performer_value H.value_of T.value_of J.room self.new
+        ensures { performer_value H.value_of T.value_of B.room self.new
             ≡ with_private_modes H.step (timeout_meaning T.set T.clear T.allows)
-            (performer_value H.value_of T.value_of J.room self.old) params.now }
+            (performer_value H.value_of T.value_of B.room self.old) params.now }
     {
         for group in params {
             self.set_private_mode(first_number(group));
@@ -133,9 +133,9 @@ impl<'s, 'h, H: Handler, T: Timeout + Drop, J: TextBuffer + Drop, G> Performer<'
 
     /// Sets a private mode. For that of updates it sets the timeout before the call.
     fn set_private_mode(&mut self, number: u16)
-        ensures { performer_value H.value_of T.value_of J.room self.new
+        ensures { performer_value H.value_of T.value_of B.room self.new
             ≡ with_private_mode H.step (timeout_meaning T.set T.clear T.allows)
-            (performer_value H.value_of T.value_of J.room self.old) number }
+            (performer_value H.value_of T.value_of B.room self.old) number }
     {
         if number == NamedPrivateMode::SyncUpdate as u16 {
             self.state

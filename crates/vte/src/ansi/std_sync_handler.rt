@@ -34,7 +34,7 @@ impl<C: Clock + Drop> StdSyncHandler<C> {
     pub fn new(clock: C) -> Self
         ensures none { expiry_in result ≡ None }
         // A timeout stays pending until it is cleared, whatever the clock tells.
-        ensures kept { IsSteady pending_meaning }
+        ensures steady { IsSteady pending_meaning }
         ensures not_pending { AllowsOnly pending_meaning (is_pending result) false }
     {
         StdSyncHandler {

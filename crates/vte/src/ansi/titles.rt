@@ -32,11 +32,11 @@ pub(crate) fn parse_number(digits: &[u8]) -> Option<u8>
 
 /// Joins pieces with `;` between them. One that isn't UTF-8 counts as empty if all are kept, and is
 /// left out otherwise.
-pub(crate) fn join_texts<J: TextBuffer>(text: &mut J, pieces: &[&[u8]], keeps_all: bool)
-    requires { FitsRoom (J.room text.old) (map (λ piece. piece.now) pieces.now) }
-    ensures joined { J.held text.new
+pub(crate) fn join_texts<B: TextBuffer>(text: &mut B, pieces: &[&[u8]], keeps_all: bool)
+    requires { FitsRoom (B.room text.old) (map (λ piece. piece.now) pieces.now) }
+    ensures joined { B.held text.new
         ≡ joined_texts keeps_all (map (λ piece. piece.now) pieces.now) }
-    ensures same { J.room text.new ≡ J.room text.old }
+    ensures same { B.room text.new ≡ B.room text.old }
 {
     text.clear();
     let mut is_first = true;
@@ -49,10 +49,10 @@ pub(crate) fn join_texts<J: TextBuffer>(text: &mut J, pieces: &[&[u8]], keeps_al
 }
 
 /// Appends a text to those before it, after a `;` unless it is the first.
-fn push_part<J: TextBuffer>(text: &mut J, is_first: bool, part: &str)
-    requires { length (J.held text.old) + length part.now + 1 ≤ J.room text.old }
-    ensures pushed { J.held text.new ≡ J.held text.old ++ with_separator is_first part.now }
-    ensures same { J.room text.new ≡ J.room text.old }
+fn push_part<B: TextBuffer>(text: &mut B, is_first: bool, part: &str)
+    requires { length (B.held text.old) + length part.now + 1 ≤ B.room text.old }
+    ensures pushed { B.held text.new ≡ B.held text.old ++ with_separator is_first part.now }
+    ensures same { B.room text.new ≡ B.room text.old }
 {
     if !is_first {
         text.push(';');
@@ -62,10 +62,10 @@ fn push_part<J: TextBuffer>(text: &mut J, is_first: bool, part: &str)
 
 /// Appends a number to a text.
 #[tactic(auto, using(std::proofs::lemmas::Fmt::decimal_digit, std::proofs::lemmas::Fmt::decimal_step))]
-pub(crate) fn push_number<J: TextBuffer>(text: &mut J, number: u8)
-    requires { length (J.held text.old) + length (decimal number) ≤ J.room text.old }
-    ensures pushed { J.held text.new ≡ J.held text.old ++ decimal number }
-    ensures same { J.room text.new ≡ J.room text.old }
+pub(crate) fn push_number<B: TextBuffer>(text: &mut B, number: u8)
+    requires { length (B.held text.old) + length (decimal number) ≤ B.room text.old }
+    ensures pushed { B.held text.new ≡ B.held text.old ++ decimal number }
+    ensures same { B.room text.new ≡ B.room text.old }
 {
     if number < 10 {
         text.push(char::from(b'0' + number));
@@ -86,15 +86,15 @@ pub(crate) fn text_in(piece: &[u8], keeps_all: bool) -> Option<&str>
 
 /// Sets the title that these pieces make. A title of one piece is lent, and not copied.
 #[tactic(auto, using(crate::proofs::Joining::one_text))]
-pub(crate) fn perform_title<H: Handler, J: TextBuffer>(
+pub(crate) fn perform_title<H: Handler, B: TextBuffer>(
     handler: &mut H,
-    text: &mut J,
+    text: &mut B,
     texts: &[&[u8]],
 )
-    requires { FitsRoom (J.room text.old) (map (λ piece. piece.now) texts.now) }
+    requires { FitsRoom (B.room text.old) (map (λ piece. piece.now) texts.now) }
     ensures told { H.value_of handler.new
         ≡ after H.step (H.value_of handler.old) (title_calls (map (λ piece. piece.now) texts.now)) }
-    ensures same { J.room text.new ≡ J.room text.old }
+    ensures same { B.room text.new ≡ B.room text.old }
 {
     match texts {
         [] => {}

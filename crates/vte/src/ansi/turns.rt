@@ -24,24 +24,24 @@ const SLICE: usize = 65_536;
 /// The parser, the hold and the state of a processor, whatever its limit. `P`: parser, `J`: buffer
 /// for joined texts, `T`: timeout.
 #[derive(Clone, Drop)]
-pub(crate) struct Turns<P: Drop, J: Drop, T: Drop, A: Allocator> {
+pub(crate) struct Turns<P: Drop, B: Drop, T: Drop, A: Allocator> {
     pub(crate) parser: P,
     pub(crate) hold: Hold<A>,
-    pub(crate) state: ProcessorState<T, J>,
+    pub(crate) state: ProcessorState<T, B>,
 }
 
-impl<P: EventParser + Drop, J: TextBuffer + Drop, T: Timeout + Drop, A: Allocator> Turns<
+impl<P: EventParser + Drop, B: TextBuffer + Drop, T: Timeout + Drop, A: Allocator> Turns<
     P,
-    J,
+    B,
     T,
     A,
 > {
     /// Creates turns of a parser that has read nothing, with the memory for a hold. Returns the
     /// timeout if memory runs out.
-    pub(crate) fn new(alloc: A, parser: P, text: J, timeout: T) -> Result<Self, T>
+    pub(crate) fn new(alloc: A, parser: P, text: B, timeout: T) -> Result<Self, T>
         requires reads { P.reading.has_read parser [] }
         ensures stands { MatchResult result
-            (λ turns. TurnsStandAt (of_turns P.limit P.reading J.room T.value_of) turns [] []
+            (λ turns. TurnsStandAt (of_turns P.limit P.reading B.room T.value_of) turns [] []
             (T.value_of timeout)) (λ back. back ≡ timeout) }
         ensures timeout { IfOk result (λ turns. turns.state.timeout ≡ timeout) }
     {
@@ -67,7 +67,7 @@ impl<P: EventParser + Drop, J: TextBuffer + Drop, T: Timeout + Drop, A: Allocato
         handler: &mut H,
         bytes: &[u8],
     ) -> Result<(), Refused>
-        ensures { ReadsSome (of_turns P.limit P.reading J.room T.value_of)
+        ensures { ReadsSome (of_turns P.limit P.reading B.room T.value_of)
             (meaning P.limit H.step T.set T.clear T.allows)
             self.old self.new (H.value_of handler.old) (H.value_of handler.new) bytes.now result }
     {
@@ -90,7 +90,7 @@ impl<P: EventParser + Drop, J: TextBuffer + Drop, T: Timeout + Drop, A: Allocato
 
     /// Stops the update, whatever is held: there is memory to parse it.
     pub(crate) fn stop<H: Handler, G: ParseAs<H, T, P>>(&mut self, handler: &mut H)
-        ensures stopped { StopsUpdate (of_turns P.limit P.reading J.room T.value_of)
+        ensures stopped { StopsUpdate (of_turns P.limit P.reading B.room T.value_of)
             (meaning P.limit H.step T.set T.clear T.allows) self.old self.new
             (H.value_of handler.old) (H.value_of handler.new) }
         ensures none { held_of self.new.hold ≡ [] }
@@ -103,13 +103,13 @@ impl<P: EventParser + Drop, J: TextBuffer + Drop, T: Timeout + Drop, A: Allocato
     /// update has ended.
     fn end_update<H: Handler, G: ParseAs<H, T, P>>(&mut self, handler: &mut H)
         ensures stops { (s : State H.Value T.Value) (n : ℕ)
-            → IsParsed (of_turns P.limit P.reading J.room T.value_of) self.old.parser self.old.state
+            → IsParsed (of_turns P.limit P.reading B.room T.value_of) self.old.parser self.old.state
             (H.value_of handler.old) s →
             released_of self.old.hold ≡ s.held → held_of self.old.hold ≡ []
             → (0 < length s.held
-            → P.reading.has_room self.old.parser (J.room self.old.state.text) s.parsed
+            → P.reading.has_room self.old.parser (B.room self.old.state.text) s.parsed
             (length s.held + n)) →
-            AreNextAt (of_turns P.limit P.reading J.room T.value_of) self.old self.new
+            AreNextAt (of_turns P.limit P.reading B.room T.value_of) self.old self.new
             (H.value_of handler.new) (stop (meaning P.limit H.step T.set T.clear T.allows) s) }
         ensures hold { self.new.hold ≡ self.old.hold }
     {
@@ -121,20 +121,20 @@ impl<P: EventParser + Drop, J: TextBuffer + Drop, T: Timeout + Drop, A: Allocato
     /// Parses the released bytes.
     fn parse_released<H: Handler, G: ParseAs<H, T, P>>(&mut self, handler: &mut H)
         ensures parsed { (s : State H.Value T.Value) (n : ℕ)
-            → IsParsed (of_turns P.limit P.reading J.room T.value_of) self.old.parser self.old.state
+            → IsParsed (of_turns P.limit P.reading B.room T.value_of) self.old.parser self.old.state
             (H.value_of handler.old) s →
             (0 < length (released_of self.old.hold)
-            → P.reading.has_room self.old.parser (J.room self.old.state.text) s.parsed
+            → P.reading.has_room self.old.parser (B.room self.old.state.text) s.parsed
             (length (released_of self.old.hold) + n)) →
             IsParsedOn
-            (of_turns P.limit P.reading J.room T.value_of) self.old.parser self.old.state
+            (of_turns P.limit P.reading B.room T.value_of) self.old.parser self.old.state
             self.new.parser self.new.state (H.value_of handler.new)
             (parse (meaning P.limit H.step T.set T.clear T.allows) s (released_of self.old.hold)) }
         ensures room { (s : State H.Value T.Value) (n : ℕ) →
             IsParsedWithRoom
-            (of_turns P.limit P.reading J.room T.value_of) self.old.parser self.old.state
+            (of_turns P.limit P.reading B.room T.value_of) self.old.parser self.old.state
             (H.value_of handler.old) s (length (released_of self.old.hold) + n) →
-            P.reading.has_room self.new.parser (J.room self.new.state.text)
+            P.reading.has_room self.new.parser (B.room self.new.state.text)
             (s.parsed ++ released_of self.old.hold) n }
         ensures hold { self.new.hold ≡ self.old.hold }
     {
@@ -142,7 +142,7 @@ impl<P: EventParser + Drop, J: TextBuffer + Drop, T: Timeout + Drop, A: Allocato
         if released.is_empty() {
             return;
         }
-        parse_all::<H, J, T, P, G>(&mut self.parser, &mut self.state, handler, released);
+        parse_all::<H, B, T, P, G>(&mut self.parser, &mut self.state, handler, released);
     }
 
     /// Takes one turn, and returns how many bytes it read, or how many until memory was refused. It
@@ -156,11 +156,11 @@ impl<P: EventParser + Drop, J: TextBuffer + Drop, T: Timeout + Drop, A: Allocato
         requires some { 0 < length bytes.now }
         ensures within { MatchResult result (λ read. read ≤ length bytes.now)
             (λ refused. refused.read < length bytes.now) }
-        ensures turned { LeadOn (of_turns P.limit P.reading J.room T.value_of) self.old self.new
+        ensures turned { LeadOn (of_turns P.limit P.reading B.room T.value_of) self.old self.new
             (H.value_of handler.old) (H.value_of handler.new)
             (λ s. EndsTurn (meaning P.limit H.step T.set T.clear T.allows) s bytes.now result) }
         ensures lacks { IfErr result
-            (λ refused. LacksSome (of_turns P.limit P.reading J.room T.value_of) self.new
+            (λ refused. LacksSome (of_turns P.limit P.reading B.room T.value_of) self.new
             (length bytes.now - refused.read)) }
     {
         let pending = self.state.timeout.pending_timeout();
@@ -195,11 +195,11 @@ impl<P: EventParser + Drop, J: TextBuffer + Drop, T: Timeout + Drop, A: Allocato
         requires none { held_of self.old.hold ≡ [] }
         ensures within { MatchResult result (λ read. read ≤ length bytes.now)
             (λ refused. refused.read < length bytes.now) }
-        ensures opened { LeadOn (of_turns P.limit P.reading J.room T.value_of) self.old self.new
+        ensures opened { LeadOn (of_turns P.limit P.reading B.room T.value_of) self.old self.new
             (H.value_of handler.old) (H.value_of handler.new)
             (λ s. EndsOpen (meaning P.limit H.step T.set T.clear T.allows) s bytes.now result) }
         ensures lacks { IfErr result
-            (λ refused. LacksSome (of_turns P.limit P.reading J.room T.value_of) self.new
+            (λ refused. LacksSome (of_turns P.limit P.reading B.room T.value_of) self.new
             (length bytes.now - refused.read)) }
     {
         let mut read = 0;
@@ -210,7 +210,7 @@ impl<P: EventParser + Drop, J: TextBuffer + Drop, T: Timeout + Drop, A: Allocato
                 return Err(Refused { read });
             }
             let slice = &bytes[read..read + count];
-            let (parsed, begins) = parse_until_begin::<H, J, T, P, G>(
+            let (parsed, begins) = parse_until_begin::<H, B, T, P, G>(
                 &mut self.parser,
                 &mut self.state,
                 handler,
@@ -227,7 +227,7 @@ impl<P: EventParser + Drop, J: TextBuffer + Drop, T: Timeout + Drop, A: Allocato
     /// Takes memory for the held bytes and for this many more, and returns whether it is there.
     pub(crate) fn reserve(&mut self, more: usize) -> bool
         ensures reserved { ReservesRoom
-            (of_turns P.limit P.reading J.room T.value_of) self.old self.new more result }
+            (of_turns P.limit P.reading B.room T.value_of) self.old self.new more result }
         ensures hold { self.new.hold ≡ self.old.hold }
     {
         self.parser
@@ -238,9 +238,9 @@ impl<P: EventParser + Drop, J: TextBuffer + Drop, T: Timeout + Drop, A: Allocato
     fn hold_bytes<H: Handler, G: ParseAs<H, T, P>>(&mut self, handler: &mut H, bytes: &[u8])
         requires some { 0 < length bytes.now }
         requires room { length (held_of self.old.hold) + length bytes.now ≤ most_held }
-        ensures { LeadOn (of_turns P.limit P.reading J.room T.value_of) self.old self.new
+        ensures { LeadOn (of_turns P.limit P.reading B.room T.value_of) self.old self.new
             (H.value_of handler.old) (H.value_of handler.new)
-            (λ s IsThere. P.reading.has_room self.old.parser (J.room self.old.state.text) s.parsed
+            (λ s IsThere. P.reading.has_room self.old.parser (B.room self.old.state.text) s.parsed
             (length s.held + length bytes.now) →
             IsThere (hold_turn (meaning P.limit H.step T.set T.clear T.allows) s bytes.now)) }
     {

@@ -24,12 +24,12 @@ module _ {V B : Type 0} {step : V → Event → V} {old new : V} {limit : Option
   performs-in {b = b} {next = next} e ordinary takes place s between =
       takes-performs step old new limit place b next (no_escape b ordinary) (takes place (stands-in e s))
 
-  pub advances-in : {asks : Bool} {is_terminated : V → Bool} {bytes : List ℕ} {i b : ℕ} {state : State}
+  pub advances-in : {may_stop : Bool} {is_terminated : V → Bool} {bytes : List ℕ} {i b : ℕ} {state : State}
       {parser next : Machine B} → parser.state ≡ state → i < length bytes → b ≡ slice_index bytes i
-      → MayGoOn asks is_terminated old → ends_all (class_of b) ≡ false
+      → MayGoOn may_stop is_terminated old → ends_all (class_of b) ≡ false
       → ((place : Place) → StandsBy limit state parser place → TakesByte step old new limit place b next)
       → IsSettled next.state
-      → Advances (IsQuietIn state b) asks step is_terminated old new limit bytes i (i + 1) parser next
+      → Advances (IsQuietIn state b) may_stop step is_terminated old new limit bytes i (i + 1) parser next
   advances-in {b = b} e within is may_go_on ordinary takes settled =
       advances-if (subst (λ (state : State). IsQuietIn state b) (sym e))
       (advances-byte within is may_go_on (performs-in e ordinary takes) settled)

@@ -12,7 +12,7 @@ pub tells-nothing : {B : Type 0} {limit : Option ℕ} {stream bytes : List ℕ} 
     → IsSettled parser.state → HasReadUnder limit parser stream → TellsOthers limit stream bytes 0
 tells-nothing {limit = limit} {stream = stream} {bytes = bytes} settled h =
     let none : [] ≡ told_before limit stream bytes 0 =
-    told-at (starts-at {asks = false} {step = keep} {is_terminated = never} settled h) in
+    told-at (starts-at {may_stop = false} {step = keep} {is_terminated = never} settled h) in
     record {
       others = λ _. subst (All IsOther) none (All-nil IsOther);
       opened = subst (All IsWide) none (All-nil IsWide);

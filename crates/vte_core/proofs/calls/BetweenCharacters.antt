@@ -136,12 +136,13 @@ adds-single {limit = limit} {stream = stream} {bytes = bytes} {i = i} {b = b}
     (subst (IsAfter limit (stream_at stream bytes i)) (between_characters parser place e s) after)
     one.reads refl one.are
 
-pub advances-single : {quiet V B : Type 0} {asks : Bool} {step : V → Event → V} {is_terminated : V → Bool} {old new : V}
+pub advances-single : {quiet V B : Type 0} {may_stop : Bool} {step : V → Event → V} {is_terminated : V → Bool}
+    {old new : V}
     {limit : Option ℕ} {bytes : List ℕ} {i b : ℕ} {parser : Machine B}
-    → MayReadByte asks is_terminated old (Text Nothing) parser bytes i b → b ≢ escape
+    → MayReadByte may_stop is_terminated old (Text Nothing) parser bytes i b → b ≢ escape
     → is_in (from_to 0x20 0x7f) b ≡ false → is_in (from_to 0xc2 0xf4) b ≡ false
     → (b < 0x80 → new ≡ step old (character_event b)) → (0x80 ≤ b → new ≡ step old (malformed_event (b ∷ [])))
-    → Advances quiet asks step is_terminated old new limit bytes i (i + 1) parser parser
+    → Advances quiet may_stop step is_terminated old new limit bytes i (i + 1) parser parser
 advances-single r n other no_lead control malformed =
     advances-telling
     (advances-byte r.within r.is r.may_go_on (performs-single r.begun n no_lead control malformed)

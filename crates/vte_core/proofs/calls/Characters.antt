@@ -32,12 +32,12 @@ byte_more bytes i n begun {j = j} {u = u} within far is are =
 
 -- From place i, inside a character of the bytes `begun`, a call has come to place j, inside one of
 -- the bytes `u`, and told nothing.
-pub record GoesOn {V B : Type 0} (asks : Bool) (step : V → Event → V) (is_terminated : V → Bool) (value : V)
+pub record GoesOn {V B : Type 0} (may_stop : Bool) (step : V → Event → V) (is_terminated : V → Bool) (value : V)
     (limit : Option ℕ) (bytes : List ℕ) (i j : ℕ)
     (begun u : Unfinished) (next : Machine B) : Type 0 where
   pub inside : (old : V) (stream : List ℕ) (parser : Machine B) → parser.state ≡ Text begun
-      → StandsInside asks step is_terminated old value limit stream bytes i parser
-      → StandsInside asks step is_terminated old value limit stream bytes j (in_text next u)
+      → StandsInside may_stop step is_terminated old value limit stream bytes i parser
+      → StandsInside may_stop step is_terminated old value limit stream bytes j (in_text next u)
   -- the same for a performer that keeps all events
   pub kept : (stream : List ℕ) (parser : Machine B) → parser.state ≡ Text begun
       → StandsInside false keep never [] (added limit stream (take i bytes)) limit stream bytes i parser
@@ -47,10 +47,11 @@ pub record GoesOn {V B : Type 0} (asks : Bool) (step : V → Event → V) (is_te
   pub far : j ≡ i + n
   pub are : is_open (bytes_of begun) ≡ true → bytes_of u ≡ bytes_of begun ++ take n (drop i bytes)
 
-module _ {V B : Type 0} {asks : Bool} {step : V → Event → V} {is_terminated : V → Bool} {value : V} {limit : Option ℕ}
+module _ {V B : Type 0} {may_stop : Bool} {step : V → Event → V} {is_terminated : V → Bool} {value : V}
+    {limit : Option ℕ}
     {bytes : List ℕ} {i : ℕ} {begun : Unfinished} where
   pub goes-nowhere : (next : Machine B) → bytes_of begun ≢ []
-      → GoesOn asks step is_terminated value limit bytes i i begun begun next
+      → GoesOn may_stop step is_terminated value limit bytes i i begun begun next
   goes-nowhere next some = record {
     inside = λ old stream parser e s. inside-same e refl s;
     kept = λ stream parser e s. inside-same e refl s;
@@ -61,10 +62,10 @@ module _ {V B : Type 0} {asks : Bool} {step : V → Event → V} {is_terminated 
   }
 
   pub goes-more : {j b : ℕ} {u v : Unfinished} {parser next : Machine B}
-      → GoesOn asks step is_terminated value limit bytes i j begun u parser
+      → GoesOn may_stop step is_terminated value limit bytes i j begun u parser
       → (is_truncated (bytes_of u) ≡ true → Carries (bytes_of u) b (StillUnfinished v)) → j < length bytes
       → b ≡ slice_index bytes j
-      → GoesOn asks step is_terminated value limit bytes i (j + 1) begun v next
+      → GoesOn may_stop step is_terminated value limit bytes i (j + 1) begun v next
   goes-more goes carries within is = record {
     inside = λ old stream parser e s. let more = goes.more (inside-open e s) in
         carried-more refl more (carries more) refl (goes.inside old stream parser e s) within is;
@@ -80,8 +81,8 @@ module _ {V B : Type 0} {asks : Bool} {step : V → Event → V} {is_terminated 
 
   -- all bytes are read
   pub completes-all : {j k : ℕ} {u : Unfinished} {next : Machine B}
-      → GoesOn asks step is_terminated value limit bytes i j begun u next → j ≡ k → length bytes ≤ k
-      → Completes asks step is_terminated value value limit bytes i k begun (in_text next u)
+      → GoesOn may_stop step is_terminated value limit bytes i j begun u next → j ≡ k → length bytes ≤ k
+      → Completes may_stop step is_terminated value value limit bytes i k begun (in_text next u)
   completes-all goes end all = record {
     stands_at = λ old stream parser e s. inside-all (inside-moved end (goes.inside old stream parser e s)) all;
     text = λ within. absurd (omega arith);
@@ -96,11 +97,11 @@ module _ {V B : Type 0} {asks : Bool} {step : V → Event → V} {is_terminated 
 
   -- a byte ends the character
   pub completes-whole : {new : V} {j k b c : ℕ} {u : Unfinished} {parser next : Machine B}
-      → GoesOn asks step is_terminated value limit bytes i j begun u parser
+      → GoesOn may_stop step is_terminated value limit bytes i j begun u parser
       → (is_truncated (bytes_of u) ≡ true → Carries (bytes_of u) b (Whole c)) → next.state ≡ Text Nothing
       → new ≡ step value (character_event c)
       → j < length bytes → b ≡ slice_index bytes j → k ≡ j + 1
-      → Completes asks step is_terminated value new limit bytes i k begun next
+      → Completes may_stop step is_terminated value new limit bytes i k begun next
   completes-whole {c = c} {u = u} {next = next} goes carries state performed within is later = record {
     stands_at = λ old stream parser e s. let more = goes.more (inside-open e s) in
         carried-whole refl more (carries more) state performed (goes.inside old stream parser e s) within is later;
@@ -128,11 +129,11 @@ module _ {V B : Type 0} {asks : Bool} {step : V → Event → V} {is_terminated 
 
   -- a byte breaks it
   pub completes-broken : {new : V} {j b : ℕ} {u : Unfinished} {parser next : Machine B}
-      → GoesOn asks step is_terminated value limit bytes i j begun u parser
+      → GoesOn may_stop step is_terminated value limit bytes i j begun u parser
       → (is_truncated (bytes_of u) ≡ true → Carries (bytes_of u) b Broken) → next.state ≡ Text Nothing
       → new ≡ step value (Print replacement)
       → j < length bytes → b ≡ slice_index bytes j
-      → Completes asks step is_terminated value new limit bytes i j begun next
+      → Completes may_stop step is_terminated value new limit bytes i j begun next
   completes-broken {next = next} goes carries state performed within is = record {
     stands_at = λ old stream parser e s. let more = goes.more (inside-open e s) in
         carried-broken refl more (carries more) state performed (goes.inside old stream parser e s) within is;
@@ -151,9 +152,9 @@ module _ {V B : Type 0} {asks : Bool} {step : V → Event → V} {is_terminated 
 
   -- another call goes on
   pub completes-then : {new : V} {j k : ℕ} {u : Unfinished} {parser next : Machine B}
-      → GoesOn asks step is_terminated value limit bytes i j begun u parser
-      → Completes asks step is_terminated value new limit bytes j k u next
-      → Completes asks step is_terminated value new limit bytes i k begun next
+      → GoesOn may_stop step is_terminated value limit bytes i j begun u parser
+      → Completes may_stop step is_terminated value new limit bytes j k u next
+      → Completes may_stop step is_terminated value new limit bytes i k begun next
   completes-then {j = j} {u = u} {parser = parser} goes c = record {
     stands_at =
         λ old stream begun e s. c.stands_at old stream (in_text parser u) refl (goes.inside old stream begun e s);
@@ -182,12 +183,13 @@ module _ {V B : Type 0} {asks : Bool} {step : V → Event → V} {is_terminated 
         };
   }
 
-module _ {V B : Type 0} {asks : Bool} {step : V → Event → V} {is_terminated : V → Bool} {value : V} {limit : Option ℕ}
+module _ {V B : Type 0} {may_stop : Bool} {step : V → Event → V} {is_terminated : V → Bool} {value : V}
+    {limit : Option ℕ}
     {bytes : List ℕ} {i x y : ℕ} where
   -- the second byte of a character of three or four
   pub goes-second : (next : Machine B) → 0xe0 ≤ x → is_in (second_range x) y ≡ true → i < length bytes
       → y ≡ slice_index bytes i
-      → GoesOn asks step is_terminated value limit bytes i (i + 1) (One x) (Two x y) next
+      → GoesOn may_stop step is_terminated value limit bytes i (i + 1) (One x) (Two x y) next
   goes-second next low second within is =
       goes-more (goes-nowhere next (some x [])) (λ more. second_open x y more second low) within is
 
@@ -195,7 +197,7 @@ module _ {V B : Type 0} {asks : Bool} {step : V → Event → V} {is_terminated 
   pub goes-third : {z : ℕ} (next : Machine B) → 0xf0 ≤ x → is_in (second_range x) y ≡ true
       → is_in (from_to 0x80 0xbf) z ≡ true → i + 2 < length bytes → y ≡ slice_index bytes i
       → z ≡ slice_index bytes (i + 1)
-      → GoesOn asks step is_terminated value limit bytes i (i + 2) (One x) (Three x y z) next
+      → GoesOn may_stop step is_terminated value limit bytes i (i + 2) (One x) (Three x y z) next
   goes-third {z = z} next low second third within is is_third =
       let goes =
       goes-more {next = next} (goes-second next (omega arith) second (omega arith) is)

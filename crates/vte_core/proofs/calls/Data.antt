@@ -8,10 +8,10 @@ use Rattle.vte_core.proofs.calls.Stretches.{advances-moved, advances-nothing, ad
 use Rattle.vte_core.proofs.fields.PlaceOfState.{stands-by}
 use Rattle.vte_core.proofs.places.PlaceLeads.{data-put}
 
-advances-by : {V B : Type 0} {asks : Bool} {step : V → Event → V} {is_terminated : V → Bool} {value : V}
+advances-by : {V B : Type 0} {may_stop : Bool} {step : V → Event → V} {is_terminated : V → Bool} {value : V}
     {limit : Option ℕ} {bytes : List ℕ} {parser : Machine B} (n i : ℕ)
-    → parser.state ≡ DeviceData → i + n ≤ length bytes → ArePut bytes i (i + n) → asks ≡ false
-    → Advances ⊥ asks step is_terminated value (after step value (map Put (take n (drop i bytes)))) limit bytes i
+    → parser.state ≡ DeviceData → i + n ≤ length bytes → ArePut bytes i (i + n) → may_stop ≡ false
+    → Advances ⊥ may_stop step is_terminated value (after step value (map Put (take n (drop i bytes)))) limit bytes i
     (i + n) parser parser
 advances-by zero i begun within are none =
     advances-moved (omega arith) (advances-nothing (λ _. settled-by _ _ begun tt))
@@ -27,14 +27,15 @@ advances-by {bytes = bytes} {parser = parser} (suc n) i begun within are none =
     (advances-by n (i + 1) begun (omega (arith, within))
     (λ k low high. are k (omega (arith, low)) (omega (arith, high))) none)))
 
-pub advances-data : {V B : Type 0} {asks : Bool} {step : V → Event → V} {is_terminated : V → Bool} {old new : V}
+pub advances-data : {V B : Type 0} {may_stop : Bool} {step : V → Event → V} {is_terminated : V → Bool} {old new : V}
     {limit : Option ℕ} {bytes : List ℕ} {i j : ℕ} {parser : Machine B}
-    → parser.state ≡ DeviceData → i ≤ j → j ≤ length bytes → ArePut bytes i j → asks ≡ false
+    → parser.state ≡ DeviceData → i ≤ j → j ≤ length bytes → ArePut bytes i j → may_stop ≡ false
     → new ≡ after step old (map Put (take (j - i) (drop i bytes)))
-    → Advances ⊥ asks step is_terminated old new limit bytes i j parser parser
-advances-data {asks = asks} {step = step} {is_terminated = is_terminated} {old = old} {limit = limit} {bytes = bytes}
+    → Advances ⊥ may_stop step is_terminated old new limit bytes i j parser parser
+advances-data {may_stop = may_stop} {step = step} {is_terminated = is_terminated} {old = old} {limit = limit}
+    {bytes = bytes}
     {i = i} {j = j} {parser = parser} begun low high are none performed =
-    subst (λ value. Advances ⊥ asks step is_terminated old value limit bytes i j parser parser) (sym performed)
+    subst (λ value. Advances ⊥ may_stop step is_terminated old value limit bytes i j parser parser) (sym performed)
     (advances-moved (omega (arith, low))
     (advances-by (j - i) i begun (omega (arith, low, high)) (λ k from to. are k from (omega (arith, low, to))) none))
 

@@ -30,13 +30,13 @@ pub settled-outside : (state : State) → ((unfinished : Unfinished) → state �
 settled-outside (Text u) n = absurd (n u refl)
 settled-outside _ n = tt
 
-module _ {V B : Type 0} {asks : Bool} {step : V → Event → V} {is_terminated : V → Bool} {limit : Option ℕ}
+module _ {V B : Type 0} {may_stop : Bool} {step : V → Event → V} {is_terminated : V → Bool} {limit : Option ℕ}
     {bytes : List ℕ} where
   -- ---- from inside a character to where something starts
 
   pub settles : {old value : V} {stream : List ℕ} {i : ℕ} {parser : Machine B} → IsSettled parser.state
-      → StandsInside asks step is_terminated old value limit stream bytes i parser
-      → StandsAt asks step is_terminated old value limit stream bytes i parser
+      → StandsInside may_stop step is_terminated old value limit stream bytes i parser
+      → StandsAt may_stop step is_terminated old value limit stream bytes i parser
   settles {parser = parser} settled s =
       let between = between-settled parser settled s.place s.stands in
       record {
@@ -47,8 +47,8 @@ module _ {V B : Type 0} {asks : Bool} {step : V → Event → V} {is_terminated 
       }
 
   pub inside-all : {old value : V} {stream : List ℕ} {i : ℕ} {parser : Machine B}
-      → StandsInside asks step is_terminated old value limit stream bytes i parser → length bytes ≤ i
-      → StandsAt asks step is_terminated old value limit stream bytes i parser
+      → StandsInside may_stop step is_terminated old value limit stream bytes i parser → length bytes ≤ i
+      → StandsAt may_stop step is_terminated old value limit stream bytes i parser
   inside-all s all =
       record {
         place = s.place;
@@ -58,67 +58,67 @@ module _ {V B : Type 0} {asks : Bool} {step : V → Event → V} {is_terminated 
       }
 
   pub inside-moved : {old value : V} {stream : List ℕ} {i j : ℕ} {parser : Machine B} → i ≡ j
-      → StandsInside asks step is_terminated old value limit stream bytes i parser
-      → StandsInside asks step is_terminated old value limit stream bytes j parser
+      → StandsInside may_stop step is_terminated old value limit stream bytes i parser
+      → StandsInside may_stop step is_terminated old value limit stream bytes j parser
   inside-moved {old = old} {value = value} {stream = stream} {parser = parser} e s =
-      subst (λ n. StandsInside asks step is_terminated old value limit stream bytes n parser) e s
+      subst (λ n. StandsInside may_stop step is_terminated old value limit stream bytes n parser) e s
 
   -- ---- the start and the end of a call
 
   pub starts-inside : {old : V} {stream : List ℕ} {parser : Machine B} → HasReadUnder limit parser stream
-      → StandsInside asks step is_terminated old old limit stream bytes 0 parser
+      → StandsInside may_stop step is_terminated old old limit stream bytes 0 parser
   starts-inside h = record { place = h.place; stands = h.stands; has_come = come-nowhere h.is_after }
 
   pub starts-at : {old : V} {stream : List ℕ} {parser : Machine B} → IsSettled parser.state
       → HasReadUnder limit parser stream
-      → StandsAt asks step is_terminated old old limit stream bytes 0 parser
+      → StandsAt may_stop step is_terminated old old limit stream bytes 0 parser
   starts-at settled h = settles settled (starts-inside h)
 
-  pub ends-comes : {old value : V} {stream : List ℕ} {n : ℕ} {parser : Machine B} → asks ≡ true → n ≤ length bytes
-      → StandsAt asks step is_terminated old value limit stream bytes n parser
+  pub ends-comes : {old value : V} {stream : List ℕ} {n : ℕ} {parser : Machine B} → may_stop ≡ true → n ≤ length bytes
+      → StandsAt may_stop step is_terminated old value limit stream bytes n parser
       → ComesTo step is_terminated old value limit stream bytes n
   ends-comes {parser = parser} does within s =
       come-to does within
       (λ left. come-starts (stands-place parser s.place s.stands) (s.between left) left s.has_come) s.has_come
 
-  pub ends-stops : {old value : V} {stream : List ℕ} {n : ℕ} {parser : Machine B} → asks ≡ true → n ≤ length bytes
+  pub ends-stops : {old value : V} {stream : List ℕ} {n : ℕ} {parser : Machine B} → may_stop ≡ true → n ≤ length bytes
       → (n < length bytes → is_terminated value ≡ true)
-      → StandsAt asks step is_terminated old value limit stream bytes n parser
+      → StandsAt may_stop step is_terminated old value limit stream bytes n parser
       → StopsExactly step is_terminated old value limit stream bytes n
   ends-stops does within stops s =
       record { comes = ends-comes does within s; stops = stops; all = λ all. come-performs all s.has_come }
 
   pub ends-reads : {old value : V} {stream : List ℕ} {n : ℕ} {parser : Machine B}
-      → StandsAt asks step is_terminated old value limit stream bytes n parser
+      → StandsAt may_stop step is_terminated old value limit stream bytes n parser
       → HasReadUnder limit parser (stream_at stream bytes n)
   ends-reads s = record { place = s.place; stands = s.stands; is_after = s.has_come.is_after }
 
   -- of a call that reads all bytes
   pub ends-performs : {old value : V} {stream : List ℕ} {n : ℕ} {parser : Machine B} → n ≡ length bytes
-      → StandsAt asks step is_terminated old value limit stream bytes n parser
+      → StandsAt may_stop step is_terminated old value limit stream bytes n parser
       → value ≡ after step old (added limit stream bytes)
   ends-performs all s = come-performs all s.has_come
 
   pub ends-reads_all : {old value : V} {stream : List ℕ} {n : ℕ} {parser : Machine B} → n ≡ length bytes
-      → StandsAt asks step is_terminated old value limit stream bytes n parser
+      → StandsAt may_stop step is_terminated old value limit stream bytes n parser
       → HasReadUnder limit parser (stream ++ bytes)
   ends-reads_all {stream = stream} {n = n} {parser = parser} all s =
       subst (HasReadUnder limit parser) (stream_at-all stream bytes n all) (ends-reads s)
 
   -- ---- where the loop of a call ends: at a stop, or with all bytes read
 
-  pub ends-at_stop : {old value : V} {n : ℕ} {before parser : Machine B} → asks ≡ true → is_terminated value ≡ true
+  pub ends-at_stop : {old value : V} {n : ℕ} {before parser : Machine B} → may_stop ≡ true → is_terminated value ≡ true
       → n ≤ length bytes
       → ((stream : List ℕ) → HasReadUnder limit before stream
-      → StandsAt asks step is_terminated old value limit stream bytes n parser)
-      → ReadsUpTo asks step is_terminated old value limit bytes n before parser
+      → StandsAt may_stop step is_terminated old value limit stream bytes n parser)
+      → ReadsUpTo may_stop step is_terminated old value limit bytes n before parser
   ends-at_stop does stopped within stands =
       record { within = within; asked = λ _. does; stops = λ _. stopped; stands_at = stands }
 
   pub ends-with_all : {old value : V} {n : ℕ} {before parser : Machine B} → n ≡ length bytes
       → ((stream : List ℕ) → HasReadUnder limit before stream
-      → StandsAt asks step is_terminated old value limit stream bytes n parser)
-      → ReadsUpTo asks step is_terminated old value limit bytes n before parser
+      → StandsAt may_stop step is_terminated old value limit stream bytes n parser)
+      → ReadsUpTo may_stop step is_terminated old value limit bytes n before parser
   ends-with_all all stands =
       record {
         within = omega (arith, all);

@@ -2,7 +2,7 @@
 -- performer, which learns of a head only at its end; both shapes share it.
 use Rattle.vte_core.specs.machine.ToRun.{IsQuietIn}
 use Rattle.vte_core.proofs.Common.{◌≡◌, ℕ, zero, suc, ◌+◌, ◌-◌, ◌<◌, ◌≤◌, ◌⊎◌, inr, eqb, Option, List, [], ◌∷◌, ◌++◌, Bool, true, false, length, take, drop, refl, sym, subst, append_assoc, arith, nat_tests, append-nil, drop-drop, drop_more, take-add, slice_index, MatchOption, class_of, is_head, is_parameter_text, AreInClass, Collected, HeadPart, Entry, Parameters, Machine, State, ControlSequence, DeviceControl, Event}
-use Rattle.vte_core.proofs.Common.{Leads, CountsNumbers, KeepsIntermediates, Stands, StandsBy, StandsInHead, Place, InControlSequence, InDeviceControl, IsBetween, Advances, CameTo, IsSettled, MayGoOn, TakesBytes, TakesByte, ends_all, part_after, ReadsHead, Some, None, told_before, false≢true}
+use Rattle.vte_core.proofs.Common.{Leads, CountsNumbers, KeepsIntermediates, Stands, StandsBy, StandsInHead, Place, InControlSequence, InDeviceControl, IsBetween, Advances, ProgressAt, IsSettled, MayGoOn, TakesBytes, TakesByte, ends_all, part_after, ReadsHead, Some, None, told_before, false≢true}
 use Rattle.vte_core.proofs.bytes.ClassCases.{head_ends_nothing}
 use Rattle.vte_core.proofs.bytes.PieceLemmas.{AreOf-append, parameter_is_head}
 use Rattle.vte_core.proofs.calls.Places.{come-between, come-byte}
@@ -148,14 +148,14 @@ settled : (shape : Shape) (part : HeadPart) → IsSettled (state_of shape part)
 settled ControlHead part = tt
 settled DeviceHead part = tt
 
-module _ {V : Type 0} {asks : Bool} {step : V → Event → V} {is_terminated : V → Bool} {limit : Option ℕ}
+module _ {V : Type 0} {may_stop : Bool} {step : V → Event → V} {is_terminated : V → Bool} {limit : Option ℕ}
     {bytes : List ℕ} where
   -- n bytes of a head
   come-head : {old value : V} {stream : List ℕ} {i : ℕ} (shape : Shape) (n : ℕ) (head : List ℕ) → i + n ≤ length bytes
       → AreInClass is_head (take n (drop i bytes))
-      → MayGoOn asks is_terminated value
-      → CameTo asks step is_terminated old value limit stream bytes i (in_head shape head)
-      → CameTo asks step is_terminated old value limit stream bytes (i + n)
+      → MayGoOn may_stop is_terminated value
+      → ProgressAt may_stop step is_terminated old value limit stream bytes i (in_head shape head)
+      → ProgressAt may_stop step is_terminated old value limit stream bytes (i + n)
       (in_head shape (head ++ take n (drop i bytes)))
   come-head {i = i} shape zero head within more may_go_on c =
       let same : i + 0 ≡ i = omega arith in rw (append-nil head, same) c
@@ -174,19 +174,19 @@ module _ {V : Type 0} {asks : Bool} {step : V → Event → V} {is_terminated : 
       let far : i + suc n ≡ i + 1 + n = omega arith in
       rw (far, cut) (rw (append_assoc head (b ∷ []) (take n (drop (i + 1) bytes))) at rest)
 
-module _ {V : Type 0} {asks : Bool} {step : V → Event → V} {is_terminated : V → Bool} {limit : Option ℕ}
+module _ {V : Type 0} {may_stop : Bool} {step : V → Event → V} {is_terminated : V → Bool} {limit : Option ℕ}
     {bytes : List ℕ} where
   pub advances-head : {quiet B : Type 0} {value : V} {i j : ℕ} {reached part : HeadPart} {parser next : Machine B}
       (shape : Shape) → parser.state ≡ state_of shape reached
-      → ReadsHead bytes i j reached part parser.collected next.collected → MayGoOn asks is_terminated value
+      → ReadsHead bytes i j reached part parser.collected next.collected → MayGoOn may_stop is_terminated value
       → next.state ≡ state_of shape part
-      → Advances quiet asks step is_terminated value value limit bytes i j parser next
+      → Advances quiet may_stop step is_terminated value value limit bytes i j parser next
   advances-head {value = value} {i = i} {j = j} {reached = reached} {part = part} {parser = parser}
       {next = next} shape begun reads may_go_on state = record {
         goes_on = λ old stream s.
             let k = place_in shape limit reached parser s.place (stands-in begun s.stands) in
-            let here : CameTo asks step is_terminated old value limit stream bytes i (in_head shape k.head) =
-            subst (CameTo asks step is_terminated old value limit stream bytes i) k.same s.has_come in
+            let here : ProgressAt may_stop step is_terminated old value limit stream bytes i (in_head shape k.head) =
+            subst (ProgressAt may_stop step is_terminated old value limit stream bytes i) k.same s.has_come in
             let end : i + (j - i) ≡ j = omega (arith, reads.low) in
             let run : List ℕ = take (j - i) (drop i bytes) in
             record {
@@ -199,9 +199,9 @@ module _ {V : Type 0} {asks : Bool} {step : V → Event → V} {is_terminated : 
         settled = λ _. settled-by _ _ state (settled shape part);
         others = λ _ old stream s.
             let k = place_in shape limit reached parser s.place (stands-in begun s.stands) in
-            let here : CameTo false keep never [] (told_before limit stream bytes i) limit stream bytes i
+            let here : ProgressAt false keep never [] (told_before limit stream bytes i) limit stream bytes i
             (in_head shape k.head) =
-            subst (CameTo false keep never [] (told_before limit stream bytes i) limit stream bytes i) k.same
+            subst (ProgressAt false keep never [] (told_before limit stream bytes i) limit stream bytes i) k.same
             (came-kept s.has_come) in
             let end : i + (j - i) ≡ j = omega (arith, reads.low) in
             adds-same (subst (λ n. told_before limit stream bytes i ≡ told_before limit stream bytes n) end
@@ -214,12 +214,12 @@ module _ {V : Type 0} {asks : Bool} {step : V → Event → V} {is_terminated : 
   pub advances-past : {quiet B : Type 0} {old new : V} {i j b : ℕ} {reached part : HeadPart} {parser next : Machine B}
       {held : Collected} (shape : Shape) → parser.state ≡ state_of shape reached
       → ReadsHead bytes i j reached part parser.collected held → (j < length bytes) × (b ≡ slice_index bytes j)
-      → MayGoOn asks is_terminated old
+      → MayGoOn may_stop is_terminated old
       → ((place : Place)
       → Stands {B = B} limit (record { state = state_of shape part; collected = held; command = parser.command }) place
       → IsBetween place
       → TakesBytes step old new limit place (b ∷ []) next) → IsSettled next.state
-      → Advances quiet asks step is_terminated old new limit bytes i (j + 1) parser next
+      → Advances quiet may_stop step is_terminated old new limit bytes i (j + 1) parser next
   advances-past {B = B} {part = part} {parser = parser} {held = held} shape begun reads at may_go_on performs settled =
       let head : Machine B = record { state = state_of shape part; collected = held; command = parser.command } in
       advances-then (advances-head {next = head} shape begun reads may_go_on refl)

@@ -12,12 +12,13 @@ use Rattle.vte_core.proofs.calls.BetweenCharacters.{performs-opened}
 use Rattle.vte_core.proofs.calls.InsideCharacters.{in_text}
 
 -- by what completes the character that the first byte begins
-pub advances-first : {V B given : Type 0} {asks : Bool} {step : V → Event → V} {is_terminated : V → Bool}
+pub advances-first : {V B given : Type 0} {may_stop : Bool} {step : V → Event → V} {is_terminated : V → Bool}
     {old new : V} {limit : Option ℕ} {bytes : List ℕ}
-    {i j first : ℕ} {parser next : Machine B} → MayReadByte asks is_terminated old (Text Nothing) parser bytes i first
+    {i j first : ℕ} {parser next : Machine B} → MayReadByte may_stop is_terminated old (Text Nothing) parser bytes i
+    first
     → 0xc2 ≤ first → first < 0xf5
-    → Completes asks step is_terminated old new limit bytes (i + 1) j (One first) next
-    → Advances (given × EndsRun false bytes i) asks step is_terminated old new limit bytes i j parser next
+    → Completes may_stop step is_terminated old new limit bytes (i + 1) j (One first) next
+    → Advances (given × EndsRun false bytes i) may_stop step is_terminated old new limit bytes i j parser next
 advances-first {bytes = bytes} {i = i} {first = first} {parser = parser} r lead fits completes = record {
   goes_on = λ value stream s.
       completes.stands_at value stream (in_text parser (One first)) refl

@@ -13,16 +13,16 @@ use Rattle.vte_core.proofs.calls.Refusals.{by_count, inside-reads, meets_data, n
 use Rattle.vte_core.proofs.calls.Ends.{ends-performs, ends-reads, ends-reads_all, ends-stops}
 use Rattle.vte_core.proofs.calls.States.{reads-all}
 
-pub goes-on : {A V Answer : Type 0} (asks : Bool) (step : V → Event → V) (is_terminated : V → Bool) (old new : V)
+pub goes-on : {A V Answer : Type 0} (may_stop : Bool) (step : V → Event → V) (is_terminated : V → Bool) (old new : V)
     {bytes : List ℕ} {parser next : LongParser A}
     (result : Result Answer Refused) {rate n : ℕ} {later : List ℕ → List ℕ}
     → ((stream : List ℕ) → HasReadLong parser stream → HasReadLong next (later stream))
     → IfErr result
-    (λ refused. RefusesAt asks step is_terminated old new None bytes refused.read parser.machine next.machine)
+    (λ refused. RefusesAt may_stop step is_terminated old new None bytes refused.read parser.machine next.machine)
     → memory_of parser ≤ memory_of next → looks_long next ≤ looks_long parser + rate * length bytes + 8
     → IfOk result (λ _. looks_long next ≤ looks_long parser + rate * n + 8) → looks_long parser + n ≤ looks_long next
     → GoesOnLong rate bytes result n later parser next
-goes-on asks step is_terminated old new result reads refuses memory count paid least = record {
+goes-on may_stop step is_terminated old new result reads refuses memory count paid least = record {
   reads = reads;
   stores = λ stream h. stores_pieces _ _ (reads stream h);
   within = IfErr-weaker result _ _ (λ refused r. r.within) refuses;

@@ -1,6 +1,6 @@
 -- How a call comes from one place to the next, to its end, or to a stop. A stretch of bytes that leads to a place adds
--- its events to those told so far; at starts among them a call that asks may stop.
-use Rattle.vte_core.proofs.Common.{◌≡◌, ℕ, zero, suc, ◌+◌, ◌-◌, ◌<◌, ◌≤◌, inl, inr, Bool, true, false, Option, List, [], ◌∷◌, ◌++◌, length, take, drop, refl, ap, sym, subst, ◌∙◌, append_assoc, arith, slice_index, cases_Bool, cases_lt, append-nil, drop_more, take-add, breaks, breaks_at, IsStart, told_before, stream_at, Event, Print, replacement, after, added, open_end, CameTo, CameInside, MayGoOn, Reads, Place, InText}
+-- its events to those told so far; at starts among them a call that may stop may stop.
+use Rattle.vte_core.proofs.Common.{◌≡◌, ℕ, zero, suc, ◌+◌, ◌-◌, ◌<◌, ◌≤◌, inl, inr, Bool, true, false, Option, List, [], ◌∷◌, ◌++◌, length, take, drop, refl, ap, sym, subst, ◌∙◌, append_assoc, arith, slice_index, cases_Bool, cases_lt, append-nil, drop_more, take-add, breaks, breaks_at, IsStart, told_before, stream_at, Event, Print, replacement, after, added, open_end, ProgressAt, ProgressInside, MayGoOn, Reads, Place, InText}
 use Rattle.vte_core.proofs.Common.{InSystemCommand, IsAfter, IsBetween, open_at, ComesTo}
 use Rattle.vte_core.proofs.streams.After.{after-left, after-nothing, after-open_end, after-reads, added-reads, added-nothing}
 use Rattle.vte_core.proofs.calls.States.{reads-item}
@@ -48,35 +48,35 @@ module _ (limit : Option ℕ) (stream bytes : List ℕ) (i j : ℕ) (further : i
       ap (added limit stream) (run-ends bytes i j further)
       ∙ added_from limit stream (take i bytes) run (breaks_at stream bytes i) run-breaks
 
-module _ {V : Type 0} {asks : Bool} {step : V → Event → V} {is_terminated : V → Bool} {old : V} {limit : Option ℕ}
+module _ {V : Type 0} {may_stop : Bool} {step : V → Event → V} {is_terminated : V → Bool} {old : V} {limit : Option ℕ}
     {stream bytes : List ℕ} where
   -- ---- from inside to a place
 
   -- no character is broken here: nothing is told more
   come-whole : {value : V} {i : ℕ} {place : Place} → breaks_at stream bytes i ≡ false
-      → CameInside asks step is_terminated old value limit stream bytes i place
-      → CameTo asks step is_terminated old value limit stream bytes i place
+      → ProgressInside may_stop step is_terminated old value limit stream bytes i place
+      → ProgressAt may_stop step is_terminated old value limit stream bytes i place
   come-whole {i = i} whole c = rw (told-between limit stream bytes i whole, stream_at-between stream bytes i whole) c
 
   pub come-between : {value : V} {i : ℕ} {place : Place} → IsPlace place → IsBetween place
-      → CameInside asks step is_terminated old value limit stream bytes i place
-      → CameTo asks step is_terminated old value limit stream bytes i place
+      → ProgressInside may_stop step is_terminated old value limit stream bytes i place
+      → ProgressAt may_stop step is_terminated old value limit stream bytes i place
   come-between {i = i} {place = place} is between c =
       come-whole
       (breaks_at-between stream bytes i
       (after-open_end limit (stream ++ take i bytes) place c.is_after is ∙ open_at-between place between)) c
 
   pub come-all : {value : V} {i : ℕ} {place : Place} → length bytes ≤ i
-      → CameInside asks step is_terminated old value limit stream bytes i place
-      → CameTo asks step is_terminated old value limit stream bytes i place
+      → ProgressInside may_stop step is_terminated old value limit stream bytes i place
+      → ProgressAt may_stop step is_terminated old value limit stream bytes i place
   come-all {i = i} all c = come-whole (breaks_at-all stream bytes i all) c
 
   -- U+FFFD is told for a character that the next byte breaks, and the parser stands as at first
   pub come-broken : {value new : V} {i b : ℕ} {place : Place} → IsPlace place → i < length bytes
       → b ≡ slice_index bytes i → breaks (open_at place) (b ∷ []) ≡ true
       → new ≡ step value (Print replacement)
-      → CameInside asks step is_terminated old value limit stream bytes i place
-      → CameTo asks step is_terminated old new limit stream bytes i (InText [])
+      → ProgressInside may_stop step is_terminated old value limit stream bytes i place
+      → ProgressAt may_stop step is_terminated old new limit stream bytes i (InText [])
   come-broken {i = i} {b = b} {place = place} is_place within is broken performed c =
       let here : breaks_at stream bytes i ≡ true =
       breaks_at-byte stream bytes (open_at place) i b within is
@@ -96,12 +96,12 @@ module _ {V : Type 0} {asks : Bool} {step : V → Event → V} {is_terminated : 
   -- the performer may go on where they begin, if something starts there, and wherever something
   -- starts among them
   pub come-further : {value new : V} {i j : ℕ} {place next : Place} {these : List Event} → i < j → j ≤ length bytes
-      → (asks ≡ true → IsStart stream bytes i → is_terminated value ≡ false)
-      → (asks ≡ true → (k : ℕ) → i < k → k < j → is_terminated (after step old (told_before limit stream bytes k))
+      → (may_stop ≡ true → IsStart stream bytes i → is_terminated value ≡ false)
+      → (may_stop ≡ true → (k : ℕ) → i < k → k < j → is_terminated (after step old (told_before limit stream bytes k))
       ≡ false)
       → Reads limit place (take (j - i) (drop i bytes)) these next → new ≡ after step value these → IsPlace next
-      → CameTo asks step is_terminated old value limit stream bytes i place
-      → CameInside asks step is_terminated old new limit stream bytes j next
+      → ProgressAt may_stop step is_terminated old value limit stream bytes i place
+      → ProgressInside may_stop step is_terminated old new limit stream bytes j next
   come-further {value = value} {i = i} {j = j} {place = place} {next = next}
       {these = these} in_order within here inside r performed is_place c = record {
         performed =
@@ -130,10 +130,10 @@ module _ {V : Type 0} {asks : Bool} {step : V → Event → V} {is_terminated : 
 
   further : {value new : V} {i b : ℕ} {place next : Place} {these : List Event} → i < length bytes
       → b ≡ slice_index bytes i
-      → (asks ≡ true → IsStart stream bytes i → is_terminated value ≡ false) → Reads limit place (b ∷ []) these next
+      → (may_stop ≡ true → IsStart stream bytes i → is_terminated value ≡ false) → Reads limit place (b ∷ []) these next
       → new ≡ after step value these → IsPlace next
-      → CameTo asks step is_terminated old value limit stream bytes i place
-      → CameInside asks step is_terminated old new limit stream bytes (i + 1) next
+      → ProgressAt may_stop step is_terminated old value limit stream bytes i place
+      → ProgressInside may_stop step is_terminated old new limit stream bytes (i + 1) next
   further {i = i} {b = b} {place = place} {next = next} {these = these} within is here r =
       let one : take (i + 1 - i) (drop i bytes) ≡ b ∷ [] =
       let e : i + 1 - i ≡ 1 = omega arith in rw (e, drop_more bytes i 0 within, is) refl in
@@ -142,10 +142,10 @@ module _ {V : Type 0} {asks : Bool} {step : V → Event → V} {is_terminated : 
 
   -- after an answer, whatever starts here; after a broken character too
   pub come-byte : {value new : V} {i b : ℕ} {place next : Place} {these : List Event} → i < length bytes
-      → b ≡ slice_index bytes i → MayGoOn asks is_terminated value
+      → b ≡ slice_index bytes i → MayGoOn may_stop is_terminated value
       → Reads limit place (b ∷ []) these next → new ≡ after step value these → IsPlace next
-      → CameTo asks step is_terminated old value limit stream bytes i place
-      → CameInside asks step is_terminated old new limit stream bytes (i + 1) next
+      → ProgressAt may_stop step is_terminated old value limit stream bytes i place
+      → ProgressInside may_stop step is_terminated old new limit stream bytes (i + 1) next
   come-byte within is may_go_on r performed is_place c =
       further within is (λ does _. may_go_on does) r performed is_place c
 
@@ -154,8 +154,8 @@ module _ {V : Type 0} {asks : Bool} {step : V → Event → V} {is_terminated : 
       → i < length bytes → b ≡ slice_index bytes i
       → (open_at place ≡ [] → ⊥) → breaks (open_at place) (b ∷ []) ≡ false → Reads limit place (b ∷ []) these next
       → new ≡ after step value these → IsPlace next
-      → CameInside asks step is_terminated old value limit stream bytes i place
-      → CameInside asks step is_terminated old new limit stream bytes (i + 1) next
+      → ProgressInside may_stop step is_terminated old value limit stream bytes i place
+      → ProgressInside may_stop step is_terminated old new limit stream bytes (i + 1) next
   come-carried {i = i} {b = b} {place = place} is_here within is some whole r performed is_place c =
       let ends : open_end (stream ++ take i bytes) ≡ open_at place =
       after-open_end limit (stream ++ take i bytes) place c.is_after is_here in
@@ -167,9 +167,9 @@ module _ {V : Type 0} {asks : Bool} {step : V → Event → V} {is_terminated : 
   -- n data bytes of a command, before which the performer was asked once
   pub come-items : {value : V} {i : ℕ} (n : ℕ) (items : List ℕ) → i + n ≤ length bytes
       → ((k : ℕ) → i ≤ k → k < i + n → 0x20 ≤ slice_index bytes k)
-      → MayGoOn asks is_terminated value
-      → CameTo asks step is_terminated old value limit stream bytes i (InSystemCommand items)
-      → CameTo asks step is_terminated old value limit stream bytes (i + n)
+      → MayGoOn may_stop is_terminated value
+      → ProgressAt may_stop step is_terminated old value limit stream bytes i (InSystemCommand items)
+      → ProgressAt may_stop step is_terminated old value limit stream bytes (i + n)
       (InSystemCommand (items ++ take n (drop i bytes)))
   come-items {i = i} zero items within low may_go_on c =
       let same : i + 0 ≡ i = omega arith in rw (append-nil items, same) c
@@ -187,7 +187,7 @@ module _ {V : Type 0} {asks : Bool} {step : V → Event → V} {is_terminated : 
   -- ---- the start of a call
 
   pub come-nowhere : {place : Place} → IsAfter limit stream place
-      → CameInside asks step is_terminated old old limit stream bytes 0 place
+      → ProgressInside may_stop step is_terminated old old limit stream bytes 0 place
   come-nowhere {place = place} a = record {
     performed = sym (ap (after step old) (added-nothing limit stream));
     is_after = rw (append-nil stream) a;
@@ -195,14 +195,14 @@ module _ {V : Type 0} {asks : Bool} {step : V → Event → V} {is_terminated : 
   }
 
   come-back : {value : V} {i : ℕ} {place : Place} → breaks_at stream bytes i ≡ false
-      → CameTo asks step is_terminated old value limit stream bytes i place
-      → CameInside asks step is_terminated old value limit stream bytes i place
+      → ProgressAt may_stop step is_terminated old value limit stream bytes i place
+      → ProgressInside may_stop step is_terminated old value limit stream bytes i place
   come-back {i = i} whole c = rw (told-between limit stream bytes i whole, stream_at-between stream bytes i whole) at c
 
   -- in a command no character was broken
   pub come-command : {value : V} {i : ℕ} {items : List ℕ}
-      → CameTo asks step is_terminated old value limit stream bytes i (InSystemCommand items)
-      → CameInside asks step is_terminated old value limit stream bytes i (InSystemCommand items)
+      → ProgressAt may_stop step is_terminated old value limit stream bytes i (InSystemCommand items)
+      → ProgressInside may_stop step is_terminated old value limit stream bytes i (InSystemCommand items)
   come-command {value = value} {i = i} {items = items} c = elim (cases_Bool (breaks_at stream bytes i)) [
     | inl broken ↦
         let a : IsAfter limit [] (InSystemCommand items) =
@@ -217,7 +217,7 @@ module _ {V : Type 0} {asks : Bool} {step : V → Event → V} {is_terminated : 
   -- ---- where something starts
 
   pub come-starts : {value : V} {i : ℕ} {place : Place} → IsPlace place → IsBetween place → i < length bytes
-      → CameTo asks step is_terminated old value limit stream bytes i place → IsStart stream bytes i
+      → ProgressAt may_stop step is_terminated old value limit stream bytes i place → IsStart stream bytes i
   come-starts {i = i} {place = place} is between within c = elim (cases_Bool (breaks_at stream bytes i)) [
     | inl broken ↦ starts-broken stream bytes i within broken
     | inr whole ↦ starts-between stream bytes i within
@@ -228,9 +228,9 @@ module _ {V : Type 0} {asks : Bool} {step : V → Event → V} {is_terminated : 
   -- ---- the end of a call
 
   -- the public clauses of a call that may stop: `starts` comes from the loop's exit
-  pub come-to : {value : V} {n : ℕ} {place : Place} → asks ≡ true → n ≤ length bytes
+  pub come-to : {value : V} {n : ℕ} {place : Place} → may_stop ≡ true → n ≤ length bytes
       → (n < length bytes → IsStart stream bytes n)
-      → CameTo asks step is_terminated old value limit stream bytes n place
+      → ProgressAt may_stop step is_terminated old value limit stream bytes n place
       → ComesTo step is_terminated old value limit stream bytes n
   come-to {n = n} does within starts c =
       let unread : List ℕ = drop n bytes in
@@ -251,6 +251,6 @@ module _ {V : Type 0} {asks : Bool} {step : V → Event → V} {is_terminated : 
 
   -- the public clause of a call that reads all bytes
   pub come-performs : {value : V} {n : ℕ} {place : Place} → n ≡ length bytes
-      → CameTo asks step is_terminated old value limit stream bytes n place
+      → ProgressAt may_stop step is_terminated old value limit stream bytes n place
       → value ≡ after step old (added limit stream bytes)
   come-performs {n = n} all c = c.performed ∙ ap (after step old) (told-all limit stream bytes n all)

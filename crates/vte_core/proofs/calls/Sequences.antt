@@ -16,10 +16,12 @@ again step value limit b parser AtEscape e is s by = performs-escape is e by AtE
 again step value limit b parser _ e is s by = absurd by
 
 -- ESC once more
-pub advances-again : {quiet V B : Type 0} {asks : Bool} {step : V → Event → V} {is_terminated : V → Bool} {value : V}
+pub advances-again : {quiet V B : Type 0} {may_stop : Bool} {step : V → Event → V} {is_terminated : V → Bool}
+    {value : V}
     {limit : Option ℕ} {bytes : List ℕ} {i b : ℕ} {parser : Machine B}
-    → parser.state ≡ Escape → i < length bytes → b ≡ slice_index bytes i → MayGoOn asks is_terminated value → b ≡ 0x1b
-    → Advances quiet asks step is_terminated value value limit bytes i (i + 1) parser parser
+    → parser.state ≡ Escape → i < length bytes → b ≡ slice_index bytes i → MayGoOn may_stop is_terminated value → b
+    ≡ 0x1b
+    → Advances quiet may_stop step is_terminated value value limit bytes i (i + 1) parser parser
 advances-again {step = step} {value = value} {limit = limit} {b = b} {parser = parser} begun within is may_go_on same =
     advances-when (rw begun tt) (advances-byte within is may_go_on
     (λ place s between. again step value limit b parser place begun same s (stands-in begun s))
@@ -38,12 +40,13 @@ performs-dropped {limit = limit} {b = b} {parser = parser} begun head final ordi
     (λ holds. taken [] AtEscape refl (stands-by begun holds) (byte-dropped limit AtEscape b _ refl refl dropped)))
 
 -- ESC [
-pub advances-bracket : {quiet V B : Type 0} {asks : Bool} {step : V → Event → V} {is_terminated : V → Bool} {value : V}
+pub advances-bracket : {quiet V B : Type 0} {may_stop : Bool} {step : V → Event → V} {is_terminated : V → Bool}
+    {value : V}
     {limit : Option ℕ} {bytes : List ℕ} {i b : ℕ}
     {parser next : Machine B} → parser.state ≡ Escape → i < length bytes → b ≡ slice_index bytes i
-    → MayGoOn asks is_terminated value → b ≡ 0x5b
+    → MayGoOn may_stop is_terminated value → b ≡ 0x5b
     → next.state ≡ ControlSequence Entry → (HoldsIntermediates parser.collected [] → HoldsHead next.collected Entry [])
-    → Advances quiet asks step is_terminated value value limit bytes i (i + 1) parser next
+    → Advances quiet may_stop step is_terminated value value limit bytes i (i + 1) parser next
 unfolding class_of key_of
 advances-bracket {limit = limit} {parser = parser} begun within is may_go_on bracket state holds =
     advances-when tt (advances-in begun within is may_go_on (rw bracket refl)

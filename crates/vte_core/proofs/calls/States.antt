@@ -19,13 +19,13 @@ between_characters {limit = limit} parser place e s = by_text limit parser place
 -- ---- whether a call asks
 
 -- a const parameter that is a `bool` is a number in proofs
-pub asks-some : (n : ℕ) → (n ≡ 0 → ⊥) → not (eqb n 0) ≡ true
-asks-some n some = grind (arith, nat_tests)
+pub may_stop-some : (n : ℕ) → (n ≡ 0 → ⊥) → not (eqb n 0) ≡ true
+may_stop-some n some = grind (arith, nat_tests)
 
-pub asks-none : (n : ℕ) → n ≡ 0 → not (eqb n 0) ≡ true → ⊥
-asks-none n none is = let e : not (eqb 0 0) ≡ true = rw none at is in cc
+pub may_stop-none : (n : ℕ) → n ≡ 0 → not (eqb n 0) ≡ true → ⊥
+may_stop-none n none is = let e : not (eqb 0 0) ≡ true = rw none at is in cc
 
--- a call that asks nothing reads all
+-- a call that may stop nothing reads all
 pub reads-all : (n size : ℕ) → n ≤ size → (n < size → false ≡ true) → n ≡ size
 reads-all n size within asked =
     elim (cases_lt n size) [ inl below ↦ absurd (false≢true (asked below)) | inr past ↦ omega (arith, past, within) ]

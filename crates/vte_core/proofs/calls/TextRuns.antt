@@ -1,7 +1,7 @@
 -- What a run of text does to a call's progress: its characters one by one do the same. By induction over the
 -- characters, and for the performer by its contract over the whole run.
 use Rattle.vte_core.proofs.Common.{cases_Bool, inl, inr, Bool, List, Option, [], ap, arith, drop, false, length, map, refl, subst, sym, take, true, ℕ, ◌++◌, ◌+◌, ◌-◌, ◌<◌, ◌∙◌, ◌∷◌, ◌≡◌, ◌≢◌, ◌≤◌, encode, false≢true, append-nil, take-append-drop, All-append, All-head, All-nil, All-tail, All, slice_index, breaks_at, stream_at, told_before, Event, Print, replacement, after, added, cut_at_escape, escape, with_bodies, events}
-use Rattle.vte_core.proofs.Common.{is_left_out, run_event, character_event, is_control_character, malformed_event, text_outcome, Text, Machine, Nothing, Reads, Stands, InText, encodes, nat_tests, outcome_from, Advances, CameTo, MayGoOn, StandsAt, StandsInside, chars, IsUtf8, NoCharacterStops, AreRun, IsPrinted, PrintsRun}
+use Rattle.vte_core.proofs.Common.{is_left_out, run_event, character_event, is_control_character, malformed_event, text_outcome, Text, Machine, Nothing, Reads, Stands, InText, encodes, nat_tests, outcome_from, Advances, ProgressAt, MayGoOn, StandsAt, StandsInside, chars, IsUtf8, NoCharacterStops, AreRun, IsPrinted, PrintsRun}
 use Rattle.std.proofs.lemmas.List.{take-take}
 use Rattle.std.proofs.lemmas.List.Elements.{All-from_get_or}
 use Rattle.std.proofs.lemmas.Str.{inside_one, encodes-chars, scalars-chars}
@@ -129,10 +129,11 @@ not_stopped-told keeps step is_terminated never value limit stream bytes k goes 
       | inr whole ↦ rw (told-between limit stream bytes k whole) goes
     ]
 
-pub may_go_on-text : {V : Type 0} {asks keeps : Bool} {step : V → Event → V} {is_terminated : V → Bool} {old new : V}
+pub may_go_on-text : {V : Type 0} {may_stop keeps : Bool} {step : V → Event → V} {is_terminated : V → Bool}
+    {old new : V}
     {bytes : List ℕ} {i j : ℕ}
-    → (asks ≡ true → NoCharacterStops keeps step is_terminated) → MayGoOn asks is_terminated old
-    → PrintsRun keeps step old new bytes i j → MayGoOn asks is_terminated new
+    → (may_stop ≡ true → NoCharacterStops keeps step is_terminated) → MayGoOn may_stop is_terminated old
+    → PrintsRun keeps step old new bytes i j → MayGoOn may_stop is_terminated new
 may_go_on-text {keeps = keeps} {step = step} {is_terminated = is_terminated} {old = old} {bytes = bytes} {i = i}
     {j = j} never may_go_on prints does =
     let cs = chars (take (j - i) (drop i bytes)) in
@@ -141,10 +142,11 @@ may_go_on-text {keeps = keeps} {step = step} {is_terminated = is_terminated} {ol
     (append-nil (map (run_event keeps) cs)) (may_go_on does)
 
 -- What is malformed in runs is told by U+FFFD, which is a character too.
-pub may_go_on-malformed : {V : Type 0} {asks : Bool} (keeps : Bool) (step : V → Event → V) {is_terminated : V → Bool}
+pub may_go_on-malformed : {V : Type 0} {may_stop : Bool} (keeps : Bool) (step : V → Event → V)
+    {is_terminated : V → Bool}
     {old new : V} {b : ℕ}
-    → (asks ≡ true → NoCharacterStops keeps step is_terminated) → MayGoOn asks is_terminated old → 0xa0 ≤ b
-    → new ≡ step old (malformed_event (b ∷ [])) → MayGoOn asks is_terminated new
+    → (may_stop ≡ true → NoCharacterStops keeps step is_terminated) → MayGoOn may_stop is_terminated old → 0xa0 ≤ b
+    → new ≡ step old (malformed_event (b ∷ [])) → MayGoOn may_stop is_terminated new
 unfolding malformed_event
 may_go_on-malformed keeps step {old = old} {b = b} never may_go_on high performed does =
     let printed : is_control_character b ≡ false = grind (arith, nat_tests) in
@@ -153,12 +155,16 @@ may_go_on-malformed keeps step {old = old} {b = b} never may_go_on high performe
     rw (performed, event) (never does old replacement (may_go_on does))
 
 -- a run more
-pub advances-text : {V B : Type 0} {asks keeps : Bool} {step : V → Event → V} {is_terminated : V → Bool} {old new : V}
+pub advances-text : {V B : Type 0} {may_stop keeps : Bool} {step : V → Event → V} {is_terminated : V → Bool}
+    {old new : V}
     {limit : Option ℕ} {bytes : List ℕ} {i j : ℕ} {parser : Machine B}
-    → (asks ≡ true → NoCharacterStops keeps step is_terminated) → MayGoOn asks is_terminated old → i < length bytes
+    → (may_stop ≡ true → NoCharacterStops keeps step is_terminated) → MayGoOn may_stop is_terminated old
+    → i < length bytes
     → parser.state ≡ Text Nothing → i < j → j ≤ length bytes
-    → PrintsRun keeps step old new bytes i j → Advances ⊥ asks step is_terminated old new limit bytes i j parser parser
-advances-text {V = V} {B = B} {asks = asks} {keeps = keeps} {step = step} {is_terminated = is_terminated} {old = old}
+    → PrintsRun keeps step old new bytes i j → Advances ⊥ may_stop step is_terminated old new limit bytes i j parser
+    parser
+advances-text {V = V} {B = B} {may_stop = may_stop} {keeps = keeps} {step = step} {is_terminated = is_terminated}
+    {old = old}
     {new = new} {limit = limit} {bytes = bytes} {i = i} {j = j} {parser = parser}
     never may_go_on within e in_order high prints = record {
       goes_on = λ value stream s. settles (settled-by parser.state (Text Nothing) e tt) (inside-next value stream s);
@@ -170,8 +176,9 @@ advances-text {V = V} {B = B} {asks = asks} {keeps = keeps} {step = step} {is_te
     run = take (j - i) (drop i bytes)
 
     -- after a front of the run that isn't empty
-    inside : (value : V) (stream : List ℕ) → CameTo asks step is_terminated value old limit stream bytes i (InText [])
-        → asks ≡ true → (k : ℕ) → i < k → k < j
+    inside : (value : V) (stream : List ℕ) → ProgressAt may_stop step is_terminated value old limit stream bytes i
+        (InText [])
+        → may_stop ≡ true → (k : ℕ) → i < k → k < j
         → is_terminated (after step value (told_before limit stream bytes k)) ≡ false
     inside value stream c does k past below =
         let from : List ℕ = stream_at stream bytes i in
@@ -192,12 +199,13 @@ advances-text {V = V} {B = B} {asks = asks} {keeps = keeps} {step = step} {is_te
         ∙ not_stopped keeps step is_terminated (never does) old (added limit from front)
         (added limit (from ++ front) rest) (chars run) all (may_go_on does))
 
-    inside-next : (value : V) (stream : List ℕ) → StandsAt asks step is_terminated value old limit stream bytes i parser
-        → StandsInside asks step is_terminated value new limit stream bytes j parser
+    inside-next : (value : V) (stream : List ℕ) → StandsAt may_stop step is_terminated value old limit stream bytes i
+        parser
+        → StandsInside may_stop step is_terminated value new limit stream bytes j parser
     inside-next value stream s =
         let here : s.place ≡ InText [] = between_characters parser s.place e s.stands in
-        let c : CameTo asks step is_terminated value old limit stream bytes i (InText []) =
-        subst (CameTo asks step is_terminated value old limit stream bytes i) here s.has_come in
+        let c : ProgressAt may_stop step is_terminated value old limit stream bytes i (InText []) =
+        subst (ProgressAt may_stop step is_terminated value old limit stream bytes i) here s.has_come in
         record {
           place = InText [];
           stands = subst (Stands limit parser) here s.stands;

@@ -125,14 +125,14 @@ resynchronises limit = record {
 
 -- ---- what one byte adds
 
-pub record Adds (limit : Option ℕ) (stream : List ℕ) (b : ℕ) : Type 0 where
+pub record AddedByByte (limit : Option ℕ) (stream : List ℕ) (b : ℕ) : Type 0 where
   pub place : Place
   pub begun : open_end stream ≡ open_at place
   pub step : Steps limit place b
   pub ends : open_end (stream ++ b ∷ []) ≡ open_at step.next
   pub told : added limit stream (b ∷ []) ≡ step.told
 
-pub adds : (limit : Option ℕ) (stream : List ℕ) (b : ℕ) → Adds limit stream b
+pub adds : (limit : Option ℕ) (stream : List ℕ) (b : ℕ) → AddedByByte limit stream b
 adds limit stream b =
     let a : LeadsTo limit stream = leads_to limit stream in
     let s : Steps limit a.place b = steps limit a.place b a.is_place in
@@ -147,11 +147,11 @@ adds limit stream b =
 
 pub bytes_are_brief : (limit : Option ℕ) (stream : List ℕ) (b : ℕ) → IsBrief limit (added limit stream (b ∷ []))
 bytes_are_brief limit stream b =
-    let a : Adds limit stream b = adds limit stream b in rw a.told (a.step.brief limit (left_fits limit a.place))
+    let a : AddedByByte limit stream b = adds limit stream b in rw a.told (a.step.brief limit (left_fits limit a.place))
 
 pub opens_silently : (limit : Option ℕ) → OpensSilently limit
 opens_silently limit stream b =
-    let a : Adds limit stream b = adds limit stream b in
+    let a : AddedByByte limit stream b = adds limit stream b in
     elim a.step.leaves [
       | inl none ↦ inl (a.ends ∙ none)
       | inr little ↦ elim little [ inl nothing ↦ inr (inl (a.told ∙ nothing)) | inr one ↦ inr (inr (a.told ∙ one)) ]

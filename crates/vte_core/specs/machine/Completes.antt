@@ -31,13 +31,14 @@ pub record AddsCharacter (limit : Option ℕ) (stream begun bytes : List ℕ) (i
 
 -- The call goes on to position j, in a text if bytes are left, and tells a character or none. At
 -- place i a parser would stand inside the character that `begun` begins.
-pub record Completes {V B : Type 0} (asks : Bool) (step : V → Event → V) (is_terminated : V → Bool)
+pub record Completes {V B : Type 0} (may_stop : Bool) (step : V → Event → V)
+    (is_terminated : V → Bool)
     (old new : V) (limit : Option ℕ) (bytes : List ℕ) (i j : ℕ)
     (begun : Unfinished) (next : Machine B) : Type 0 where
   pub stands_at : (value : V) (stream : List ℕ) (parser : Machine B) → parser.state ≡ Text begun →
-      StandsInside asks step is_terminated value old limit stream bytes i parser
-      → StandsAt asks step is_terminated value new limit stream bytes j next
+      StandsInside may_stop step is_terminated value old limit stream bytes i parser
+      → StandsAt may_stop step is_terminated value new limit stream bytes j next
   pub text : j < length bytes → next.state ≡ Text Nothing
   pub others : (value : V) (stream : List ℕ) (parser : Machine B) → parser.state ≡ Text begun →
-      StandsInside asks step is_terminated value old limit stream bytes i parser
+      StandsInside may_stop step is_terminated value old limit stream bytes i parser
       → AddsCharacter limit stream (bytes_of begun) bytes i j

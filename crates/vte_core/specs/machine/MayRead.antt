@@ -6,23 +6,23 @@ use Rattle.vte_core.specs.machine.Progress.{MayGoOn}
 
 -- The parser is in this state, at position i of the bytes or at their end, and the call may go on
 -- there.
-pub record MayRead {V B : Type 0} (asks : Bool) (is_terminated : V → Bool) (value : V)
+pub record MayRead {V B : Type 0} (may_stop : Bool) (is_terminated : V → Bool) (value : V)
     (state : State) (parser : Machine B) (bytes : List ℕ) (i : ℕ) : Type 0 where
   pub begun : parser.state ≡ state
-  pub may_go_on : MayGoOn asks is_terminated value
+  pub may_go_on : MayGoOn may_stop is_terminated value
   pub in_order : i ≤ length bytes
 
 -- `MayRead` before a byte: position i isn't the end.
-pub record MayReadAt {V B : Type 0} (asks : Bool) (is_terminated : V → Bool) (value : V)
+pub record MayReadAt {V B : Type 0} (may_stop : Bool) (is_terminated : V → Bool) (value : V)
     (state : State) (parser : Machine B) (bytes : List ℕ) (i : ℕ) : Type 0 where
   pub begun : parser.state ≡ state
-  pub may_go_on : MayGoOn asks is_terminated value
+  pub may_go_on : MayGoOn may_stop is_terminated value
   pub within : i < length bytes
 
 -- `MayRead` before this byte, at which the caller looked.
-pub record MayReadByte {V B : Type 0} (asks : Bool) (is_terminated : V → Bool) (value : V)
+pub record MayReadByte {V B : Type 0} (may_stop : Bool) (is_terminated : V → Bool) (value : V)
     (state : State) (parser : Machine B) (bytes : List ℕ) (i byte : ℕ) : Type 0 where
   pub begun : parser.state ≡ state
-  pub may_go_on : MayGoOn asks is_terminated value
+  pub may_go_on : MayGoOn may_stop is_terminated value
   pub within : i < length bytes
   pub is : byte ≡ slice_index bytes i

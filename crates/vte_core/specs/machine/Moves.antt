@@ -50,12 +50,12 @@ pub record Costs (rate : ℕ) {Answer B : Type 0} (bytes : List ℕ) (result : R
 -- The bounds of a function that reads nothing at position i, because memory was refused. It
 -- searched for the end of the data: it took at least one look, and at most one for each byte from
 -- there on.
-pub record Refuses {V B : Type 0} (asks : Bool) (is_terminated : V → Bool) (value : V)
+pub record Refuses {V B : Type 0} (may_stop : Bool) (is_terminated : V → Bool) (value : V)
     (limit : Option ℕ) (bytes : List ℕ) (i read : ℕ)
     (parser next : Machine B) (before after : Looks B) : Type 0 where
   pub stays : read ≡ i
   pub refused : IsRefusedAt limit next.state next.command bytes read
-  pub may_go_on : MayGoOn asks is_terminated value
+  pub may_go_on : MayGoOn may_stop is_terminated value
   pub searched : looked before < looked after
   pub within : looked after + i ≤ looked before + length bytes
   pub memory : parser.command.capacity ≤ next.command.capacity

@@ -15,7 +15,7 @@ impl<B: Buffer> Machine<B> {
     /// at. A byte that breaks it is left unread, and U+FFFD is printed for those before it. If text
     /// is taken in runs, a character of four bytes begins one.
     #[inline(always)]
-    pub(crate) fn read_character<P: CountedPerform<B, G>, G: Grain, const ASKS: bool>(
+    pub(crate) fn read_character<P: CountedPerform<B, G>, G: Grain, const MAY_STOP: bool>(
         &mut self,
         looks: &mut Looks<B>,
         performer: &mut P,
@@ -23,14 +23,14 @@ impl<B: Buffer> Machine<B> {
         from: usize,
         first: u8,
     ) -> usize
-        requires may_read { MayReadByte ASKS P.is_terminated (P.value_of performer.old)
+        requires may_read { MayReadByte MAY_STOP P.is_terminated (P.value_of performer.old)
             (Text Nothing) self.old input.bytes.now from first }
         requires lead { 0xc2 ≤ first }
         requires fits { first < 0xf5 }
-        requires no_stop { G.IN_RUNS ≡ true → ASKS ≡ true
+        requires no_stop { G.IN_RUNS ≡ true → MAY_STOP ≡ true
             → NoCharacterStops P.keeps P.step P.is_terminated }
         ensures advances { Advances
-            ((G.IN_RUNS ≡ false) × EndsRun false input.entry.bytes.now from) ASKS P.step
+            ((G.IN_RUNS ≡ false) × EndsRun false input.entry.bytes.now from) MAY_STOP P.step
             P.is_terminated (P.value_of performer.old)
             (P.value_of performer.new) B.limit input.entry.bytes.now from result self.old self.new }
         ensures text { result < length input.entry.bytes.now → self.new.state ≡ Text Nothing }
@@ -55,15 +55,15 @@ impl<B: Buffer> Machine<B> {
             return next + 1;
         }
         if first < 0xf0 {
-            self.complete_three::<P, G, ASKS>(looks, performer, first, second, input, next)
+            self.complete_three::<P, G, MAY_STOP>(looks, performer, first, second, input, next)
         } else {
-            self.complete_four::<P, G, ASKS>(looks, performer, first, second, input, from)
+            self.complete_four::<P, G, MAY_STOP>(looks, performer, first, second, input, from)
         }
     }
 
     /// Reads the second and third byte of a character of three. The second was looked at.
     #[inline(always)]
-    pub(crate) fn complete_three<P: CountedPerform<B, G>, G: Grain, const ASKS: bool>(
+    pub(crate) fn complete_three<P: CountedPerform<B, G>, G: Grain, const MAY_STOP: bool>(
         &mut self,
         looks: &mut Looks<B>,
         performer: &mut P,
@@ -72,10 +72,10 @@ impl<B: Buffer> Machine<B> {
         input: Input<'_, B>,
         from: usize,
     ) -> usize
-        requires may_read { MayReadByte ASKS P.is_terminated (P.value_of performer.old)
+        requires may_read { MayReadByte MAY_STOP P.is_terminated (P.value_of performer.old)
             (Text Nothing) self.old input.bytes.now from second }
         requires lead { BeginsThree first }
-        ensures completes { Completes ASKS P.step P.is_terminated (P.value_of performer.old)
+        ensures completes { Completes MAY_STOP P.step P.is_terminated (P.value_of performer.old)
             (P.value_of performer.new) B.limit input.entry.bytes.now from result
             (One first) self.new }
         ensures spends { Spends 2 1 2 input.entry.bytes.now from result self.old self.new
@@ -101,7 +101,7 @@ impl<B: Buffer> Machine<B> {
     /// Reads the character of four bytes that begins at a position, whose first two were looked at.
     /// If text is taken in runs, it begins one.
     #[inline(always)]
-    pub(crate) fn complete_four<P: CountedPerform<B, G>, G: Grain, const ASKS: bool>(
+    pub(crate) fn complete_four<P: CountedPerform<B, G>, G: Grain, const MAY_STOP: bool>(
         &mut self,
         looks: &mut Looks<B>,
         performer: &mut P,
@@ -110,15 +110,15 @@ impl<B: Buffer> Machine<B> {
         input: Input<'_, B>,
         from: usize,
     ) -> usize
-        requires may_read { MayReadByte ASKS P.is_terminated (P.value_of performer.old)
+        requires may_read { MayReadByte MAY_STOP P.is_terminated (P.value_of performer.old)
             (Text Nothing) self.old input.bytes.now from first }
         requires lead { BeginsFour first }
         requires within { from + 1 < length input.bytes.now }
         requires is { second ≡ slice_index input.bytes.now (from + 1) }
-        requires no_stop { G.IN_RUNS ≡ true → ASKS ≡ true
+        requires no_stop { G.IN_RUNS ≡ true → MAY_STOP ≡ true
             → NoCharacterStops P.keeps P.step P.is_terminated }
         ensures advances { Advances
-            ((G.IN_RUNS ≡ false) × EndsRun false input.entry.bytes.now from) ASKS P.step
+            ((G.IN_RUNS ≡ false) × EndsRun false input.entry.bytes.now from) MAY_STOP P.step
             P.is_terminated (P.value_of performer.old)
             (P.value_of performer.new) B.limit input.entry.bytes.now from result self.old self.new }
         ensures text { result < length input.entry.bytes.now → self.new.state ≡ Text Nothing }
@@ -134,7 +134,7 @@ impl<B: Buffer> Machine<B> {
             return next;
         }
         if next + 2 >= input.len() {
-            return self.continue_character::<P, G, ASKS>(
+            return self.continue_character::<P, G, MAY_STOP>(
                 looks,
                 performer,
                 Unfinished::Two(first, second),
@@ -164,7 +164,7 @@ impl<B: Buffer> Machine<B> {
     /// Reads the bytes that an unfinished character continues with. A byte that breaks it is left
     /// unread, and U+FFFD is printed for those before it.
     #[inline(always)]
-    pub(crate) fn continue_character<P: CountedPerform<B, G>, G: Grain, const ASKS: bool>(
+    pub(crate) fn continue_character<P: CountedPerform<B, G>, G: Grain, const MAY_STOP: bool>(
         &mut self,
         looks: &mut Looks<B>,
         performer: &mut P,
@@ -174,7 +174,7 @@ impl<B: Buffer> Machine<B> {
     ) -> usize
         requires in_order { from ≤ length input.bytes.now }
         requires inside { bytes_of begun ≢ [] }
-        ensures completes { Completes ASKS P.step P.is_terminated (P.value_of performer.old)
+        ensures completes { Completes MAY_STOP P.step P.is_terminated (P.value_of performer.old)
             (P.value_of performer.new) B.limit input.entry.bytes.now from result begun self.new }
         ensures spends { Spends 2 0 2 input.entry.bytes.now from result self.old self.new
             looks.old looks.new }

@@ -14,7 +14,11 @@ impl<B: Buffer> Machine<B> {
     /// most one number: for them this calls nothing before the dispatch. If calls have one byte
     /// each, most bytes of long sequences come this way.
     #[inline(always)]
-    pub(crate) fn continue_control_sequence<P: CountedPerform<B, G>, G: Grain, const ASKS: bool>(
+    pub(crate) fn continue_control_sequence<
+        P: CountedPerform<B, G>,
+        G: Grain,
+        const MAY_STOP: bool,
+    >(
         &mut self,
         looks: &mut Looks<B>,
         performer: &mut P,
@@ -23,16 +27,18 @@ impl<B: Buffer> Machine<B> {
         several: bool,
         from: usize,
     ) -> usize
-        requires { MayRead ASKS P.is_terminated (P.value_of performer.old)
+        requires { MayRead MAY_STOP P.is_terminated (P.value_of performer.old)
             (State.ControlSequence reached) self.old input.bytes.now from }
-        ensures advances { Advances ⊤ ASKS P.step P.is_terminated
+        ensures advances { Advances ⊤ MAY_STOP P.step P.is_terminated
             (P.value_of performer.old)
             (P.value_of performer.new) B.limit input.entry.bytes.now from result self.old self.new }
         ensures moves { Moves 5 0 input.entry.bytes.now from result self.old self.new
             looks.old looks.new }
     {
         if !reached.may_have_parameters() {
-            return self.read_control_sequence::<P, G, ASKS>(looks, performer, input, reached, from);
+            return self.read_control_sequence::<P, G, MAY_STOP>(
+                looks, performer, input, reached, from,
+            );
         }
         let head = self
             .collected
@@ -46,12 +52,18 @@ impl<B: Buffer> Machine<B> {
         if head.next.is_none() {
             return head.position;
         }
-        self.read_control_sequence::<P, G, ASKS>(looks, performer, input, head.part, head.position)
+        self.read_control_sequence::<P, G, MAY_STOP>(
+            looks,
+            performer,
+            input,
+            head.part,
+            head.position,
+        )
     }
 
     /// Reads the head of a control sequence, which has come so far, and the byte after it.
     #[inline(never)]
-    pub(crate) fn read_control_sequence<P: CountedPerform<B, G>, G: Grain, const ASKS: bool>(
+    pub(crate) fn read_control_sequence<P: CountedPerform<B, G>, G: Grain, const MAY_STOP: bool>(
         &mut self,
         looks: &mut Looks<B>,
         performer: &mut P,
@@ -59,9 +71,9 @@ impl<B: Buffer> Machine<B> {
         reached: HeadPart,
         from: usize,
     ) -> usize
-        requires { MayRead ASKS P.is_terminated (P.value_of performer.old)
+        requires { MayRead MAY_STOP P.is_terminated (P.value_of performer.old)
             (State.ControlSequence reached) self.old input.bytes.now from }
-        ensures advances { Advances ⊤ ASKS P.step P.is_terminated
+        ensures advances { Advances ⊤ MAY_STOP P.step P.is_terminated
             (P.value_of performer.old)
             (P.value_of performer.new) B.limit input.entry.bytes.now from result self.old self.new }
         ensures moves { Moves 3 0 input.entry.bytes.now from result self.old self.new

@@ -14,7 +14,7 @@ const STRING_TERMINATOR: u8 = 0x9c;
 impl<B: Buffer> Machine<B> {
     /// Reads the head of a device control string, which has come so far, and its final byte.
     /// Controls in it are dropped.
-    pub(crate) fn read_device_control<P: CountedPerform<B, G>, G: Grain, const ASKS: bool>(
+    pub(crate) fn read_device_control<P: CountedPerform<B, G>, G: Grain, const MAY_STOP: bool>(
         &mut self,
         looks: &mut Looks<B>,
         performer: &mut P,
@@ -22,9 +22,9 @@ impl<B: Buffer> Machine<B> {
         reached: HeadPart,
         from: usize,
     ) -> usize
-        requires { MayRead ASKS P.is_terminated (P.value_of performer.old)
+        requires { MayRead MAY_STOP P.is_terminated (P.value_of performer.old)
             (State.DeviceControl reached) self.old input.bytes.now from }
-        ensures advances { Advances ⊤ ASKS P.step P.is_terminated
+        ensures advances { Advances ⊤ MAY_STOP P.step P.is_terminated
             (P.value_of performer.old)
             (P.value_of performer.new) B.limit input.entry.bytes.now from result self.old self.new }
         ensures moves { Moves 5 0 input.entry.bytes.now from result self.old self.new
@@ -70,16 +70,16 @@ impl<B: Buffer> Machine<B> {
 
     /// Reads the data of a device control string, and the byte that ends them; for a performer that
     /// takes slices, and that nobody asks, data up to a byte that isn't put, or that byte.
-    pub(crate) fn read_device_data<P: CountedPerform<B, G>, G: Grain, const ASKS: bool>(
+    pub(crate) fn read_device_data<P: CountedPerform<B, G>, G: Grain, const MAY_STOP: bool>(
         &mut self,
         looks: &mut Looks<B>,
         performer: &mut P,
         input: Input<'_, B>,
         from: usize,
     ) -> usize
-        requires { MayRead ASKS P.is_terminated
+        requires { MayRead MAY_STOP P.is_terminated
             (P.value_of performer.old) DeviceData self.old input.bytes.now from }
-        ensures advances { Advances ⊥ ASKS P.step P.is_terminated (P.value_of performer.old)
+        ensures advances { Advances ⊥ MAY_STOP P.step P.is_terminated (P.value_of performer.old)
             (P.value_of performer.new) B.limit input.entry.bytes.now from result self.old self.new }
         ensures moves { Moves 5 0 input.entry.bytes.now from result self.old self.new
             looks.old looks.new }
@@ -87,15 +87,17 @@ impl<B: Buffer> Machine<B> {
         for position in from..input.len() {
             let byte = looks.at(input, position);
             if !is_device_data(byte) {
-                return self.end_device_data::<P, G, ASKS>(looks, performer, input, position, byte);
+                return self.end_device_data::<P, G, MAY_STOP>(
+                    looks, performer, input, position, byte,
+                );
             }
-            if G::IN_RUNS && !ASKS {
+            if G::IN_RUNS && !MAY_STOP {
                 let end = looks.find_device_data_end(input, position + 1);
                 looks.tell_data(performer, input, position, end);
                 return end;
             }
             performer.put_byte(looks, byte);
-            if ASKS && performer.terminated() {
+            if MAY_STOP && performer.terminated() {
                 return position + 1;
             }
         }
@@ -104,7 +106,7 @@ impl<B: Buffer> Machine<B> {
 
     /// Reads a byte among the data that isn't put: it ends them, or is dropped.
     #[inline(never)]
-    pub(crate) fn end_device_data<P: CountedPerform<B, G>, G: Grain, const ASKS: bool>(
+    pub(crate) fn end_device_data<P: CountedPerform<B, G>, G: Grain, const MAY_STOP: bool>(
         &mut self,
         looks: &mut Looks<B>,
         performer: &mut P,
@@ -112,17 +114,17 @@ impl<B: Buffer> Machine<B> {
         from: usize,
         byte: u8,
     ) -> usize
-        requires may_read { MayReadByte ASKS P.is_terminated
+        requires may_read { MayReadByte MAY_STOP P.is_terminated
             (P.value_of performer.old) DeviceData self.old input.bytes.now from byte }
         requires other { is_device_data (class_of byte) ≡ false }
-        ensures advances { Advances ⊤ ASKS P.step P.is_terminated
+        ensures advances { Advances ⊤ MAY_STOP P.step P.is_terminated
             (P.value_of performer.old)
             (P.value_of performer.new) B.limit input.entry.bytes.now from result self.old self.new }
         ensures moves { Moves 5 1 input.entry.bytes.now from result self.old self.new
             looks.old looks.new }
     {
         if ends_all(byte) {
-            return self.read_end::<P, G, ASKS>(looks, performer, input, from, byte);
+            return self.read_end::<P, G, MAY_STOP>(looks, performer, input, from, byte);
         }
         if byte == STRING_TERMINATOR {
             performer.unhook(looks);

@@ -9,45 +9,45 @@ use crate::scan::{CountedPerform, Grain, Input, Looks};
 
 impl<B: Buffer> Machine<B> {
     /// Reads the bytes of a call, as many as there is memory for, and returns how many: all of
-    /// them, or up to a stop if `ASKS`.
-    pub(crate) fn drive<P: CountedPerform<B, G>, G: Grain, const ASKS: bool>(
+    /// them, or up to a stop if `MAY_STOP`.
+    pub(crate) fn drive<P: CountedPerform<B, G>, G: Grain, const MAY_STOP: bool>(
         &mut self,
         looks: &mut Looks<B>,
         performer: &mut P,
         input: Input<'_, B>,
     ) -> Result<usize, Refused>
-        requires no_stop { G.IN_RUNS ≡ true → ASKS ≡ true
+        requires no_stop { G.IN_RUNS ≡ true → MAY_STOP ≡ true
             → NoCharacterStops P.keeps P.step P.is_terminated }
         ensures reads { IfOk result
-            (λ read. ReadsUpTo ASKS P.step P.is_terminated (P.value_of performer.old)
+            (λ read. ReadsUpTo MAY_STOP P.step P.is_terminated (P.value_of performer.old)
             (P.value_of performer.new)
             B.limit input.entry.bytes.now read self.old self.new) }
         ensures refuses { IfErr result
-            (λ refused. RefusesAt ASKS P.step P.is_terminated (P.value_of performer.old)
+            (λ refused. RefusesAt MAY_STOP P.step P.is_terminated (P.value_of performer.old)
             (P.value_of performer.new)
             B.limit input.entry.bytes.now refused.read self.old self.new) }
         ensures costs { Costs 5 input.entry.bytes.now result
             (read_count result) self.old self.new looks.old looks.new }
     {
-        let mut position = self.finish_character::<P, G, ASKS>(looks, performer, input);
+        let mut position = self.finish_character::<P, G, MAY_STOP>(looks, performer, input);
         while position < input.len() {
-            if ASKS && performer.terminated() {
+            if MAY_STOP && performer.terminated() {
                 return Ok(position);
             }
-            position = self.read_by_state::<P, G, ASKS>(looks, performer, input, position)?;
+            position = self.read_by_state::<P, G, MAY_STOP>(looks, performer, input, position)?;
         }
         Ok(position)
     }
 
     /// Completes the character that an earlier call began, if one is open.
-    pub(crate) fn finish_character<P: CountedPerform<B, G>, G: Grain, const ASKS: bool>(
+    pub(crate) fn finish_character<P: CountedPerform<B, G>, G: Grain, const MAY_STOP: bool>(
         &mut self,
         looks: &mut Looks<B>,
         performer: &mut P,
         input: Input<'_, B>,
     ) -> usize
         ensures stands_at { (stream : List ℕ) → HasReadUnder B.limit self.old stream →
-            StandsAt ASKS P.step P.is_terminated (P.value_of performer.old)
+            StandsAt MAY_STOP P.step P.is_terminated (P.value_of performer.old)
             (P.value_of performer.new) B.limit stream
             input.entry.bytes.now result self.new }
         ensures settled { result < length input.entry.bytes.now → IsSettled self.new.state }
@@ -61,7 +61,7 @@ impl<B: Buffer> Machine<B> {
                 if begun.is_nothing() {
                     return 0;
                 }
-                self.continue_character::<P, G, ASKS>(looks, performer, begun, input, 0)
+                self.continue_character::<P, G, MAY_STOP>(looks, performer, begun, input, 0)
             }
             _ => 0,
         }
@@ -70,19 +70,19 @@ impl<B: Buffer> Machine<B> {
     /// Reads at least one byte, before which the performer was asked, or none if memory is refused
     /// for it.
     #[inline]
-    pub(crate) fn read_by_state<P: CountedPerform<B, G>, G: Grain, const ASKS: bool>(
+    pub(crate) fn read_by_state<P: CountedPerform<B, G>, G: Grain, const MAY_STOP: bool>(
         &mut self,
         looks: &mut Looks<B>,
         performer: &mut P,
         input: Input<'_, B>,
         from: usize,
     ) -> Result<usize, Refused>
-        requires may_read { MayReadAt ASKS P.is_terminated
+        requires may_read { MayReadAt MAY_STOP P.is_terminated
             (P.value_of performer.old) self.old.state self.old input.bytes.now from }
         requires settled { IsSettled self.old.state }
-        requires no_stop { G.IN_RUNS ≡ true → ASKS ≡ true
+        requires no_stop { G.IN_RUNS ≡ true → MAY_STOP ≡ true
             → NoCharacterStops P.keeps P.step P.is_terminated }
-        ensures advances { Advances (IsOutside self.old.state) ASKS P.step P.is_terminated
+        ensures advances { Advances (IsOutside self.old.state) MAY_STOP P.step P.is_terminated
             (P.value_of performer.old) (P.value_of performer.new) B.limit
             input.entry.bytes.now from (read_count result) self.old self.new }
         ensures moves { IfOk result
@@ -90,35 +90,36 @@ impl<B: Buffer> Machine<B> {
             Moves 5 0 input.entry.bytes.now from read self.old self.new looks.old looks.new) }
         ensures refuses { IfErr result
             (λ refused.
-            Refuses ASKS P.is_terminated (P.value_of performer.new) B.limit input.entry.bytes.now
+            Refuses MAY_STOP P.is_terminated (P.value_of performer.new) B.limit
+            input.entry.bytes.now
             from refused.read self.old self.new looks.old looks.new) }
     {
         // A comparison, because the match jumps by a table, which is hard to predict.
         if let State::Text(_) = self.state {
-            return Ok(self.read_text::<P, G, ASKS>(looks, performer, input, from));
+            return Ok(self.read_text::<P, G, MAY_STOP>(looks, performer, input, from));
         }
         Ok(match self.state {
-            State::Text(_) => self.read_text::<P, G, ASKS>(looks, performer, input, from),
-            State::Escape => self.read_escape::<P, G, ASKS>(looks, performer, input, from),
+            State::Text(_) => self.read_text::<P, G, MAY_STOP>(looks, performer, input, from),
+            State::Escape => self.read_escape::<P, G, MAY_STOP>(looks, performer, input, from),
             State::EscapeIntermediate => {
-                self.read_intermediates::<P, G, ASKS>(looks, performer, input, from)
+                self.read_intermediates::<P, G, MAY_STOP>(looks, performer, input, from)
             }
             State::ControlSequence(part) => {
-                self.continue_control_sequence::<P, G, ASKS>(
+                self.continue_control_sequence::<P, G, MAY_STOP>(
                     looks, performer, input, part, true, from,
                 )
             }
             State::DeviceControl(part) => {
-                self.read_device_control::<P, G, ASKS>(looks, performer, input, part, from)
+                self.read_device_control::<P, G, MAY_STOP>(looks, performer, input, part, from)
             }
             State::DeviceData => {
-                self.read_device_data::<P, G, ASKS>(looks, performer, input, from)
+                self.read_device_data::<P, G, MAY_STOP>(looks, performer, input, from)
             }
             State::SystemCommand => {
-                self.read_system_command::<P, G, ASKS>(looks, performer, input, from)?
+                self.read_system_command::<P, G, MAY_STOP>(looks, performer, input, from)?
             }
             State::IgnoredString => {
-                self.read_ignored_string::<P, G, ASKS>(looks, performer, input, from)
+                self.read_ignored_string::<P, G, MAY_STOP>(looks, performer, input, from)
             }
         })
     }

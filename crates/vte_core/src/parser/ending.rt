@@ -35,7 +35,7 @@ impl<B: Buffer> Machine<B> {
     }
 
     /// Reads a byte that ends what is open, which was looked at. After ESC it reads on.
-    pub(crate) fn read_end<P: CountedPerform<B, G>, G: Grain, const ASKS: bool>(
+    pub(crate) fn read_end<P: CountedPerform<B, G>, G: Grain, const MAY_STOP: bool>(
         &mut self,
         looks: &mut Looks<B>,
         performer: &mut P,
@@ -43,21 +43,21 @@ impl<B: Buffer> Machine<B> {
         from: usize,
         byte: u8,
     ) -> usize
-        requires may_read { MayReadByte ASKS P.is_terminated
+        requires may_read { MayReadByte MAY_STOP P.is_terminated
             (P.value_of performer.old) self.old.state self.old input.bytes.now from byte }
         requires ends { ends_all (class_of byte) ≡ true }
         requires quiet { IsQuietIn self.old.state byte }
-        ensures advances { Advances ⊤ ASKS P.step P.is_terminated
+        ensures advances { Advances ⊤ MAY_STOP P.step P.is_terminated
             (P.value_of performer.old)
             (P.value_of performer.new) B.limit input.entry.bytes.now from result self.old self.new }
         ensures moves { Moves 3 1 input.entry.bytes.now from result self.old self.new
             looks.old looks.new }
     {
         self.end_body(looks, performer, byte);
-        if byte != ESCAPE || (ASKS && performer.terminated()) {
+        if byte != ESCAPE || (MAY_STOP && performer.terminated()) {
             return from + 1;
         }
-        self.read_escape::<P, G, ASKS>(looks, performer, input, from + 1)
+        self.read_escape::<P, G, MAY_STOP>(looks, performer, input, from + 1)
     }
 
     /// Reports the end of a string: `unhook`, or the operating system command.

@@ -16,17 +16,17 @@ impl<B: Buffer> Machine<B> {
     /// Begins an escape sequence at an ESC in a text, which was looked at, and reads the bytes
     /// after it.
     #[inline(never)]
-    pub(crate) fn read_sequence<P: CountedPerform<B, G>, G: Grain, const ASKS: bool>(
+    pub(crate) fn read_sequence<P: CountedPerform<B, G>, G: Grain, const MAY_STOP: bool>(
         &mut self,
         looks: &mut Looks<B>,
         performer: &mut P,
         input: Input<'_, B>,
         from: usize,
     ) -> usize
-        requires may_read { MayReadAt ASKS P.is_terminated (P.value_of performer.old)
+        requires may_read { MayReadAt MAY_STOP P.is_terminated (P.value_of performer.old)
             (Text Nothing) self.old input.bytes.now from }
         requires is { slice_index input.bytes.now from ≡ 0x1b }
-        ensures advances { Advances ⊤ ASKS P.step P.is_terminated
+        ensures advances { Advances ⊤ MAY_STOP P.step P.is_terminated
             (P.value_of performer.old)
             (P.value_of performer.new) B.limit input.entry.bytes.now from result self.old self.new }
         ensures moves { Moves 5 1 input.entry.bytes.now from result self.old self.new
@@ -40,7 +40,7 @@ impl<B: Buffer> Machine<B> {
         if next < input.len() && looks.at(input, next) == b'[' {
             self.collected.begin_head();
             self.state = State::ControlSequence(HeadPart::Entry);
-            return self.continue_control_sequence::<P, G, ASKS>(
+            return self.continue_control_sequence::<P, G, MAY_STOP>(
                 looks,
                 performer,
                 input,
@@ -50,22 +50,22 @@ impl<B: Buffer> Machine<B> {
             );
         }
         self.state = State::Escape;
-        self.read_escape::<P, G, ASKS>(looks, performer, input, next)
+        self.read_escape::<P, G, MAY_STOP>(looks, performer, input, next)
     }
 
     /// Reads bytes after ESC, up to the one that says what begins; after `[` the control sequence
     /// too.
     #[inline(never)]
-    pub(crate) fn read_escape<P: CountedPerform<B, G>, G: Grain, const ASKS: bool>(
+    pub(crate) fn read_escape<P: CountedPerform<B, G>, G: Grain, const MAY_STOP: bool>(
         &mut self,
         looks: &mut Looks<B>,
         performer: &mut P,
         input: Input<'_, B>,
         from: usize,
     ) -> usize
-        requires { MayRead ASKS P.is_terminated
+        requires { MayRead MAY_STOP P.is_terminated
             (P.value_of performer.old) Escape self.old input.bytes.now from }
-        ensures advances { Advances ⊤ ASKS P.step P.is_terminated
+        ensures advances { Advances ⊤ MAY_STOP P.step P.is_terminated
             (P.value_of performer.old)
             (P.value_of performer.new) B.limit input.entry.bytes.now from result self.old self.new }
         ensures moves { Moves 3 0 input.entry.bytes.now from result self.old self.new
@@ -78,7 +78,7 @@ impl<B: Buffer> Machine<B> {
             if byte == b'[' {
                 self.collected.begin_head();
                 self.state = State::ControlSequence(HeadPart::Entry);
-                return self.read_control_sequence::<P, G, ASKS>(
+                return self.read_control_sequence::<P, G, MAY_STOP>(
                     looks,
                     performer,
                     input,
@@ -157,16 +157,16 @@ impl<B: Buffer> Machine<B> {
     }
 
     /// Reads the intermediates of an escape sequence and its final byte.
-    pub(crate) fn read_intermediates<P: CountedPerform<B, G>, G: Grain, const ASKS: bool>(
+    pub(crate) fn read_intermediates<P: CountedPerform<B, G>, G: Grain, const MAY_STOP: bool>(
         &mut self,
         looks: &mut Looks<B>,
         performer: &mut P,
         input: Input<'_, B>,
         from: usize,
     ) -> usize
-        requires { MayRead ASKS P.is_terminated
+        requires { MayRead MAY_STOP P.is_terminated
             (P.value_of performer.old) EscapeIntermediate self.old input.bytes.now from }
-        ensures advances { Advances ⊤ ASKS P.step P.is_terminated
+        ensures advances { Advances ⊤ MAY_STOP P.step P.is_terminated
             (P.value_of performer.old)
             (P.value_of performer.new) B.limit input.entry.bytes.now from result self.old self.new }
         ensures moves { Moves 5 0 input.entry.bytes.now from result self.old self.new

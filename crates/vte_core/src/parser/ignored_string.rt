@@ -8,16 +8,16 @@ use crate::scan::{CountedPerform, Grain, Input, Looks};
 
 impl<B: Buffer> Machine<B> {
     /// Reads a string that means nothing, and the byte that ends it.
-    pub(crate) fn read_ignored_string<P: CountedPerform<B, G>, G: Grain, const ASKS: bool>(
+    pub(crate) fn read_ignored_string<P: CountedPerform<B, G>, G: Grain, const MAY_STOP: bool>(
         &mut self,
         looks: &mut Looks<B>,
         performer: &mut P,
         input: Input<'_, B>,
         from: usize,
     ) -> usize
-        requires { MayReadAt ASKS P.is_terminated
+        requires { MayReadAt MAY_STOP P.is_terminated
             (P.value_of performer.old) IgnoredString self.old input.bytes.now from }
-        ensures advances { Advances ⊤ ASKS P.step P.is_terminated
+        ensures advances { Advances ⊤ MAY_STOP P.step P.is_terminated
             (P.value_of performer.old)
             (P.value_of performer.new) B.limit input.entry.bytes.now from result self.old self.new }
         ensures moves { Moves 5 0 input.entry.bytes.now from result self.old self.new
@@ -25,7 +25,7 @@ impl<B: Buffer> Machine<B> {
     {
         let end = looks.find_string_end(input, from);
         match looks.get(input, end) {
-            Some(byte) => self.read_end::<P, G, ASKS>(looks, performer, input, end, byte),
+            Some(byte) => self.read_end::<P, G, MAY_STOP>(looks, performer, input, end, byte),
             None => end,
         }
     }

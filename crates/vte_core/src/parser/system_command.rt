@@ -12,16 +12,16 @@ const BELL: u8 = 0x07;
 impl<B: Buffer> Machine<B> {
     /// Reads data bytes of an operating system command, and the byte after them. It takes memory
     /// for the data, or else reads nothing.
-    pub(crate) fn read_system_command<P: CountedPerform<B, G>, G: Grain, const ASKS: bool>(
+    pub(crate) fn read_system_command<P: CountedPerform<B, G>, G: Grain, const MAY_STOP: bool>(
         &mut self,
         looks: &mut Looks<B>,
         performer: &mut P,
         input: Input<'_, B>,
         from: usize,
     ) -> Result<usize, Refused>
-        requires { MayReadAt ASKS P.is_terminated
+        requires { MayReadAt MAY_STOP P.is_terminated
             (P.value_of performer.old) SystemCommand self.old input.bytes.now from }
-        ensures advances { Advances ⊤ ASKS P.step P.is_terminated
+        ensures advances { Advances ⊤ MAY_STOP P.step P.is_terminated
             (P.value_of performer.old) (P.value_of performer.new) B.limit
             input.entry.bytes.now from (read_count result) self.old self.new }
         ensures moves { IfOk result
@@ -29,7 +29,8 @@ impl<B: Buffer> Machine<B> {
             Moves 5 0 input.entry.bytes.now from read self.old self.new looks.old looks.new) }
         ensures refuses { IfErr result
             (λ refused.
-            Refuses ASKS P.is_terminated (P.value_of performer.new) B.limit input.entry.bytes.now
+            Refuses MAY_STOP P.is_terminated (P.value_of performer.new) B.limit
+            input.entry.bytes.now
             from refused.read self.old self.new looks.old looks.new) }
     {
         let end = looks.find_command_data_end(input, from);
@@ -42,7 +43,7 @@ impl<B: Buffer> Machine<B> {
             None => return Ok(end),
         };
         if ends_all(byte) {
-            return Ok(self.read_end::<P, G, ASKS>(looks, performer, input, end, byte));
+            return Ok(self.read_end::<P, G, MAY_STOP>(looks, performer, input, end, byte));
         }
         if byte == b';' {
             self.command.end_piece();

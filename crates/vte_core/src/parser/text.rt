@@ -58,18 +58,18 @@ fn print_ascii<B, P: CountedPerform<B, G>, G: Grain>(
 
 impl<B: Buffer> Machine<B> {
     /// Reads text up to an ESC, and then the bytes after that.
-    pub(crate) fn read_text<P: CountedPerform<B, G>, G: Grain, const ASKS: bool>(
+    pub(crate) fn read_text<P: CountedPerform<B, G>, G: Grain, const MAY_STOP: bool>(
         &mut self,
         looks: &mut Looks<B>,
         performer: &mut P,
         input: Input<'_, B>,
         from: usize,
     ) -> usize
-        requires may_read { MayReadAt ASKS P.is_terminated (P.value_of performer.old)
+        requires may_read { MayReadAt MAY_STOP P.is_terminated (P.value_of performer.old)
             (Text Nothing) self.old input.bytes.now from }
-        requires no_stop { G.IN_RUNS ≡ true → ASKS ≡ true
+        requires no_stop { G.IN_RUNS ≡ true → MAY_STOP ≡ true
             → NoCharacterStops P.keeps P.step P.is_terminated }
-        ensures advances { Advances ⊥ ASKS P.step P.is_terminated (P.value_of performer.old)
+        ensures advances { Advances ⊥ MAY_STOP P.step P.is_terminated (P.value_of performer.old)
             (P.value_of performer.new) B.limit
             input.entry.bytes.now from result self.old self.new }
         ensures moves { Moves 5 0 input.entry.bytes.now from result self.old self.new
@@ -102,10 +102,10 @@ impl<B: Buffer> Machine<B> {
                     // One comparison tells lead bytes and malformed ones from ESC and controls. A
                     // lead byte may begin a control, which may stop the call; U+FFFD doesn't.
                     if is_lead(byte) {
-                        position = self.read_at_lead::<P, G, ASKS>(
+                        position = self.read_at_lead::<P, G, MAY_STOP>(
                             looks, performer, input, position, byte,
                         );
-                        if ASKS && performer.terminated() {
+                        if MAY_STOP && performer.terminated() {
                             return position;
                         }
                     } else {
@@ -114,12 +114,12 @@ impl<B: Buffer> Machine<B> {
                     }
                     continue;
                 } else if is_lead(byte) {
-                    let next = self.read_character::<P, G, ASKS>(
+                    let next = self.read_character::<P, G, MAY_STOP>(
                         looks, performer, input, position, byte,
                     );
                     // A path of its own takes fewer instructions if the call may stop after a
                     // character, and more otherwise.
-                    if ASKS {
+                    if MAY_STOP {
                         if performer.terminated() {
                             return next;
                         }
@@ -128,17 +128,17 @@ impl<B: Buffer> Machine<B> {
                     }
                     position = next - 1;
                 } else if byte == ESCAPE {
-                    return self.read_sequence::<P, G, ASKS>(looks, performer, input, position);
+                    return self.read_sequence::<P, G, MAY_STOP>(looks, performer, input, position);
                 } else {
                     looks.tell_single(performer, byte);
                 }
                 position += 1;
-                if ASKS && performer.terminated() {
+                if MAY_STOP && performer.terminated() {
                     return position;
                 }
             }
             if !G::IN_RUNS && position < input.len() {
-                front = input.up_to(looks.search_text::<ASKS>(input, from, position));
+                front = input.up_to(looks.search_text::<MAY_STOP>(input, from, position));
             }
         }
         position
@@ -147,7 +147,7 @@ impl<B: Buffer> Machine<B> {
     /// Reads what begins with a lead byte, which was looked at, for a performer that takes runs: a
     /// run, a character or a malformed sequence.
     #[inline(always)]
-    fn read_at_lead<P: CountedPerform<B, G>, G: Grain, const ASKS: bool>(
+    fn read_at_lead<P: CountedPerform<B, G>, G: Grain, const MAY_STOP: bool>(
         &mut self,
         looks: &mut Looks<B>,
         performer: &mut P,
@@ -156,12 +156,12 @@ impl<B: Buffer> Machine<B> {
         first: u8,
     ) -> usize
         requires in_runs { G.IN_RUNS ≡ true }
-        requires may_read { MayReadByte ASKS P.is_terminated (P.value_of performer.old)
+        requires may_read { MayReadByte MAY_STOP P.is_terminated (P.value_of performer.old)
             (Text Nothing) self.old input.bytes.now from first }
         requires lead { 0xc2 ≤ first }
         requires fits { first < 0xf5 }
-        requires no_stop { ASKS ≡ true → NoCharacterStops P.keeps P.step P.is_terminated }
-        ensures advances { Advances ⊥ ASKS P.step P.is_terminated (P.value_of performer.old)
+        requires no_stop { MAY_STOP ≡ true → NoCharacterStops P.keeps P.step P.is_terminated }
+        ensures advances { Advances ⊥ MAY_STOP P.step P.is_terminated (P.value_of performer.old)
             (P.value_of performer.new) B.limit
             input.entry.bytes.now from result self.old self.new }
         ensures text { result < length input.entry.bytes.now → self.new.state ≡ Text Nothing }
@@ -173,6 +173,6 @@ impl<B: Buffer> Machine<B> {
             looks.tell_text(performer, input, from, end);
             return end;
         }
-        self.read_character::<P, G, ASKS>(looks, performer, input, from, first)
+        self.read_character::<P, G, MAY_STOP>(looks, performer, input, from, first)
     }
 }

@@ -60,7 +60,7 @@ impl<B> Looks<B> {
 
     /// Returns up to where a text is read next: to the byte after the next ESC, or to the end of
     /// what was searched.
-    pub(crate) fn search_text<const ASKS: bool>(
+    pub(crate) fn search_text<const MAY_STOP: bool>(
         &mut self,
         input: Input<'_, B>,
         from: usize,
@@ -73,9 +73,9 @@ impl<B> Looks<B> {
         ensures first { (k : ℕ) → at ≤ k → k + 1 < result
             → slice_index input.entry.bytes.now k ≢ 0x1b }
         ensures count { looked self.new + at ≡ looked self.old + result }
-        ensures near { ASKS ≡ true → result + from ≤ at + at }
+        ensures near { MAY_STOP ≡ true → result + from ≤ at + at }
     {
-        let to = if ASKS {
+        let to = if MAY_STOP {
             // A stop leaves bytes unread that were searched: no more than were read.
             at + (at - from).min(input.len() - at)
         } else {

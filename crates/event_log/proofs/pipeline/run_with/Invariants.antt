@@ -1,6 +1,6 @@
--- After this many reads all that was read is written (`HasCome`), and the collector is empty.
+-- After this many reads all that was read is written (`HasReadPart`), and the collector is empty.
 use Rattle.event_log.proofs.Common.{◌≡◌, ℕ, List, Some, HasReadSome, empty_record}
-use Rattle.event_log.proofs.Progress.{HasCome}
+use Rattle.event_log.proofs.Progress.{HasReadPart}
 use Rattle.event_log.proofs.pipeline.run_with.Given as goal
 
 abbrev pub invariant-loop : goal.invariant-loop
@@ -8,6 +8,6 @@ invariant-loop g l = record {
   reads : HasReadSome l.parser;
   empty : g.C.Collector.record_of l.collector ≡ empty_record;
   come : (input held : List ℕ) → g.R.Source.to_come l.fn.reader ≡ Some input → g.W.Sink.taken l.fn.writer ≡ Some held →
-      HasCome g.C.Collector.text_of input held l.counter l.parser (g.R.Source.to_come l.reader)
+      HasReadPart g.C.Collector.text_of input held l.counter l.parser (g.R.Source.to_come l.reader)
       (g.W.Sink.taken l.writer);
 }

@@ -159,14 +159,14 @@ impl<const OSC_RAW_BUF_SIZE: usize> Parser<OSC_RAW_BUF_SIZE> {
         self.machine.command_lost_data()
     }
 
-    /// Reads the bytes of a call, all of them or, if it `ASKS`, until the performer is terminated,
-    /// and returns how many were read.
-    fn drive<P: PerformAs<G>, G: Grain, const ASKS: bool>(
+    /// Reads the bytes of a call, all of them or, if it `MAY_STOP`, until the performer is
+    /// terminated, and returns how many were read.
+    fn drive<P: PerformAs<G>, G: Grain, const MAY_STOP: bool>(
         &mut self,
         performer: &mut P,
         bytes: &[u8],
     ) -> usize {
-        match self.machine.drive::<P, G, ASKS>(performer, bytes) {
+        match self.machine.drive::<P, G, MAY_STOP>(performer, bytes) {
             Ok(read) => read,
             // Never: with a limit no memory is refused.
             Err(refused) => refused.read,

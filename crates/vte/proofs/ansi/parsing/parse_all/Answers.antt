@@ -7,7 +7,7 @@ pub returns-clause-parsed : goal.returns-clause-parsed
 returns-clause-parsed g c = λ s n ready.
     let m = meaning g.P.EventParser.limit g.H.Handler.step g.T.Timeout.set g.T.Timeout.clear g.T.Timeout.allows in
     let p = c.advance.ensures.parses s.parsed n ready.is_parsed.has_parsed.has_read ready.room in
-    given_back g.H.Handler.value_of g.T.Timeout.value_of g.J.TextBuffer.room m s c.args.bytes.now _
+    given_back g.H.Handler.value_of g.T.Timeout.value_of g.B.TextBuffer.room m s c.args.bytes.now _
     c.advance.new.performer p.fits p.performs c.state-1.given.1
     ready.is_parsed refl refl refl refl p.reads c.handler-1.given.1 c.advance.ensures.memory
 
@@ -16,6 +16,6 @@ returns-clause-room g c = λ s n ready.
     let m = meaning g.P.EventParser.limit g.H.Handler.step g.T.Timeout.set g.T.Timeout.clear g.T.Timeout.allows in
     let p = c.advance.ensures.parses s.parsed n ready.is_parsed.has_parsed.has_read ready.room in
     let same =
-    room_back g.H.Handler.value_of g.T.Timeout.value_of g.J.TextBuffer.room m s c.args.bytes.now _
+    room_back g.H.Handler.value_of g.T.Timeout.value_of g.B.TextBuffer.room m s c.args.bytes.now _
     c.advance.new.performer p.fits p.performs c.state-1.given.1 in
     rw same p.room

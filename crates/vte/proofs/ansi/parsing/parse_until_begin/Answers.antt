@@ -13,14 +13,14 @@ returns-clause-stops g c = λ s n ready.
     let front = begin_front g.P.EventParser.limit s.parsed bytes in
     let p = c.advance_until_begin-read.ensures.stops s.parsed n ready.is_parsed.has_parsed.has_read ready.room in
     let fit =
-    front_fits (g.J.TextBuffer.room c.args.state.now.text) g.P.EventParser.limit s.parsed front
+    front_fits (g.B.TextBuffer.room c.args.state.now.text) g.P.EventParser.limit s.parsed front
     (drop (length front) bytes)
     (rw (front_rest g.P.EventParser.limit s.parsed bytes) p.fits) in
     record {
       count = stops_at_front m refl p.stops;
       begins_is = stop_terminated m refl p.stops;
       is_at =
-          given_back g.H.Handler.value_of g.T.Timeout.value_of g.J.TextBuffer.room m s front _
+          given_back g.H.Handler.value_of g.T.Timeout.value_of g.B.TextBuffer.room m s front _
           c.advance_until_begin-read.new.performer fit (stop_performs m refl p.stops)
           c.state-1.given.1 ready.is_parsed refl refl refl refl
           (rw (stop_stream m refl p.stops) at p.reads) c.handler-1.given.1 c.advance_until_begin-read.ensures.memory;

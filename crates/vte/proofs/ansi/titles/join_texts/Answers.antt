@@ -22,7 +22,7 @@ loop-piece-preserved g c = elim c.match-text_in.branch [
       c.loop-piece.invariant.joins w.in-Some.part.now w.in-Some.ensures in
       record {
         joins = rw (w.text-is, w.push_part.ensures.pushed, w.is_first-is) more;
-        same = ap g.J.TextBuffer.room w.text-is ∙ w.push_part.ensures.same ∙ c.loop-piece.invariant.same;
+        same = ap g.B.TextBuffer.room w.text-is ∙ w.push_part.ensures.same ∙ c.loop-piece.invariant.same;
       }
   | in_default w ↦
       record {
@@ -30,6 +30,6 @@ loop-piece-preserved g c = elim c.match-text_in.branch [
             rw (w.text-is, w.is_first-is)
             (joins-same c.args.keeps_all c.args.pieces.now c.loop-piece.piece-index _ c.loop-piece-test.true
             c.loop-piece.invariant.joins w.in_default.ensures);
-        same = ap g.J.TextBuffer.room w.text-is ∙ c.loop-piece.invariant.same;
+        same = ap g.B.TextBuffer.room w.text-is ∙ c.loop-piece.invariant.same;
       }
 ]

@@ -5,8 +5,8 @@ use Rattle.vte.proofs.ansi.titles.join_texts.Given as goal
 
 abbrev pub invariant-loop-piece : goal.invariant-loop-piece
 invariant-loop-piece g l = record {
-  joins : Joins l.keeps_all (g.J.TextBuffer.room l.fn.text) (g.J.TextBuffer.held l.text) l.is_first
+  joins : Joins l.keeps_all (g.B.TextBuffer.room l.fn.text) (g.B.TextBuffer.held l.text) l.is_first
       (map (λ piece. piece.now) (drop l.piece-index l.pieces))
       (map (λ piece. piece.now) l.pieces);
-  same : g.J.TextBuffer.room l.text ≡ g.J.TextBuffer.room l.fn.text;
+  same : g.B.TextBuffer.room l.text ≡ g.B.TextBuffer.room l.fn.text;
 }

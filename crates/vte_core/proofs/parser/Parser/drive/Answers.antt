@@ -16,11 +16,11 @@ returns-in-Ok-clause-all g c = λ never.
     })
 
 pub returns-in-Ok-clause-stops : goal.returns-in-Ok-clause-stops
-returns-in-Ok-clause-stops g c = λ asks.
+returns-in-Ok-clause-stops g c = λ may_stop.
     let d = c.in-Ok.ensures.reads in
     rw (← c.new.ensures) (record {
       within = d.within;
-      stops = λ stream h. ends-stops asks d.within d.stops (d.stands_at stream h);
+      stops = λ stream h. ends-stops may_stop d.within d.stops (d.stands_at stream h);
       reads = λ stream h. ends-reads (d.stands_at stream h);
       count = search rules;
       least = search rules;

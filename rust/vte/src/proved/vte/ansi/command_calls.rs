@@ -14,9 +14,9 @@ use crate::proved::vte_types::CursorShape;
 use core::str::FromStr;
 
 /// Makes the calls of an operating system command.
-pub(crate) fn perform_system_command<H: Handler, J: TextBuffer>(
+pub(crate) fn perform_system_command<H: Handler, B: TextBuffer>(
     handler: &mut H,
-    text: &mut J,
+    text: &mut B,
     pieces: &[&[u8]],
     bell_terminated: bool,
 ) {
@@ -89,7 +89,7 @@ fn set_colors<H: Handler>(handler: &mut H, texts: &[&[u8]], terminator: &str) {
 }
 
 /// Sets the link that these pieces make. A URI of one piece is lent, and not copied.
-fn set_link<H: Handler, J: TextBuffer>(handler: &mut H, text: &mut J, texts: &[&[u8]]) {
+fn set_link<H: Handler, B: TextBuffer>(handler: &mut H, text: &mut B, texts: &[&[u8]]) {
     match texts {
         [] | [_] => {}
         [parameters, uri] => set_link_to(handler, parameters, text_in(uri, true).unwrap_or("")),

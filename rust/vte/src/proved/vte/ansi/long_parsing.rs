@@ -10,7 +10,7 @@ use crate::proved::vte_core::{InRuns, LongParser, Refused, Singly};
 use crate::proved::vte_handler::{Handler, HandlerText, Timeout};
 
 impl EventParser for LongParser {
-    fn reserve<J: TextBuffer>(&mut self, text: &mut J, held: usize, more: usize) -> bool {
+    fn reserve<B: TextBuffer>(&mut self, text: &mut B, held: usize, more: usize) -> bool {
         let count = match held.checked_add(more) {
             Some(count) => count,
             _ => return false,
@@ -32,9 +32,9 @@ fn joined_size(stored: usize, more: usize) -> Option<usize> {
 
 impl<H: Handler, T: Timeout> ParseAs<H, T, LongParser> for Singly {
     #[inline(always)]
-    fn advance<J: TextBuffer>(
+    fn advance<B: TextBuffer>(
         parser: &mut LongParser,
-        performer: &mut Performer<'_, '_, H, T, J, Self>,
+        performer: &mut Performer<'_, '_, H, T, B, Self>,
         bytes: &[u8],
     ) {
         // There is memory.
@@ -42,9 +42,9 @@ impl<H: Handler, T: Timeout> ParseAs<H, T, LongParser> for Singly {
     }
 
     #[inline(always)]
-    fn advance_until_begin<J: TextBuffer>(
+    fn advance_until_begin<B: TextBuffer>(
         parser: &mut LongParser,
-        performer: &mut Performer<'_, '_, H, T, J, Self>,
+        performer: &mut Performer<'_, '_, H, T, B, Self>,
         bytes: &[u8],
     ) -> usize {
         match parser.advance_until_terminated(performer, bytes) {
@@ -56,9 +56,9 @@ impl<H: Handler, T: Timeout> ParseAs<H, T, LongParser> for Singly {
 
 impl<H: HandlerText, T: Timeout> ParseAs<H, T, LongParser> for InRuns {
     #[inline(always)]
-    fn advance<J: TextBuffer>(
+    fn advance<B: TextBuffer>(
         parser: &mut LongParser,
-        performer: &mut Performer<'_, '_, H, T, J, Self>,
+        performer: &mut Performer<'_, '_, H, T, B, Self>,
         bytes: &[u8],
     ) {
         // There is memory.
@@ -66,9 +66,9 @@ impl<H: HandlerText, T: Timeout> ParseAs<H, T, LongParser> for InRuns {
     }
 
     #[inline(always)]
-    fn advance_until_begin<J: TextBuffer>(
+    fn advance_until_begin<B: TextBuffer>(
         parser: &mut LongParser,
-        performer: &mut Performer<'_, '_, H, T, J, Self>,
+        performer: &mut Performer<'_, '_, H, T, B, Self>,
         bytes: &[u8],
     ) -> usize {
         match parser.advance_text_until_terminated(performer, bytes) {

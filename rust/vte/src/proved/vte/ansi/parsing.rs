@@ -27,12 +27,12 @@ pub(crate) type ProcessorText = ArrayString<TEXT_ROOM>;
 pub(crate) trait EventParser {
     /// Takes memory for held bytes and for more, and for the texts that are joined from them.
     /// Returns whether it is there.
-    fn reserve<J: TextBuffer>(&mut self, text: &mut J, held: usize, more: usize) -> bool;
+    fn reserve<B: TextBuffer>(&mut self, text: &mut B, held: usize, more: usize) -> bool;
 }
 
 #[cfg(not(feature = "std"))]
 impl EventParser for ProcessorParser {
-    fn reserve<J: TextBuffer>(&mut self, text: &mut J, _held: usize, _more: usize) -> bool {
+    fn reserve<B: TextBuffer>(&mut self, text: &mut B, _held: usize, _more: usize) -> bool {
         text.reserve(TEXT_ROOM)
     }
 }
@@ -40,16 +40,16 @@ impl EventParser for ProcessorParser {
 /// Parses for a handler that receives text in a grain: `Singly` or `InRuns`.
 pub(crate) trait ParseAs<H: Handler, T: Timeout, P: EventParser>: Sized {
     /// Parses all bytes.
-    fn advance<J: TextBuffer>(
+    fn advance<B: TextBuffer>(
         parser: &mut P,
-        performer: &mut Performer<'_, '_, H, T, J, Self>,
+        performer: &mut Performer<'_, '_, H, T, B, Self>,
         bytes: &[u8],
     );
 
     /// Parses bytes until an update begins, and returns how many it parsed.
-    fn advance_until_begin<J: TextBuffer>(
+    fn advance_until_begin<B: TextBuffer>(
         parser: &mut P,
-        performer: &mut Performer<'_, '_, H, T, J, Self>,
+        performer: &mut Performer<'_, '_, H, T, B, Self>,
         bytes: &[u8],
     ) -> usize;
 }
@@ -57,18 +57,18 @@ pub(crate) trait ParseAs<H: Handler, T: Timeout, P: EventParser>: Sized {
 #[cfg(not(feature = "std"))]
 impl<H: Handler, T: Timeout> ParseAs<H, T, ProcessorParser> for Singly {
     #[inline(always)]
-    fn advance<J: TextBuffer>(
+    fn advance<B: TextBuffer>(
         parser: &mut ProcessorParser,
-        performer: &mut Performer<'_, '_, H, T, J, Self>,
+        performer: &mut Performer<'_, '_, H, T, B, Self>,
         bytes: &[u8],
     ) {
         parser.advance(performer, bytes);
     }
 
     #[inline(always)]
-    fn advance_until_begin<J: TextBuffer>(
+    fn advance_until_begin<B: TextBuffer>(
         parser: &mut ProcessorParser,
-        performer: &mut Performer<'_, '_, H, T, J, Self>,
+        performer: &mut Performer<'_, '_, H, T, B, Self>,
         bytes: &[u8],
     ) -> usize {
         parser.advance_until_terminated(performer, bytes)
@@ -78,18 +78,18 @@ impl<H: Handler, T: Timeout> ParseAs<H, T, ProcessorParser> for Singly {
 #[cfg(not(feature = "std"))]
 impl<H: HandlerText, T: Timeout> ParseAs<H, T, ProcessorParser> for InRuns {
     #[inline(always)]
-    fn advance<J: TextBuffer>(
+    fn advance<B: TextBuffer>(
         parser: &mut ProcessorParser,
-        performer: &mut Performer<'_, '_, H, T, J, Self>,
+        performer: &mut Performer<'_, '_, H, T, B, Self>,
         bytes: &[u8],
     ) {
         parser.advance_text(performer, bytes);
     }
 
     #[inline(always)]
-    fn advance_until_begin<J: TextBuffer>(
+    fn advance_until_begin<B: TextBuffer>(
         parser: &mut ProcessorParser,
-        performer: &mut Performer<'_, '_, H, T, J, Self>,
+        performer: &mut Performer<'_, '_, H, T, B, Self>,
         bytes: &[u8],
     ) -> usize {
         parser.advance_text_until_terminated(performer, bytes)
@@ -99,13 +99,13 @@ impl<H: HandlerText, T: Timeout> ParseAs<H, T, ProcessorParser> for InRuns {
 /// Parses all bytes.
 pub(crate) fn parse_all<
     H: Handler,
-    J: TextBuffer,
+    B: TextBuffer,
     T: Timeout,
     P: EventParser,
     G: ParseAs<H, T, P>,
 >(
     parser: &mut P,
-    state: &mut ProcessorState<T, J>,
+    state: &mut ProcessorState<T, B>,
     handler: &mut H,
     bytes: &[u8],
 ) {
@@ -122,13 +122,13 @@ pub(crate) fn parse_all<
 /// update begins.
 pub(crate) fn parse_until_begin<
     H: Handler,
-    J: TextBuffer,
+    B: TextBuffer,
     T: Timeout,
     P: EventParser,
     G: ParseAs<H, T, P>,
 >(
     parser: &mut P,
-    state: &mut ProcessorState<T, J>,
+    state: &mut ProcessorState<T, B>,
     handler: &mut H,
     bytes: &[u8],
 ) -> (usize, bool) {

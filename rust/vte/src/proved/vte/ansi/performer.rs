@@ -18,23 +18,23 @@ pub(crate) const UPDATE_TIMEOUT_MILLIS: u64 = 150;
 
 /// What a processor keeps between events.
 #[derive(Clone)]
-pub(crate) struct ProcessorState<T, J> {
+pub(crate) struct ProcessorState<T, B> {
     pub(crate) preceding_char: Option<char>,
-    pub(crate) text: J,
+    pub(crate) text: B,
     pub(crate) timeout: T,
 }
 
 /// Calls a handler for each event, while it borrows the handler and the processor's state.
-pub(crate) struct Performer<'s, 'h, H: Handler, T: Timeout, J: TextBuffer, G> {
-    pub(crate) state: &'s mut ProcessorState<T, J>,
+pub(crate) struct Performer<'s, 'h, H: Handler, T: Timeout, B: TextBuffer, G> {
+    pub(crate) state: &'s mut ProcessorState<T, B>,
     pub(crate) handler: &'h mut H,
     /// Whether an update has begun, so that the next turn reads the bytes that follow.
     pub(crate) terminated: bool,
     pub(crate) grain: PhantomData<G>,
 }
 
-impl<'s, 'h, H: InputAs<G>, T: Timeout, J: TextBuffer, G> Perform
-    for Performer<'s, 'h, H, T, J, G>
+impl<'s, 'h, H: InputAs<G>, T: Timeout, B: TextBuffer, G> Perform
+    for Performer<'s, 'h, H, T, B, G>
 {
     #[inline]
     fn print(&mut self, c: char) {
@@ -82,8 +82,8 @@ impl<'s, 'h, H: InputAs<G>, T: Timeout, J: TextBuffer, G> Perform
     }
 }
 
-impl<'s, 'h, H: HandlerText, T: Timeout, J: TextBuffer> PerformText
-    for Performer<'s, 'h, H, T, J, InRuns>
+impl<'s, 'h, H: HandlerText, T: Timeout, B: TextBuffer> PerformText
+    for Performer<'s, 'h, H, T, B, InRuns>
 {
     fn keeps_layout(&self) -> bool {
         false
@@ -96,7 +96,7 @@ impl<'s, 'h, H: HandlerText, T: Timeout, J: TextBuffer> PerformText
     }
 }
 
-impl<'s, 'h, H: Handler, T: Timeout, J: TextBuffer, G> Performer<'s, 'h, H, T, J, G> {
+impl<'s, 'h, H: Handler, T: Timeout, B: TextBuffer, G> Performer<'s, 'h, H, T, B, G> {
     /// Sets the private modes, group by group.
     fn set_private_modes(&mut self, params: &Params) {
         for group in params {

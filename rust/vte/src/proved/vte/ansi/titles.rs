@@ -26,7 +26,7 @@ pub(crate) fn parse_number(digits: &[u8]) -> Option<u8> {
 
 /// Joins pieces with `;` between them. One that isn't UTF-8 counts as empty if all are kept, and is
 /// left out otherwise.
-pub(crate) fn join_texts<J: TextBuffer>(text: &mut J, pieces: &[&[u8]], keeps_all: bool) {
+pub(crate) fn join_texts<B: TextBuffer>(text: &mut B, pieces: &[&[u8]], keeps_all: bool) {
     text.clear();
     let mut is_first = true;
     for piece in pieces {
@@ -38,7 +38,7 @@ pub(crate) fn join_texts<J: TextBuffer>(text: &mut J, pieces: &[&[u8]], keeps_al
 }
 
 /// Appends a text to those before it, after a `;` unless it is the first.
-fn push_part<J: TextBuffer>(text: &mut J, is_first: bool, part: &str) {
+fn push_part<B: TextBuffer>(text: &mut B, is_first: bool, part: &str) {
     if !is_first {
         text.push(';');
     }
@@ -46,7 +46,7 @@ fn push_part<J: TextBuffer>(text: &mut J, is_first: bool, part: &str) {
 }
 
 /// Appends a number to a text.
-pub(crate) fn push_number<J: TextBuffer>(text: &mut J, number: u8) {
+pub(crate) fn push_number<B: TextBuffer>(text: &mut B, number: u8) {
     if number < 10 {
         text.push(char::from(b'0' + number));
     } else {
@@ -66,9 +66,9 @@ pub(crate) fn text_in(piece: &[u8], keeps_all: bool) -> Option<&str> {
 }
 
 /// Sets the title that these pieces make. A title of one piece is lent, and not copied.
-pub(crate) fn perform_title<H: Handler, J: TextBuffer>(
+pub(crate) fn perform_title<H: Handler, B: TextBuffer>(
     handler: &mut H,
-    text: &mut J,
+    text: &mut B,
     texts: &[&[u8]],
 ) {
     match texts {

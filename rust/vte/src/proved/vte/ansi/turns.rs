@@ -16,16 +16,16 @@ const SLICE: usize = 65_536;
 /// The parser, the hold and the state of a processor, whatever its limit. `P`: parser, `J`: buffer
 /// for joined texts, `T`: timeout.
 #[derive(Clone)]
-pub(crate) struct Turns<P, J, T> {
+pub(crate) struct Turns<P, B, T> {
     pub(crate) parser: P,
     pub(crate) hold: Hold,
-    pub(crate) state: ProcessorState<T, J>,
+    pub(crate) state: ProcessorState<T, B>,
 }
 
-impl<P: EventParser, J: TextBuffer, T: Timeout> Turns<P, J, T> {
+impl<P: EventParser, B: TextBuffer, T: Timeout> Turns<P, B, T> {
     /// Creates turns of a parser that has read nothing, with the memory for a hold. Returns the
     /// timeout if memory runs out.
-    pub(crate) fn new(parser: P, text: J, timeout: T) -> Result<Self, T> {
+    pub(crate) fn new(parser: P, text: B, timeout: T) -> Result<Self, T> {
         match Hold::new() {
             Ok(hold) => Ok(Turns {
                 parser,
@@ -86,7 +86,7 @@ impl<P: EventParser, J: TextBuffer, T: Timeout> Turns<P, J, T> {
         if released.is_empty() {
             return;
         }
-        parse_all::<H, J, T, P, G>(&mut self.parser, &mut self.state, handler, released);
+        parse_all::<H, B, T, P, G>(&mut self.parser, &mut self.state, handler, released);
     }
 
     /// Takes one turn, and returns how many bytes it read, or how many until memory was refused. It
@@ -133,7 +133,7 @@ impl<P: EventParser, J: TextBuffer, T: Timeout> Turns<P, J, T> {
                 return Err(Refused { read });
             }
             let slice = &bytes[read..read + count];
-            let (parsed, begins) = parse_until_begin::<H, J, T, P, G>(
+            let (parsed, begins) = parse_until_begin::<H, B, T, P, G>(
                 &mut self.parser,
                 &mut self.state,
                 handler,

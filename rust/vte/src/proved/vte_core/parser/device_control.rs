@@ -55,7 +55,7 @@ impl<B: Buffer> Machine<B> {
 
     /// Reads the data of a device control string, and the byte that ends them; for a performer that
     /// takes slices, and that nobody asks, data up to a byte that isn't put, or that byte.
-    pub(crate) fn read_device_data<P: PerformAs<G>, G: Grain, const ASKS: bool>(
+    pub(crate) fn read_device_data<P: PerformAs<G>, G: Grain, const MAY_STOP: bool>(
         &mut self,
         performer: &mut P,
         input: &[u8],
@@ -64,15 +64,15 @@ impl<B: Buffer> Machine<B> {
         for position in from..input.len() {
             let byte = input[position];
             if !is_device_data(byte) {
-                return self.end_device_data::<P, G, ASKS>(performer, input, position, byte);
+                return self.end_device_data::<P, G, MAY_STOP>(performer, input, position, byte);
             }
-            if G::IN_RUNS && !ASKS {
+            if G::IN_RUNS && !MAY_STOP {
                 let end = find_device_data_end(input, position + 1);
                 performer.put_slice(data(input, position, end));
                 return end;
             }
             performer.put_byte(byte);
-            if ASKS && performer.terminated() {
+            if MAY_STOP && performer.terminated() {
                 return position + 1;
             }
         }
@@ -81,7 +81,7 @@ impl<B: Buffer> Machine<B> {
 
     /// Reads a byte among the data that isn't put: it ends them, or is dropped.
     #[inline(never)]
-    pub(crate) fn end_device_data<P: PerformAs<G>, G: Grain, const ASKS: bool>(
+    pub(crate) fn end_device_data<P: PerformAs<G>, G: Grain, const MAY_STOP: bool>(
         &mut self,
         performer: &mut P,
         input: &[u8],
@@ -89,7 +89,7 @@ impl<B: Buffer> Machine<B> {
         byte: u8,
     ) -> usize {
         if ends_all(byte) {
-            return self.read_end::<P, G, ASKS>(performer, input, from, byte);
+            return self.read_end::<P, G, MAY_STOP>(performer, input, from, byte);
         }
         if byte == STRING_TERMINATOR {
             performer.unhook();

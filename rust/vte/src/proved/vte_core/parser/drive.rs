@@ -8,19 +8,19 @@ use crate::proved::vte_core::scan::Grain;
 
 impl<B: Buffer> Machine<B> {
     /// Reads the bytes of a call, as many as there is memory for, and returns how many: all of
-    /// them, or up to a stop if `ASKS`.
+    /// them, or up to a stop if `MAY_STOP`.
     #[inline(never)]
-    pub(crate) fn drive<P: PerformAs<G>, G: Grain, const ASKS: bool>(
+    pub(crate) fn drive<P: PerformAs<G>, G: Grain, const MAY_STOP: bool>(
         &mut self,
         performer: &mut P,
         input: &[u8],
     ) -> Result<usize, Refused> {
         let mut position = self.finish_character(performer, input);
         while position < input.len() {
-            if ASKS && performer.terminated() {
+            if MAY_STOP && performer.terminated() {
                 return Ok(position);
             }
-            position = self.read_by_state::<P, G, ASKS>(performer, input, position)?;
+            position = self.read_by_state::<P, G, MAY_STOP>(performer, input, position)?;
         }
         Ok(position)
     }
@@ -45,7 +45,7 @@ impl<B: Buffer> Machine<B> {
     /// Reads at least one byte, before which the performer was asked, or none if memory is refused
     /// for it.
     #[inline]
-    pub(crate) fn read_by_state<P: PerformAs<G>, G: Grain, const ASKS: bool>(
+    pub(crate) fn read_by_state<P: PerformAs<G>, G: Grain, const MAY_STOP: bool>(
         &mut self,
         performer: &mut P,
         input: &[u8],
@@ -53,21 +53,23 @@ impl<B: Buffer> Machine<B> {
     ) -> Result<usize, Refused> {
         // A comparison, because the match jumps by a table, which is hard to predict.
         if let State::Text(_) = self.state {
-            return Ok(self.read_text::<P, G, ASKS>(performer, input, from));
+            return Ok(self.read_text::<P, G, MAY_STOP>(performer, input, from));
         }
         Ok(match self.state {
-            State::Text(_) => self.read_text::<P, G, ASKS>(performer, input, from),
+            State::Text(_) => self.read_text::<P, G, MAY_STOP>(performer, input, from),
             State::Escape => self.read_escape(performer, input, from),
             State::EscapeIntermediate => self.read_intermediates(performer, input, from),
             State::ControlSequence(part) => {
                 self.continue_control_sequence(performer, input, part, true, from)
             }
             State::DeviceControl(part) => self.read_device_control(performer, input, part, from),
-            State::DeviceData => self.read_device_data::<P, G, ASKS>(performer, input, from),
+            State::DeviceData => self.read_device_data::<P, G, MAY_STOP>(performer, input, from),
             State::SystemCommand => {
-                self.read_system_command::<P, G, ASKS>(performer, input, from)?
+                self.read_system_command::<P, G, MAY_STOP>(performer, input, from)?
             }
-            State::IgnoredString => self.read_ignored_string::<P, G, ASKS>(performer, input, from),
+            State::IgnoredString => {
+                self.read_ignored_string::<P, G, MAY_STOP>(performer, input, from)
+            }
         })
     }
 }

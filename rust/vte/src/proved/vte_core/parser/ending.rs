@@ -22,7 +22,7 @@ impl<B: Buffer> Machine<B> {
     }
 
     /// Reads a byte that ends what is open, which was looked at. After ESC it reads on.
-    pub(crate) fn read_end<P: PerformAs<G>, G: Grain, const ASKS: bool>(
+    pub(crate) fn read_end<P: PerformAs<G>, G: Grain, const MAY_STOP: bool>(
         &mut self,
         performer: &mut P,
         input: &[u8],
@@ -30,7 +30,7 @@ impl<B: Buffer> Machine<B> {
         byte: u8,
     ) -> usize {
         self.end_body(performer, byte);
-        if byte != ESCAPE || (ASKS && performer.terminated()) {
+        if byte != ESCAPE || (MAY_STOP && performer.terminated()) {
             return from + 1;
         }
         self.read_escape(performer, input, from + 1)

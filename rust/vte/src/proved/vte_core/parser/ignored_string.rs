@@ -9,7 +9,7 @@ use crate::proved::vte_core::scan::{get, Grain};
 
 impl<B: Buffer> Machine<B> {
     /// Reads a string that means nothing, and the byte that ends it.
-    pub(crate) fn read_ignored_string<P: PerformAs<G>, G: Grain, const ASKS: bool>(
+    pub(crate) fn read_ignored_string<P: PerformAs<G>, G: Grain, const MAY_STOP: bool>(
         &mut self,
         performer: &mut P,
         input: &[u8],
@@ -17,7 +17,7 @@ impl<B: Buffer> Machine<B> {
     ) -> usize {
         let end = find_string_end(input, from);
         match get(input, end) {
-            Some(byte) => self.read_end::<P, G, ASKS>(performer, input, end, byte),
+            Some(byte) => self.read_end::<P, G, MAY_STOP>(performer, input, end, byte),
             None => end,
         }
     }

@@ -14,7 +14,7 @@ impl<B: Buffer> Machine<B> {
     /// Reads data bytes of an operating system command, and the byte after them. It takes memory
     /// for the data, or else reads nothing.
     #[inline(never)]
-    pub(crate) fn read_system_command<P: PerformAs<G>, G: Grain, const ASKS: bool>(
+    pub(crate) fn read_system_command<P: PerformAs<G>, G: Grain, const MAY_STOP: bool>(
         &mut self,
         performer: &mut P,
         input: &[u8],
@@ -30,7 +30,7 @@ impl<B: Buffer> Machine<B> {
             None => return Ok(end),
         };
         if ends_all(byte) {
-            return Ok(self.read_end::<P, G, ASKS>(performer, input, end, byte));
+            return Ok(self.read_end::<P, G, MAY_STOP>(performer, input, end, byte));
         }
         if byte == b';' {
             self.command.end_piece();

@@ -47,7 +47,7 @@ fn print_ascii<P: PerformAs<G>, G: Grain>(
 impl<B: Buffer> Machine<B> {
     /// Reads text up to an ESC, and then the bytes after that.
     #[inline]
-    pub(crate) fn read_text<P: PerformAs<G>, G: Grain, const ASKS: bool>(
+    pub(crate) fn read_text<P: PerformAs<G>, G: Grain, const MAY_STOP: bool>(
         &mut self,
         performer: &mut P,
         input: &[u8],
@@ -81,7 +81,7 @@ impl<B: Buffer> Machine<B> {
                     // lead byte may begin a control, which may stop the call; U+FFFD doesn't.
                     if is_lead(byte) {
                         position = self.read_at_lead(performer, input, position, byte);
-                        if ASKS && performer.terminated() {
+                        if MAY_STOP && performer.terminated() {
                             return position;
                         }
                     } else {
@@ -93,7 +93,7 @@ impl<B: Buffer> Machine<B> {
                     let next = self.read_character(performer, input, position, byte);
                     // A path of its own takes fewer instructions if the call may stop after a
                     // character, and more otherwise.
-                    if ASKS {
+                    if MAY_STOP {
                         if performer.terminated() {
                             return next;
                         }
@@ -107,12 +107,12 @@ impl<B: Buffer> Machine<B> {
                     tell_single(performer, byte);
                 }
                 position += 1;
-                if ASKS && performer.terminated() {
+                if MAY_STOP && performer.terminated() {
                     return position;
                 }
             }
             if !G::IN_RUNS && position < input.len() {
-                front = up_to(input, search_text::<ASKS>(input, from, position));
+                front = up_to(input, search_text::<MAY_STOP>(input, from, position));
             }
         }
         position

@@ -41,8 +41,8 @@ pub(crate) fn find_escape(input: &[u8], from: usize) -> usize {
 /// Returns up to where a text is read next: to the byte after the next ESC, or to the end of
 /// what was searched.
 #[inline(never)]
-pub(crate) fn search_text<const ASKS: bool>(input: &[u8], from: usize, at: usize) -> usize {
-    let to = if ASKS {
+pub(crate) fn search_text<const MAY_STOP: bool>(input: &[u8], from: usize, at: usize) -> usize {
+    let to = if MAY_STOP {
         // A stop leaves bytes unread that were searched: no more than were read.
         at + (at - from).min(input.len() - at)
     } else {

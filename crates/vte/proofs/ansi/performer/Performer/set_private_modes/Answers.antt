@@ -7,7 +7,7 @@ pub loop-group-preserved : goal.loop-group-preserved
 loop-group-preserved g c =
     let step = g.H.Handler.step in
     let timeout = timeout_meaning g.T.Timeout.set g.T.Timeout.clear g.T.Timeout.allows in
-    let lent = performer_value g.H.Handler.value_of g.T.Timeout.value_of g.J.TextBuffer.room c.loop-group.self in
+    let lent = performer_value g.H.Handler.value_of g.T.Timeout.value_of g.B.TextBuffer.room c.loop-group.self in
     ap (λ lent. with_private_modes step timeout lent c.next.new.self)
     (c.set_private_mode.ensures ∙ ap (with_private_mode step timeout lent) c.first_number.ensures)
     ∙ (modes_more step timeout lent c.in-Some.group.now c.next.new.self

@@ -6,7 +6,7 @@ use Rattle.vte.proofs.ansi.turns.Turns.read.Given as goal
 abbrev pub invariant-loop-turn : goal.invariant-loop-turn
 invariant-loop-turn g l =
     let m = meaning g.P.EventParser.limit g.H.Handler.step g.T.Timeout.set g.T.Timeout.clear g.T.Timeout.allows in
-    let w = of_turns g.P.EventParser.limit g.P.EventParser.reading g.J.TextBuffer.room g.T.Timeout.value_of in
+    let w = of_turns g.P.EventParser.limit g.P.EventParser.reading g.B.TextBuffer.room g.T.Timeout.value_of in
     record {
       within : l.read ≤ length l.bytes;
       some : l._turn < length l.bytes → l.read < length l.bytes;

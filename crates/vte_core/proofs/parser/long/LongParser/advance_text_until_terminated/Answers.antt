@@ -1,4 +1,4 @@
--- What `drive` ensures of a call that asks, put into the contract by `calls/Long`.
+-- What `drive` ensures of a call that may stop, put into the contract by `calls/Long`.
 use Rattle.vte_core.proofs.calls.Long.{reads_until}
 use Rattle.vte_core.proofs.parser.long.LongParser.advance_text_until_terminated.Goals as goal
 

@@ -5,7 +5,7 @@ use Rattle.vte_core.proofs.parser.machine.Machine.continue_character.Given as go
 
 abbrev pub invariant-loop-position : goal.invariant-loop-position
 invariant-loop-position g l = record {
-  goes : GoesOn (not (eqb g.row.ASKS 0)) g.P.CountedPerform.step g.P.CountedPerform.is_terminated
+  goes : GoesOn (not (eqb g.row.MAY_STOP 0)) g.P.CountedPerform.step g.P.CountedPerform.is_terminated
       (g.P.CountedPerform.value_of l.initial.performer) g.B.Buffer.limit
       l.input.bytes.now l.from l.position l.fn.begun l.unfinished l.self;
   same : g.P.CountedPerform.value_of l.performer ≡ g.P.CountedPerform.value_of l.initial.performer;

@@ -1,7 +1,7 @@
 -- Stretches add up: what leads from a place to the next leads from the start. The call ends at a stop, with all bytes,
 -- or where memory is refused.
 use Rattle.vte_core.proofs.Common.{Err, ap, sym, ◌∙◌, arith, rules, err_from_is_err_and}
-use Rattle.vte_core.proofs.calls.States.{asks-some}
+use Rattle.vte_core.proofs.calls.States.{may_stop-some}
 use Rattle.vte_core.proofs.calls.Ends.{ends-at_stop, ends-with_all}
 use Rattle.vte_core.proofs.parser.machine.Machine.drive.Goals as goal
 
@@ -15,7 +15,7 @@ loop-position-init g c =
 pub returns-then-terminated-clause-reads : goal.returns-then-terminated-clause-reads
 returns-then-terminated-clause-reads g c =
     let v = c.loop-position.invariant in
-    ends-at_stop (asks-some g.row.ASKS c.if-this-ne0.true)
+    ends-at_stop (may_stop-some g.row.MAY_STOP c.if-this-ne0.true)
     (sym c.terminated.ensures ∙ c.if-terminated.true) v.spends.high v.stands_at
 
 -- All bytes are read.

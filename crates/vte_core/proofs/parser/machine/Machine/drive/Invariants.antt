@@ -5,7 +5,7 @@ use Rattle.vte_core.proofs.parser.machine.Machine.drive.Given as goal
 abbrev pub invariant-loop-position : goal.invariant-loop-position
 invariant-loop-position g l = record {
   stands_at : (stream : List ℕ) → HasReadUnder g.B.Buffer.limit l.fn.self stream
-      → StandsAt (not (eqb g.row.ASKS 0)) g.P.CountedPerform.step g.P.CountedPerform.is_terminated
+      → StandsAt (not (eqb g.row.MAY_STOP 0)) g.P.CountedPerform.step g.P.CountedPerform.is_terminated
       (g.P.CountedPerform.value_of l.fn.performer)
       (g.P.CountedPerform.value_of l.performer) g.B.Buffer.limit stream l.input.bytes.now l.position l.self;
   settled : l.position < length l.input.bytes.now → IsSettled l.self.state;

@@ -4,7 +4,7 @@ use Rattle.vte_core.proofs.bytes.ClassCases.{data_ends_nothing}
 use Rattle.vte_core.proofs.calls.Arms.{advances-in, in_data, taken}
 use Rattle.vte_core.proofs.calls.Data.{advances-data, first-put}
 use Rattle.vte_core.proofs.fields.PlaceOfState.{stands-by}
-use Rattle.vte_core.proofs.calls.States.{asks-none}
+use Rattle.vte_core.proofs.calls.States.{may_stop-none}
 use Rattle.vte_core.proofs.calls.Ends.{settled-by}
 use Rattle.vte_core.proofs.calls.Stretches.{advances-moved, advances-nothing, advances-part, advances-then}
 use Rattle.vte_core.proofs.places.PlaceLeads.{data-put}
@@ -20,7 +20,7 @@ loop-position-init g c =
       spends = search rules;
     }
 
--- One data byte, after which a call that asks was not stopped.
+-- One data byte, after which a call that may stop was not stopped.
 pub loop-position-preserved : goal.loop-position-preserved
 loop-position-preserved g c =
     let v = c.loop-position.invariant in
@@ -33,7 +33,7 @@ loop-position-preserved g c =
           (data-put _ c.at-byte.result is))) (settled-by _ _ v.begun tt)));
       may_go_on = (λ does. elim c.else-this-ne0.branch [
         | else-this-ne0-via-then-this-ne0+else-terminated w ↦ sym w.terminated.ensures ∙ w.if-terminated.false
-        | else-this-ne0-via-else-this-ne0 w ↦ absurd (asks-none g.row.ASKS w.if-this-ne0.false does)
+        | else-this-ne0-via-else-this-ne0 w ↦ absurd (may_stop-none g.row.MAY_STOP w.if-this-ne0.false does)
       ]);
       begun = v.begun;
       spends = search rules;

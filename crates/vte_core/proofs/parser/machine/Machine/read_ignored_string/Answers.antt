@@ -9,11 +9,11 @@ use Rattle.vte_core.proofs.places.PlaceLeads.{ignored-more}
 use Rattle.vte_core.proofs.parser.machine.Machine.read_ignored_string.Goals as goal
 
 -- n ignored bytes
-advances-by : {quiet V B : Type 0} {asks : Bool} {step : V → Event → V} {is_terminated : V → Bool} {value : V}
+advances-by : {quiet V B : Type 0} {may_stop : Bool} {step : V → Event → V} {is_terminated : V → Bool} {value : V}
     {limit : Option ℕ} {bytes : List ℕ} {parser : Machine B} (n i : ℕ)
     → parser.state ≡ IgnoredString → i + n ≤ length bytes → AreIgnored bytes i (i + n)
-    → MayGoOn asks is_terminated value
-    → Advances quiet asks step is_terminated value value limit bytes i (i + n) parser parser
+    → MayGoOn may_stop is_terminated value
+    → Advances quiet may_stop step is_terminated value value limit bytes i (i + n) parser parser
 advances-by zero i begun within are may_go_on =
     advances-moved (omega arith) (advances-nothing (λ _. settled-by _ _ begun tt))
 advances-by {bytes = bytes} {parser = parser} (suc n) i begun within are may_go_on =
@@ -26,10 +26,11 @@ advances-by {bytes = bytes} {parser = parser} (suc n) i begun within are may_go_
     (advances-by n (i + 1) begun (omega (arith, within))
     (λ k low high. are k (omega (arith, low)) (omega (arith, high))) may_go_on))
 
-advances-ignored : {quiet V B : Type 0} {asks : Bool} {step : V → Event → V} {is_terminated : V → Bool} {value : V}
+advances-ignored : {quiet V B : Type 0} {may_stop : Bool} {step : V → Event → V} {is_terminated : V → Bool} {value : V}
     {limit : Option ℕ} {bytes : List ℕ} {i j : ℕ} {parser : Machine B}
-    → parser.state ≡ IgnoredString → i ≤ j → j ≤ length bytes → AreIgnored bytes i j → MayGoOn asks is_terminated value
-    → Advances quiet asks step is_terminated value value limit bytes i j parser parser
+    → parser.state ≡ IgnoredString → i ≤ j → j ≤ length bytes → AreIgnored bytes i j
+    → MayGoOn may_stop is_terminated value
+    → Advances quiet may_stop step is_terminated value value limit bytes i j parser parser
 advances-ignored {i = i} {j = j} begun low high are may_go_on =
     advances-moved (omega (arith, low))
     (advances-by (j - i) i begun (omega (arith, low, high))

@@ -13,7 +13,7 @@ use Rattle.vte_core.proofs.parser.machine.Machine.read_text.Goals as goal
 
 -- the call has come past the run of ASCII, if there was one
 reached : (g : Over) (c : Joined-IN_RUNS-2 g)
-    → Advances ⊥ (not (eqb g.row.ASKS 0)) g.P.CountedPerform.step g.P.CountedPerform.is_terminated
+    → Advances ⊥ (not (eqb g.row.MAY_STOP 0)) g.P.CountedPerform.step g.P.CountedPerform.is_terminated
     (g.P.CountedPerform.value_of c.args.performer.now)
     (g.P.CountedPerform.value_of c.if-IN_RUNS-2.performer) g.B.Buffer.limit c.args.input.bytes.now
     c.args.from c.if-IN_RUNS-2.position c.args.self.now c.loop-position-2.self
@@ -34,7 +34,7 @@ reached g c =
     ]
 
 -- After the first part of the loop's body, the call stands before the byte to be read.
-at : (g : Over) (c : Joined-IN_RUNS-2 g) → MayReadByte (not (eqb g.row.ASKS 0)) g.P.CountedPerform.is_terminated
+at : (g : Over) (c : Joined-IN_RUNS-2 g) → MayReadByte (not (eqb g.row.MAY_STOP 0)) g.P.CountedPerform.is_terminated
     (g.P.CountedPerform.value_of c.if-IN_RUNS-2.performer)
     (Text Nothing) c.loop-position-2.self c.args.input.bytes.now c.if-IN_RUNS-2.position c.if-IN_RUNS-2.byte
 at g c =
@@ -104,10 +104,10 @@ read_sequence-requires-clause-may_read g c =
 
 -- The call reads the byte before which it stands.
 read : (g : Over) (c : Joined-is_printed_ascii-2 g)
-    → MayReadByte (not (eqb g.row.ASKS 0)) g.P.CountedPerform.is_terminated
+    → MayReadByte (not (eqb g.row.MAY_STOP 0)) g.P.CountedPerform.is_terminated
     (g.P.CountedPerform.value_of c.if-IN_RUNS-2.performer) (Text Nothing) c.loop-position-2.self
     c.args.input.bytes.now c.if-IN_RUNS-2.position c.if-IN_RUNS-2.byte
-    → Advances ⊥ (not (eqb g.row.ASKS 0)) g.P.CountedPerform.step g.P.CountedPerform.is_terminated
+    → Advances ⊥ (not (eqb g.row.MAY_STOP 0)) g.P.CountedPerform.step g.P.CountedPerform.is_terminated
     (g.P.CountedPerform.value_of c.if-IN_RUNS-2.performer)
     (g.P.CountedPerform.value_of c.if-is_printed_ascii-2.performer) g.B.Buffer.limit c.args.input.bytes.now
     c.if-IN_RUNS-2.position

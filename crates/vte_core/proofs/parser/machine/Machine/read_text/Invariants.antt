@@ -5,10 +5,10 @@ use Rattle.vte_core.proofs.parser.machine.Machine.read_text.Given as goal
 
 abbrev pub invariant-loop-position-2 : goal.invariant-loop-position-2
 invariant-loop-position-2 g l = record {
-  advances : Advances ⊥ (not (eqb g.row.ASKS 0)) g.P.CountedPerform.step g.P.CountedPerform.is_terminated
+  advances : Advances ⊥ (not (eqb g.row.MAY_STOP 0)) g.P.CountedPerform.step g.P.CountedPerform.is_terminated
       (g.P.CountedPerform.value_of l.fn.performer)
       (g.P.CountedPerform.value_of l.performer) g.B.Buffer.limit l.input.bytes.now l.from l.position l.fn.self l.self;
-  may_go_on : MayGoOn (not (eqb g.row.ASKS 0)) g.P.CountedPerform.is_terminated
+  may_go_on : MayGoOn (not (eqb g.row.MAY_STOP 0)) g.P.CountedPerform.is_terminated
       (g.P.CountedPerform.value_of l.performer);
   between : l.position < length l.input.bytes.now → l.self.state ≡ Text Nothing;
   low : l.from ≤ l.position;
@@ -20,7 +20,7 @@ invariant-loop-position-2 g l = record {
   escape : g.G.Grain.IN_RUNS ≡ false → (k : ℕ) → l.position ≤ k → k < length l.front.bytes.now
       → slice_index l.input.bytes.now k ≡ 0x1b →
       looked l.looks + 4 * l.from ≤ looked l.fn.looks + 3 * l.position + k + 1;
-  near : (g.G.Grain.IN_RUNS ≡ false → not (eqb g.row.ASKS 0) ≡ true)
+  near : (g.G.Grain.IN_RUNS ≡ false → not (eqb g.row.MAY_STOP 0) ≡ true)
       → looked l.looks + 5 * l.from ≤ looked l.fn.looks + 5 * l.position;
   least : looked l.fn.looks + l.position ≤ looked l.looks + l.from;
   memory : l.fn.self.command.capacity ≤ l.self.command.capacity;
@@ -31,10 +31,10 @@ decreases-loop-position-2 g l = length l.front.bytes.now - l.position
 
 abbrev pub invariant-loop-position : goal.invariant-loop-position
 invariant-loop-position g l = record {
-  advances : Advances ⊥ (not (eqb g.row.ASKS 0)) g.P.CountedPerform.step g.P.CountedPerform.is_terminated
+  advances : Advances ⊥ (not (eqb g.row.MAY_STOP 0)) g.P.CountedPerform.step g.P.CountedPerform.is_terminated
       (g.P.CountedPerform.value_of l.fn.performer)
       (g.P.CountedPerform.value_of l.performer) g.B.Buffer.limit l.input.bytes.now l.from l.position l.fn.self l.self;
-  may_go_on : MayGoOn (not (eqb g.row.ASKS 0)) g.P.CountedPerform.is_terminated
+  may_go_on : MayGoOn (not (eqb g.row.MAY_STOP 0)) g.P.CountedPerform.is_terminated
       (g.P.CountedPerform.value_of l.performer);
   between : l.position < length l.input.bytes.now → l.self.state ≡ Text Nothing;
   low : l.from ≤ l.position;
@@ -49,7 +49,7 @@ invariant-loop-position g l = record {
   escape : g.G.Grain.IN_RUNS ≡ false → (k : ℕ) → l.position ≤ k → k < length l.front.bytes.now
       → slice_index l.input.bytes.now k ≡ 0x1b →
       looked l.looks + 4 * l.from ≤ looked l.fn.looks + 3 * l.position + k + 1;
-  near : (g.G.Grain.IN_RUNS ≡ false → not (eqb g.row.ASKS 0) ≡ true)
+  near : (g.G.Grain.IN_RUNS ≡ false → not (eqb g.row.MAY_STOP 0) ≡ true)
       → looked l.looks + 5 * l.from ≤ looked l.fn.looks + 5 * l.position;
   least : looked l.fn.looks + l.position ≤ looked l.looks + l.from;
   memory : l.fn.self.command.capacity ≤ l.self.command.capacity;

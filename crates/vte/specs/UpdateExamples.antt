@@ -20,9 +20,9 @@ plain_meaning = record {
   step = λ told call. told ++ call ∷ [];
   timeout =
       record {
-        set = λ pending nanos. true;
-        clear = λ pending. false;
-        allows = λ pending pending. pending ≡ pending;
+        set = λ value nanos. true;
+        clear = λ value. false;
+        allows = λ value pending. value ≡ pending;
       };
 }
 

@@ -65,7 +65,7 @@ module _ {H T B G V W : Type 0} (handler_of : H → V) (timeout_of : T → W) (r
       → old.room ≡ room_of lent.text
       → reading.has_read next (s.parsed ++ f)
       → (old.handler_name ≡ new.handler.ghost_name → handler ≡ new.handler.now)
-      → ((size : ℕ) → KeepsMemory (reading.has_room parser size) (reading.has_room next size))
+      → ((size : ℕ) → KeepsMemory (reading.has_memory parser size) (reading.has_memory next size))
       → IsParsedOn (of_turns m.limit reading room_of timeout_of) parser lent next state (handler_of handler)
       (parse m s f)
   given_back {lent = lent} at at_last at_timeout at_handler at_room read back_handler keeps =

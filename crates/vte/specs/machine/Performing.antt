@@ -57,7 +57,7 @@ pub record HasPerformed {P V W : Type 0} (reading : ParserMeaning P) (limit : Op
   pub performs : new ≡ performed step old (added limit stream bytes)
   pub fits : All (FitsText old.room) (added limit stream bytes)
   pub reads : reading.has_read next (stream ++ bytes)
-  pub room : reading.has_room next old.room (stream ++ bytes) n
+  pub room : reading.has_memory next old.room (stream ++ bytes) n
 
 -- A parser has read `read` of the bytes after a stream: up to an event that terminates the
 -- performer, or all.
@@ -76,10 +76,10 @@ pub record PerformsAll {P V W : Type 0} (reading : ParserMeaning P) (limit : Opt
     (old new : PerformerValue V W)
     (bytes : List ℕ) : Type 0 where
   pub parses : (stream : List ℕ) (n : ℕ) → reading.has_read parser stream
-      → reading.has_room parser old.room stream (length bytes + n)
+      → reading.has_memory parser old.room stream (length bytes + n)
       → HasPerformed reading limit step next old new stream bytes n
   pub memory : (size : ℕ)
-      → KeepsMemory (reading.has_room parser size) (reading.has_room next size)
+      → KeepsMemory (reading.has_memory parser size) (reading.has_memory next size)
 
 pub record PerformsUntilStop {P V W : Type 0} (reading : ParserMeaning P) (limit : Option ℕ)
     (step : PerformerValue V W → Event → PerformerValue V W) (parser next : P)
@@ -87,7 +87,7 @@ pub record PerformsUntilStop {P V W : Type 0} (reading : ParserMeaning P) (limit
     (bytes : List ℕ) (read : ℕ) : Type 0 where
   pub within : read ≤ length bytes
   pub stops : (stream : List ℕ) (n : ℕ) → reading.has_read parser stream
-      → reading.has_room parser old.room stream (length bytes + n)
+      → reading.has_memory parser old.room stream (length bytes + n)
       → HasStopped reading limit step next old new stream bytes read
   pub memory : (size : ℕ)
-      → KeepsMemory (reading.has_room parser size) (reading.has_room next size)
+      → KeepsMemory (reading.has_memory parser size) (reading.has_memory next size)

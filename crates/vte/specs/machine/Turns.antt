@@ -21,15 +21,15 @@ pub record IsParsed {P B T V W : Type 0} (parts : TurnsMeaning P B T W) (parser 
 pub record IsParsedWithRoom {P B T V W : Type 0} (parts : TurnsMeaning P B T W) (parser : P)
     (lent : ProcessorState T B) (value : V) (s : State V W) (count : ℕ) : Type 0 where
   pub is_parsed : IsParsed parts parser lent value s
-  pub room : parts.reading.has_room parser (parts.room_of lent.text) s.parsed count
+  pub room : parts.reading.has_memory parser (parts.room_of lent.text) s.parsed count
 
 -- `IsParsed`, with the memory that was there before.
 pub record IsParsedOn {P B T V W : Type 0} (parts : TurnsMeaning P B T W) (parser : P)
     (lent : ProcessorState T B) (next : P) (back : ProcessorState T B) (value : V) (s : State V W)
     : Type 0 where
   pub is_parsed : IsParsed parts next back value s
-  pub memory : KeepsMemory (parts.reading.has_room parser (parts.room_of lent.text))
-      (parts.reading.has_room next (parts.room_of back.text))
+  pub memory : KeepsMemory (parts.reading.has_memory parser (parts.room_of lent.text))
+      (parts.reading.has_memory next (parts.room_of back.text))
 
 -- The turns and the handler's value are as the state says.
 abbrev pub AreAt : {P B T A V W : Type 0} → TurnsMeaning P B T W → Turns P B T A → V → State V W

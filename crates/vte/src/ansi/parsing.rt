@@ -38,9 +38,9 @@ pub(crate) trait EventParser {
         ensures reads { (stream : List ℕ) → reading.has_read self.old stream
             → reading.has_read self.new stream }
         ensures room { result ≡ true → (stream : List ℕ) → reading.has_read self.new stream
-            → reading.has_room self.new (B.room text.new) stream (held + more) }
-        ensures memory { KeepsMemory (reading.has_room self.old (B.room text.old))
-            (reading.has_room self.new (B.room text.new)) }
+            → reading.has_memory self.new (B.room text.new) stream (held + more) }
+        ensures memory { KeepsMemory (reading.has_memory self.old (B.room text.old))
+            (reading.has_memory self.new (B.room text.new)) }
         ensures lacks { result ≡ false → (stream : List ℕ) → reading.has_read self.new stream
             → reading.lacks_memory self.new (B.room text.new) stream (held + more) };
 }
@@ -141,7 +141,7 @@ pub(crate) fn parse_all<
     ensures room { (s : State H.Value T.Value) (n : ℕ)
         → IsParsedWithRoom (of_turns P.limit P.reading B.room T.value_of) parser.old state.old
         (H.value_of handler.old) s (length bytes.now + n) →
-        P.reading.has_room parser.new (B.room state.new.text) (s.parsed ++ bytes.now) n }
+        P.reading.has_memory parser.new (B.room state.new.text) (s.parsed ++ bytes.now) n }
 {
     let mut performer = Performer {
         state,

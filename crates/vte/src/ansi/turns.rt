@@ -107,7 +107,7 @@ impl<P: EventParser + Drop, B: TextBuffer + Drop, T: Timeout + Drop, A: Allocato
             (H.value_of handler.old) s →
             released_of self.old.hold ≡ s.held → held_of self.old.hold ≡ []
             → (0 < length s.held
-            → P.reading.has_room self.old.parser (B.room self.old.state.text) s.parsed
+            → P.reading.has_memory self.old.parser (B.room self.old.state.text) s.parsed
             (length s.held + n)) →
             AreNextAt (of_turns P.limit P.reading B.room T.value_of) self.old self.new
             (H.value_of handler.new) (stop (meaning P.limit H.step T.set T.clear T.allows) s) }
@@ -124,7 +124,7 @@ impl<P: EventParser + Drop, B: TextBuffer + Drop, T: Timeout + Drop, A: Allocato
             → IsParsed (of_turns P.limit P.reading B.room T.value_of) self.old.parser self.old.state
             (H.value_of handler.old) s →
             (0 < length (released_of self.old.hold)
-            → P.reading.has_room self.old.parser (B.room self.old.state.text) s.parsed
+            → P.reading.has_memory self.old.parser (B.room self.old.state.text) s.parsed
             (length (released_of self.old.hold) + n)) →
             IsParsedOn
             (of_turns P.limit P.reading B.room T.value_of) self.old.parser self.old.state
@@ -134,7 +134,7 @@ impl<P: EventParser + Drop, B: TextBuffer + Drop, T: Timeout + Drop, A: Allocato
             IsParsedWithRoom
             (of_turns P.limit P.reading B.room T.value_of) self.old.parser self.old.state
             (H.value_of handler.old) s (length (released_of self.old.hold) + n) →
-            P.reading.has_room self.new.parser (B.room self.new.state.text)
+            P.reading.has_memory self.new.parser (B.room self.new.state.text)
             (s.parsed ++ released_of self.old.hold) n }
         ensures hold { self.new.hold ≡ self.old.hold }
     {
@@ -240,7 +240,7 @@ impl<P: EventParser + Drop, B: TextBuffer + Drop, T: Timeout + Drop, A: Allocato
         requires room { length (held_of self.old.hold) + length bytes.now ≤ most_held }
         ensures { LeadOn (of_turns P.limit P.reading B.room T.value_of) self.old self.new
             (H.value_of handler.old) (H.value_of handler.new)
-            (λ s IsThere. P.reading.has_room self.old.parser (B.room self.old.state.text) s.parsed
+            (λ s IsThere. P.reading.has_memory self.old.parser (B.room self.old.state.text) s.parsed
             (length s.held + length bytes.now) →
             IsThere (hold_turn (meaning P.limit H.step T.set T.clear T.allows) s bytes.now)) }
     {

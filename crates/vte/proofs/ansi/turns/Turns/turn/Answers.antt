@@ -6,7 +6,7 @@ use Rattle.vte.proofs.turns.Kinds.{is_held, is_stopped, stop_if_due}
 use Rattle.vte.proofs.turns.Slices.{halted_nothing}
 use Rattle.vte.proofs.turns.Turns.{after-next, ends_turn, kept-next, next-at, stops-next, turned_hold}
 use Rattle.vte.proofs.ansi.turns.Turns.turn.Goals as goal
-use Rattle.vte.proofs.ansi.turns.Turns.turn.Goals.{else-pending-via-else-pending, else-pending-via-then-pending+else-has_memory, else-pending-2+else-len-gt0, then-pending-2}
+use Rattle.vte.proofs.ansi.turns.Turns.turn.Goals.{else-pending-via-else-pending, else-pending-via-then-pending+else-has_room, else-pending-2+else-len-gt0, then-pending-2}
 use Rattle.vte.proofs.ansi.turns.Turns.turn.Goals.{then-pending-2-via-else-pending-2+then-len-gt0, then-pending-2-via-then-pending-2}
 
 -- An open turn: the bytes are not to be held, and what was pending or held is stopped first, as `opened` says.
@@ -15,9 +15,9 @@ returns-clause-turned g c = λ s at.
     let pending = c.pending_timeout-pending.result in
     let parses : is_held pending s c.args.bytes.now ≡ false = elim c.else-pending.branch [
       -- No room.
-      | else-pending-via-then-pending+else-has_memory w ↦
+      | else-pending-via-then-pending+else-has_room w ↦
           let full : nat_le (length s.held + length c.args.bytes.now) most_held ≡ false =
-          rw (← at.stands.holds) (sym w.has_memory.ensures ∙ w.if-has_memory.false) in
+          rw (← at.stands.holds) (sym w.has_room.ensures ∙ w.if-has_room.false) in
           rw (full, and-false) refl
       -- No update is pending.
       | else-pending-via-else-pending w ↦ rw w.if-pending.false refl
@@ -48,11 +48,11 @@ returns-clause-turned g c = λ s at.
     (c.open.ensures.opened _ here.are_at)
 
 -- A hold turn: an update is pending, and there is room for all bytes and memory for them.
-pub returns-then-has_memory-clause-turned : goal.returns-then-has_memory-clause-turned
-returns-then-has_memory-clause-turned g c = λ s at.
+pub returns-then-has_room-clause-turned : goal.returns-then-has_room-clause-turned
+returns-then-has_room-clause-turned g c = λ s at.
     let here = kept-next c.reserve.ensures.reserved (next-at at) in
     let room : nat_le (length s.held + length c.args.bytes.now) most_held ≡ true =
-    rw (← at.stands.holds) (sym c.has_memory.ensures ∙ c.if-has_memory.true) in
+    rw (← at.stands.holds) (sym c.has_room.ensures ∙ c.if-has_room.true) in
     let held : is_held c.pending_timeout-pending.result s c.args.bytes.now ≡ true = rw (c.if-pending.true, room) refl in
     record {
       turned = turned_hold _ (rw at.stands.has_parsed.timeout_is at c.pending_timeout-pending.ensures) held refl

@@ -6,7 +6,7 @@ use Rattle.vte.proofs.Common.{◌∙◌, arith, length-append, length-drop, appe
 use Rattle.vte.proofs.Common.{take-append-drop, take_all, take_at, added, IsSteady, begin_count, IsOutsideUpdate, Meaning, HoldsWellAt, Halted, IsAtBegin, IsOpenAt, Opened}
 use Rattle.vte.proofs.Common.{TakesAllTurns, OpenTurn, OpenTurnHalts, State, TakesSome, TakesTurns, begin_front, between, done, kind_of, open_turn, parse, turn, turns, within}
 use Rattle.vte.proofs.performing.CallLists.{after-append, added_calls-append, added_calls-nothing, set_times-add}
-use Rattle.vte.proofs.replays.EachOnce.{Grows, grows_on, stop_if_due_grows, stop_if_due_none, parse_grows, turns_grow}
+use Rattle.vte.proofs.replays.EachOnce.{Progresses, grows_on, stop_if_due_grows, stop_if_due_none, parse_grows, turns_grow}
 use Rattle.vte.proofs.turns.Fronts.{begins_in, front_after, front_is_all, front_of_more, front_some, none_begin, none_begin_in}
 use Rattle.vte.proofs.turns.Kinds.{OpensAndHalts, opens_first, stop_if_due, turn_parses}
 use Rattle.vte.proofs.turns.HoldFacts.{stop_if_due_outside, taken_well}
@@ -171,13 +171,13 @@ module _ {V W : Type 0} (m : Meaning V W) where
   -- ---- what is parsed and held then
 
   turn_halts_grow : (pending : Bool) (s t : State V W) (bytes left : List ℕ) → OpensAndHalts m pending s bytes t left
-      → Grows s t bytes left
+      → Progresses s t bytes left
   turn_halts_grow pending s t bytes left (parses, h) =
       rw h.state_is
       (grows_on (stop_if_due_grows m pending s bytes)
       (parse_grows m (stop_if_due m pending s) h.front left bytes (stop_if_due_none m pending s) h.bytes_are))
 
-  pub some_grow : (s t : State V W) (bytes left : List ℕ) → TakesSome m s bytes t left → Grows s t bytes left
+  pub some_grow : (s t : State V W) (bytes left : List ℕ) → TakesSome m s bytes t left → Progresses s t bytes left
   some_grow s t bytes left (between taken) = turns_grow m s t bytes left taken
   some_grow s t bytes left (within {u} {rest} taken pending allowed halts) =
       grows_on (turns_grow m s u bytes rest taken)

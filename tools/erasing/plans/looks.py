@@ -40,18 +40,18 @@ COUNTS = [
 ]
 
 # The functions that may stop: the others only pass this parameter on.
-ASKING = {"drive", "end_device_data", "read_by_state", "read_device_data", "read_end",
+STOPPING = {"drive", "end_device_data", "read_by_state", "read_device_data", "read_end",
           "read_ignored_string", "read_system_command", "read_text", "read_until_terminated"}
 
 
 def _head(names):
-    asks = ", const MAY_STOP: bool" * (names["f"] in ASKING)
-    return f"fn {names['f']}<P: PerformAs<G>, G: Grain{asks}>("
+    stops = ", const MAY_STOP: bool" * (names["f"] in STOPPING)
+    return f"fn {names['f']}<P: PerformAs<G>, G: Grain{stops}>("
 
 
 def _call(names):
     name, grain = names["f"], names["g"]
-    if name in ASKING:
+    if name in STOPPING:
         return f"{name}::<P, {grain}, {names['a']}>("
     # the arguments tell which performer it is, and its grain
     return f"{name}(" if grain == "G" else f"{name}::<P, {grain}>("
@@ -59,6 +59,7 @@ def _call(names):
 
 PARAMETERS = [
     ("fn $f<P: PerformAs<G>, G: Grain, const MAY_STOP: bool>(", _head),
+    ("fn $f<P: PerformAs<G>, G: Grain, const MAY_STOP: bool,>(", _head),
     ("$f::<P, $g, $a>(", _call),
 ]
 

@@ -18,7 +18,7 @@ pub(crate) enum HeadPart {
     Parameters,
     /// An intermediate was last.
     Intermediates,
-    /// It is malformed.
+    /// No further bytes make it well-shaped.
     IllShaped,
 }
 

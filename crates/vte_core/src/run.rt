@@ -246,8 +246,7 @@ impl<B> Looks<B> {
     }
 }
 
-/// Returns the position of the first of eight bytes that is no printed ASCII, or of a space before
-/// it.
+/// Returns the position of the first of eight bytes that is no printed ASCII.
 #[inline(always)]
 fn first_unprinted(word: &[u8; 8]) -> Option<usize>
     ensures { MatchOption result (ArePrinted word.now 0 8)

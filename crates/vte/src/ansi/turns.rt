@@ -21,8 +21,8 @@ use vte_types::{NamedPrivateMode, PrivateMode};
 /// For how many bytes an open turn takes memory at once.
 const SLICE: usize = 65_536;
 
-/// The parser, the hold and the state of a processor, whatever its limit. `P`: parser, `J`: buffer
-/// for joined texts, `T`: timeout.
+/// The parser, the hold and the state of a processor, whatever its limit. `P`: parser, `B`: buffer
+/// for joined texts, `T`: timeout, `A`: allocator.
 #[derive(Clone, Drop)]
 pub(crate) struct Turns<P: Drop, B: Drop, T: Drop, A: Allocator> {
     pub(crate) parser: P,

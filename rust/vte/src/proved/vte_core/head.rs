@@ -17,7 +17,7 @@ pub(crate) enum HeadPart {
     Parameters,
     /// An intermediate was last.
     Intermediates,
-    /// It is malformed.
+    /// No further bytes make it well-shaped.
     IllShaped,
 }
 

@@ -170,8 +170,7 @@ fn find_end_by_words(input: &[u8], from: usize) -> usize {
     end
 }
 
-/// Returns the position of the first of eight bytes that is no printed ASCII, or of a space before
-/// it.
+/// Returns the position of the first of eight bytes that is no printed ASCII.
 #[inline(always)]
 fn first_unprinted(word: &[u8; 8]) -> Option<usize> {
     // Bit 7 of each eight marks a byte: from 80 on it is set, and below 20 it is after a

@@ -13,8 +13,8 @@ use core::time::Duration;
 /// For how many bytes an open turn takes memory at once.
 const SLICE: usize = 65_536;
 
-/// The parser, the hold and the state of a processor, whatever its limit. `P`: parser, `J`: buffer
-/// for joined texts, `T`: timeout.
+/// The parser, the hold and the state of a processor, whatever its limit. `P`: parser, `B`: buffer
+/// for joined texts, `T`: timeout, `A`: allocator.
 #[derive(Clone)]
 pub(crate) struct Turns<P, B, T> {
     pub(crate) parser: P,

@@ -1,4 +1,4 @@
--- No mark: all eight bytes are printed. Otherwise the lowest mark is at the first byte that is not (`bytes/EightBytes`).
+-- No mark: all eight bytes are printed. Otherwise the lowest mark is at the first that is not (`bytes/EightBytes`).
 use Rattle.std.proofs.Common.{ap, arith, w64, ◌∙◌}
 use Rattle.std.specs.Int.{bit_at}
 use Rattle.std.proofs.lemmas.Nat.Bits.{bit_at-trailing_zeros, bit_at-zero}

@@ -253,70 +253,33 @@ impl Tape {
     pub fn make(&mut self, py: Python<'_>, ends: bool) -> PyResult<()> {
         let reserved = self.made.try_reserve(self.values.len());
         reserved.map_err(|_| no_memory(py))?;
-        let (classes, mut all) = (classes(py)?, KNOWN.get(py).take());
-        if all.is_empty() && all.try_reserve_exact(1 << PAIRS).is_ok() {
-            all.resize_with(1 << PAIRS, Default::default);
+        let (classes, mut known) = (classes(py)?, KNOWN.get(py).take());
+        if known.is_empty() && known.try_reserve_exact(1 << PAIRS).is_ok() {
+            known.resize_with(1 << PAIRS, Default::default);
         }
         let end = self.values.len() - usize::from(self.is_open && !ends);
-        let (values, content) = (&self.values[..end], &self.content[..]);
-        let (mut at, mut place, mut done) = (0, 0, Ok(()));
-        while at < end {
-            let (first, is_run, mut count) = (values[at], values[at].is(RUN), 1);
-            let ((kind, field), mut hash, mut short) = (first.parts(), mix(0, first), [first]);
-            let mut length = if is_run { field as usize } else { 0 };
-            let object = if length > SHORT {
-                run(py, &classes[kind], kind, &content[place..place + length])
-            } else {
-                let key = if is_run {
-                    let bytes = content[place..place + length].iter();
-                    // the length of a short run leaves room for its content
-                    short[0].0 |= bytes.fold(0, |all, byte| all << 8 | i64::from(*byte)) << 16;
-                    hash = mix(0, short[0]);
-                    &short
-                } else {
-                    while at + count < end && values[at + count].0 & FIRST == 0 {
-                        (hash, count) = (mix(hash, values[at + count]), count + 1);
-                    }
-                    &values[at..at + count]
-                };
-                let pair = &mut all.get_mut((hash >> (u64::BITS - PAIRS)) as usize);
-                let is = |it: &&Known| it.0 == key[0] && it.1 == key[1..];
-                let known = pair.as_ref().and_then(|pair| pair.iter().find(is));
-                if let Some((_, _, object)) = known {
-                    object.as_ref().map(|object| object.clone_ref(py))
-                } else {
-                    let mut maker = Maker {
-                        py,
-                        classes,
-                        values: &values[at..],
-                        content: &content[place..],
-                    };
-                    let (object, mut others) = (maker.next(), Vec::new());
-                    length = content.len() - place - maker.content.len();
-                    // other content makes other objects of these values
-                    let is_all = is_run || length == 0;
-                    if let (Some(pair), true, Some(_)) = (pair, is_all, &object) {
-                        if others.try_reserve_exact(count - 1).is_ok() {
-                            others.extend_from_slice(&key[1..]);
-                            pair.swap(0, 1);
-                            pair[0] = (key[0], others, object.as_ref().map(|it| it.clone_ref(py)));
-                        }
-                    }
-                    object
-                }
-            };
-            match object {
+        let mut maker = Maker {
+            py,
+            classes,
+            values: &self.values[..end],
+            content: &self.content,
+        };
+        let mut done = Ok(());
+        while !maker.values.is_empty() {
+            let (values, content) = (maker.values, maker.content);
+            match maker.object(&mut known) {
                 Some(object) => self.made.push(object),
                 None => {
+                    (maker.values, maker.content) = (values, content);
                     done = Err(PyErr::fetch(py));
                     break;
                 }
             }
-            (at, place) = (at + count, place + length);
         }
-        KNOWN.get(py).set(all);
-        self.values.drain(..at);
-        self.content.drain(..place);
+        let (left, rest) = (maker.values.len(), maker.content.len());
+        KNOWN.get(py).set(known);
+        self.values.drain(..end - left);
+        self.content.drain(..self.content.len() - rest);
         done
     }
 
@@ -367,6 +330,53 @@ struct Maker<'a, 'py> {
 }
 
 impl<'a> Maker<'a, '_> {
+    /// The next object.
+    #[inline(always)]
+    fn object(&mut self, known: &mut [[Known; 2]]) -> Made {
+        let (values, first) = (self.values, self.values[0]);
+        if !first.is(RUN) {
+            let others = values[1..].iter().take_while(|value| value.0 & FIRST == 0);
+            return self.known_or_new(known, &values[..=others.count()], 0);
+        }
+        let (kind, length) = first.parts();
+        let length = length as usize;
+        if length > SHORT {
+            self.values = &values[1..];
+            let content = self.content(length);
+            return run(self.py, &self.classes[kind], kind, content);
+        }
+        let bytes = self.content[..length].iter();
+        // the length of a short run leaves room for its content
+        let content = bytes.fold(0, |all, byte| all << 8 | i64::from(*byte));
+        let key = Value(first.0 | content << 16);
+        self.known_or_new(known, &[key], length)
+    }
+
+    /// The object of a key that stands for so many bytes of content.
+    #[inline(always)]
+    fn known_or_new(&mut self, known: &mut [[Known; 2]], key: &[Value], length: usize) -> Made {
+        let hash = key.iter().fold(0, |hash, value| mix(hash, *value));
+        let pair = &mut known.get_mut((hash >> (u64::BITS - PAIRS)) as usize);
+        let is = |it: &&Known| it.0 == key[0] && it.1 == key[1..];
+        let found = pair.as_ref().and_then(|pair| pair.iter().find(is));
+        if let Some((_, _, object)) = found {
+            (self.values, self.content) = (&self.values[key.len()..], &self.content[length..]);
+            return object.as_ref().map(|object| object.clone_ref(self.py));
+        }
+        let (before, mut others) = (self.content.len(), Vec::new());
+        let object = self.next()?;
+        // other content makes other objects of these values
+        let is_all = before - self.content.len() == length;
+        if let (Some(pair), true) = (pair, is_all) {
+            if others.try_reserve_exact(key.len() - 1).is_ok() {
+                others.extend_from_slice(&key[1..]);
+                pair.swap(0, 1);
+                pair[0] = (key[0], others, Some(object.clone_ref(self.py)));
+            }
+        }
+        Some(object)
+    }
+
     fn next(&mut self) -> Made {
         let py = self.py;
         let value = self.values[0];
@@ -383,22 +393,22 @@ impl<'a> Maker<'a, '_> {
                 let [count, all @ ..] = number.to_le_bytes();
                 bytes(py, &all[..usize::from(count)])
             }
-            TEXT => text(py, self.content(number)),
-            DATA => bytes(py, self.content(number)),
+            TEXT => text(py, self.content(number as usize)),
+            DATA => bytes(py, self.content(number as usize)),
             SINGLE => tuple(py, 1, |_| integer(py, number)),
             TUPLE => tuple(py, number as usize, |_| self.next()),
             OBJECT => self.classes[kind].make(py, |_| self.next()),
             MEMBER => self.classes[kind].make(py, |_| integer(py, field)),
             RUN => {
-                let content = self.content(field);
+                let content = self.content(field as usize);
                 run(py, &self.classes[kind], kind, content)
             }
             _ => integer(py, number),
         }
     }
 
-    fn content(&mut self, length: i64) -> &'a [u8] {
-        let (own, rest) = self.content.split_at(length as usize);
+    fn content(&mut self, length: usize) -> &'a [u8] {
+        let (own, rest) = self.content.split_at(length);
         self.content = rest;
         own
     }

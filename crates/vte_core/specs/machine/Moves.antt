@@ -3,7 +3,6 @@ use Rattle.std.specs.Prelude.{ℕ, ◌≡◌, ◌+◌, ◌*◌, ◌<◌, ◌≤�
 use Rattle.vte_core.specs.declared.scan.Looks.{Looks}
 use Rattle.vte_core.specs.declared.parser.machine.Machine.{Machine}
 use Rattle.vte_core.specs.declared.parser.refused.Refused.{Refused}
-use Rattle.vte_core.specs.Event.{Event}
 use Rattle.vte_core.specs.Looks.{looked}
 use Rattle.vte_core.specs.machine.Progress.{IsRefusedAt, IsSettled, MayGoOn}
 
@@ -31,8 +30,8 @@ pub record Spends (rate seen ahead : ℕ) {B : Type 0} (bytes : List ℕ) (i j :
 
 -- The bounds of a function that handles a byte at which its caller looked: no character is open
 -- afterwards, and it takes at most `most` looks.
-pub record HandlesByte (most : ℕ) {V B : Type 0} (step : V → Event → V) (old new : V)
-    (parser next : Machine B) (before after : Looks B) : Type 0 where
+pub record HandlesByte (most : ℕ) {B : Type 0} (parser next : Machine B)
+    (before after : Looks B) : Type 0 where
   pub settled : IsSettled next.state
   pub count : looked after ≤ looked before + most
   pub least : looked before ≤ looked after

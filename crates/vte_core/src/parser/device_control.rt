@@ -56,8 +56,7 @@ impl<B: Buffer> Machine<B> {
         ensures takes { (head : List ℕ) → StandsInHead self.old.collected part head
             → TakesByte P.step (P.value_of performer.old) (P.value_of performer.new) B.limit
             (InDeviceControl head) byte self.new }
-        ensures handles { HandlesByte 1 P.step (P.value_of performer.old)
-            (P.value_of performer.new) self.old self.new looks.old looks.new }
+        ensures handles { HandlesByte 1 self.old self.new looks.old looks.new }
     {
         if let HeadPart::IllShaped = part {
             self.state = State::IgnoredString;

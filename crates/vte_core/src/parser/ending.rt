@@ -21,8 +21,7 @@ impl<B: Buffer> Machine<B> {
             → TakesBytes P.step (P.value_of performer.old)
             (P.value_of performer.new) B.limit place (byte ∷ []) self.new }
         ensures escape { byte ≡ 0x1b → self.new.state ≡ Escape }
-        ensures handles { HandlesByte 2 P.step (P.value_of performer.old)
-            (P.value_of performer.new) self.old self.new looks.old looks.new }
+        ensures handles { HandlesByte 2 self.old self.new looks.old looks.new }
     {
         self.report_end(looks, performer);
         if byte == ESCAPE {

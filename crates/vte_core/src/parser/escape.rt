@@ -108,8 +108,7 @@ impl<B: Buffer> Machine<B> {
             → TakesBytes P.step
             (P.value_of performer.old) (P.value_of performer.new) B.limit place
             (byte ∷ []) self.new }
-        ensures handles { HandlesByte 2 P.step (P.value_of performer.old)
-            (P.value_of performer.new) self.old self.new looks.old looks.new }
+        ensures handles { HandlesByte 2 self.old self.new looks.old looks.new }
     {
         if is_final(byte) {
             self.begin_body(looks, performer, byte);
@@ -140,8 +139,7 @@ impl<B: Buffer> Machine<B> {
         ensures takes { Stands B.limit self.old AtEscape
             → TakesByte P.step (P.value_of performer.old) (P.value_of performer.new)
             B.limit AtEscape byte self.new }
-        ensures handles { HandlesByte 1 P.step (P.value_of performer.old)
-            (P.value_of performer.new) self.old self.new looks.old looks.new }
+        ensures handles { HandlesByte 1 self.old self.new looks.old looks.new }
     {
         if byte == b'P' {
             self.collected.begin_head();

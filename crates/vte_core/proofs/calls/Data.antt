@@ -28,8 +28,7 @@ advances-by {call = call} {parser = parser} (suc n) i begun within are none =
 pub advances-data : {V B : Type 0} {call : ChunkCall V} {old new : V} {i j : ℕ} {parser : Machine B}
     → parser.state ≡ DeviceData → i ≤ j → j ≤ length call.bytes → ArePut call.bytes i j → call.may_stop ≡ false
     → new ≡ after call.step old (map Put (take (j - i) (drop i call.bytes))) → Advances ⊥ call old new i j parser parser
-advances-data {call = call} {old = old}
-    {i = i} {j = j} {parser = parser} begun low high are none performed =
+advances-data {call = call} {old = old} {i = i} {j = j} {parser = parser} begun low high are none performed =
     subst (λ value. Advances ⊥ call old value i j parser parser) (sym performed)
     (advances-moved (omega (arith, low))
     (advances-by (j - i) i begun (omega (arith, low, high)) (λ k from to. are k from (omega (arith, low, to))) none))

@@ -2,7 +2,7 @@
 -- performer, which learns of a head only at its end; both shapes share it.
 use Rattle.vte_core.specs.machine.ToRun.{IsQuietIn}
 use Rattle.vte_core.proofs.Common.{◌≡◌, ℕ, zero, suc, ◌+◌, ◌-◌, ◌<◌, ◌≤◌, ◌⊎◌, inr, eqb, Option, List, [], ◌∷◌, ◌++◌, Bool, true, false, length, take, drop, refl, sym, subst, append_assoc, arith, nat_tests, append-nil, drop-drop, drop_more, take-add, slice_index, MatchOption, class_of, is_head, is_parameter_text, AreInClass, Collected, HeadPart, Entry, Parameters, Machine, State, ControlSequence, DeviceControl, Event, ChunkCall}
-use Rattle.vte_core.proofs.Common.{Leads, CountsNumbers, KeepsIntermediates, Stands, StandsBy, StandsInHead, Place, InControlSequence, InDeviceControl, IsBetween, Advances, ProgressAt, IsSettled, MayGoOn, TakesBytes, TakesByte, ends_all, part_after, ReadsHead, Some, None, told_before, false≢true}
+use Rattle.vte_core.proofs.Common.{Leads, CountsNumbers, KeepsIntermediates, Stands, StandsBy, StandsInHead, Place, InControlSequence, InDeviceControl, IsBetween, Advances, ProgressAt, StandsAt, IsSettled, MayGoOn, TakesBytes, TakesByte, ends_all, part_after, ReadsHead, Some, None, false≢true}
 use Rattle.vte_core.proofs.bytes.ClassCases.{head_ends_nothing}
 use Rattle.vte_core.proofs.bytes.PieceLemmas.{AreOf-append, parameter_is_head}
 use Rattle.vte_core.proofs.calls.Places.{come-between, come-byte}
@@ -12,7 +12,7 @@ use Rattle.vte_core.proofs.calls.Stretches.{advances-byte, advances-when, advanc
 use Rattle.vte_core.proofs.fields.HeadSteps.{holds-parameter}
 use Rattle.vte_core.proofs.fields.PlaceOfState.{IsPlace, stands-in}
 use Rattle.vte_core.proofs.places.PlaceLeads.{control-head, device-head}
-use Rattle.vte_core.proofs.calls.AddedEvents.{adds-same, come-told, came-kept, keeping}
+use Rattle.vte_core.proofs.calls.AddedEvents.{adds-same, keeps-at, told-at}
 use Rattle.vte_core.proofs.streams.StreamLemmas.{no_escape, reads-byte}
 
 -- ---- what is collected
@@ -171,39 +171,38 @@ module _ {V : Type 0} {call : ChunkCall V} where
       let far : i + suc n ≡ i + 1 + n = omega arith in
       rw (far, cut) (rw (append_assoc head (b ∷ []) (take n (drop (i + 1) call.bytes))) at rest)
 
+  -- the bytes of a part of a head
+  stands-head : {B : Type 0} {old value : V} {stream : List ℕ} {i j : ℕ} {reached part : HeadPart}
+      {parser next : Machine B} (shape : Shape) → parser.state ≡ state_of shape reached
+      → ReadsHead call.bytes i j reached part parser.collected next.collected → MayGoOn call value
+      → next.state ≡ state_of shape part → StandsAt call old value stream i parser
+      → StandsAt call old value stream j next
+  stands-head {old = old} {value = value} {stream = stream} {i = i} {j = j} {reached = reached} {part = part}
+      {parser = parser} {next = next} shape begun reads may_go_on state s =
+      let k = place_in shape call.limit reached parser s.place (stands-in begun s.stands) in
+      let here : ProgressAt call old value stream i (in_head shape k.head) =
+      subst (ProgressAt call old value stream i) k.same s.has_come in
+      let end : i + (j - i) ≡ j = omega (arith, reads.low) in
+      let run : List ℕ = take (j - i) (drop i call.bytes) in
+      record {
+        place = in_head shape (k.head ++ run);
+        stands = stands_in shape call.limit part next (k.head ++ run) state (reads.stands k.head k.stands);
+        between = λ _. is_between shape (k.head ++ run);
+        has_come = rw end at (come-head shape (j - i) k.head (omega (arith, reads.high, end)) reads.are may_go_on here);
+      }
+
 module _ {V : Type 0} {call : ChunkCall V} where
   pub advances-head : {quiet B : Type 0} {value : V} {i j : ℕ} {reached part : HeadPart} {parser next : Machine B}
       (shape : Shape) → parser.state ≡ state_of shape reached
       → ReadsHead call.bytes i j reached part parser.collected next.collected → MayGoOn call value
       → next.state ≡ state_of shape part → Advances quiet call value value i j parser next
-  advances-head {value = value} {i = i} {j = j} {reached = reached} {part = part} {parser = parser}
-      {next = next} shape begun reads may_go_on state = record {
-        goes_on = λ old stream s.
-            let k = place_in shape call.limit reached parser s.place (stands-in begun s.stands) in
-            let here : ProgressAt call old value stream i (in_head shape k.head) =
-            subst (ProgressAt call old value stream i) k.same s.has_come in
-            let end : i + (j - i) ≡ j = omega (arith, reads.low) in
-            let run : List ℕ = take (j - i) (drop i call.bytes) in
-            record {
-              place = in_head shape (k.head ++ run);
-              stands = stands_in shape call.limit part next (k.head ++ run) state (reads.stands k.head k.stands);
-              between = λ _. is_between shape (k.head ++ run);
-              has_come =
-                  rw end at (come-head shape (j - i) k.head (omega (arith, reads.high, end)) reads.are may_go_on here);
-            };
-        settled = λ _. settled-by _ _ state (settled shape part);
-        others = λ _ old stream s.
-            let k = place_in shape call.limit reached parser s.place (stands-in begun s.stands) in
-            let here : ProgressAt (keeping call.limit call.bytes) [] (told_before call.limit stream call.bytes i)
-            stream i (in_head shape k.head) =
-            subst (ProgressAt (keeping call.limit call.bytes) [] (told_before call.limit stream call.bytes i) stream i)
-            k.same (came-kept s.has_come) in
-            let end : i + (j - i) ≡ j = omega (arith, reads.low) in
-            adds-same (subst (λ n. told_before call.limit stream call.bytes i
-            ≡ told_before call.limit stream call.bytes n) end (come-told
-            (come-head shape (j - i) k.head (omega (arith, reads.high, end)) reads.are
-            (λ does. absurd (false≢true does)) here)));
-      }
+  advances-head {part = part} {next = next} shape begun reads may_go_on state = record {
+    goes_on = λ old stream s. stands-head shape begun reads may_go_on state s;
+    settled = λ _. settled-by _ _ state (settled shape part);
+    others = λ _ old stream s.
+        adds-same (told-at
+        (stands-head {next = next} shape begun reads (λ does. absurd (false≢true does)) state (keeps-at s)));
+  }
 
   -- a part of a head and a byte after it, of which the caller says what it does there
   pub advances-past : {quiet B : Type 0} {old new : V} {i j b : ℕ} {reached part : HeadPart} {parser next : Machine B}

@@ -152,12 +152,10 @@ may_go_on-malformed keeps call {old = old} {b = b} never may_go_on high performe
 -- a run more
 pub advances-text : {V B : Type 0} {call : ChunkCall V} {keeps : Bool} {old new : V} {i j : ℕ} {parser : Machine B}
     → (call.may_stop ≡ true → NoCharacterStops keeps call.step call.is_terminated) → MayGoOn call old
-    → i < length call.bytes → parser.state ≡ Text Nothing → i < j → j ≤ length call.bytes
+    → parser.state ≡ Text Nothing → i < j → j ≤ length call.bytes
     → PrintsRun keeps call.step old new call.bytes i j → Advances ⊥ call old new i j parser parser
-advances-text {V = V} {B = B} {call = call} {keeps = keeps}
-    {old = old}
-    {new = new} {i = i} {j = j} {parser = parser}
-    never may_go_on within e in_order high prints = record {
+advances-text {V = V} {call = call} {keeps = keeps} {old = old} {new = new} {i = i} {j = j} {parser = parser}
+    never may_go_on e in_order high prints = record {
       goes_on = λ value stream s. settles (settled-by parser.state (Text Nothing) e tt) (inside-next value stream s);
       settled = λ _. settled-by parser.state (Text Nothing) e tt;
       others = λ no. absurd no;

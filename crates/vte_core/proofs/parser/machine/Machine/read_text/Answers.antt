@@ -27,7 +27,7 @@ reached g c =
           let run = w.print_ascii-run.ensures in
           rw (w.performer-is, w.position-is) (advances-then v.advances
           (advances-text
-          (c.requires.no_stop (sym c.IN_RUNS-in-loop-position-2.ensures ∙ w.if-IN_RUNS-2.true)) v.may_go_on within
+          (c.requires.no_stop (sym c.IN_RUNS-in-loop-position-2.ensures ∙ w.if-IN_RUNS-2.true)) v.may_go_on
           (v.between within) run.progress run.high run.prints))
       -- None did.
       | else-IN_RUNS-2 w ↦ rw (w.performer-is, w.position-is) v.advances
@@ -73,8 +73,7 @@ loop-position-2-preserved-in-None g c =
     record {
       advances =
           advances-then v.advances
-          (advances-text (c.requires.no_stop runs) v.may_go_on within
-          (v.between within) run.progress run.high run.prints);
+          (advances-text (c.requires.no_stop runs) v.may_go_on (v.between within) run.progress run.high run.prints);
       may_go_on = may_go_on-text (this g c.args.input.bytes.now) (c.requires.no_stop runs) v.may_go_on run.prints;
       between = λ _. v.between within;
       low = search rules;

@@ -66,7 +66,7 @@ pub use Rattle.vte_core.specs.machine.Moves.{Spends}
 pub use Rattle.vte_core.specs.machine.Standing.{CountsNumbers, HoldsIntermediates, HoldsHead, HasReadUnder, IsMarker, KeepsIntermediates, KeepsNumbers, numbers_from, HoldsNumbers, Stands, StandsBy, StandsInHead, StaysIllShaped}
 pub use Rattle.vte_core.specs.machine.Place.{AtEscape, InControlSequence, InData, InDeviceControl, InEscape, InIgnoredString, InSystemCommand, InText, IsAfter, IsBetween, Place, closing_events_at, left_at, rest_outcome}
 unfoldable pub use Rattle.vte_core.specs.machine.Place.{outcome_from}
-pub use Rattle.vte_core.specs.machine.Progress.{Advances, ProgressAt, ProgressInside, IsRefusedAt, IsSettled, MayGoOn, ReadsUpTo, RefusesAt, StandsAt, StandsInside}
+pub use Rattle.vte_core.specs.machine.Progress.{Advances, ChunkCall, chunk_call, ProgressAt, ProgressInside, IsRefusedAt, IsSettled, MayGoOn, ReadsUpTo, RefusesAt, StandsAt, StandsInside}
 pub use Rattle.vte_core.specs.machine.Reading.{ReadsHead}
 pub use Rattle.vte_core.specs.machine.TextRun.{ArePrinted, AreRun, IsPrinted, IsRun, PrintsRun}
 pub use Rattle.vte_core.specs.machine.Scans.{IsRange, Scans}

@@ -1,6 +1,6 @@
 -- What is told from place to place. A call is followed with a performer that keeps all events; so what any performer
 -- receives is a function of the bytes, and a stretch that tells no run is known by its events.
-use Rattle.vte_core.proofs.Common.{◌≡◌, ℕ, ◌+◌, ◌-◌, ◌<◌, inl, inr, Bool, false, Option, List, [], ◌∷◌, ◌++◌, length, take, drop, refl, ap, sym, ◌∙◌, append_assoc, append-nil, arith, cases_Bool, drop_more, slice_index, false≢true, All, All-append, All-cons, All-nil, Event, Print, replacement, after, added, told_before, stream_at, breaks_at, State, Text, DeviceData, Machine, StandsBy, ProgressAt, StandsAt, StandsInside, Reads}
+use Rattle.vte_core.proofs.Common.{◌≡◌, ℕ, ◌+◌, ◌-◌, ◌<◌, inl, inr, false, Option, List, [], ◌∷◌, ◌++◌, length, take, drop, refl, ap, sym, ◌∙◌, append_assoc, append-nil, arith, cases_Bool, drop_more, slice_index, false≢true, All, All-append, All-cons, All-nil, Event, Print, replacement, after, added, told_before, stream_at, breaks_at, State, Text, DeviceData, Machine, StandsBy, StandsAt, StandsInside, Reads, ChunkCall, chunk_call}
 use Rattle.vte_core.proofs.Common.{Place, InText, InData, IsAfter, AddsOthers, IsOther}
 use Rattle.vte_core.specs.machine.Completes.{AddsCharacter}
 use Rattle.vte_core.specs.machine.Progress.{HasProgress}
@@ -17,46 +17,38 @@ use Rattle.vte_core.proofs.streams.After.{added-reads}
 abbrev pub keep : List Event → Event → List Event
 keep events event = events ++ event ∷ []
 
-abbrev pub never : List Event → Bool
-never events = false
+abbrev pub keeping : Option ℕ → List ℕ → ChunkCall (List Event)
+keeping limit bytes = chunk_call false keep (λ _. false) limit bytes
 
 after-keep : (given more : List Event) → after keep given more ≡ given ++ more
 after-keep given [] = sym (append-nil given)
 after-keep given (event ∷ more) = after-keep (given ++ event ∷ []) more ∙ append_assoc given (event ∷ []) more
 
-pub came-kept : {V : Type 0} {may_stop : Bool} {step : V → Event → V} {is_terminated : V → Bool} {old value : V}
-    {limit : Option ℕ} {stream bytes : List ℕ} {i : ℕ} {given : List Event} {read : List ℕ}
-    {place : Place} → HasProgress may_stop step is_terminated old value limit stream bytes i given read place
-    → HasProgress false keep never [] given limit stream bytes i given read place
+came-kept : {V : Type 0} {call : ChunkCall V} {old value : V} {stream : List ℕ} {i : ℕ} {given : List Event}
+    {read : List ℕ} {place : Place} → HasProgress call old value stream i given read place
+    → HasProgress (keeping call.limit call.bytes) [] given stream i given read place
 came-kept {given = given} c =
     record { performed = sym (after-keep [] given); is_after = c.is_after; earlier = λ does. absurd (false≢true does) }
 
 kept-is : {limit : Option ℕ} {stream bytes : List ℕ} {i : ℕ} {value given : List Event} {read : List ℕ} {place : Place}
-    → HasProgress false keep never [] value limit stream bytes i given read place
-    → value ≡ given
+    → HasProgress (keeping limit bytes) [] value stream i given read place → value ≡ given
 kept-is {given = given} c = c.performed ∙ after-keep [] given
 
-module _ {V B : Type 0} {may_stop : Bool} {step : V → Event → V} {is_terminated : V → Bool} {old value : V}
-    {limit : Option ℕ} {stream bytes : List ℕ} {i : ℕ} {parser : Machine B} where
-  pub keeps-at : StandsAt may_stop step is_terminated old value limit stream bytes i parser
-      → StandsAt false keep never [] (told_before limit stream bytes i) limit stream bytes i parser
+module _ {V B : Type 0} {call : ChunkCall V} {old value : V} {stream : List ℕ} {i : ℕ} {parser : Machine B} where
+  pub keeps-at : StandsAt call old value stream i parser
+      → StandsAt (keeping call.limit call.bytes) [] (told_before call.limit stream call.bytes i) stream i parser
   keeps-at s = record { place = s.place; stands = s.stands; between = s.between; has_come = came-kept s.has_come }
 
-  pub keeps-inside : StandsInside may_stop step is_terminated old value limit stream bytes i parser
-      → StandsInside false keep never [] (added limit stream (take i bytes)) limit stream bytes i parser
+  pub keeps-inside : StandsInside call old value stream i parser
+      → StandsInside (keeping call.limit call.bytes) [] (added call.limit stream (take i call.bytes)) stream i parser
   keeps-inside s = record { place = s.place; stands = s.stands; has_come = came-kept s.has_come }
 
-pub come-told : {limit : Option ℕ} {stream bytes : List ℕ} {i : ℕ} {value : List Event} {place : Place}
-    → ProgressAt false keep never [] value limit stream bytes i place → value ≡ told_before limit stream bytes i
-come-told c = kept-is c
-
 pub told-at : {B : Type 0} {value : List Event} {limit : Option ℕ} {stream bytes : List ℕ} {i : ℕ} {parser : Machine B}
-    → StandsAt false keep never [] value limit stream bytes i parser
-    → value ≡ told_before limit stream bytes i
+    → StandsAt (keeping limit bytes) [] value stream i parser → value ≡ told_before limit stream bytes i
 told-at s = kept-is s.has_come
 
 pub added-inside : {B : Type 0} {value : List Event} {limit : Option ℕ} {stream bytes : List ℕ} {i : ℕ}
-    {parser : Machine B} → StandsInside false keep never [] value limit stream bytes i parser
+    {parser : Machine B} → StandsInside (keeping limit bytes) [] value stream i parser
     → value ≡ added limit stream (take i bytes)
 added-inside s = kept-is s.has_come
 

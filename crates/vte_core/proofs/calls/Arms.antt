@@ -1,6 +1,6 @@
 -- A byte that a state's function reads: the state says at which place the parser is, so what the byte does after that
 -- place is what the function must have done.
-use Rattle.vte_core.proofs.Common.{◌≡◌, ℕ, ◌+◌, ◌<◌, Bool, false, Option, List, [], ◌∷◌, sym, subst, length, slice_index, class_of, ends_all, Machine, State, Escape, EscapeIntermediate, DeviceData, SystemCommand, IgnoredString, Event, Advances, MayGoOn, IsSettled, Leads, Reads, HoldsIntermediates, Stands, StandsBy, TakesBytes, Place, AtEscape, InEscape, InData, InSystemCommand, InIgnoredString, IsBetween, closing_events_at, Keeps, TakesByte}
+use Rattle.vte_core.proofs.Common.{◌≡◌, ℕ, ◌+◌, ◌<◌, false, Option, List, [], ◌∷◌, sym, subst, length, slice_index, class_of, ends_all, Machine, State, Escape, EscapeIntermediate, DeviceData, SystemCommand, IgnoredString, Event, Advances, MayGoOn, IsSettled, Leads, Reads, HoldsIntermediates, Stands, StandsBy, TakesBytes, Place, AtEscape, InEscape, InData, InSystemCommand, InIgnoredString, IsBetween, closing_events_at, Keeps, TakesByte, ChunkCall}
 use Rattle.vte_core.proofs.Common.{after, escape}
 use Rattle.vte_core.proofs.calls.Stretches.{advances-byte, advances-if}
 use Rattle.vte_core.specs.machine.ToRun.{IsQuietIn}
@@ -24,16 +24,6 @@ module _ {V B : Type 0} {step : V → Event → V} {old new : V} {limit : Option
   performs-in {b = b} {next = next} e ordinary takes place s between =
       takes-performs step old new limit place b next (no_escape b ordinary) (takes place (stands-in e s))
 
-  pub advances-in : {may_stop : Bool} {is_terminated : V → Bool} {bytes : List ℕ} {i b : ℕ} {state : State}
-      {parser next : Machine B} → parser.state ≡ state → i < length bytes → b ≡ slice_index bytes i
-      → MayGoOn may_stop is_terminated old → ends_all (class_of b) ≡ false
-      → ((place : Place) → StandsBy limit state parser place → TakesByte step old new limit place b next)
-      → IsSettled next.state
-      → Advances (IsQuietIn state b) may_stop step is_terminated old new limit bytes i (i + 1) parser next
-  advances-in {b = b} e within is may_go_on ordinary takes settled =
-      advances-if (subst (λ (state : State). IsQuietIn state b) (sym e))
-      (advances-byte within is may_go_on (performs-in e ordinary takes) settled)
-
   -- ESC closes what is open at a place
   pub performs-escape : {b : ℕ} {parser next : Machine B} → b ≡ escape
       → next.state ≡ Escape → HoldsIntermediates next.collected [] → (place : Place) → Stands limit parser place
@@ -50,6 +40,15 @@ module _ {V B : Type 0} {step : V → Event → V} {old new : V} {limit : Option
         stands = stands-by e holds;
         reads = reads;
       })
+
+pub advances-in : {V B : Type 0} {call : ChunkCall V} {old new : V} {i b : ℕ} {state : State} {parser next : Machine B}
+    → parser.state ≡ state → i < length call.bytes → b ≡ slice_index call.bytes i
+    → MayGoOn call old → ends_all (class_of b) ≡ false
+    → ((place : Place) → StandsBy call.limit state parser place → TakesByte call.step old new call.limit place b next)
+    → IsSettled next.state → Advances (IsQuietIn state b) call old new i (i + 1) parser next
+advances-in {b = b} e within is may_go_on ordinary takes settled =
+    advances-if (subst (λ (state : State). IsQuietIn state b) (sym e))
+    (advances-byte within is may_go_on (performs-in e ordinary takes) settled)
 
 -- ---- the place in each state
 

@@ -1,9 +1,9 @@
 -- What a call tells before a run is told by no run: nothing at its start, then what an open character is, then
 -- stretches of which each tells none.
-use Rattle.vte_core.proofs.Common.{◌≡◌, ℕ, inl, inr, Option, List, [], ◌++◌, ap, sym, subst, ◌∙◌, false, All, All-append, All-nil, Event, Machine, HasReadUnder, IsSettled, told_before, open_end, AddsOthers, IsOther, IsWide, TellsOthers}
+use Rattle.vte_core.proofs.Common.{◌≡◌, ℕ, inl, inr, Option, List, [], ◌++◌, ap, sym, subst, ◌∙◌, All, All-append, All-nil, Event, Machine, HasReadUnder, IsSettled, told_before, open_end, AddsOthers, IsOther, IsWide, TellsOthers}
 use Rattle.vte_core.specs.machine.Completes.{AddsCharacter}
 use Rattle.vte_core.proofs.calls.Ends.{starts-at}
-use Rattle.vte_core.proofs.calls.AddedEvents.{keep, never, told-at}
+use Rattle.vte_core.proofs.calls.AddedEvents.{keeping, told-at}
 use Rattle.vte_core.proofs.streams.After.{added-nothing}
 use Rattle.vte_core.proofs.streams.Others.{wide, wide_all, wide_character}
 
@@ -12,7 +12,7 @@ pub tells-nothing : {B : Type 0} {limit : Option ℕ} {stream bytes : List ℕ} 
     → IsSettled parser.state → HasReadUnder limit parser stream → TellsOthers limit stream bytes 0
 tells-nothing {limit = limit} {stream = stream} {bytes = bytes} settled h =
     let none : [] ≡ told_before limit stream bytes 0 =
-    told-at (starts-at {may_stop = false} {step = keep} {is_terminated = never} settled h) in
+    told-at (starts-at {call = keeping limit bytes} settled h) in
     record {
       others = λ _. subst (All IsOther) none (All-nil IsOther);
       opened = subst (All IsWide) none (All-nil IsWide);

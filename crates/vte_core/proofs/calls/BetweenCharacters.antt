@@ -1,7 +1,7 @@
 -- A byte between characters: it is one (`performs-printed`), a control or malformed (`performs-single`), or the first
 -- of one (`performs-opened`). What the code does is what `places/PlaceLeads` says of the byte, and the parser is at the
 -- next place. A single byte tells nothing that a run would (`advances-single`).
-use Rattle.vte_core.proofs.Common.{◌≡◌, ◌≢◌, ℕ, ◌+◌, ◌<◌, ◌≤◌, inl, inr, true, false, Option, List, [], ◌∷◌, length, refl, ap, sym, subst, ◌∙◌, arith, cases_lt, nat_tests, slice_index, Advances, Bool, Machine, Text, Nothing, Event, Print, replacement, Stands, TakesBytes, Place, InText, IsBetween, Carries, escape, character_event, malformed_event, from_to, is_in, is_truncated, is_well_formed, Unfinished, All-cons, All-nil, IsOther, Execute, is_control_character, AddsOthers, IsAfter, stream_at, Reads, All, cases_Bool}
+use Rattle.vte_core.proofs.Common.{◌≡◌, ◌≢◌, ℕ, ◌+◌, ◌<◌, ◌≤◌, inl, inr, true, false, Option, List, [], ◌∷◌, length, refl, ap, sym, subst, ◌∙◌, arith, cases_lt, nat_tests, slice_index, Advances, Machine, Text, Nothing, Event, Print, replacement, Stands, TakesBytes, Place, InText, IsBetween, Carries, escape, character_event, malformed_event, from_to, is_in, is_truncated, is_well_formed, Unfinished, All-cons, All-nil, IsOther, Execute, is_control_character, AddsOthers, IsAfter, stream_at, Reads, All, cases_Bool, ChunkCall}
 use Rattle.vte_core.specs.declared.utf8.Carried.TheVariants.{Unfinished as StillUnfinished}
 use Rattle.vte_core.proofs.bytes.CarriedLemmas.{begins_none}
 use Rattle.vte_core.proofs.bytes.FirstBytes.{ascii_alone}
@@ -136,13 +136,10 @@ adds-single {limit = limit} {stream = stream} {bytes = bytes} {i = i} {b = b}
     (subst (IsAfter limit (stream_at stream bytes i)) (between_characters parser place e s) after)
     one.reads refl one.are
 
-pub advances-single : {quiet V B : Type 0} {may_stop : Bool} {step : V → Event → V} {is_terminated : V → Bool}
-    {old new : V}
-    {limit : Option ℕ} {bytes : List ℕ} {i b : ℕ} {parser : Machine B}
-    → MayReadByte may_stop is_terminated old (Text Nothing) parser bytes i b → b ≢ escape
-    → is_in (from_to 0x20 0x7f) b ≡ false → is_in (from_to 0xc2 0xf4) b ≡ false
-    → (b < 0x80 → new ≡ step old (character_event b)) → (0x80 ≤ b → new ≡ step old (malformed_event (b ∷ [])))
-    → Advances quiet may_stop step is_terminated old new limit bytes i (i + 1) parser parser
+pub advances-single : {quiet V B : Type 0} {call : ChunkCall V} {old new : V} {i b : ℕ} {parser : Machine B}
+    → MayReadByte call old (Text Nothing) parser i b → b ≢ escape → is_in (from_to 0x20 0x7f) b ≡ false
+    → is_in (from_to 0xc2 0xf4) b ≡ false → (b < 0x80 → new ≡ call.step old (character_event b))
+    → (0x80 ≤ b → new ≡ call.step old (malformed_event (b ∷ []))) → Advances quiet call old new i (i + 1) parser parser
 advances-single r n other no_lead control malformed =
     advances-telling
     (advances-byte r.within r.is r.may_go_on (performs-single r.begun n no_lead control malformed)

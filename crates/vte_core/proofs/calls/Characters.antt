@@ -1,14 +1,14 @@
 -- A call inside a character, over any number of its bytes: it tells nothing while the character goes on (`GoesOn`), and
 -- then completes it (`completes-all`, `completes-whole`, `completes-broken`), a byte at a time by
 -- `calls/InsideCharacters`.
-use Rattle.vte_core.proofs.Common.{◌≡◌, ◌≢◌, ℕ, ◌+◌, ◌<◌, ◌≤◌, inl, inr, Bool, true, false, Option, List, [], ◌∷◌, ◌++◌, length, refl, ap, sym, subst, ◌∙◌, arith, slice_index, Machine, Text, Nothing, One, Two, Three, Event, Print, replacement, StandsInside, bytes_of, is_open, second_range, Carries, character_event, from_to, is_in, is_truncated, is_well_formed, scalar_of, Unfinished, added, All-cons, All-nil, IsOther, append-nil, append_assoc, drop, drop_more, take, take-add}
+use Rattle.vte_core.proofs.Common.{◌≡◌, ◌≢◌, ℕ, ◌+◌, ◌<◌, ◌≤◌, inl, inr, true, List, [], ◌∷◌, ◌++◌, length, refl, ap, sym, subst, ◌∙◌, arith, slice_index, Machine, Text, Nothing, One, Two, Three, Event, Print, replacement, StandsInside, bytes_of, is_open, second_range, Carries, character_event, from_to, is_in, is_truncated, is_well_formed, scalar_of, Unfinished, added, All-cons, All-nil, IsOther, append-nil, append_assoc, drop, drop_more, take, take-add, ChunkCall}
 use Rattle.vte_core.specs.declared.utf8.Carried.TheVariants.{Unfinished as StillUnfinished, Whole, Broken}
 use Rattle.vte_core.proofs.bytes.CarriedLemmas.{second_open, third_open}
 use Rattle.vte_core.specs.machine.Completes.{Completes}
 use Rattle.vte_core.proofs.calls.InsideCharacters.{carried-broken, carried-more, carried-whole, in_text, inside-open, inside-same, some, truncated-some}
 use Rattle.vte_core.proofs.calls.Ends.{inside-all, inside-moved}
 use Rattle.vte_core.proofs.streams.Others.{longer}
-use Rattle.vte_core.proofs.calls.AddedEvents.{added-inside, keep, keeps-inside, never, told-at}
+use Rattle.vte_core.proofs.calls.AddedEvents.{added-inside, keeps-inside, told-at, keeping}
 use Rattle.vte_core.proofs.streams.Performing.{open_truncated}
 use Rattle.std.proofs.lemmas.List.{drop-drop}
 
@@ -32,26 +32,22 @@ byte_more bytes i n begun {j = j} {u = u} within far is are =
 
 -- From place i, inside a character of the bytes `begun`, a call has come to place j, inside one of
 -- the bytes `u`, and told nothing.
-pub record GoesOn {V B : Type 0} (may_stop : Bool) (step : V → Event → V) (is_terminated : V → Bool) (value : V)
-    (limit : Option ℕ) (bytes : List ℕ) (i j : ℕ)
-    (begun u : Unfinished) (next : Machine B) : Type 0 where
+pub record GoesOn {V B : Type 0} (call : ChunkCall V) (value : V) (i j : ℕ) (begun u : Unfinished)
+    (next : Machine B) : Type 0 where
   pub inside : (old : V) (stream : List ℕ) (parser : Machine B) → parser.state ≡ Text begun
-      → StandsInside may_stop step is_terminated old value limit stream bytes i parser
-      → StandsInside may_stop step is_terminated old value limit stream bytes j (in_text next u)
+      → StandsInside call old value stream i parser → StandsInside call old value stream j (in_text next u)
   -- the same for a performer that keeps all events
   pub kept : (stream : List ℕ) (parser : Machine B) → parser.state ≡ Text begun
-      → StandsInside false keep never [] (added limit stream (take i bytes)) limit stream bytes i parser
-      → StandsInside false keep never [] (added limit stream (take i bytes)) limit stream bytes j (in_text next u)
+      → StandsInside (keeping call.limit call.bytes) [] (added call.limit stream (take i call.bytes)) stream i parser
+      → StandsInside (keeping call.limit call.bytes) [] (added call.limit stream (take i call.bytes)) stream j
+      (in_text next u)
   pub more : is_open (bytes_of begun) ≡ true → is_truncated (bytes_of u) ≡ true
   pub n : ℕ
   pub far : j ≡ i + n
-  pub are : is_open (bytes_of begun) ≡ true → bytes_of u ≡ bytes_of begun ++ take n (drop i bytes)
+  pub are : is_open (bytes_of begun) ≡ true → bytes_of u ≡ bytes_of begun ++ take n (drop i call.bytes)
 
-module _ {V B : Type 0} {may_stop : Bool} {step : V → Event → V} {is_terminated : V → Bool} {value : V}
-    {limit : Option ℕ}
-    {bytes : List ℕ} {i : ℕ} {begun : Unfinished} where
-  pub goes-nowhere : (next : Machine B) → bytes_of begun ≢ []
-      → GoesOn may_stop step is_terminated value limit bytes i i begun begun next
+module _ {V B : Type 0} {call : ChunkCall V} {value : V} {i : ℕ} {begun : Unfinished} where
+  pub goes-nowhere : (next : Machine B) → bytes_of begun ≢ [] → GoesOn call value i i begun begun next
   goes-nowhere next some = record {
     inside = λ old stream parser e s. inside-same e refl s;
     kept = λ stream parser e s. inside-same e refl s;
@@ -61,11 +57,9 @@ module _ {V B : Type 0} {may_stop : Bool} {step : V → Event → V} {is_termina
     are = λ _. sym (append-nil (bytes_of begun));
   }
 
-  pub goes-more : {j b : ℕ} {u v : Unfinished} {parser next : Machine B}
-      → GoesOn may_stop step is_terminated value limit bytes i j begun u parser
-      → (is_truncated (bytes_of u) ≡ true → Carries (bytes_of u) b (StillUnfinished v)) → j < length bytes
-      → b ≡ slice_index bytes j
-      → GoesOn may_stop step is_terminated value limit bytes i (j + 1) begun v next
+  pub goes-more : {j b : ℕ} {u v : Unfinished} {parser next : Machine B} → GoesOn call value i j begun u parser
+      → (is_truncated (bytes_of u) ≡ true → Carries (bytes_of u) b (StillUnfinished v)) → j < length call.bytes
+      → b ≡ slice_index call.bytes j → GoesOn call value i (j + 1) begun v next
   goes-more goes carries within is = record {
     inside = λ old stream parser e s. let more = goes.more (inside-open e s) in
         carried-more refl more (carries more) refl (goes.inside old stream parser e s) within is;
@@ -76,13 +70,12 @@ module _ {V B : Type 0} {may_stop : Bool} {step : V → Event → V} {is_termina
     far = omega (arith, goes.far);
     are =
         λ opened. (carries (goes.more opened)).0
-        ∙ byte_more bytes i goes.n (bytes_of begun) within goes.far is (goes.are opened);
+        ∙ byte_more call.bytes i goes.n (bytes_of begun) within goes.far is (goes.are opened);
   }
 
   -- all bytes are read
-  pub completes-all : {j k : ℕ} {u : Unfinished} {next : Machine B}
-      → GoesOn may_stop step is_terminated value limit bytes i j begun u next → j ≡ k → length bytes ≤ k
-      → Completes may_stop step is_terminated value value limit bytes i k begun (in_text next u)
+  pub completes-all : {j k : ℕ} {u : Unfinished} {next : Machine B} → GoesOn call value i j begun u next → j ≡ k
+      → length call.bytes ≤ k → Completes call value value i k begun (in_text next u)
   completes-all goes end all = record {
     stands_at = λ old stream parser e s. inside-all (inside-moved end (goes.inside old stream parser e s)) all;
     text = λ within. absurd (omega arith);
@@ -90,18 +83,16 @@ module _ {V B : Type 0} {may_stop : Bool} {step : V → Event → V} {is_termina
       events = [];
       parts =
           sym (told-at (inside-all (inside-moved end (goes.kept stream parser e (keeps-inside s))) all))
-          ∙ sym (append-nil (added limit stream (take i bytes)));
+          ∙ sym (append-nil (added call.limit stream (take i call.bytes)));
       are = inl (All-nil IsOther);
     };
   }
 
   -- a byte ends the character
   pub completes-whole : {new : V} {j k b c : ℕ} {u : Unfinished} {parser next : Machine B}
-      → GoesOn may_stop step is_terminated value limit bytes i j begun u parser
-      → (is_truncated (bytes_of u) ≡ true → Carries (bytes_of u) b (Whole c)) → next.state ≡ Text Nothing
-      → new ≡ step value (character_event c)
-      → j < length bytes → b ≡ slice_index bytes j → k ≡ j + 1
-      → Completes may_stop step is_terminated value new limit bytes i k begun next
+      → GoesOn call value i j begun u parser → (is_truncated (bytes_of u) ≡ true → Carries (bytes_of u) b (Whole c))
+      → next.state ≡ Text Nothing → new ≡ call.step value (character_event c) → j < length call.bytes
+      → b ≡ slice_index call.bytes j → k ≡ j + 1 → Completes call value new i k begun next
   completes-whole {c = c} {u = u} {next = next} goes carries state performed within is later = record {
     stands_at = λ old stream parser e s. let more = goes.more (inside-open e s) in
         carried-whole refl more (carries more) state performed (goes.inside old stream parser e s) within is later;
@@ -110,7 +101,7 @@ module _ {V B : Type 0} {may_stop : Bool} {step : V → Event → V} {is_termina
         let opened = inside-open e s in
         let more = goes.more opened in
         let whole = carries more in
-        let same = byte_more bytes i goes.n (bytes_of begun) within goes.far is (goes.are opened) in
+        let same = byte_more call.bytes i goes.n (bytes_of begun) within goes.far is (goes.are opened) in
         record {
           events = character_event c ∷ [];
           parts =
@@ -129,11 +120,9 @@ module _ {V B : Type 0} {may_stop : Bool} {step : V → Event → V} {is_termina
 
   -- a byte breaks it
   pub completes-broken : {new : V} {j b : ℕ} {u : Unfinished} {parser next : Machine B}
-      → GoesOn may_stop step is_terminated value limit bytes i j begun u parser
-      → (is_truncated (bytes_of u) ≡ true → Carries (bytes_of u) b Broken) → next.state ≡ Text Nothing
-      → new ≡ step value (Print replacement)
-      → j < length bytes → b ≡ slice_index bytes j
-      → Completes may_stop step is_terminated value new limit bytes i j begun next
+      → GoesOn call value i j begun u parser → (is_truncated (bytes_of u) ≡ true → Carries (bytes_of u) b Broken)
+      → next.state ≡ Text Nothing → new ≡ call.step value (Print replacement) → j < length call.bytes
+      → b ≡ slice_index call.bytes j → Completes call value new i j begun next
   completes-broken {next = next} goes carries state performed within is = record {
     stands_at = λ old stream parser e s. let more = goes.more (inside-open e s) in
         carried-broken refl more (carries more) state performed (goes.inside old stream parser e s) within is;
@@ -152,9 +141,8 @@ module _ {V B : Type 0} {may_stop : Bool} {step : V → Event → V} {is_termina
 
   -- another call goes on
   pub completes-then : {new : V} {j k : ℕ} {u : Unfinished} {parser next : Machine B}
-      → GoesOn may_stop step is_terminated value limit bytes i j begun u parser
-      → Completes may_stop step is_terminated value new limit bytes j k u next
-      → Completes may_stop step is_terminated value new limit bytes i k begun next
+      → GoesOn call value i j begun u parser → Completes call value new j k u next
+      → Completes call value new i k begun next
   completes-then {j = j} {u = u} {parser = parser} goes c = record {
     stands_at =
         λ old stream begun e s. c.stands_at old stream (in_text parser u) refl (goes.inside old stream begun e s);
@@ -169,9 +157,9 @@ module _ {V B : Type 0} {may_stop : Bool} {step : V → Event → V} {is_termina
           are = elim told.are [
             | inl others ↦ inl others
             | inr whole ↦
-                let same : bytes_of u ++ take whole.n (drop j bytes)
-                ≡ bytes_of begun ++ take (goes.n + whole.n) (drop i bytes) =
-                bytes_more bytes i j goes.n whole.n (bytes_of begun) goes.far (goes.are opened) in
+                let same : bytes_of u ++ take whole.n (drop j call.bytes)
+                ≡ bytes_of begun ++ take (goes.n + whole.n) (drop i call.bytes) =
+                bytes_more call.bytes i j goes.n whole.n (bytes_of begun) goes.far (goes.are opened) in
                 inr (record {
                   n = goes.n + whole.n;
                   far = omega (arith, goes.far, whole.far);
@@ -183,21 +171,17 @@ module _ {V B : Type 0} {may_stop : Bool} {step : V → Event → V} {is_termina
         };
   }
 
-module _ {V B : Type 0} {may_stop : Bool} {step : V → Event → V} {is_terminated : V → Bool} {value : V}
-    {limit : Option ℕ}
-    {bytes : List ℕ} {i x y : ℕ} where
+module _ {V B : Type 0} {call : ChunkCall V} {value : V} {i x y : ℕ} where
   -- the second byte of a character of three or four
-  pub goes-second : (next : Machine B) → 0xe0 ≤ x → is_in (second_range x) y ≡ true → i < length bytes
-      → y ≡ slice_index bytes i
-      → GoesOn may_stop step is_terminated value limit bytes i (i + 1) (One x) (Two x y) next
+  pub goes-second : (next : Machine B) → 0xe0 ≤ x → is_in (second_range x) y ≡ true → i < length call.bytes
+      → y ≡ slice_index call.bytes i → GoesOn call value i (i + 1) (One x) (Two x y) next
   goes-second next low second within is =
       goes-more (goes-nowhere next (some x [])) (λ more. second_open x y more second low) within is
 
   -- the second and the third of one of four
   pub goes-third : {z : ℕ} (next : Machine B) → 0xf0 ≤ x → is_in (second_range x) y ≡ true
-      → is_in (from_to 0x80 0xbf) z ≡ true → i + 2 < length bytes → y ≡ slice_index bytes i
-      → z ≡ slice_index bytes (i + 1)
-      → GoesOn may_stop step is_terminated value limit bytes i (i + 2) (One x) (Three x y z) next
+      → is_in (from_to 0x80 0xbf) z ≡ true → i + 2 < length call.bytes → y ≡ slice_index call.bytes i
+      → z ≡ slice_index call.bytes (i + 1) → GoesOn call value i (i + 2) (One x) (Three x y z) next
   goes-third {z = z} next low second third within is is_third =
       let goes =
       goes-more {next = next} (goes-second next (omega arith) second (omega arith) is)

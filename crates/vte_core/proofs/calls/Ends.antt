@@ -1,6 +1,6 @@
 -- Where a call starts (`starts-*`), stops or ends (`ends-*`), and where no character is open, so that something may
 -- start (`settles`).
-use Rattle.vte_core.proofs.Common.{◌≡◌, ℕ, ◌<◌, ◌≤◌, Bool, true, Option, List, [], ◌++◌, length, refl, sym, subst, arith, Machine, State, Text, Nothing, StopsExactly, stream_at, IsSettled, ReadsUpTo, StandsAt, StandsInside, Event, Stands, StandsBy, HasReadUnder, after, Place, InText}
+use Rattle.vte_core.proofs.Common.{◌≡◌, ℕ, ◌<◌, ◌≤◌, true, Option, List, [], ◌++◌, length, refl, sym, subst, arith, Machine, State, Text, Nothing, StopsExactly, stream_at, IsSettled, ReadsUpTo, StandsAt, StandsInside, Stands, StandsBy, HasReadUnder, after, Place, InText, ChunkCall}
 use Rattle.vte_core.proofs.Common.{IsBetween, added, bytes_of, Unfinished, ComesTo}
 use Rattle.vte_core.proofs.calls.Places.{come-all, come-between, come-nowhere, come-performs, come-starts, come-to}
 use Rattle.vte_core.proofs.fields.PlaceOfState.{stands-place}
@@ -30,13 +30,11 @@ pub settled-outside : (state : State) → ((unfinished : Unfinished) → state �
 settled-outside (Text u) n = absurd (n u refl)
 settled-outside _ n = tt
 
-module _ {V B : Type 0} {may_stop : Bool} {step : V → Event → V} {is_terminated : V → Bool} {limit : Option ℕ}
-    {bytes : List ℕ} where
+module _ {V B : Type 0} {call : ChunkCall V} where
   -- ---- from inside a character to where something starts
 
   pub settles : {old value : V} {stream : List ℕ} {i : ℕ} {parser : Machine B} → IsSettled parser.state
-      → StandsInside may_stop step is_terminated old value limit stream bytes i parser
-      → StandsAt may_stop step is_terminated old value limit stream bytes i parser
+      → StandsInside call old value stream i parser → StandsAt call old value stream i parser
   settles {parser = parser} settled s =
       let between = between-settled parser settled s.place s.stands in
       record {
@@ -47,8 +45,7 @@ module _ {V B : Type 0} {may_stop : Bool} {step : V → Event → V} {is_termina
       }
 
   pub inside-all : {old value : V} {stream : List ℕ} {i : ℕ} {parser : Machine B}
-      → StandsInside may_stop step is_terminated old value limit stream bytes i parser → length bytes ≤ i
-      → StandsAt may_stop step is_terminated old value limit stream bytes i parser
+      → StandsInside call old value stream i parser → length call.bytes ≤ i → StandsAt call old value stream i parser
   inside-all s all =
       record {
         place = s.place;
@@ -58,67 +55,60 @@ module _ {V B : Type 0} {may_stop : Bool} {step : V → Event → V} {is_termina
       }
 
   pub inside-moved : {old value : V} {stream : List ℕ} {i j : ℕ} {parser : Machine B} → i ≡ j
-      → StandsInside may_stop step is_terminated old value limit stream bytes i parser
-      → StandsInside may_stop step is_terminated old value limit stream bytes j parser
+      → StandsInside call old value stream i parser → StandsInside call old value stream j parser
   inside-moved {old = old} {value = value} {stream = stream} {parser = parser} e s =
-      subst (λ n. StandsInside may_stop step is_terminated old value limit stream bytes n parser) e s
+      subst (λ n. StandsInside call old value stream n parser) e s
 
   -- ---- the start and the end of a call
 
-  pub starts-inside : {old : V} {stream : List ℕ} {parser : Machine B} → HasReadUnder limit parser stream
-      → StandsInside may_stop step is_terminated old old limit stream bytes 0 parser
+  pub starts-inside : {old : V} {stream : List ℕ} {parser : Machine B} → HasReadUnder call.limit parser stream
+      → StandsInside call old old stream 0 parser
   starts-inside h = record { place = h.place; stands = h.stands; has_come = come-nowhere h.is_after }
 
   pub starts-at : {old : V} {stream : List ℕ} {parser : Machine B} → IsSettled parser.state
-      → HasReadUnder limit parser stream
-      → StandsAt may_stop step is_terminated old old limit stream bytes 0 parser
+      → HasReadUnder call.limit parser stream → StandsAt call old old stream 0 parser
   starts-at settled h = settles settled (starts-inside h)
 
-  pub ends-comes : {old value : V} {stream : List ℕ} {n : ℕ} {parser : Machine B} → may_stop ≡ true → n ≤ length bytes
-      → StandsAt may_stop step is_terminated old value limit stream bytes n parser
-      → ComesTo step is_terminated old value limit stream bytes n
+  pub ends-comes : {old value : V} {stream : List ℕ} {n : ℕ} {parser : Machine B} → call.may_stop ≡ true
+      → n ≤ length call.bytes → StandsAt call old value stream n parser
+      → ComesTo call.step call.is_terminated old value call.limit stream call.bytes n
   ends-comes {parser = parser} does within s =
       come-to does within
       (λ left. come-starts (stands-place parser s.place s.stands) (s.between left) left s.has_come) s.has_come
 
-  pub ends-stops : {old value : V} {stream : List ℕ} {n : ℕ} {parser : Machine B} → may_stop ≡ true → n ≤ length bytes
-      → (n < length bytes → is_terminated value ≡ true)
-      → StandsAt may_stop step is_terminated old value limit stream bytes n parser
-      → StopsExactly step is_terminated old value limit stream bytes n
+  pub ends-stops : {old value : V} {stream : List ℕ} {n : ℕ} {parser : Machine B} → call.may_stop ≡ true
+      → n ≤ length call.bytes → (n < length call.bytes → call.is_terminated value ≡ true)
+      → StandsAt call old value stream n parser
+      → StopsExactly call.step call.is_terminated old value call.limit stream call.bytes n
   ends-stops does within stops s =
       record { comes = ends-comes does within s; stops = stops; all = λ all. come-performs all s.has_come }
 
   pub ends-reads : {old value : V} {stream : List ℕ} {n : ℕ} {parser : Machine B}
-      → StandsAt may_stop step is_terminated old value limit stream bytes n parser
-      → HasReadUnder limit parser (stream_at stream bytes n)
+      → StandsAt call old value stream n parser → HasReadUnder call.limit parser (stream_at stream call.bytes n)
   ends-reads s = record { place = s.place; stands = s.stands; is_after = s.has_come.is_after }
 
   -- of a call that reads all bytes
-  pub ends-performs : {old value : V} {stream : List ℕ} {n : ℕ} {parser : Machine B} → n ≡ length bytes
-      → StandsAt may_stop step is_terminated old value limit stream bytes n parser
-      → value ≡ after step old (added limit stream bytes)
+  pub ends-performs : {old value : V} {stream : List ℕ} {n : ℕ} {parser : Machine B} → n ≡ length call.bytes
+      → StandsAt call old value stream n parser → value ≡ after call.step old (added call.limit stream call.bytes)
   ends-performs all s = come-performs all s.has_come
 
-  pub ends-reads_all : {old value : V} {stream : List ℕ} {n : ℕ} {parser : Machine B} → n ≡ length bytes
-      → StandsAt may_stop step is_terminated old value limit stream bytes n parser
-      → HasReadUnder limit parser (stream ++ bytes)
+  pub ends-reads_all : {old value : V} {stream : List ℕ} {n : ℕ} {parser : Machine B} → n ≡ length call.bytes
+      → StandsAt call old value stream n parser → HasReadUnder call.limit parser (stream ++ call.bytes)
   ends-reads_all {stream = stream} {n = n} {parser = parser} all s =
-      subst (HasReadUnder limit parser) (stream_at-all stream bytes n all) (ends-reads s)
+      subst (HasReadUnder call.limit parser) (stream_at-all stream call.bytes n all) (ends-reads s)
 
   -- ---- where the loop of a call ends: at a stop, or with all bytes read
 
-  pub ends-at_stop : {old value : V} {n : ℕ} {before parser : Machine B} → may_stop ≡ true → is_terminated value ≡ true
-      → n ≤ length bytes
-      → ((stream : List ℕ) → HasReadUnder limit before stream
-      → StandsAt may_stop step is_terminated old value limit stream bytes n parser)
-      → ReadsUpTo may_stop step is_terminated old value limit bytes n before parser
+  pub ends-at_stop : {old value : V} {n : ℕ} {before parser : Machine B} → call.may_stop ≡ true
+      → call.is_terminated value ≡ true → n ≤ length call.bytes
+      → ((stream : List ℕ) → HasReadUnder call.limit before stream → StandsAt call old value stream n parser)
+      → ReadsUpTo call old value n before parser
   ends-at_stop does stopped within stands =
       record { within = within; asked = λ _. does; stops = λ _. stopped; stands_at = stands }
 
-  pub ends-with_all : {old value : V} {n : ℕ} {before parser : Machine B} → n ≡ length bytes
-      → ((stream : List ℕ) → HasReadUnder limit before stream
-      → StandsAt may_stop step is_terminated old value limit stream bytes n parser)
-      → ReadsUpTo may_stop step is_terminated old value limit bytes n before parser
+  pub ends-with_all : {old value : V} {n : ℕ} {before parser : Machine B} → n ≡ length call.bytes
+      → ((stream : List ℕ) → HasReadUnder call.limit before stream → StandsAt call old value stream n parser)
+      → ReadsUpTo call old value n before parser
   ends-with_all all stands =
       record {
         within = omega (arith, all);

@@ -1,8 +1,8 @@
 -- The bytes of a head: a function that reads several of them goes on by each. `ReadsHeadUpTo` says which, without the
 -- performer, which learns of a head only at its end; both shapes share it.
 use Rattle.vte_core.specs.machine.ToRun.{IsQuietIn}
-use Rattle.vte_core.proofs.Common.{◌≡◌, ℕ, zero, suc, ◌+◌, ◌-◌, ◌<◌, ◌≤◌, ◌⊎◌, inr, eqb, Option, List, [], ◌∷◌, ◌++◌, Bool, true, false, length, take, drop, refl, sym, subst, append_assoc, arith, nat_tests, append-nil, drop-drop, drop_more, take-add, slice_index, MatchOption, class_of, is_head, is_parameter_text, AreInClass, Collected, HeadPart, Entry, Parameters, Machine, State, ControlSequence, DeviceControl, Event}
-use Rattle.vte_core.proofs.Common.{Leads, CountsNumbers, KeepsIntermediates, Stands, StandsBy, StandsInHead, Place, InControlSequence, InDeviceControl, IsBetween, Advances, ProgressAt, IsSettled, MayGoOn, TakesBytes, TakesByte, ends_all, part_after, ReadsHead, Some, None, told_before, false≢true}
+use Rattle.vte_core.proofs.Common.{◌≡◌, ℕ, zero, suc, ◌+◌, ◌-◌, ◌<◌, ◌≤◌, ◌⊎◌, inr, eqb, Option, List, [], ◌∷◌, ◌++◌, Bool, true, false, length, take, drop, refl, sym, subst, append_assoc, arith, nat_tests, append-nil, drop-drop, drop_more, take-add, slice_index, MatchOption, class_of, is_head, is_parameter_text, AreInClass, Collected, HeadPart, Entry, Parameters, Machine, State, ControlSequence, DeviceControl, Event, ChunkCall}
+use Rattle.vte_core.proofs.Common.{Leads, CountsNumbers, KeepsIntermediates, Stands, StandsBy, StandsInHead, Place, InControlSequence, InDeviceControl, IsBetween, Advances, ProgressAt, StandsAt, IsSettled, MayGoOn, TakesBytes, TakesByte, ends_all, part_after, ReadsHead, Some, None, false≢true}
 use Rattle.vte_core.proofs.bytes.ClassCases.{head_ends_nothing}
 use Rattle.vte_core.proofs.bytes.PieceLemmas.{AreOf-append, parameter_is_head}
 use Rattle.vte_core.proofs.calls.Places.{come-between, come-byte}
@@ -12,7 +12,7 @@ use Rattle.vte_core.proofs.calls.Stretches.{advances-byte, advances-when, advanc
 use Rattle.vte_core.proofs.fields.HeadSteps.{holds-parameter}
 use Rattle.vte_core.proofs.fields.PlaceOfState.{IsPlace, stands-in}
 use Rattle.vte_core.proofs.places.PlaceLeads.{control-head, device-head}
-use Rattle.vte_core.proofs.calls.AddedEvents.{adds-same, come-told, keep, came-kept, never}
+use Rattle.vte_core.proofs.calls.AddedEvents.{adds-same, keeps-at, told-at}
 use Rattle.vte_core.proofs.streams.StreamLemmas.{no_escape, reads-byte}
 
 -- ---- what is collected
@@ -148,78 +148,71 @@ settled : (shape : Shape) (part : HeadPart) → IsSettled (state_of shape part)
 settled ControlHead part = tt
 settled DeviceHead part = tt
 
-module _ {V : Type 0} {may_stop : Bool} {step : V → Event → V} {is_terminated : V → Bool} {limit : Option ℕ}
-    {bytes : List ℕ} where
+module _ {V : Type 0} {call : ChunkCall V} where
   -- n bytes of a head
-  come-head : {old value : V} {stream : List ℕ} {i : ℕ} (shape : Shape) (n : ℕ) (head : List ℕ) → i + n ≤ length bytes
-      → AreInClass is_head (take n (drop i bytes))
-      → MayGoOn may_stop is_terminated value
-      → ProgressAt may_stop step is_terminated old value limit stream bytes i (in_head shape head)
-      → ProgressAt may_stop step is_terminated old value limit stream bytes (i + n)
-      (in_head shape (head ++ take n (drop i bytes)))
+  come-head : {old value : V} {stream : List ℕ} {i : ℕ} (shape : Shape) (n : ℕ) (head : List ℕ)
+      → i + n ≤ length call.bytes → AreInClass is_head (take n (drop i call.bytes)) → MayGoOn call value
+      → ProgressAt call old value stream i (in_head shape head)
+      → ProgressAt call old value stream (i + n) (in_head shape (head ++ take n (drop i call.bytes)))
   come-head {i = i} shape zero head within more may_go_on c =
       let same : i + 0 ≡ i = omega arith in rw (append-nil head, same) c
   come-head {i = i} shape (suc n) head within more may_go_on c =
-      let here : i < length bytes = omega (arith, within) in
-      let b : ℕ = slice_index bytes i in
-      let cut : drop i bytes ≡ b ∷ drop (i + 1) bytes = drop_more bytes i 0 here in
-      let both : AreInClass is_head (b ∷ take n (drop (i + 1) bytes)) = rw cut at more in
+      let here : i < length call.bytes = omega (arith, within) in
+      let b : ℕ = slice_index call.bytes i in
+      let cut : drop i call.bytes ≡ b ∷ drop (i + 1) call.bytes = drop_more call.bytes i 0 here in
+      let both : AreInClass is_head (b ∷ take n (drop (i + 1) call.bytes)) = rw cut at more in
       let place = is_place shape (head ++ b ∷ []) in
       let reads =
-      reads-byte limit (in_head shape head) (in_head shape (head ++ b ∷ [])) b []
-      (no_escape b (head_ends_nothing (class_of b) both.0)) (leads shape limit head b both.0) in
+      reads-byte call.limit (in_head shape head) (in_head shape (head ++ b ∷ [])) b []
+      (no_escape b (head_ends_nothing (class_of b) both.0)) (leads shape call.limit head b both.0) in
       let one =
       come-between place (is_between shape (head ++ b ∷ [])) (come-byte here refl may_go_on reads refl place c) in
       let rest = come-head {i = i + 1} shape n (head ++ b ∷ []) (omega (arith, within)) both.1 may_go_on one in
       let far : i + suc n ≡ i + 1 + n = omega arith in
-      rw (far, cut) (rw (append_assoc head (b ∷ []) (take n (drop (i + 1) bytes))) at rest)
+      rw (far, cut) (rw (append_assoc head (b ∷ []) (take n (drop (i + 1) call.bytes))) at rest)
 
-module _ {V : Type 0} {may_stop : Bool} {step : V → Event → V} {is_terminated : V → Bool} {limit : Option ℕ}
-    {bytes : List ℕ} where
+  -- the bytes of a part of a head
+  stands-head : {B : Type 0} {old value : V} {stream : List ℕ} {i j : ℕ} {reached part : HeadPart}
+      {parser next : Machine B} (shape : Shape) → parser.state ≡ state_of shape reached
+      → ReadsHead call.bytes i j reached part parser.collected next.collected → MayGoOn call value
+      → next.state ≡ state_of shape part → StandsAt call old value stream i parser
+      → StandsAt call old value stream j next
+  stands-head {old = old} {value = value} {stream = stream} {i = i} {j = j} {reached = reached} {part = part}
+      {parser = parser} {next = next} shape begun reads may_go_on state s =
+      let k = place_in shape call.limit reached parser s.place (stands-in begun s.stands) in
+      let here : ProgressAt call old value stream i (in_head shape k.head) =
+      subst (ProgressAt call old value stream i) k.same s.has_come in
+      let end : i + (j - i) ≡ j = omega (arith, reads.low) in
+      let run : List ℕ = take (j - i) (drop i call.bytes) in
+      record {
+        place = in_head shape (k.head ++ run);
+        stands = stands_in shape call.limit part next (k.head ++ run) state (reads.stands k.head k.stands);
+        between = λ _. is_between shape (k.head ++ run);
+        has_come = rw end at (come-head shape (j - i) k.head (omega (arith, reads.high, end)) reads.are may_go_on here);
+      }
+
+module _ {V : Type 0} {call : ChunkCall V} where
   pub advances-head : {quiet B : Type 0} {value : V} {i j : ℕ} {reached part : HeadPart} {parser next : Machine B}
       (shape : Shape) → parser.state ≡ state_of shape reached
-      → ReadsHead bytes i j reached part parser.collected next.collected → MayGoOn may_stop is_terminated value
-      → next.state ≡ state_of shape part
-      → Advances quiet may_stop step is_terminated value value limit bytes i j parser next
-  advances-head {value = value} {i = i} {j = j} {reached = reached} {part = part} {parser = parser}
-      {next = next} shape begun reads may_go_on state = record {
-        goes_on = λ old stream s.
-            let k = place_in shape limit reached parser s.place (stands-in begun s.stands) in
-            let here : ProgressAt may_stop step is_terminated old value limit stream bytes i (in_head shape k.head) =
-            subst (ProgressAt may_stop step is_terminated old value limit stream bytes i) k.same s.has_come in
-            let end : i + (j - i) ≡ j = omega (arith, reads.low) in
-            let run : List ℕ = take (j - i) (drop i bytes) in
-            record {
-              place = in_head shape (k.head ++ run);
-              stands = stands_in shape limit part next (k.head ++ run) state (reads.stands k.head k.stands);
-              between = λ _. is_between shape (k.head ++ run);
-              has_come =
-                  rw end at (come-head shape (j - i) k.head (omega (arith, reads.high, end)) reads.are may_go_on here);
-            };
-        settled = λ _. settled-by _ _ state (settled shape part);
-        others = λ _ old stream s.
-            let k = place_in shape limit reached parser s.place (stands-in begun s.stands) in
-            let here : ProgressAt false keep never [] (told_before limit stream bytes i) limit stream bytes i
-            (in_head shape k.head) =
-            subst (ProgressAt false keep never [] (told_before limit stream bytes i) limit stream bytes i) k.same
-            (came-kept s.has_come) in
-            let end : i + (j - i) ≡ j = omega (arith, reads.low) in
-            adds-same (subst (λ n. told_before limit stream bytes i ≡ told_before limit stream bytes n) end
-            (come-told
-            (come-head shape (j - i) k.head (omega (arith, reads.high, end)) reads.are
-            (λ does. absurd (false≢true does)) here)));
-      }
+      → ReadsHead call.bytes i j reached part parser.collected next.collected → MayGoOn call value
+      → next.state ≡ state_of shape part → Advances quiet call value value i j parser next
+  advances-head {part = part} {next = next} shape begun reads may_go_on state = record {
+    goes_on = λ old stream s. stands-head shape begun reads may_go_on state s;
+    settled = λ _. settled-by _ _ state (settled shape part);
+    others = λ _ old stream s.
+        adds-same (told-at
+        (stands-head {next = next} shape begun reads (λ does. absurd (false≢true does)) state (keeps-at s)));
+  }
 
   -- a part of a head and a byte after it, of which the caller says what it does there
   pub advances-past : {quiet B : Type 0} {old new : V} {i j b : ℕ} {reached part : HeadPart} {parser next : Machine B}
       {held : Collected} (shape : Shape) → parser.state ≡ state_of shape reached
-      → ReadsHead bytes i j reached part parser.collected held → (j < length bytes) × (b ≡ slice_index bytes j)
-      → MayGoOn may_stop is_terminated old
-      → ((place : Place)
-      → Stands {B = B} limit (record { state = state_of shape part; collected = held; command = parser.command }) place
-      → IsBetween place
-      → TakesBytes step old new limit place (b ∷ []) next) → IsSettled next.state
-      → Advances quiet may_stop step is_terminated old new limit bytes i (j + 1) parser next
+      → ReadsHead call.bytes i j reached part parser.collected held
+      → (j < length call.bytes) × (b ≡ slice_index call.bytes j) → MayGoOn call old
+      → ((place : Place) → Stands {B = B} call.limit
+      (record { state = state_of shape part; collected = held; command = parser.command }) place → IsBetween place
+      → TakesBytes call.step old new call.limit place (b ∷ []) next) → IsSettled next.state
+      → Advances quiet call old new i (j + 1) parser next
   advances-past {B = B} {part = part} {parser = parser} {held = held} shape begun reads at may_go_on performs settled =
       let head : Machine B = record { state = state_of shape part; collected = held; command = parser.command } in
       advances-then (advances-head {next = head} shape begun reads may_go_on refl)

@@ -1,7 +1,7 @@
 -- A byte inside a character, whose bytes the parser has: the character goes on with it, is whole, or is broken before
 -- it (`carried-more`, `carried-whole`, `carried-broken`). The place is a text with these bytes open, so
 -- `places/PlaceLeads` and `stops/Told` say what the byte tells.
-use Rattle.vte_core.proofs.Common.{◌≡◌, ◌≢◌, ℕ, ◌+◌, ◌<◌, inl, inr, Bool, true, Option, List, [], ◌∷◌, ◌++◌, length, refl, ap, sym, subst, ◌∙◌, slice_index, Machine, Text, Nothing, Event, Print, replacement, ProgressInside, StandsAt, StandsInside, Stands, StandsBy, Place, InText, bytes_of, is_open, Carries, character_event, is_truncated, scalar_of, Unfinished, HasReadUnder, open_at, open_end}
+use Rattle.vte_core.proofs.Common.{◌≡◌, ◌≢◌, ℕ, ◌+◌, ◌<◌, inl, inr, true, Option, List, [], ◌∷◌, ◌++◌, length, refl, ap, sym, subst, ◌∙◌, slice_index, Machine, Text, Nothing, Print, replacement, ProgressInside, StandsAt, StandsInside, Stands, StandsBy, Place, InText, bytes_of, is_open, Carries, character_event, is_truncated, scalar_of, Unfinished, HasReadUnder, open_at, open_end, ChunkCall}
 use Rattle.vte_core.specs.declared.utf8.Carried.TheVariants.{Unfinished as StillUnfinished, Whole, Broken}
 use Rattle.vte_core.proofs.fields.PlaceOfState.{is_open-truncated, stands-by, stands-in, stands-place}
 use Rattle.vte_core.proofs.places.PlaceLeads.{text-unfinished, text-whole}
@@ -26,16 +26,13 @@ by_other limit parser other u (InText bytes) s = s
 by_other limit parser other u _ s = absurd s
 
 -- in a text only the state counts
-pub inside-same : {V B : Type 0} {may_stop : Bool} {step : V → Event → V} {is_terminated : V → Bool} {old new : V}
-    {limit : Option ℕ}
-    {stream bytes : List ℕ} {i : ℕ} {u : Unfinished} {parser next : Machine B}
-    → parser.state ≡ Text u → next.state ≡ Text u
-    → StandsInside may_stop step is_terminated old new limit stream bytes i parser
-    → StandsInside may_stop step is_terminated old new limit stream bytes i next
-inside-same {limit = limit} {u = u} {parser = parser} {next = next} e f s =
+pub inside-same : {V B : Type 0} {call : ChunkCall V} {old new : V} {stream : List ℕ} {i : ℕ} {u : Unfinished}
+    {parser next : Machine B} → parser.state ≡ Text u → next.state ≡ Text u → StandsInside call old new stream i parser
+    → StandsInside call old new stream i next
+inside-same {call = call} {u = u} {parser = parser} {next = next} e f s =
     record {
       place = s.place;
-      stands = stands-by f (by_other limit parser next u s.place (stands-in e s.stands));
+      stands = stands-by f (by_other call.limit parser next u s.place (stands-in e s.stands));
       has_come = s.has_come;
     }
 
@@ -57,23 +54,18 @@ unfolding is_truncated
 truncated-some [] more none = cc
 truncated-some (x ∷ u) more none = cc
 
-module _ {V B : Type 0} {may_stop : Bool} {step : V → Event → V} {is_terminated : V → Bool} {old mid : V}
-    {limit : Option ℕ}
-    {stream bytes : List ℕ} where
+module _ {V B : Type 0} {call : ChunkCall V} {old mid : V} {stream : List ℕ} where
   pub inside-open : {i : ℕ} {u : Unfinished} {parser : Machine B} → parser.state ≡ Text u
-      → StandsInside may_stop step is_terminated old mid limit stream bytes i parser
-      → is_open (bytes_of u) ≡ true
-  inside-open {u = u} {parser = parser} e s = (by_text limit parser u s.place (stands-in e s.stands)).begun
+      → StandsInside call old mid stream i parser → is_open (bytes_of u) ≡ true
+  inside-open {u = u} {parser = parser} e s = (by_text call.limit parser u s.place (stands-in e s.stands)).begun
 
   -- a byte that the character goes on with
-  pub carried-more : {i b : ℕ} {u v : Unfinished} {parser next : Machine B}
-      → parser.state ≡ Text u → is_truncated (bytes_of u) ≡ true → Carries (bytes_of u) b (StillUnfinished v)
-      → next.state ≡ Text v
-      → StandsInside may_stop step is_terminated old mid limit stream bytes i parser → i < length bytes
-      → b ≡ slice_index bytes i
-      → StandsInside may_stop step is_terminated old mid limit stream bytes (i + 1) next
+  pub carried-more : {i b : ℕ} {u v : Unfinished} {parser next : Machine B} → parser.state ≡ Text u
+      → is_truncated (bytes_of u) ≡ true → Carries (bytes_of u) b (StillUnfinished v) → next.state ≡ Text v
+      → StandsInside call old mid stream i parser → i < length call.bytes → b ≡ slice_index call.bytes i
+      → StandsInside call old mid stream (i + 1) next
   carried-more {i = i} {b = b} {u = u} {v = v} {parser = parser} {next = next} e opened carries state s within is =
-      let t = by_text limit parser u s.place (stands-in e s.stands) in
+      let t = by_text call.limit parser u s.place (stands-in e s.stands) in
       let more : is_truncated (bytes_of u ++ b ∷ []) ≡ true = subst (λ x. is_truncated x ≡ true) carries.0 carries.1 in
       record {
         place = InText (bytes_of u ++ b ∷ []);
@@ -83,33 +75,30 @@ module _ {V B : Type 0} {may_stop : Bool} {step : V → Event → V} {is_termina
         has_come =
             come-carried {these = []} t.begun within is (truncated-some (bytes_of u) opened)
             (breaks-unfinished (bytes_of u) b more)
-            (reads-byte limit (InText (bytes_of u)) (InText (bytes_of u ++ b ∷ [])) b []
+            (reads-byte call.limit (InText (bytes_of u)) (InText (bytes_of u ++ b ∷ [])) b []
             (carried_is_no_escape (bytes_of u) b opened (inr more))
-            (text-unfinished limit (bytes_of u) b)) refl (is_open-truncated (bytes_of u ++ b ∷ []) more)
-            (subst (ProgressInside may_stop step is_terminated old mid limit stream bytes i) t.same s.has_come);
+            (text-unfinished call.limit (bytes_of u) b)) refl (is_open-truncated (bytes_of u ++ b ∷ []) more)
+            (subst (ProgressInside call old mid stream i) t.same s.has_come);
       }
 
   -- a byte that ends it
-  pub carried-whole : {new : V} {i j b c : ℕ} {u : Unfinished} {parser next : Machine B}
-      → parser.state ≡ Text u → is_truncated (bytes_of u) ≡ true → Carries (bytes_of u) b (Whole c)
-      → next.state ≡ Text Nothing
-      → new ≡ step mid (character_event c)
-      → StandsInside may_stop step is_terminated old mid limit stream bytes i parser → i < length bytes
-      → b ≡ slice_index bytes i → j ≡ i + 1
-      → StandsAt may_stop step is_terminated old new limit stream bytes j next
+  pub carried-whole : {new : V} {i j b c : ℕ} {u : Unfinished} {parser next : Machine B} → parser.state ≡ Text u
+      → is_truncated (bytes_of u) ≡ true → Carries (bytes_of u) b (Whole c) → next.state ≡ Text Nothing
+      → new ≡ call.step mid (character_event c) → StandsInside call old mid stream i parser → i < length call.bytes
+      → b ≡ slice_index call.bytes i → j ≡ i + 1 → StandsAt call old new stream j next
   carried-whole {new = new} {i = i} {b = b} {u = u} {parser = parser}
       {next = next} e opened carries state performed s within is later =
-      let t = by_text limit parser u s.place (stands-in e s.stands) in
+      let t = by_text call.limit parser u s.place (stands-in e s.stands) in
       let c =
       come-carried {new = new} {next = InText []}
       {these = character_event (scalar_of (bytes_of u ++ b ∷ [])) ∷ []} t.begun within is
       (truncated-some (bytes_of u) opened)
       (breaks-whole (bytes_of u) b carries.0)
-      (reads-byte limit (InText (bytes_of u)) (InText []) b _
-      (carried_is_no_escape (bytes_of u) b opened (inl carries.0)) (text-whole limit (bytes_of u) b carries.0))
-      (performed ∙ ap (λ n. step mid (character_event n)) carries.1) refl
-      (subst (ProgressInside may_stop step is_terminated old mid limit stream bytes i) t.same s.has_come) in
-      subst (λ n. StandsAt may_stop step is_terminated old new limit stream bytes n next) (sym later)
+      (reads-byte call.limit (InText (bytes_of u)) (InText []) b _
+      (carried_is_no_escape (bytes_of u) b opened (inl carries.0)) (text-whole call.limit (bytes_of u) b carries.0))
+      (performed ∙ ap (λ n. call.step mid (character_event n)) carries.1) refl
+      (subst (ProgressInside call old mid stream i) t.same s.has_come) in
+      subst (λ n. StandsAt call old new stream n next) (sym later)
       (record {
         place = InText [];
         stands = stands_in_text next Nothing [] state refl refl;
@@ -118,20 +107,18 @@ module _ {V B : Type 0} {may_stop : Bool} {step : V → Event → V} {is_termina
       })
 
   -- a byte that breaks it
-  pub carried-broken : {new : V} {i b : ℕ} {u : Unfinished} {parser next : Machine B}
-      → parser.state ≡ Text u → is_truncated (bytes_of u) ≡ true → Carries (bytes_of u) b Broken
-      → next.state ≡ Text Nothing → new ≡ step mid (Print replacement)
-      → StandsInside may_stop step is_terminated old mid limit stream bytes i parser → i < length bytes
-      → b ≡ slice_index bytes i
-      → StandsAt may_stop step is_terminated old new limit stream bytes i next
+  pub carried-broken : {new : V} {i b : ℕ} {u : Unfinished} {parser next : Machine B} → parser.state ≡ Text u
+      → is_truncated (bytes_of u) ≡ true → Carries (bytes_of u) b Broken → next.state ≡ Text Nothing
+      → new ≡ call.step mid (Print replacement) → StandsInside call old mid stream i parser → i < length call.bytes
+      → b ≡ slice_index call.bytes i → StandsAt call old new stream i next
   carried-broken {i = i} {b = b} {u = u} {parser = parser} {next = next} e opened carries state performed s within is =
-      let t = by_text limit parser u s.place (stands-in e s.stands) in
+      let t = by_text call.limit parser u s.place (stands-in e s.stands) in
       record {
         place = InText [];
         stands = stands_in_text next Nothing [] state refl refl;
         between = λ _. refl;
         has_come = come-broken t.begun within is (breaks-broken (bytes_of u) b opened carries.0 carries.1) performed
-            (subst (ProgressInside may_stop step is_terminated old mid limit stream bytes i) t.same s.has_come);
+            (subst (ProgressInside call old mid stream i) t.same s.has_come);
       }
 
 -- what is open in a text

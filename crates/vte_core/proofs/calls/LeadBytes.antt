@@ -1,25 +1,22 @@
 -- What a character tells that a lead byte begins: a call that completes it from the second byte on (`Completes`) does
 -- from the first what any call does (`Advances`). What it tells is no printed character where no run could begin.
-use Rattle.vte_core.proofs.Common.{◌+◌, ◌<◌, ◌≤◌, ◌≡◌, ◌∷◌, ℕ, suc, Bool, List, Option, refl, ap, sym, ◌∙◌, arith, inl, inr, false, drop, drop_more, take, EndsRun, Machine, Text, Nothing, One, Event, Advances}
+use Rattle.vte_core.proofs.Common.{◌+◌, ◌<◌, ◌≤◌, ◌≡◌, ◌∷◌, ℕ, suc, refl, ap, sym, ◌∙◌, arith, inl, inr, false, drop, drop_more, take, EndsRun, Machine, Text, Nothing, One, Advances, ChunkCall}
 use Rattle.vte_core.proofs.Common.{All, IsOther, false≢true, subst}
 use Rattle.vte_core.specs.machine.Prelude.{Completes, MayReadByte}
 use Rattle.vte_core.proofs.bytes.CarriedLemmas.{first_truncated}
 use Rattle.vte_core.proofs.calls.Ends.{settled-by}
 use Rattle.vte_core.proofs.calls.Stretches.{reads-byte_at}
 use Rattle.vte_core.proofs.streams.Others.{other_control}
-use Rattle.vte_core.proofs.calls.AddedEvents.{added-inside, adds-character, keep, keeps-at, never}
+use Rattle.vte_core.proofs.calls.AddedEvents.{added-inside, adds-character, keep, keeps-at, keeping}
 use Rattle.vte_core.proofs.calls.BetweenCharacters.{performs-opened}
 use Rattle.vte_core.proofs.calls.InsideCharacters.{in_text}
 
 -- by what completes the character that the first byte begins
-pub advances-first : {V B given : Type 0} {may_stop : Bool} {step : V → Event → V} {is_terminated : V → Bool}
-    {old new : V} {limit : Option ℕ} {bytes : List ℕ}
-    {i j first : ℕ} {parser next : Machine B} → MayReadByte may_stop is_terminated old (Text Nothing) parser bytes i
-    first
-    → 0xc2 ≤ first → first < 0xf5
-    → Completes may_stop step is_terminated old new limit bytes (i + 1) j (One first) next
-    → Advances (given × EndsRun false bytes i) may_stop step is_terminated old new limit bytes i j parser next
-advances-first {bytes = bytes} {i = i} {first = first} {parser = parser} r lead fits completes = record {
+pub advances-first : {V B given : Type 0} {call : ChunkCall V} {old new : V} {i j first : ℕ} {parser next : Machine B}
+    → MayReadByte call old (Text Nothing) parser i first → 0xc2 ≤ first → first < 0xf5
+    → Completes call old new (i + 1) j (One first) next
+    → Advances (given × EndsRun false call.bytes i) call old new i j parser next
+advances-first {call = call} {i = i} {first = first} {parser = parser} r lead fits completes = record {
   goes_on = λ value stream s.
       completes.stands_at value stream (in_text parser (One first)) refl
       (reads-byte_at r.within r.is r.may_go_on
@@ -29,17 +26,17 @@ advances-first {bytes = bytes} {i = i} {first = first} {parser = parser} r lead 
       let inside =
       reads-byte_at r.within r.is r.may_go_on
       (performs-opened r.begun (λ e. omega (arith, e, lead)) (refl, first_truncated first lead fits) refl) s in
-      let kept = reads-byte_at {is_terminated = never} r.within r.is (λ does. absurd (false≢true does))
+      let silent = reads-byte_at {call = keeping call.limit call.bytes} r.within r.is (λ does. absurd (false≢true does))
       (performs-opened {step = keep} r.begun (λ e. omega (arith, e, lead)) (refl, first_truncated first lead fits) refl)
       (keeps-at s) in
       let told = completes.others value stream (in_text parser (One first)) refl inside in
-      adds-character told (added-inside {parser = in_text parser (One first)} kept) (elim told.are [
+      adds-character told (added-inside {parser = in_text parser (One first)} silent) (elim told.are [
         | inl others ↦ others
         | inr whole ↦
-            let cut : take (whole.n + 1) (drop i bytes) ≡ first ∷ take whole.n (drop (i + 1) bytes) =
-            ap (λ n. take n (drop i bytes)) (let e : whole.n + 1 ≡ suc whole.n = omega arith in e)
-            ∙ ap (take (suc whole.n)) (drop_more bytes i 0 r.within)
-            ∙ ap (λ x. x ∷ take whole.n (drop (i + 1) bytes)) (sym r.is) in
+            let cut : take (whole.n + 1) (drop i call.bytes) ≡ first ∷ take whole.n (drop (i + 1) call.bytes) =
+            ap (λ n. take n (drop i call.bytes)) (let e : whole.n + 1 ≡ suc whole.n = omega arith in e)
+            ∙ ap (take (suc whole.n)) (drop_more call.bytes i 0 r.within)
+            ∙ ap (λ x. x ∷ take whole.n (drop (i + 1) call.bytes)) (sym r.is) in
             let control = rw cut at (given.1 (whole.n + 1) (omega (arith, whole.far)) (rw cut whole.well)) in
             subst (All IsOther) (sym whole.same) (other_control _ control)
       ]);

@@ -3,7 +3,7 @@ use Rattle.vte_core.specs.declared.scan.taken.Run.{Run}
 use Rattle.vte_core.specs.declared.scan.taken.RunPlace.{RunPlace}
 use Rattle.vte_core.specs.LongAdvance.{ReadsToRunLong, GoesOnLong, PassesLong, ReadsBytesLong, ReadsUntilTerminatedLong}
 use Rattle.vte_core.specs.machine.ToRun.{ComesToRun, IsTaken, bytes_at}
-use Rattle.vte_core.proofs.Common.{◌≡◌, TellsOthers, ℕ, ◌+◌, ◌*◌, ◌≤◌, Bool, List, None, length, Result, Ok, Err, IfErr, IfOk, IfErr-weaker, IfOk-weaker, refl, arith, rules, false, read_count, ReadsUpTo, Event, Machine, HasReadUnder, RefusesAt, true, Refused}
+use Rattle.vte_core.proofs.Common.{◌≡◌, TellsOthers, ℕ, ◌+◌, ◌*◌, ◌≤◌, Bool, List, None, length, Result, Ok, Err, IfErr, IfOk, IfErr-weaker, IfOk-weaker, refl, arith, rules, false, read_count, ReadsUpTo, Event, Machine, HasReadUnder, RefusesAt, true, Refused, chunk_call}
 use Rattle.vte_core.proofs.calls.ToRun.{reads-run, returns-run}
 use Rattle.vte_core.specs.declared.parser.long.LongParser.{LongParser}
 use Rattle.vte_core.specs.LongParser.{HasReadLong, memory_of}
@@ -14,11 +14,11 @@ use Rattle.vte_core.proofs.calls.Ends.{ends-performs, ends-reads, ends-reads_all
 use Rattle.vte_core.proofs.calls.States.{reads-all}
 
 pub goes-on : {A V Answer : Type 0} (may_stop : Bool) (step : V → Event → V) (is_terminated : V → Bool) (old new : V)
-    {bytes : List ℕ} {parser next : LongParser A}
-    (result : Result Answer Refused) {rate n : ℕ} {later : List ℕ → List ℕ}
-    → ((stream : List ℕ) → HasReadLong parser stream → HasReadLong next (later stream))
+    {bytes : List ℕ} {parser next : LongParser A} (result : Result Answer Refused) {rate n : ℕ}
+    {later : List ℕ → List ℕ} → ((stream : List ℕ) → HasReadLong parser stream → HasReadLong next (later stream))
     → IfErr result
-    (λ refused. RefusesAt may_stop step is_terminated old new None bytes refused.read parser.machine next.machine)
+    (λ refused. RefusesAt (chunk_call may_stop step is_terminated None bytes) old new refused.read
+    parser.machine next.machine)
     → memory_of parser ≤ memory_of next → looks_long next ≤ looks_long parser + rate * length bytes + 8
     → IfOk result (λ _. looks_long next ≤ looks_long parser + rate * n + 8) → looks_long parser + n ≤ looks_long next
     → GoesOnLong rate bytes result n later parser next
@@ -36,9 +36,9 @@ goes-on may_stop step is_terminated old new result reads refuses memory count pa
 }
 
 pub passes : {V B Answer : Type 0} {step : V → Event → V} {is_terminated : V → Bool} {old new : V} {bytes : List ℕ}
-    {before : Machine B} (parser : Machine B)
-    (result : Result Answer Refused)
-    → IfErr result (λ refused. RefusesAt true step is_terminated old new None bytes refused.read before parser)
+    {before : Machine B} (parser : Machine B) (result : Result Answer Refused)
+    → IfErr result
+    (λ refused. RefusesAt (chunk_call true step is_terminated None bytes) old new refused.read before parser)
     → PassesLong step is_terminated old new (HasReadUnder None before) bytes result
 passes parser result refuses = record {
   passes =
@@ -51,7 +51,7 @@ module _ {A V : Type 0} {step : V → Event → V} {is_terminated : V → Bool} 
     {parser next : LongParser A} where
   -- `advance`, if memory is refused
   pub reads_refused : (refused : Refused) {drove : Result ℕ Refused}
-      → RefusesAt false step is_terminated old new None bytes refused.read parser.machine next.machine
+      → RefusesAt (chunk_call false step is_terminated None bytes) old new refused.read parser.machine next.machine
       → Costs 5 bytes drove refused.read parser.machine next.machine parser.looks next.looks
       → ReadsBytesLong step old new bytes (Err refused) parser next
   reads_refused refused refuses costs = record {
@@ -62,7 +62,8 @@ module _ {A V : Type 0} {step : V → Event → V} {is_terminated : V → Bool} 
   }
 
   -- `advance`, if no memory is refused
-  pub reads_bytes : {read : ℕ} → ReadsUpTo false step is_terminated old new None bytes read parser.machine next.machine
+  pub reads_bytes : {read : ℕ}
+      → ReadsUpTo (chunk_call false step is_terminated None bytes) old new read parser.machine next.machine
       → Costs 5 bytes (Ok read) read parser.machine next.machine parser.looks next.looks
       → ReadsBytesLong step old new bytes (Ok tt) parser next
   reads_bytes reads costs =
@@ -77,9 +78,11 @@ module _ {A V : Type 0} {step : V → Event → V} {is_terminated : V → Bool} 
 
   -- `advance_until_terminated`
   pub reads_until : (result : Result ℕ Refused)
-      → IfOk result (λ read. ReadsUpTo true step is_terminated old new None bytes read parser.machine next.machine)
+      → IfOk result
+      (λ read. ReadsUpTo (chunk_call true step is_terminated None bytes) old new read parser.machine next.machine)
       → IfErr result
-      (λ refused. RefusesAt true step is_terminated old new None bytes refused.read parser.machine next.machine)
+      (λ refused. RefusesAt (chunk_call true step is_terminated None bytes) old new refused.read
+      parser.machine next.machine)
       → Costs 5 bytes result (read_count result) parser.machine next.machine parser.looks next.looks
       → ReadsUntilTerminatedLong step is_terminated old new bytes result parser next
   reads_until result reads refuses costs = record {
@@ -94,9 +97,8 @@ module _ {A V : Type 0} {step : V → Event → V} {is_terminated : V → Bool} 
   }
 
   -- `advance_to_run`, if memory is refused
-  pub to_run-refused : (refused : Refused)
-      {drove : Result RunPlace Refused}
-      → RefusesAt true step is_terminated old new None bytes refused.read parser.machine next.machine
+  pub to_run-refused : (refused : Refused) {drove : Result RunPlace Refused}
+      → RefusesAt (chunk_call true step is_terminated None bytes) old new refused.read parser.machine next.machine
       → Costs 7 bytes drove refused.read parser.machine next.machine parser.looks next.looks
       → ((stream : List ℕ) → HasReadLong parser stream → TellsOthers None stream bytes refused.read)
       → ReadsToRunLong step is_terminated old new bytes (Err refused) parser next
@@ -111,14 +113,13 @@ module _ {A V : Type 0} {step : V → Event → V} {is_terminated : V → Bool} 
 
   -- `advance_to_run`, if no memory is refused
   pub to_run-read : (run : Run) {place : RunPlace}
-      → ComesToRun step is_terminated old new None bytes place parser.machine next.machine → run.start ≡ place.start
-      → run.end ≡ place.end
-      → IsTaken place.kind (bytes_at bytes place) run.taken
+      → ComesToRun (chunk_call true step is_terminated None bytes) old new place parser.machine next.machine
+      → run.start ≡ place.start → run.end ≡ place.end → IsTaken place.kind (bytes_at bytes place) run.taken
       → Costs 7 bytes (Ok place) place.end parser.machine next.machine parser.looks next.looks
       → ((stream : List ℕ) → HasReadLong parser stream → TellsOthers None stream bytes place.start)
       → ReadsToRunLong step is_terminated old new bytes (Ok run) parser next
   to_run-read run comes starts ends taken costs others = record {
-    returns = returns-run run comes starts ends taken;
+    returns = returns-run run comes starts ends taken refl;
     refuses = passes next.machine (Ok run) tt;
     others = λ stream h. rw starts (others stream h);
     goes_on =

@@ -1,6 +1,6 @@
 -- How a call comes from one place to the next, to its end, or to a stop. A stretch of bytes that leads to a place adds
 -- its events to those told so far; at starts among them a call that may stop may stop.
-use Rattle.vte_core.proofs.Common.{◌≡◌, ℕ, zero, suc, ◌+◌, ◌-◌, ◌<◌, ◌≤◌, inl, inr, Bool, true, false, Option, List, [], ◌∷◌, ◌++◌, length, take, drop, refl, ap, sym, subst, ◌∙◌, append_assoc, arith, slice_index, cases_Bool, cases_lt, append-nil, drop_more, take-add, breaks, breaks_at, IsStart, told_before, stream_at, Event, Print, replacement, after, added, open_end, ProgressAt, ProgressInside, MayGoOn, Reads, Place, InText}
+use Rattle.vte_core.proofs.Common.{◌≡◌, ℕ, zero, suc, ◌+◌, ◌-◌, ◌<◌, ◌≤◌, inl, inr, true, false, Option, List, [], ◌∷◌, ◌++◌, length, take, drop, refl, ap, sym, subst, ◌∙◌, append_assoc, arith, slice_index, cases_Bool, cases_lt, append-nil, drop_more, take-add, breaks, breaks_at, IsStart, told_before, stream_at, Event, Print, replacement, after, added, open_end, ProgressAt, ProgressInside, MayGoOn, Reads, Place, InText, ChunkCall}
 use Rattle.vte_core.proofs.Common.{InSystemCommand, IsAfter, IsBetween, open_at, ComesTo}
 use Rattle.vte_core.proofs.streams.After.{after-left, after-nothing, after-open_end, after-reads, added-reads, added-nothing}
 use Rattle.vte_core.proofs.calls.States.{reads-item}
@@ -48,46 +48,43 @@ module _ (limit : Option ℕ) (stream bytes : List ℕ) (i j : ℕ) (further : i
       ap (added limit stream) (run-ends bytes i j further)
       ∙ added_from limit stream (take i bytes) run (breaks_at stream bytes i) run-breaks
 
-module _ {V : Type 0} {may_stop : Bool} {step : V → Event → V} {is_terminated : V → Bool} {old : V} {limit : Option ℕ}
-    {stream bytes : List ℕ} where
+module _ {V : Type 0} {call : ChunkCall V} {old : V} {stream : List ℕ} where
   -- ---- from inside to a place
 
   -- no character is broken here: nothing is told more
-  come-whole : {value : V} {i : ℕ} {place : Place} → breaks_at stream bytes i ≡ false
-      → ProgressInside may_stop step is_terminated old value limit stream bytes i place
-      → ProgressAt may_stop step is_terminated old value limit stream bytes i place
-  come-whole {i = i} whole c = rw (told-between limit stream bytes i whole, stream_at-between stream bytes i whole) c
+  come-whole : {value : V} {i : ℕ} {place : Place} → breaks_at stream call.bytes i ≡ false
+      → ProgressInside call old value stream i place → ProgressAt call old value stream i place
+  come-whole {i = i} whole c =
+      rw (told-between call.limit stream call.bytes i whole, stream_at-between stream call.bytes i whole) c
 
   pub come-between : {value : V} {i : ℕ} {place : Place} → IsPlace place → IsBetween place
-      → ProgressInside may_stop step is_terminated old value limit stream bytes i place
-      → ProgressAt may_stop step is_terminated old value limit stream bytes i place
+      → ProgressInside call old value stream i place → ProgressAt call old value stream i place
   come-between {i = i} {place = place} is between c =
       come-whole
-      (breaks_at-between stream bytes i
-      (after-open_end limit (stream ++ take i bytes) place c.is_after is ∙ open_at-between place between)) c
+      (breaks_at-between stream call.bytes i
+      (after-open_end call.limit (stream ++ take i call.bytes) place c.is_after is ∙ open_at-between place between)) c
 
-  pub come-all : {value : V} {i : ℕ} {place : Place} → length bytes ≤ i
-      → ProgressInside may_stop step is_terminated old value limit stream bytes i place
-      → ProgressAt may_stop step is_terminated old value limit stream bytes i place
-  come-all {i = i} all c = come-whole (breaks_at-all stream bytes i all) c
+  pub come-all : {value : V} {i : ℕ} {place : Place} → length call.bytes ≤ i
+      → ProgressInside call old value stream i place → ProgressAt call old value stream i place
+  come-all {i = i} all c = come-whole (breaks_at-all stream call.bytes i all) c
 
   -- U+FFFD is told for a character that the next byte breaks, and the parser stands as at first
-  pub come-broken : {value new : V} {i b : ℕ} {place : Place} → IsPlace place → i < length bytes
-      → b ≡ slice_index bytes i → breaks (open_at place) (b ∷ []) ≡ true
-      → new ≡ step value (Print replacement)
-      → ProgressInside may_stop step is_terminated old value limit stream bytes i place
-      → ProgressAt may_stop step is_terminated old new limit stream bytes i (InText [])
+  pub come-broken : {value new : V} {i b : ℕ} {place : Place} → IsPlace place → i < length call.bytes
+      → b ≡ slice_index call.bytes i → breaks (open_at place) (b ∷ []) ≡ true
+      → new ≡ call.step value (Print replacement) → ProgressInside call old value stream i place
+      → ProgressAt call old new stream i (InText [])
   come-broken {i = i} {b = b} {place = place} is_place within is broken performed c =
-      let here : breaks_at stream bytes i ≡ true =
-      breaks_at-byte stream bytes (open_at place) i b within is
-      (after-open_end limit (stream ++ take i bytes) place c.is_after is_place) ∙ broken in
+      let here : breaks_at stream call.bytes i ≡ true =
+      breaks_at-byte stream call.bytes (open_at place) i b within is
+      (after-open_end call.limit (stream ++ take i call.bytes) place c.is_after is_place) ∙ broken in
       record {
         performed =
-            performed ∙ ap (λ v. step v (Print replacement)) c.performed
-            ∙ sym (after-append step old (added limit stream (take i bytes)) (Print replacement ∷ []))
-            ∙ ap (after step old) (sym (told-broken limit stream bytes i here));
+            performed ∙ ap (λ v. call.step v (Print replacement)) c.performed
+            ∙ sym (after-append call.step old (added call.limit stream (take i call.bytes)) (Print replacement ∷ []))
+            ∙ ap (after call.step old) (sym (told-broken call.limit stream call.bytes i here));
         is_after =
-            subst (λ s. IsAfter limit s (InText [])) (sym (stream_at-broken stream bytes i here)) (after-nothing limit);
+            subst (λ s. IsAfter call.limit s (InText [])) (sym (stream_at-broken stream call.bytes i here))
+            (after-nothing call.limit);
         earlier = c.earlier;
       }
 
@@ -95,162 +92,154 @@ module _ {V : Type 0} {may_stop : Bool} {step : V → Event → V} {is_terminate
 
   -- the performer may go on where they begin, if something starts there, and wherever something
   -- starts among them
-  pub come-further : {value new : V} {i j : ℕ} {place next : Place} {these : List Event} → i < j → j ≤ length bytes
-      → (may_stop ≡ true → IsStart stream bytes i → is_terminated value ≡ false)
-      → (may_stop ≡ true → (k : ℕ) → i < k → k < j → is_terminated (after step old (told_before limit stream bytes k))
-      ≡ false)
-      → Reads limit place (take (j - i) (drop i bytes)) these next → new ≡ after step value these → IsPlace next
-      → ProgressAt may_stop step is_terminated old value limit stream bytes i place
-      → ProgressInside may_stop step is_terminated old new limit stream bytes j next
+  pub come-further : {value new : V} {i j : ℕ} {place next : Place} {these : List Event} → i < j → j ≤ length call.bytes
+      → (call.may_stop ≡ true → IsStart stream call.bytes i → call.is_terminated value ≡ false)
+      → (call.may_stop ≡ true → (k : ℕ) → i < k → k < j
+      → call.is_terminated (after call.step old (told_before call.limit stream call.bytes k)) ≡ false)
+      → Reads call.limit place (take (j - i) (drop i call.bytes)) these next → new ≡ after call.step value these
+      → IsPlace next → ProgressAt call old value stream i place → ProgressInside call old new stream j next
   come-further {value = value} {i = i} {j = j} {place = place} {next = next}
       {these = these} in_order within here inside r performed is_place c = record {
         performed =
-            performed ∙ ap (λ v. after step v these) c.performed
-            ∙ sym (after-append step old (told_before limit stream bytes i) these)
-            ∙ ap (after step old) (sym (run-added limit stream bytes i j in_order
-            ∙ ap (λ (es : List Event). told_before limit stream bytes i ++ es)
-            (added-reads limit (stream_at stream bytes i)
-            (take (j - i) (drop i bytes)) place next these c.is_after r is_place)));
+            performed ∙ ap (λ v. after call.step v these) c.performed
+            ∙ sym (after-append call.step old (told_before call.limit stream call.bytes i) these)
+            ∙ ap (after call.step old) (sym (run-added call.limit stream call.bytes i j in_order
+            ∙ ap (λ (es : List Event). told_before call.limit stream call.bytes i ++ es)
+            (added-reads call.limit (stream_at stream call.bytes i)
+            (take (j - i) (drop i call.bytes)) place next these c.is_after r is_place)));
         is_after =
-            run-after limit stream bytes i j in_order next
-            (after-reads limit (stream_at stream bytes i)
-            (take (j - i) (drop i bytes)) place next these c.is_after r is_place);
+            run-after call.limit stream call.bytes i j in_order next
+            (after-reads call.limit (stream_at stream call.bytes i)
+            (take (j - i) (drop i call.bytes)) place next these c.is_after r is_place);
         earlier = λ does k below start. elim (cases_lt k i) [
           | inl front ↦ c.earlier does k front start
           | inr from ↦ elim (cases_lt i k) [
             | inl past ↦ inside does k past below
             | inr same ↦
                 let same : k ≡ i = omega (arith, from, same) in
-                subst (λ n. IsStart stream bytes n
-                → is_terminated (after step old (told_before limit stream bytes n)) ≡ false) (sym same)
-                (λ s. ap is_terminated (sym c.performed) ∙ here does s) start
+                subst (λ n. IsStart stream call.bytes n
+                → call.is_terminated (after call.step old (told_before call.limit stream call.bytes n)) ≡ false)
+                (sym same) (λ s. ap call.is_terminated (sym c.performed) ∙ here does s) start
           ]
         ];
       }
 
-  further : {value new : V} {i b : ℕ} {place next : Place} {these : List Event} → i < length bytes
-      → b ≡ slice_index bytes i
-      → (may_stop ≡ true → IsStart stream bytes i → is_terminated value ≡ false) → Reads limit place (b ∷ []) these next
-      → new ≡ after step value these → IsPlace next
-      → ProgressAt may_stop step is_terminated old value limit stream bytes i place
-      → ProgressInside may_stop step is_terminated old new limit stream bytes (i + 1) next
+  further : {value new : V} {i b : ℕ} {place next : Place} {these : List Event} → i < length call.bytes
+      → b ≡ slice_index call.bytes i
+      → (call.may_stop ≡ true → IsStart stream call.bytes i → call.is_terminated value ≡ false)
+      → Reads call.limit place (b ∷ []) these next → new ≡ after call.step value these → IsPlace next
+      → ProgressAt call old value stream i place → ProgressInside call old new stream (i + 1) next
   further {i = i} {b = b} {place = place} {next = next} {these = these} within is here r =
-      let one : take (i + 1 - i) (drop i bytes) ≡ b ∷ [] =
-      let e : i + 1 - i ≡ 1 = omega arith in rw (e, drop_more bytes i 0 within, is) refl in
+      let one : take (i + 1 - i) (drop i call.bytes) ≡ b ∷ [] =
+      let e : i + 1 - i ≡ 1 = omega arith in rw (e, drop_more call.bytes i 0 within, is) refl in
       come-further (omega arith) (omega (arith, within)) here (λ does k past below. absurd (omega (arith, past, below)))
-      (subst (λ x. Reads limit place x these next) (sym one) r)
+      (subst (λ x. Reads call.limit place x these next) (sym one) r)
 
   -- after an answer, whatever starts here; after a broken character too
-  pub come-byte : {value new : V} {i b : ℕ} {place next : Place} {these : List Event} → i < length bytes
-      → b ≡ slice_index bytes i → MayGoOn may_stop is_terminated value
-      → Reads limit place (b ∷ []) these next → new ≡ after step value these → IsPlace next
-      → ProgressAt may_stop step is_terminated old value limit stream bytes i place
-      → ProgressInside may_stop step is_terminated old new limit stream bytes (i + 1) next
+  pub come-byte : {value new : V} {i b : ℕ} {place next : Place} {these : List Event} → i < length call.bytes
+      → b ≡ slice_index call.bytes i → MayGoOn call value → Reads call.limit place (b ∷ []) these next
+      → new ≡ after call.step value these → IsPlace next → ProgressAt call old value stream i place
+      → ProgressInside call old new stream (i + 1) next
   come-byte within is may_go_on r performed is_place c =
       further within is (λ does _. may_go_on does) r performed is_place c
 
   -- inside a character
   pub come-carried : {value new : V} {i b : ℕ} {place next : Place} {these : List Event} → IsPlace place
-      → i < length bytes → b ≡ slice_index bytes i
-      → (open_at place ≡ [] → ⊥) → breaks (open_at place) (b ∷ []) ≡ false → Reads limit place (b ∷ []) these next
-      → new ≡ after step value these → IsPlace next
-      → ProgressInside may_stop step is_terminated old value limit stream bytes i place
-      → ProgressInside may_stop step is_terminated old new limit stream bytes (i + 1) next
+      → i < length call.bytes → b ≡ slice_index call.bytes i → (open_at place ≡ [] → ⊥)
+      → breaks (open_at place) (b ∷ []) ≡ false → Reads call.limit place (b ∷ []) these next
+      → new ≡ after call.step value these → IsPlace next → ProgressInside call old value stream i place
+      → ProgressInside call old new stream (i + 1) next
   come-carried {i = i} {b = b} {place = place} is_here within is some whole r performed is_place c =
-      let ends : open_end (stream ++ take i bytes) ≡ open_at place =
-      after-open_end limit (stream ++ take i bytes) place c.is_after is_here in
+      let ends : open_end (stream ++ take i call.bytes) ≡ open_at place =
+      after-open_end call.limit (stream ++ take i call.bytes) place c.is_after is_here in
       further within is
-      (λ _ start. absurd (no_start stream bytes (open_at place) i b within is ends some whole start)) r
+      (λ _ start. absurd (no_start stream call.bytes (open_at place) i b within is ends some whole start)) r
       performed is_place
-      (come-whole (breaks_at-byte stream bytes (open_at place) i b within is ends ∙ whole) c)
+      (come-whole (breaks_at-byte stream call.bytes (open_at place) i b within is ends ∙ whole) c)
 
   -- n data bytes of a command, before which the performer was asked once
-  pub come-items : {value : V} {i : ℕ} (n : ℕ) (items : List ℕ) → i + n ≤ length bytes
-      → ((k : ℕ) → i ≤ k → k < i + n → 0x20 ≤ slice_index bytes k)
-      → MayGoOn may_stop is_terminated value
-      → ProgressAt may_stop step is_terminated old value limit stream bytes i (InSystemCommand items)
-      → ProgressAt may_stop step is_terminated old value limit stream bytes (i + n)
-      (InSystemCommand (items ++ take n (drop i bytes)))
+  pub come-items : {value : V} {i : ℕ} (n : ℕ) (items : List ℕ) → i + n ≤ length call.bytes
+      → ((k : ℕ) → i ≤ k → k < i + n → 0x20 ≤ slice_index call.bytes k) → MayGoOn call value
+      → ProgressAt call old value stream i (InSystemCommand items)
+      → ProgressAt call old value stream (i + n) (InSystemCommand (items ++ take n (drop i call.bytes)))
   come-items {i = i} zero items within low may_go_on c =
       let same : i + 0 ≡ i = omega arith in rw (append-nil items, same) c
   come-items {i = i} (suc n) items within low may_go_on c =
-      let here : i < length bytes = omega (arith, within) in
-      let b : ℕ = slice_index bytes i in
+      let here : i < length call.bytes = omega (arith, within) in
+      let b : ℕ = slice_index call.bytes i in
       let is_item : 0x20 ≤ b = low i (omega arith) (omega arith) in
-      let one = come-between tt tt (come-byte here refl may_go_on (reads-item limit items b is_item) refl tt c) in
+      let one = come-between tt tt (come-byte here refl may_go_on (reads-item call.limit items b is_item) refl tt c) in
       let rest =
       come-items {i = i + 1} n (items ++ b ∷ []) (omega (arith, within))
       (λ k from to. low k (omega (arith, from)) (omega (arith, to))) may_go_on one in
       let far : i + suc n ≡ i + 1 + n = omega arith in
-      rw (far, drop_more bytes i 0 here) (rw (append_assoc items (b ∷ []) (take n (drop (i + 1) bytes))) at rest)
+      rw (far, drop_more call.bytes i 0 here)
+      (rw (append_assoc items (b ∷ []) (take n (drop (i + 1) call.bytes))) at rest)
 
   -- ---- the start of a call
 
-  pub come-nowhere : {place : Place} → IsAfter limit stream place
-      → ProgressInside may_stop step is_terminated old old limit stream bytes 0 place
+  pub come-nowhere : {place : Place} → IsAfter call.limit stream place → ProgressInside call old old stream 0 place
   come-nowhere {place = place} a = record {
-    performed = sym (ap (after step old) (added-nothing limit stream));
+    performed = sym (ap (after call.step old) (added-nothing call.limit stream));
     is_after = rw (append-nil stream) a;
     earlier = λ does j below start. absurd (omega arith);
   }
 
-  come-back : {value : V} {i : ℕ} {place : Place} → breaks_at stream bytes i ≡ false
-      → ProgressAt may_stop step is_terminated old value limit stream bytes i place
-      → ProgressInside may_stop step is_terminated old value limit stream bytes i place
-  come-back {i = i} whole c = rw (told-between limit stream bytes i whole, stream_at-between stream bytes i whole) at c
+  come-back : {value : V} {i : ℕ} {place : Place} → breaks_at stream call.bytes i ≡ false
+      → ProgressAt call old value stream i place → ProgressInside call old value stream i place
+  come-back {i = i} whole c =
+      rw (told-between call.limit stream call.bytes i whole, stream_at-between stream call.bytes i whole) at c
 
   -- in a command no character was broken
-  pub come-command : {value : V} {i : ℕ} {items : List ℕ}
-      → ProgressAt may_stop step is_terminated old value limit stream bytes i (InSystemCommand items)
-      → ProgressInside may_stop step is_terminated old value limit stream bytes i (InSystemCommand items)
-  come-command {value = value} {i = i} {items = items} c = elim (cases_Bool (breaks_at stream bytes i)) [
+  pub come-command : {value : V} {i : ℕ} {items : List ℕ} → ProgressAt call old value stream i (InSystemCommand items)
+      → ProgressInside call old value stream i (InSystemCommand items)
+  come-command {value = value} {i = i} {items = items} c = elim (cases_Bool (breaks_at stream call.bytes i)) [
     | inl broken ↦
-        let a : IsAfter limit [] (InSystemCommand items) =
-        subst (λ s. IsAfter limit s (InSystemCommand items)) (stream_at-broken stream bytes i broken) c.is_after in
+        let a : IsAfter call.limit [] (InSystemCommand items) =
+        subst (λ s. IsAfter call.limit s (InSystemCommand items)) (stream_at-broken stream call.bytes i broken)
+        c.is_after in
         let none =
-        sym (after-left limit [] (InText []) (after-nothing limit) refl)
-        ∙ after-left limit [] (InSystemCommand items) a tt in
+        sym (after-left call.limit [] (InText []) (after-nothing call.limit) refl)
+        ∙ after-left call.limit [] (InSystemCommand items) a tt in
         let f : ⊥ = cc in absurd f
     | inr whole ↦ come-back whole c
   ]
 
   -- ---- where something starts
 
-  pub come-starts : {value : V} {i : ℕ} {place : Place} → IsPlace place → IsBetween place → i < length bytes
-      → ProgressAt may_stop step is_terminated old value limit stream bytes i place → IsStart stream bytes i
-  come-starts {i = i} {place = place} is between within c = elim (cases_Bool (breaks_at stream bytes i)) [
-    | inl broken ↦ starts-broken stream bytes i within broken
-    | inr whole ↦ starts-between stream bytes i within
-        (ap open_end (sym (stream_at-between stream bytes i whole))
-        ∙ after-open_end limit (stream_at stream bytes i) place c.is_after is ∙ open_at-between place between)
+  pub come-starts : {value : V} {i : ℕ} {place : Place} → IsPlace place → IsBetween place → i < length call.bytes
+      → ProgressAt call old value stream i place → IsStart stream call.bytes i
+  come-starts {i = i} {place = place} is between within c = elim (cases_Bool (breaks_at stream call.bytes i)) [
+    | inl broken ↦ starts-broken stream call.bytes i within broken
+    | inr whole ↦ starts-between stream call.bytes i within
+        (ap open_end (sym (stream_at-between stream call.bytes i whole))
+        ∙ after-open_end call.limit (stream_at stream call.bytes i) place c.is_after is ∙ open_at-between place between)
   ]
 
   -- ---- the end of a call
 
   -- the public clauses of a call that may stop: `starts` comes from the loop's exit
-  pub come-to : {value : V} {n : ℕ} {place : Place} → may_stop ≡ true → n ≤ length bytes
-      → (n < length bytes → IsStart stream bytes n)
-      → ProgressAt may_stop step is_terminated old value limit stream bytes n place
-      → ComesTo step is_terminated old value limit stream bytes n
+  pub come-to : {value : V} {n : ℕ} {place : Place} → call.may_stop ≡ true → n ≤ length call.bytes
+      → (n < length call.bytes → IsStart stream call.bytes n) → ProgressAt call old value stream n place
+      → ComesTo call.step call.is_terminated old value call.limit stream call.bytes n
   come-to {n = n} does within starts c =
-      let unread : List ℕ = drop n bytes in
+      let unread : List ℕ = drop n call.bytes in
       record {
         within = within;
         performed = c.performed;
         earlier = c.earlier does;
         starts = starts;
         goes_on =
-            ap (λ v. after step v (added limit (stream_at stream bytes n) unread)) c.performed
-            ∙ sym (after-append step old (told_before limit stream bytes n) (added limit (stream_at stream bytes n)
-            unread))
-            ∙ ap (after step old)
-            (ap (λ x. told_before limit stream bytes n ++ added limit (stream_at stream bytes n) x) (sym (append-nil
-            unread))
-            ∙ sym (goes_on_from limit stream bytes [] n) ∙ ap (added limit stream) (append-nil bytes));
+            ap (λ v. after call.step v (added call.limit (stream_at stream call.bytes n) unread)) c.performed
+            ∙ sym (after-append call.step old (told_before call.limit stream call.bytes n)
+            (added call.limit (stream_at stream call.bytes n) unread))
+            ∙ ap (after call.step old)
+            (ap (λ x. told_before call.limit stream call.bytes n ++ added call.limit (stream_at stream call.bytes n) x)
+            (sym (append-nil unread)) ∙ sym (goes_on_from call.limit stream call.bytes [] n)
+            ∙ ap (added call.limit stream) (append-nil call.bytes));
       }
 
   -- the public clause of a call that reads all bytes
-  pub come-performs : {value : V} {n : ℕ} {place : Place} → n ≡ length bytes
-      → ProgressAt may_stop step is_terminated old value limit stream bytes n place
-      → value ≡ after step old (added limit stream bytes)
-  come-performs {n = n} all c = c.performed ∙ ap (after step old) (told-all limit stream bytes n all)
+  pub come-performs : {value : V} {n : ℕ} {place : Place} → n ≡ length call.bytes
+      → ProgressAt call old value stream n place → value ≡ after call.step old (added call.limit stream call.bytes)
+  come-performs {n = n} all c = c.performed ∙ ap (after call.step old) (told-all call.limit stream call.bytes n all)

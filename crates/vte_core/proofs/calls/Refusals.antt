@@ -1,6 +1,6 @@
 -- What a call without a limit stores, and where it stops for lack of memory. What is stored of an open command is said
 -- of its place, so it holds of every parser that is at one.
-use Rattle.vte_core.proofs.Common.{◌≡◌, ℕ, ◌+◌, ◌≤◌, Bool, Option, None, List, [], ◌∷◌, ◌++◌, length, take, Result, Ok, Err, IfErr, IfOk, IsOk, refl, ap, sym, subst, ◌∙◌, length-take, IsAfter, arith, concat, slice_index, Machine, Event, MeetsData, data_left, open_size, read_count, State, SystemCommand, ProgressAt, IsRefusedAt, RefusesAt, StandsInside, HasReadUnder, Stands, StandsBy, Place, InSystemCommand, InText}
+use Rattle.vte_core.proofs.Common.{◌≡◌, ℕ, ◌+◌, ◌≤◌, Bool, None, List, [], ◌∷◌, ◌++◌, length, take, Result, Ok, Err, IfErr, IfOk, IsOk, refl, ap, sym, subst, ◌∙◌, length-take, IsAfter, arith, concat, slice_index, Machine, Event, MeetsData, data_left, open_size, read_count, State, SystemCommand, ProgressAt, IsRefusedAt, RefusesAt, StandsInside, HasReadUnder, Stands, StandsBy, Place, InSystemCommand, InText, ChunkCall, chunk_call}
 use Rattle.vte_core.proofs.Common.{left_at, Stored, Keeps, Open, OpenCommand, drops_data, outcome, pieces_of, Refused}
 use Rattle.vte_core.proofs.calls.States.{reads-item}
 use Rattle.vte_core.proofs.calls.Places.{come-command}
@@ -10,10 +10,8 @@ use Rattle.vte_core.proofs.fields.PlaceOfState.{in_command, stands-by, stands-pl
 use Rattle.vte_core.proofs.streams.After.{after-left, after-reads}
 use Rattle.vte_core.proofs.streams.CommandSizes.{counts_data}
 
-pub inside-reads : {V B : Type 0} {may_stop : Bool} {step : V → Event → V} {is_terminated : V → Bool} {old value : V}
-    {limit : Option ℕ} {stream bytes : List ℕ} {i : ℕ} {parser : Machine B}
-    → StandsInside may_stop step is_terminated old value limit stream bytes i parser
-    → HasReadUnder limit parser (stream ++ take i bytes)
+pub inside-reads : {V B : Type 0} {call : ChunkCall V} {old value : V} {stream : List ℕ} {i : ℕ} {parser : Machine B}
+    → StandsInside call old value stream i parser → HasReadUnder call.limit parser (stream ++ take i call.bytes)
 inside-reads s = record { place = s.place; stands = s.stands; is_after = s.has_come.is_after }
 
 -- what a stream leaves is what its place leaves
@@ -63,21 +61,16 @@ ok_only (Ok value) err never = refl
 ok_only (Err refused) err never = absurd (never refused err)
 
 -- in a command no character is open
-pub refuses-inside : {V B : Type 0} {may_stop : Bool} {step : V → Event → V} {is_terminated : V → Bool} {old new : V}
-    {bytes : List ℕ} {n : ℕ} {before parser : Machine B}
-    → RefusesAt may_stop step is_terminated old new None bytes n before parser → (stream : List ℕ)
-    → HasReadUnder None before stream
-    → StandsInside may_stop step is_terminated old new None stream bytes n parser
-refuses-inside {may_stop = may_stop} {step = step} {is_terminated = is_terminated} {old = old} {new = new}
-    {bytes = bytes}
-    {n = n} {parser = parser} r stream h =
+pub refuses-inside : {V B : Type 0} {call : ChunkCall V} {old new : V} {n : ℕ} {before parser : Machine B}
+    → RefusesAt call old new n before parser → (stream : List ℕ) → HasReadUnder call.limit before stream
+    → StandsInside call old new stream n parser
+refuses-inside {call = call} {old = old} {new = new} {n = n} {parser = parser} r stream h =
     let s = r.stands_at stream h in
     let k = in_command parser s.place r.refused.inside s.stands in
     record {
       place = InSystemCommand k.items;
       stands = stands-by r.refused.inside k.keeps;
-      has_come = come-command (subst (ProgressAt may_stop step is_terminated old new None stream bytes n) k.same
-          s.has_come);
+      has_come = come-command (subst (ProgressAt call old new stream n) k.same s.has_come);
     }
 
 -- ---- what is stored
@@ -148,7 +141,7 @@ nothing_stored {held = held} keeps = pieces_stored None held [] keeps
 -- where there was memory for all bytes of the call, none is refused
 pub never_refused : {V B : Type 0} {may_stop : Bool} {step : V → Event → V} {is_terminated : V → Bool} {old new : V}
     {bytes : List ℕ} {n : ℕ} {before parser : Machine B}
-    → RefusesAt may_stop step is_terminated old new None bytes n before parser → (stream : List ℕ)
+    → RefusesAt (chunk_call may_stop step is_terminated None bytes) old new n before parser → (stream : List ℕ)
     → HasReadUnder None before stream
     → open_size stream + length bytes ≤ before.command.capacity → before.command.capacity ≤ parser.command.capacity → ⊥
 never_refused {bytes = bytes} {n = n} {parser = parser} r stream h enough kept =

@@ -1,6 +1,6 @@
 -- The bytes after ESC that begin no string: ESC once more and dropped bytes leave the place as it is, and `[` leads to
 -- an empty head.
-use Rattle.vte_core.proofs.Common.{◌≡◌, ℕ, ◌+◌, ◌<◌, Bool, false, Option, List, [], ◌∷◌, length, refl, slice_index, class_of, ends_all, is_control, is_final, is_head, Entry, Machine, Escape, ControlSequence, Event, key_of, Advances, MayGoOn, HoldsIntermediates, HoldsHead, Stands, StandsBy, TakesBytes, Place, AtEscape, InControlSequence, IsBetween}
+use Rattle.vte_core.proofs.Common.{◌≡◌, ℕ, ◌+◌, ◌<◌, false, Option, [], ◌∷◌, length, refl, slice_index, class_of, ends_all, is_control, is_final, is_head, Entry, Machine, Escape, ControlSequence, Event, key_of, Advances, MayGoOn, HoldsIntermediates, HoldsHead, Stands, StandsBy, TakesBytes, Place, AtEscape, InControlSequence, IsBetween, ChunkCall}
 use Rattle.vte_core.proofs.bytes.ClassCases.{left_is_dropped}
 use Rattle.vte_core.proofs.calls.Arms.{advances-in, at_escape, performs-escape, performs-in, taken}
 use Rattle.vte_core.proofs.fields.PlaceOfState.{stands-by, stands-in}
@@ -16,15 +16,12 @@ again step value limit b parser AtEscape e is s by = performs-escape is e by AtE
 again step value limit b parser _ e is s by = absurd by
 
 -- ESC once more
-pub advances-again : {quiet V B : Type 0} {may_stop : Bool} {step : V → Event → V} {is_terminated : V → Bool}
-    {value : V}
-    {limit : Option ℕ} {bytes : List ℕ} {i b : ℕ} {parser : Machine B}
-    → parser.state ≡ Escape → i < length bytes → b ≡ slice_index bytes i → MayGoOn may_stop is_terminated value → b
-    ≡ 0x1b
-    → Advances quiet may_stop step is_terminated value value limit bytes i (i + 1) parser parser
-advances-again {step = step} {value = value} {limit = limit} {b = b} {parser = parser} begun within is may_go_on same =
+pub advances-again : {quiet V B : Type 0} {call : ChunkCall V} {value : V} {i b : ℕ} {parser : Machine B}
+    → parser.state ≡ Escape → i < length call.bytes → b ≡ slice_index call.bytes i → MayGoOn call value → b ≡ 0x1b
+    → Advances quiet call value value i (i + 1) parser parser
+advances-again {call = call} {value = value} {b = b} {parser = parser} begun within is may_go_on same =
     advances-when (rw begun tt) (advances-byte within is may_go_on
-    (λ place s between. again step value limit b parser place begun same s (stands-in begun s))
+    (λ place s between. again call.step value call.limit b parser place begun same s (stands-in begun s))
     (settled-by _ _ begun tt))
 
 -- DEL and 80..FF
@@ -40,16 +37,13 @@ performs-dropped {limit = limit} {b = b} {parser = parser} begun head final ordi
     (λ holds. taken [] AtEscape refl (stands-by begun holds) (byte-dropped limit AtEscape b _ refl refl dropped)))
 
 -- ESC [
-pub advances-bracket : {quiet V B : Type 0} {may_stop : Bool} {step : V → Event → V} {is_terminated : V → Bool}
-    {value : V}
-    {limit : Option ℕ} {bytes : List ℕ} {i b : ℕ}
-    {parser next : Machine B} → parser.state ≡ Escape → i < length bytes → b ≡ slice_index bytes i
-    → MayGoOn may_stop is_terminated value → b ≡ 0x5b
+pub advances-bracket : {quiet V B : Type 0} {call : ChunkCall V} {value : V} {i b : ℕ} {parser next : Machine B}
+    → parser.state ≡ Escape → i < length call.bytes → b ≡ slice_index call.bytes i → MayGoOn call value → b ≡ 0x5b
     → next.state ≡ ControlSequence Entry → (HoldsIntermediates parser.collected [] → HoldsHead next.collected Entry [])
-    → Advances quiet may_stop step is_terminated value value limit bytes i (i + 1) parser next
+    → Advances quiet call value value i (i + 1) parser next
 unfolding class_of key_of
-advances-bracket {limit = limit} {parser = parser} begun within is may_go_on bracket state holds =
+advances-bracket {call = call} {parser = parser} begun within is may_go_on bracket state holds =
     advances-when tt (advances-in begun within is may_go_on (rw bracket refl)
     (at_escape parser
     (λ before. taken [] (InControlSequence []) refl (stands-by state (holds before))
-    (rw bracket (escape-control_sequence limit 0x5b refl refl)))) (settled-by _ _ state tt))
+    (rw bracket (escape-control_sequence call.limit 0x5b refl refl)))) (settled-by _ _ state tt))

@@ -1,6 +1,6 @@
 -- What a run of text does to a call's progress: its characters one by one do the same. By induction over the
 -- characters, and for the performer by its contract over the whole run.
-use Rattle.vte_core.proofs.Common.{cases_Bool, inl, inr, Bool, List, Option, [], ap, arith, drop, false, length, map, refl, subst, sym, take, true, ℕ, ◌++◌, ◌+◌, ◌-◌, ◌<◌, ◌∙◌, ◌∷◌, ◌≡◌, ◌≢◌, ◌≤◌, encode, false≢true, append-nil, take-append-drop, All-append, All-head, All-nil, All-tail, All, slice_index, breaks_at, stream_at, told_before, Event, Print, replacement, after, added, cut_at_escape, escape, with_bodies, events}
+use Rattle.vte_core.proofs.Common.{cases_Bool, inl, inr, Bool, List, Option, [], ap, arith, drop, false, length, map, refl, subst, sym, take, true, ℕ, ◌++◌, ◌+◌, ◌-◌, ◌<◌, ◌∙◌, ◌∷◌, ◌≡◌, ◌≢◌, ◌≤◌, encode, false≢true, append-nil, take-append-drop, All-append, All-head, All-nil, All-tail, All, slice_index, breaks_at, stream_at, told_before, Event, Print, replacement, after, added, cut_at_escape, escape, with_bodies, events, ChunkCall}
 use Rattle.vte_core.proofs.Common.{is_left_out, run_event, character_event, is_control_character, malformed_event, text_outcome, Text, Machine, Nothing, Reads, Stands, InText, encodes, nat_tests, outcome_from, Advances, ProgressAt, MayGoOn, StandsAt, StandsInside, chars, IsUtf8, NoCharacterStops, AreRun, IsPrinted, PrintsRun}
 use Rattle.std.proofs.lemmas.List.{take-take}
 use Rattle.std.proofs.lemmas.List.Elements.{All-from_get_or}
@@ -129,87 +129,75 @@ not_stopped-told keeps step is_terminated never value limit stream bytes k goes 
       | inr whole ↦ rw (told-between limit stream bytes k whole) goes
     ]
 
-pub may_go_on-text : {V : Type 0} {may_stop keeps : Bool} {step : V → Event → V} {is_terminated : V → Bool}
-    {old new : V}
-    {bytes : List ℕ} {i j : ℕ}
-    → (may_stop ≡ true → NoCharacterStops keeps step is_terminated) → MayGoOn may_stop is_terminated old
-    → PrintsRun keeps step old new bytes i j → MayGoOn may_stop is_terminated new
-may_go_on-text {keeps = keeps} {step = step} {is_terminated = is_terminated} {old = old} {bytes = bytes} {i = i}
-    {j = j} never may_go_on prints does =
-    let cs = chars (take (j - i) (drop i bytes)) in
-    ap is_terminated prints.printed
-    ∙ not_stopped keeps step is_terminated (never does) old (map (run_event keeps) cs) [] cs
+pub may_go_on-text : {V : Type 0} {keeps : Bool} (call : ChunkCall V) {old new : V} {i j : ℕ}
+    → (call.may_stop ≡ true → NoCharacterStops keeps call.step call.is_terminated) → MayGoOn call old
+    → PrintsRun keeps call.step old new call.bytes i j → MayGoOn call new
+may_go_on-text {keeps = keeps} call {old = old} {i = i} {j = j} never may_go_on prints does =
+    let cs = chars (take (j - i) (drop i call.bytes)) in
+    ap call.is_terminated prints.printed
+    ∙ not_stopped keeps call.step call.is_terminated (never does) old (map (run_event keeps) cs) [] cs
     (append-nil (map (run_event keeps) cs)) (may_go_on does)
 
 -- What is malformed in runs is told by U+FFFD, which is a character too.
-pub may_go_on-malformed : {V : Type 0} {may_stop : Bool} (keeps : Bool) (step : V → Event → V)
-    {is_terminated : V → Bool}
-    {old new : V} {b : ℕ}
-    → (may_stop ≡ true → NoCharacterStops keeps step is_terminated) → MayGoOn may_stop is_terminated old → 0xa0 ≤ b
-    → new ≡ step old (malformed_event (b ∷ [])) → MayGoOn may_stop is_terminated new
+pub may_go_on-malformed : {V : Type 0} (keeps : Bool) (call : ChunkCall V) {old new : V} {b : ℕ}
+    → (call.may_stop ≡ true → NoCharacterStops keeps call.step call.is_terminated) → MayGoOn call old → 0xa0 ≤ b
+    → new ≡ call.step old (malformed_event (b ∷ [])) → MayGoOn call new
 unfolding malformed_event
-may_go_on-malformed keeps step {old = old} {b = b} never may_go_on high performed does =
+may_go_on-malformed keeps call {old = old} {b = b} never may_go_on high performed does =
     let printed : is_control_character b ≡ false = grind (arith, nat_tests) in
     let event : malformed_event (b ∷ []) ≡ run_event keeps replacement =
     rw printed (sym (no_control_event keeps replacement refl)) in
     rw (performed, event) (never does old replacement (may_go_on does))
 
 -- a run more
-pub advances-text : {V B : Type 0} {may_stop keeps : Bool} {step : V → Event → V} {is_terminated : V → Bool}
-    {old new : V}
-    {limit : Option ℕ} {bytes : List ℕ} {i j : ℕ} {parser : Machine B}
-    → (may_stop ≡ true → NoCharacterStops keeps step is_terminated) → MayGoOn may_stop is_terminated old
-    → i < length bytes
-    → parser.state ≡ Text Nothing → i < j → j ≤ length bytes
-    → PrintsRun keeps step old new bytes i j → Advances ⊥ may_stop step is_terminated old new limit bytes i j parser
-    parser
-advances-text {V = V} {B = B} {may_stop = may_stop} {keeps = keeps} {step = step} {is_terminated = is_terminated}
-    {old = old}
-    {new = new} {limit = limit} {bytes = bytes} {i = i} {j = j} {parser = parser}
-    never may_go_on within e in_order high prints = record {
+pub advances-text : {V B : Type 0} {call : ChunkCall V} {keeps : Bool} {old new : V} {i j : ℕ} {parser : Machine B}
+    → (call.may_stop ≡ true → NoCharacterStops keeps call.step call.is_terminated) → MayGoOn call old
+    → parser.state ≡ Text Nothing → i < j → j ≤ length call.bytes
+    → PrintsRun keeps call.step old new call.bytes i j → Advances ⊥ call old new i j parser parser
+advances-text {V = V} {call = call} {keeps = keeps} {old = old} {new = new} {i = i} {j = j} {parser = parser}
+    never may_go_on e in_order high prints = record {
       goes_on = λ value stream s. settles (settled-by parser.state (Text Nothing) e tt) (inside-next value stream s);
       settled = λ _. settled-by parser.state (Text Nothing) e tt;
       others = λ no. absurd no;
     }
   where
     run : List ℕ
-    run = take (j - i) (drop i bytes)
+    run = take (j - i) (drop i call.bytes)
 
     -- after a front of the run that isn't empty
-    inside : (value : V) (stream : List ℕ) → ProgressAt may_stop step is_terminated value old limit stream bytes i
-        (InText [])
-        → may_stop ≡ true → (k : ℕ) → i < k → k < j
-        → is_terminated (after step value (told_before limit stream bytes k)) ≡ false
+    inside : (value : V) (stream : List ℕ) → ProgressAt call value old stream i (InText []) → call.may_stop ≡ true
+        → (k : ℕ) → i < k → k < j
+        → call.is_terminated (after call.step value (told_before call.limit stream call.bytes k)) ≡ false
     inside value stream c does k past below =
-        let from : List ℕ = stream_at stream bytes i in
-        let front : List ℕ = take (k - i) (drop i bytes) in
+        let from : List ℕ = stream_at stream call.bytes i in
+        let front : List ℕ = take (k - i) (drop i call.bytes) in
         let rest : List ℕ = drop (k - i) run in
         let parts : run ≡ front ++ rest =
         sym (take-append-drop (k - i) run)
-        ∙ ap (λ x. x ++ rest) (take-take (k - i) (j - i) (drop i bytes) (omega (arith, below))) in
-        let all : added limit from front ++ added limit (from ++ front) rest ≡ map (run_event keeps) (chars run) =
-        sym (added_both limit from front rest) ∙ ap (added limit from) (sym parts)
-        ∙ added-reads limit from run (InText []) (InText []) _ c.is_after
-        (reads-text limit keeps run prints.run) refl in
-        not_stopped-told keeps step is_terminated (never does) value limit stream bytes k
-        (ap (λ es. is_terminated (after step value es)) (run-added limit stream bytes i k past)
-        ∙ ap is_terminated
-        (after-append step value (told_before limit stream bytes i) (added limit from front)
-        ∙ ap (λ v. after step v (added limit from front)) (sym c.performed))
-        ∙ not_stopped keeps step is_terminated (never does) old (added limit from front)
-        (added limit (from ++ front) rest) (chars run) all (may_go_on does))
+        ∙ ap (λ x. x ++ rest) (take-take (k - i) (j - i) (drop i call.bytes) (omega (arith, below))) in
+        let all : added call.limit from front ++ added call.limit (from ++ front) rest
+        ≡ map (run_event keeps) (chars run) =
+        sym (added_both call.limit from front rest) ∙ ap (added call.limit from) (sym parts)
+        ∙ added-reads call.limit from run (InText []) (InText []) _ c.is_after
+        (reads-text call.limit keeps run prints.run) refl in
+        not_stopped-told keeps call.step call.is_terminated (never does) value call.limit stream call.bytes k
+        (ap (λ es. call.is_terminated (after call.step value es)) (run-added call.limit stream call.bytes i k past)
+        ∙ ap call.is_terminated
+        (after-append call.step value (told_before call.limit stream call.bytes i) (added call.limit from front)
+        ∙ ap (λ v. after call.step v (added call.limit from front)) (sym c.performed))
+        ∙ not_stopped keeps call.step call.is_terminated (never does) old (added call.limit from front)
+        (added call.limit (from ++ front) rest) (chars run) all (may_go_on does))
 
-    inside-next : (value : V) (stream : List ℕ) → StandsAt may_stop step is_terminated value old limit stream bytes i
-        parser
-        → StandsInside may_stop step is_terminated value new limit stream bytes j parser
+    inside-next : (value : V) (stream : List ℕ) → StandsAt call value old stream i parser
+        → StandsInside call value new stream j parser
     inside-next value stream s =
         let here : s.place ≡ InText [] = between_characters parser s.place e s.stands in
-        let c : ProgressAt may_stop step is_terminated value old limit stream bytes i (InText []) =
-        subst (ProgressAt may_stop step is_terminated value old limit stream bytes i) here s.has_come in
+        let c : ProgressAt call value old stream i (InText []) =
+        subst (ProgressAt call value old stream i) here s.has_come in
         record {
           place = InText [];
-          stands = subst (Stands limit parser) here s.stands;
+          stands = subst (Stands call.limit parser) here s.stands;
           has_come =
               come-further in_order high (λ does _. may_go_on does) (inside value stream c)
-              (reads-text limit keeps run prints.run) prints.printed refl c;
+              (reads-text call.limit keeps run prints.run) prints.printed refl c;
         }

@@ -1,6 +1,6 @@
 -- Runs that a caller takes from its own input: bytes that lead from the parser's place back to it, so the parser
 -- needn't change, and that no further printed character or data byte follows.
-use Rattle.vte_core.proofs.Common.{◌≡◌, ℕ, zero, suc, ◌+◌, ◌-◌, ◌<◌, ◌≤◌, false, true, Bool, Option, List, [], ◌∷◌, ◌++◌, drop, length, length-take, length-drop, map, take, refl, ap, sym, subst, ◌∙◌, arith, append-nil, drop_more, slice_index, Machine, DeviceData, Text, State, Nothing, class_of, stream_at, Event, Print, Put, Reads, Stands, StandsBy, HasReadUnder, Place, InData, InText, IsAfter, IsSettled, StandsAt}
+use Rattle.vte_core.proofs.Common.{◌≡◌, ℕ, zero, suc, ◌+◌, ◌-◌, ◌<◌, ◌≤◌, false, true, Option, List, [], ◌∷◌, ◌++◌, drop, length, length-take, length-drop, map, take, refl, ap, sym, subst, ◌∙◌, arith, append-nil, drop_more, slice_index, Machine, DeviceData, Text, State, Nothing, class_of, stream_at, Event, Print, Put, Reads, Stands, StandsBy, HasReadUnder, Place, InData, InText, IsAfter, IsSettled, StandsAt, ChunkCall}
 use Rattle.vte_core.proofs.Common.{EndsRun, IsRun, chars, Unfinished, IsRange}
 use Rattle.vte_core.specs.machine.Prelude.{ArePut, AreOfKind, ComesToRun, IsOutside, IsPut, IsTaken}
 use Rattle.vte_core.specs.machine.ToRun.{HasRun, IsWholeAt, bytes_at, kind_events}
@@ -136,13 +136,12 @@ anew {limit = limit} parser begun h = record {
 
 -- ---- where a call comes
 
-module _ {V B : Type 0} {step : V → Event → V} {is_terminated : V → Bool} {old new : V} {limit : Option ℕ}
-    {bytes : List ℕ} {place : RunPlace} {before parser : Machine B} where
+module _ {V B : Type 0} {call : ChunkCall V} {old new : V} {place : RunPlace} {before parser : Machine B} where
   -- the call comes to a run
-  pub comes-to_run : HasRun limit bytes place parser → place.start < place.end → is_terminated new ≡ false
-      → ((stream : List ℕ) → HasReadUnder limit before stream
-      → StandsAt true step is_terminated old new limit stream bytes place.start parser)
-      → ComesToRun step is_terminated old new limit bytes place before parser
+  pub comes-to_run : HasRun call.limit call.bytes place parser → place.start < place.end
+      → call.is_terminated new ≡ false
+      → ((stream : List ℕ) → HasReadUnder call.limit before stream → StandsAt call old new stream place.start parser)
+      → ComesToRun call old new place before parser
   comes-to_run has some goes stands = record {
     has = has;
     stands_at = stands;
@@ -151,15 +150,13 @@ module _ {V B : Type 0} {step : V → Event → V} {is_terminated : V → Bool} 
   }
 
   -- the call ends without a run
-  pub comes-nowhere : {from : ℕ} → from ≤ length bytes → place.start ≡ from → place.end ≡ from → place.kind ≡ Empty
-      → ((stream : List ℕ) → HasReadUnder limit before stream
-      → StandsAt true step is_terminated old new limit stream bytes from parser)
-      → (from < length bytes → is_terminated new ≡ true)
-      → ComesToRun step is_terminated old new limit bytes place before parser
+  pub comes-nowhere : {from : ℕ} → from ≤ length call.bytes → place.start ≡ from → place.end ≡ from → place.kind ≡ Empty
+      → ((stream : List ℕ) → HasReadUnder call.limit before stream → StandsAt call old new stream from parser)
+      → (from < length call.bytes → call.is_terminated new ≡ true) → ComesToRun call old new place before parser
   comes-nowhere within starts ends kind stands stops = record {
     has = has-nowhere within starts ends kind;
     stands_at =
-        λ stream h. subst (λ n. StandsAt true step is_terminated old new limit stream bytes n parser) (sym starts)
+        λ stream h. subst (λ n. StandsAt call old new stream n parser) (sym starts)
         (stands stream h);
     may_go_on = λ some. absurd (omega (arith, some, starts, ends));
     stops = λ _ left. stops (omega (arith, starts, left));
@@ -225,26 +222,25 @@ stands-run {bytes = bytes} {run = run} {place = place} h starts ends taken =
     }
 
 -- a call that comes to a run, as its callers see it
-module _ {V B : Type 0} {step : V → Event → V} {is_terminated : V → Bool} {old new : V} {limit : Option ℕ}
-    {bytes : List ℕ} (run : Run) {place : RunPlace} {before parser : Machine B}
-    (c : ComesToRun step is_terminated old new limit bytes place before parser) (starts : run.start ≡ place.start)
-    (ends : run.end ≡ place.end)
-    (taken : IsTaken place.kind (bytes_at bytes place) run.taken) where
-  pub returns-run : ReturnsRun step is_terminated old new limit (HasReadUnder limit before) bytes run
-  returns-run =
+module _ {V B : Type 0} {call : ChunkCall V} {old new : V} (run : Run) {place : RunPlace} {before parser : Machine B}
+    (c : ComesToRun call old new place before parser) (starts : run.start ≡ place.start) (ends : run.end ≡ place.end)
+    (taken : IsTaken place.kind (bytes_at call.bytes place) run.taken) where
+  pub returns-run : call.may_stop ≡ true
+      → ReturnsRun call.step call.is_terminated old new call.limit (HasReadUnder call.limit before) call.bytes run
+  returns-run does =
       let these = takes-run run.taken c.has taken in
       record {
         stands = stands-run c.has starts ends taken;
         comes =
             λ stream h.
             rw starts
-            (ends-comes refl (omega (arith, c.has.range.in_order, c.has.range.within)) (c.stands_at stream h));
+            (ends-comes does (omega (arith, c.has.range.in_order, c.has.range.within)) (c.stands_at stream h));
         adds = λ stream h. rw (starts, these.are, these.events) (c.has.adds _ (ends-reads (c.stands_at stream h)));
         may_go_on = λ some. c.may_go_on (omega (arith, some, starts, ends));
         stops = λ none left. c.stops (omega (arith, none, starts, ends)) (omega (arith, left, starts));
       }
 
-  pub reads-run : (stream : List ℕ) → HasReadUnder limit before stream
-      → HasReadUnder limit parser (stream_at stream bytes run.start ++ run_bytes run)
+  pub reads-run : (stream : List ℕ) → HasReadUnder call.limit before stream
+      → HasReadUnder call.limit parser (stream_at stream call.bytes run.start ++ run_bytes run)
   reads-run stream h =
       rw (starts, (takes-run run.taken c.has taken).are) (c.has.reads _ (ends-reads (c.stands_at stream h)))

@@ -1,5 +1,5 @@
 -- How a character is completed.
-use Rattle.std.specs.Prelude.{ℕ, ◌≡◌, ◌⊎◌, ◌+◌, ◌<◌, ◌≤◌, Bool, true, List, [], ◌∷◌, ◌++◌, length, take, drop, Option}
+use Rattle.std.specs.Prelude.{ℕ, ◌≡◌, ◌⊎◌, ◌+◌, ◌<◌, ◌≤◌, true, List, [], ◌∷◌, ◌++◌, length, take, drop, Option}
 use Rattle.vte_core.specs.declared.parser.machine.Machine.{Machine}
 use Rattle.vte_core.specs.declared.parser.State.TheVariants.{Text}
 use Rattle.vte_core.specs.declared.utf8.Unfinished.{Unfinished}
@@ -8,7 +8,7 @@ use Rattle.std.specs.List.{All}
 use Rattle.vte_core.specs.EarlyStop.{told_before}
 use Rattle.vte_core.specs.Stream.{added}
 use Rattle.vte_core.specs.Event.{Event}
-use Rattle.vte_core.specs.machine.Progress.{StandsAt, StandsInside}
+use Rattle.vte_core.specs.machine.Progress.{ChunkCall, StandsAt, StandsInside}
 use Rattle.vte_core.specs.machine.Unfinished.{bytes_of}
 use Rattle.vte_core.specs.Others.{IsOther}
 use Rattle.vte_core.specs.Text.{character_event}
@@ -31,14 +31,11 @@ pub record AddsCharacter (limit : Option ℕ) (stream begun bytes : List ℕ) (i
 
 -- The call goes on to position j, in a text if bytes are left, and tells a character or none. At
 -- place i a parser would stand inside the character that `begun` begins.
-pub record Completes {V B : Type 0} (may_stop : Bool) (step : V → Event → V)
-    (is_terminated : V → Bool)
-    (old new : V) (limit : Option ℕ) (bytes : List ℕ) (i j : ℕ)
+pub record Completes {V B : Type 0} (call : ChunkCall V) (old new : V) (i j : ℕ)
     (begun : Unfinished) (next : Machine B) : Type 0 where
-  pub stands_at : (value : V) (stream : List ℕ) (parser : Machine B) → parser.state ≡ Text begun →
-      StandsInside may_stop step is_terminated value old limit stream bytes i parser
-      → StandsAt may_stop step is_terminated value new limit stream bytes j next
-  pub text : j < length bytes → next.state ≡ Text Nothing
-  pub others : (value : V) (stream : List ℕ) (parser : Machine B) → parser.state ≡ Text begun →
-      StandsInside may_stop step is_terminated value old limit stream bytes i parser
-      → AddsCharacter limit stream (bytes_of begun) bytes i j
+  pub stands_at : (value : V) (stream : List ℕ) (parser : Machine B) → parser.state ≡ Text begun
+      → StandsInside call value old stream i parser → StandsAt call value new stream j next
+  pub text : j < length call.bytes → next.state ≡ Text Nothing
+  pub others : (value : V) (stream : List ℕ) (parser : Machine B) → parser.state ≡ Text begun
+      → StandsInside call value old stream i parser
+      → AddsCharacter call.limit stream (bytes_of begun) call.bytes i j

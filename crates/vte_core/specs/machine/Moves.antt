@@ -1,11 +1,10 @@
 -- How far a state's function reads, and what it costs.
-use Rattle.std.specs.Prelude.{ℕ, ◌≡◌, ◌+◌, ◌*◌, ◌<◌, ◌≤◌, Bool, List, length, Option, Result, IfOk}
+use Rattle.std.specs.Prelude.{ℕ, ◌≡◌, ◌+◌, ◌*◌, ◌<◌, ◌≤◌, List, length, Result, IfOk}
 use Rattle.vte_core.specs.declared.scan.Looks.{Looks}
 use Rattle.vte_core.specs.declared.parser.machine.Machine.{Machine}
 use Rattle.vte_core.specs.declared.parser.refused.Refused.{Refused}
-use Rattle.vte_core.specs.Event.{Event}
 use Rattle.vte_core.specs.Looks.{looked}
-use Rattle.vte_core.specs.machine.Progress.{IsRefusedAt, IsSettled, MayGoOn}
+use Rattle.vte_core.specs.machine.Progress.{ChunkCall, IsRefusedAt, IsSettled, MayGoOn}
 
 -- The bounds of each state's function, which reads from position i to position j, and gives back no
 -- memory. It takes at least one look per byte and at most `rate`. The caller has taken `seen` of
@@ -31,8 +30,8 @@ pub record Spends (rate seen ahead : ℕ) {B : Type 0} (bytes : List ℕ) (i j :
 
 -- The bounds of a function that handles a byte at which its caller looked: no character is open
 -- afterwards, and it takes at most `most` looks.
-pub record HandlesByte (most : ℕ) {V B : Type 0} (step : V → Event → V) (old new : V)
-    (parser next : Machine B) (before after : Looks B) : Type 0 where
+pub record HandlesByte (most : ℕ) {B : Type 0} (parser next : Machine B)
+    (before after : Looks B) : Type 0 where
   pub settled : IsSettled next.state
   pub count : looked after ≤ looked before + most
   pub least : looked before ≤ looked after
@@ -50,12 +49,11 @@ pub record Costs (rate : ℕ) {Answer B : Type 0} (bytes : List ℕ) (result : R
 -- The bounds of a function that reads nothing at position i, because memory was refused. It
 -- searched for the end of the data: it took at least one look, and at most one for each byte from
 -- there on.
-pub record Refuses {V B : Type 0} (may_stop : Bool) (is_terminated : V → Bool) (value : V)
-    (limit : Option ℕ) (bytes : List ℕ) (i read : ℕ)
+pub record Refuses {V B : Type 0} (call : ChunkCall V) (value : V) (i read : ℕ)
     (parser next : Machine B) (before after : Looks B) : Type 0 where
   pub stays : read ≡ i
-  pub refused : IsRefusedAt limit next.state next.command bytes read
-  pub may_go_on : MayGoOn may_stop is_terminated value
+  pub refused : IsRefusedAt call.limit next.state next.command call.bytes read
+  pub may_go_on : MayGoOn call value
   pub searched : looked before < looked after
-  pub within : looked after + i ≤ looked before + length bytes
+  pub within : looked after + i ≤ looked before + length call.bytes
   pub memory : parser.command.capacity ≤ next.command.capacity

@@ -25,7 +25,7 @@ pub use Rattle.vte_core.specs.machine.MayRead.{MayRead, MayReadAt, MayReadByte}
 pub use Rattle.vte_core.specs.machine.Moves.{Costs, HandlesByte, Moves, Refuses, Spends}
 pub use Rattle.vte_core.specs.machine.Standing.{CountsNumbers, HoldsIntermediates, HoldsHead, HasReadUnder, KeepsIntermediates, KeepsNumbers, HoldsNumbers, Stands, StandsInHead}
 pub use Rattle.vte_core.specs.machine.Place.{AtEscape, InControlSequence, InDeviceControl, IsBetween, Place, closing_events_at}
-pub use Rattle.vte_core.specs.machine.Progress.{Advances, IsSettled, ReadsUpTo, RefusesAt, StandsAt}
+pub use Rattle.vte_core.specs.machine.Progress.{Advances, IsSettled, ReadsUpTo, RefusesAt, StandsAt, chunk_call}
 pub use Rattle.vte_core.specs.machine.Reading.{ReadsHeadUpTo, with_open_number}
 pub use Rattle.vte_core.specs.machine.Ready.{IsReady}
 pub use Rattle.vte_core.specs.machine.TextRun.{ArePrinted, IsPrinted, IsRun, IsTextRun, PrintsRun}

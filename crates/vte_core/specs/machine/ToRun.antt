@@ -1,5 +1,5 @@
 -- How far a call has come that returns a run.
-use Rattle.std.specs.Prelude.{◌≡◌, ℕ, ◌-◌, ◌<◌, Bool, true, false, List, [], ◌++◌, length, map, take, drop, Option, Result, Ok, Err, slice_index, ⊤}
+use Rattle.std.specs.Prelude.{◌≡◌, ℕ, ◌-◌, ◌<◌, true, false, List, [], ◌++◌, length, map, take, drop, Option, Result, Ok, Err, slice_index, ⊤}
 use Rattle.std.specs.Str.{chars}
 use Rattle.vte_core.specs.declared.scan.taken.RunKind.{RunKind}
 use Rattle.vte_core.specs.declared.scan.taken.RunKind.TheVariants.{OfText, OfData, Empty}
@@ -13,7 +13,7 @@ use Rattle.vte_core.specs.declared.parser.State.TheVariants.{Text, DeviceData}
 use Rattle.vte_core.specs.Class.{IsPut, class_of, is_device_data}
 use Rattle.vte_core.specs.Event.{Event, Print, Put}
 use Rattle.vte_core.specs.machine.Standing.{HasReadUnder}
-use Rattle.vte_core.specs.machine.Progress.{StandsAt}
+use Rattle.vte_core.specs.machine.Progress.{ChunkCall, StandsAt}
 use Rattle.vte_core.specs.machine.TextRun.{AreRun}
 use Rattle.vte_core.specs.machine.Scans.{IsRange}
 use Rattle.vte_core.specs.Stream.{added}
@@ -72,14 +72,14 @@ pub record HasRun {B : Type 0} (limit : Option ℕ) (bytes : List ℕ) (place : 
       → HasReadUnder limit parser (stream ++ bytes_at bytes place)
 
 -- The call came to a run, to its end or to a stop.
-pub record ComesToRun {V B : Type 0} (step : V → Event → V) (is_terminated : V → Bool) (old new : V)
-    (limit : Option ℕ) (bytes : List ℕ)
-    (place : RunPlace) (before parser : Machine B) : Type 0 where
-  pub has : HasRun limit bytes place parser
-  pub stands_at : (stream : List ℕ) → HasReadUnder limit before stream
-      → StandsAt true step is_terminated old new limit stream bytes place.start parser
-  pub may_go_on : place.start < place.end → is_terminated new ≡ false
-  pub stops : place.end ≡ place.start → place.start < length bytes → is_terminated new ≡ true
+pub record ComesToRun {V B : Type 0} (call : ChunkCall V) (old new : V) (place : RunPlace)
+    (before parser : Machine B) : Type 0 where
+  pub has : HasRun call.limit call.bytes place parser
+  pub stands_at : (stream : List ℕ) → HasReadUnder call.limit before stream
+      → StandsAt call old new stream place.start parser
+  pub may_go_on : place.start < place.end → call.is_terminated new ≡ false
+  pub stops : place.end ≡ place.start → place.start < length call.bytes
+      → call.is_terminated new ≡ true
 
 -- How many bytes a call with this result performed.
 abbrev pub start_count : Result RunPlace Refused → ℕ

@@ -1,6 +1,6 @@
 //! The bytes of a character after the first.
 ghost use Rattle.std.specs.Prelude.{◌≡◌, ◌≢◌, ◌+◌, ◌*◌, ◌<◌, ◌≤◌, false, true, [], length, slice_index};
-ghost use Rattle.vte_core.specs.machine.Prelude.{Advances, BeginsFour, BeginsThree, Completes, EndsRun, MayReadByte, Moves, NoCharacterStops, Nothing, One, Spends, Text, bytes_of, looked};
+ghost use Rattle.vte_core.specs.machine.Prelude.{Advances, BeginsFour, BeginsThree, Completes, EndsRun, MayReadByte, Moves, NoCharacterStops, Nothing, One, Spends, Text, bytes_of, chunk_call, looked};
 
 use crate::buffer::Buffer;
 use crate::parser::{Machine, State};
@@ -23,16 +23,16 @@ impl<B: Buffer> Machine<B> {
         from: usize,
         first: u8,
     ) -> usize
-        requires may_read { MayReadByte MAY_STOP P.is_terminated (P.value_of performer.old)
-            (Text Nothing) self.old input.bytes.now from first }
+        requires may_read { MayReadByte
+            (chunk_call MAY_STOP P.step P.is_terminated B.limit input.bytes.now)
+            (P.value_of performer.old) (Text Nothing) self.old from first }
         requires lead { 0xc2 ≤ first }
         requires fits { first < 0xf5 }
         requires no_stop { G.IN_RUNS ≡ true → MAY_STOP ≡ true
             → NoCharacterStops P.keeps P.step P.is_terminated }
-        ensures advances { Advances
-            ((G.IN_RUNS ≡ false) × EndsRun false input.entry.bytes.now from) MAY_STOP P.step
-            P.is_terminated (P.value_of performer.old)
-            (P.value_of performer.new) B.limit input.entry.bytes.now from result self.old self.new }
+        ensures advances { Advances ((G.IN_RUNS ≡ false) × EndsRun false input.entry.bytes.now from)
+            (chunk_call MAY_STOP P.step P.is_terminated B.limit input.entry.bytes.now)
+            (P.value_of performer.old) (P.value_of performer.new) from result self.old self.new }
         ensures text { result < length input.entry.bytes.now → self.new.state ≡ Text Nothing }
         ensures moves { Moves 5 1 input.entry.bytes.now from result self.old self.new
             looks.old looks.new }
@@ -72,12 +72,13 @@ impl<B: Buffer> Machine<B> {
         input: Input<'_, B>,
         from: usize,
     ) -> usize
-        requires may_read { MayReadByte MAY_STOP P.is_terminated (P.value_of performer.old)
-            (Text Nothing) self.old input.bytes.now from second }
+        requires may_read { MayReadByte
+            (chunk_call MAY_STOP P.step P.is_terminated B.limit input.bytes.now)
+            (P.value_of performer.old) (Text Nothing) self.old from second }
         requires lead { BeginsThree first }
-        ensures completes { Completes MAY_STOP P.step P.is_terminated (P.value_of performer.old)
-            (P.value_of performer.new) B.limit input.entry.bytes.now from result
-            (One first) self.new }
+        ensures completes { Completes
+            (chunk_call MAY_STOP P.step P.is_terminated B.limit input.entry.bytes.now)
+            (P.value_of performer.old) (P.value_of performer.new) from result (One first) self.new }
         ensures spends { Spends 2 1 2 input.entry.bytes.now from result self.old self.new
             looks.old looks.new }
     {
@@ -110,17 +111,17 @@ impl<B: Buffer> Machine<B> {
         input: Input<'_, B>,
         from: usize,
     ) -> usize
-        requires may_read { MayReadByte MAY_STOP P.is_terminated (P.value_of performer.old)
-            (Text Nothing) self.old input.bytes.now from first }
+        requires may_read { MayReadByte
+            (chunk_call MAY_STOP P.step P.is_terminated B.limit input.bytes.now)
+            (P.value_of performer.old) (Text Nothing) self.old from first }
         requires lead { BeginsFour first }
         requires within { from + 1 < length input.bytes.now }
         requires is { second ≡ slice_index input.bytes.now (from + 1) }
         requires no_stop { G.IN_RUNS ≡ true → MAY_STOP ≡ true
             → NoCharacterStops P.keeps P.step P.is_terminated }
-        ensures advances { Advances
-            ((G.IN_RUNS ≡ false) × EndsRun false input.entry.bytes.now from) MAY_STOP P.step
-            P.is_terminated (P.value_of performer.old)
-            (P.value_of performer.new) B.limit input.entry.bytes.now from result self.old self.new }
+        ensures advances { Advances ((G.IN_RUNS ≡ false) × EndsRun false input.entry.bytes.now from)
+            (chunk_call MAY_STOP P.step P.is_terminated B.limit input.entry.bytes.now)
+            (P.value_of performer.old) (P.value_of performer.new) from result self.old self.new }
         ensures text { result < length input.entry.bytes.now → self.new.state ≡ Text Nothing }
         ensures moves { Moves 5 2 input.entry.bytes.now from result self.old self.new
             looks.old looks.new }
@@ -174,8 +175,9 @@ impl<B: Buffer> Machine<B> {
     ) -> usize
         requires in_order { from ≤ length input.bytes.now }
         requires inside { bytes_of begun ≢ [] }
-        ensures completes { Completes MAY_STOP P.step P.is_terminated (P.value_of performer.old)
-            (P.value_of performer.new) B.limit input.entry.bytes.now from result begun self.new }
+        ensures completes { Completes
+            (chunk_call MAY_STOP P.step P.is_terminated B.limit input.entry.bytes.now)
+            (P.value_of performer.old) (P.value_of performer.new) from result begun self.new }
         ensures spends { Spends 2 0 2 input.entry.bytes.now from result self.old self.new
             looks.old looks.new }
     {

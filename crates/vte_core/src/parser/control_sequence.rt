@@ -1,6 +1,6 @@
 //! Control sequences.
 ghost use Rattle.std.specs.Prelude.{◌≡◌, ◌+◌, ◌<◌, ℕ, true, List, ⊤};
-ghost use Rattle.vte_core.specs.machine.Prelude.{Advances, CsiDispatch, Dispatches, HandlesByte, InControlSequence, MayRead, Moves, StandsInHead, TakesByte, class_of, is_final};
+ghost use Rattle.vte_core.specs.machine.Prelude.{Advances, CsiDispatch, Dispatches, HandlesByte, InControlSequence, MayRead, Moves, StandsInHead, TakesByte, chunk_call, class_of, is_final};
 
 use crate::buffer::Buffer;
 use crate::class::{ends_all, is_control, is_final};
@@ -27,11 +27,11 @@ impl<B: Buffer> Machine<B> {
         several: bool,
         from: usize,
     ) -> usize
-        requires { MayRead MAY_STOP P.is_terminated (P.value_of performer.old)
-            (State.ControlSequence reached) self.old input.bytes.now from }
-        ensures advances { Advances ⊤ MAY_STOP P.step P.is_terminated
-            (P.value_of performer.old)
-            (P.value_of performer.new) B.limit input.entry.bytes.now from result self.old self.new }
+        requires { MayRead (chunk_call MAY_STOP P.step P.is_terminated B.limit input.bytes.now)
+            (P.value_of performer.old) (State.ControlSequence reached) self.old from }
+        ensures advances { Advances ⊤
+            (chunk_call MAY_STOP P.step P.is_terminated B.limit input.entry.bytes.now)
+            (P.value_of performer.old) (P.value_of performer.new) from result self.old self.new }
         ensures moves { Moves 5 0 input.entry.bytes.now from result self.old self.new
             looks.old looks.new }
     {
@@ -71,11 +71,11 @@ impl<B: Buffer> Machine<B> {
         reached: HeadPart,
         from: usize,
     ) -> usize
-        requires { MayRead MAY_STOP P.is_terminated (P.value_of performer.old)
-            (State.ControlSequence reached) self.old input.bytes.now from }
-        ensures advances { Advances ⊤ MAY_STOP P.step P.is_terminated
-            (P.value_of performer.old)
-            (P.value_of performer.new) B.limit input.entry.bytes.now from result self.old self.new }
+        requires { MayRead (chunk_call MAY_STOP P.step P.is_terminated B.limit input.bytes.now)
+            (P.value_of performer.old) (State.ControlSequence reached) self.old from }
+        ensures advances { Advances ⊤
+            (chunk_call MAY_STOP P.step P.is_terminated B.limit input.entry.bytes.now)
+            (P.value_of performer.old) (P.value_of performer.new) from result self.old self.new }
         ensures moves { Moves 3 0 input.entry.bytes.now from result self.old self.new
             looks.old looks.new }
     {
@@ -113,8 +113,7 @@ impl<B: Buffer> Machine<B> {
         ensures takes { (head : List ℕ) → StandsInHead self.old.collected part head
             → TakesByte P.step (P.value_of performer.old) (P.value_of performer.new) B.limit
             (InControlSequence head) byte self.new }
-        ensures handles { HandlesByte 1 P.step (P.value_of performer.old)
-            (P.value_of performer.new) self.old self.new looks.old looks.new }
+        ensures handles { HandlesByte 1 self.old self.new looks.old looks.new }
     {
         if let HeadPart::IllShaped = part {
             self.state = State::Text(Unfinished::Nothing);

@@ -1,6 +1,6 @@
 //! Device control strings.
 ghost use Rattle.std.specs.Prelude.{◌≡◌, ℕ, true, false, List, ⊤};
-ghost use Rattle.vte_core.specs.machine.Prelude.{Advances, DeviceData, HandlesByte, InDeviceControl, MayRead, MayReadByte, Moves, StandsInHead, TakesByte, class_of, is_device_data, is_final};
+ghost use Rattle.vte_core.specs.machine.Prelude.{Advances, DeviceData, HandlesByte, InDeviceControl, MayRead, MayReadByte, Moves, StandsInHead, TakesByte, chunk_call, class_of, is_device_data, is_final};
 
 use crate::buffer::Buffer;
 use crate::class::{ends_all, is_device_data, is_final};
@@ -22,11 +22,11 @@ impl<B: Buffer> Machine<B> {
         reached: HeadPart,
         from: usize,
     ) -> usize
-        requires { MayRead MAY_STOP P.is_terminated (P.value_of performer.old)
-            (State.DeviceControl reached) self.old input.bytes.now from }
-        ensures advances { Advances ⊤ MAY_STOP P.step P.is_terminated
-            (P.value_of performer.old)
-            (P.value_of performer.new) B.limit input.entry.bytes.now from result self.old self.new }
+        requires { MayRead (chunk_call MAY_STOP P.step P.is_terminated B.limit input.bytes.now)
+            (P.value_of performer.old) (State.DeviceControl reached) self.old from }
+        ensures advances { Advances ⊤
+            (chunk_call MAY_STOP P.step P.is_terminated B.limit input.entry.bytes.now)
+            (P.value_of performer.old) (P.value_of performer.new) from result self.old self.new }
         ensures moves { Moves 5 0 input.entry.bytes.now from result self.old self.new
             looks.old looks.new }
     {
@@ -56,8 +56,7 @@ impl<B: Buffer> Machine<B> {
         ensures takes { (head : List ℕ) → StandsInHead self.old.collected part head
             → TakesByte P.step (P.value_of performer.old) (P.value_of performer.new) B.limit
             (InDeviceControl head) byte self.new }
-        ensures handles { HandlesByte 1 P.step (P.value_of performer.old)
-            (P.value_of performer.new) self.old self.new looks.old looks.new }
+        ensures handles { HandlesByte 1 self.old self.new looks.old looks.new }
     {
         if let HeadPart::IllShaped = part {
             self.state = State::IgnoredString;
@@ -77,10 +76,11 @@ impl<B: Buffer> Machine<B> {
         input: Input<'_, B>,
         from: usize,
     ) -> usize
-        requires { MayRead MAY_STOP P.is_terminated
-            (P.value_of performer.old) DeviceData self.old input.bytes.now from }
-        ensures advances { Advances ⊥ MAY_STOP P.step P.is_terminated (P.value_of performer.old)
-            (P.value_of performer.new) B.limit input.entry.bytes.now from result self.old self.new }
+        requires { MayRead (chunk_call MAY_STOP P.step P.is_terminated B.limit input.bytes.now)
+            (P.value_of performer.old) DeviceData self.old from }
+        ensures advances { Advances ⊥
+            (chunk_call MAY_STOP P.step P.is_terminated B.limit input.entry.bytes.now)
+            (P.value_of performer.old) (P.value_of performer.new) from result self.old self.new }
         ensures moves { Moves 5 0 input.entry.bytes.now from result self.old self.new
             looks.old looks.new }
     {
@@ -114,12 +114,13 @@ impl<B: Buffer> Machine<B> {
         from: usize,
         byte: u8,
     ) -> usize
-        requires may_read { MayReadByte MAY_STOP P.is_terminated
-            (P.value_of performer.old) DeviceData self.old input.bytes.now from byte }
+        requires may_read { MayReadByte
+            (chunk_call MAY_STOP P.step P.is_terminated B.limit input.bytes.now)
+            (P.value_of performer.old) DeviceData self.old from byte }
         requires other { is_device_data (class_of byte) ≡ false }
-        ensures advances { Advances ⊤ MAY_STOP P.step P.is_terminated
-            (P.value_of performer.old)
-            (P.value_of performer.new) B.limit input.entry.bytes.now from result self.old self.new }
+        ensures advances { Advances ⊤
+            (chunk_call MAY_STOP P.step P.is_terminated B.limit input.entry.bytes.now)
+            (P.value_of performer.old) (P.value_of performer.new) from result self.old self.new }
         ensures moves { Moves 5 1 input.entry.bytes.now from result self.old self.new
             looks.old looks.new }
     {

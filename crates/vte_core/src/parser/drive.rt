@@ -1,7 +1,7 @@
 //! The loop over the bytes of a call.
 ghost use Rattle.std.specs.Prelude.{◌≡◌, ◌<◌, true, List, ℕ, length, IfErr, IfOk};
-ghost use Rattle.vte_core.specs.machine.Prelude.{Advances, Costs, HasReadUnder, IsOutside, IsSettled, MayReadAt, Moves, NoCharacterStops, ReadsUpTo, Refuses, RefusesAt, Spends, StandsAt, TellsOthers};
-ghost use Rattle.vte_core.specs.machine.Prelude.{read_count};
+ghost use Rattle.vte_core.specs.machine.Prelude.{Advances, Costs, HasReadUnder, IsOutside, IsSettled, MayReadAt, Moves, NoCharacterStops, ReadsUpTo, Refuses, RefusesAt, Spends, StandsAt, TellsOthers, chunk_call};
+ghost use Rattle.vte_core.specs.machine.Prelude.{chunk_call, read_count};
 
 use crate::buffer::Buffer;
 use crate::parser::{Machine, Refused, State};
@@ -19,13 +19,13 @@ impl<B: Buffer> Machine<B> {
         requires no_stop { G.IN_RUNS ≡ true → MAY_STOP ≡ true
             → NoCharacterStops P.keeps P.step P.is_terminated }
         ensures reads { IfOk result
-            (λ read. ReadsUpTo MAY_STOP P.step P.is_terminated (P.value_of performer.old)
-            (P.value_of performer.new)
-            B.limit input.entry.bytes.now read self.old self.new) }
+            (λ read. ReadsUpTo
+            (chunk_call MAY_STOP P.step P.is_terminated B.limit input.entry.bytes.now)
+            (P.value_of performer.old) (P.value_of performer.new) read self.old self.new) }
         ensures refuses { IfErr result
-            (λ refused. RefusesAt MAY_STOP P.step P.is_terminated (P.value_of performer.old)
-            (P.value_of performer.new)
-            B.limit input.entry.bytes.now refused.read self.old self.new) }
+            (λ refused. RefusesAt
+            (chunk_call MAY_STOP P.step P.is_terminated B.limit input.entry.bytes.now)
+            (P.value_of performer.old) (P.value_of performer.new) refused.read self.old self.new) }
         ensures costs { Costs 5 input.entry.bytes.now result
             (read_count result) self.old self.new looks.old looks.new }
     {
@@ -47,9 +47,8 @@ impl<B: Buffer> Machine<B> {
         input: Input<'_, B>,
     ) -> usize
         ensures stands_at { (stream : List ℕ) → HasReadUnder B.limit self.old stream →
-            StandsAt MAY_STOP P.step P.is_terminated (P.value_of performer.old)
-            (P.value_of performer.new) B.limit stream
-            input.entry.bytes.now result self.new }
+            StandsAt (chunk_call MAY_STOP P.step P.is_terminated B.limit input.entry.bytes.now)
+            (P.value_of performer.old) (P.value_of performer.new) stream result self.new }
         ensures settled { result < length input.entry.bytes.now → IsSettled self.new.state }
         ensures spends { Spends 2 0 2 input.entry.bytes.now 0 result self.old self.new
             looks.old looks.new }
@@ -77,22 +76,23 @@ impl<B: Buffer> Machine<B> {
         input: Input<'_, B>,
         from: usize,
     ) -> Result<usize, Refused>
-        requires may_read { MayReadAt MAY_STOP P.is_terminated
-            (P.value_of performer.old) self.old.state self.old input.bytes.now from }
+        requires may_read { MayReadAt
+            (chunk_call MAY_STOP P.step P.is_terminated B.limit input.bytes.now)
+            (P.value_of performer.old) self.old.state self.old from }
         requires settled { IsSettled self.old.state }
         requires no_stop { G.IN_RUNS ≡ true → MAY_STOP ≡ true
             → NoCharacterStops P.keeps P.step P.is_terminated }
-        ensures advances { Advances (IsOutside self.old.state) MAY_STOP P.step P.is_terminated
-            (P.value_of performer.old) (P.value_of performer.new) B.limit
-            input.entry.bytes.now from (read_count result) self.old self.new }
+        ensures advances { Advances (IsOutside self.old.state)
+            (chunk_call MAY_STOP P.step P.is_terminated B.limit input.entry.bytes.now)
+            (P.value_of performer.old) (P.value_of performer.new) from (read_count result) self.old
+            self.new }
         ensures moves { IfOk result
             (λ read.
             Moves 5 0 input.entry.bytes.now from read self.old self.new looks.old looks.new) }
         ensures refuses { IfErr result
             (λ refused.
-            Refuses MAY_STOP P.is_terminated (P.value_of performer.new) B.limit
-            input.entry.bytes.now
-            from refused.read self.old self.new looks.old looks.new) }
+            Refuses (chunk_call MAY_STOP P.step P.is_terminated B.limit input.entry.bytes.now)
+            (P.value_of performer.new) from refused.read self.old self.new looks.old looks.new) }
     {
         // A comparison, because the match jumps by a table, which is hard to predict.
         if let State::Text(_) = self.state {

@@ -1,6 +1,6 @@
 //! ESC, CAN and SUB, which end whatever is open, in every state.
 ghost use Rattle.std.specs.Prelude.{◌≡◌, true, [], ◌∷◌, ⊤};
-ghost use Rattle.vte_core.specs.machine.Prelude.{Advances, Escape, HandlesByte, IsBetween, IsQuietIn, MayReadByte, Moves, TakesBytes, Place, Stands, TakesFew, after, class_of, closing_events_at, ends_all};
+ghost use Rattle.vte_core.specs.machine.Prelude.{Advances, Escape, HandlesByte, IsBetween, IsQuietIn, MayReadByte, Moves, TakesBytes, Place, Stands, TakesFew, after, chunk_call, class_of, closing_events_at, ends_all};
 
 use crate::buffer::Buffer;
 use crate::class::ESCAPE;
@@ -21,8 +21,7 @@ impl<B: Buffer> Machine<B> {
             → TakesBytes P.step (P.value_of performer.old)
             (P.value_of performer.new) B.limit place (byte ∷ []) self.new }
         ensures escape { byte ≡ 0x1b → self.new.state ≡ Escape }
-        ensures handles { HandlesByte 2 P.step (P.value_of performer.old)
-            (P.value_of performer.new) self.old self.new looks.old looks.new }
+        ensures handles { HandlesByte 2 self.old self.new looks.old looks.new }
     {
         self.report_end(looks, performer);
         if byte == ESCAPE {
@@ -43,13 +42,14 @@ impl<B: Buffer> Machine<B> {
         from: usize,
         byte: u8,
     ) -> usize
-        requires may_read { MayReadByte MAY_STOP P.is_terminated
-            (P.value_of performer.old) self.old.state self.old input.bytes.now from byte }
+        requires may_read { MayReadByte
+            (chunk_call MAY_STOP P.step P.is_terminated B.limit input.bytes.now)
+            (P.value_of performer.old) self.old.state self.old from byte }
         requires ends { ends_all (class_of byte) ≡ true }
         requires quiet { IsQuietIn self.old.state byte }
-        ensures advances { Advances ⊤ MAY_STOP P.step P.is_terminated
-            (P.value_of performer.old)
-            (P.value_of performer.new) B.limit input.entry.bytes.now from result self.old self.new }
+        ensures advances { Advances ⊤
+            (chunk_call MAY_STOP P.step P.is_terminated B.limit input.entry.bytes.now)
+            (P.value_of performer.old) (P.value_of performer.new) from result self.old self.new }
         ensures moves { Moves 3 1 input.entry.bytes.now from result self.old self.new
             looks.old looks.new }
     {

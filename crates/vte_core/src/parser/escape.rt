@@ -1,7 +1,7 @@
 //! Escape sequences, and what ESC begins.
 ghost use Rattle.std.specs.Prelude.{◌≡◌, ◌≢◌, ◌+◌, ◌*◌, ◌<◌, ◌≤◌, true, [], ◌∷◌, slice_index, ⊤};
-ghost use Rattle.vte_core.specs.machine.Prelude.{Advances, AtEscape, Dispatches, EscDispatch, Escape, EscapeIntermediate, HandlesByte, IsBetween, MayRead, MayReadAt, Moves, Nothing, TakesBytes, Place};
-ghost use Rattle.vte_core.specs.machine.Prelude.{Stands, TakesByte, Text, class_of, is_final, looked};
+ghost use Rattle.vte_core.specs.machine.Prelude.{Advances, AtEscape, Dispatches, EscDispatch, Escape, EscapeIntermediate, HandlesByte, IsBetween, MayRead, MayReadAt, Moves, Nothing, TakesBytes, Place, chunk_call};
+ghost use Rattle.vte_core.specs.machine.Prelude.{Stands, TakesByte, Text, chunk_call, class_of, is_final, looked};
 
 use crate::buffer::Buffer;
 use crate::class::{
@@ -23,12 +23,13 @@ impl<B: Buffer> Machine<B> {
         input: Input<'_, B>,
         from: usize,
     ) -> usize
-        requires may_read { MayReadAt MAY_STOP P.is_terminated (P.value_of performer.old)
-            (Text Nothing) self.old input.bytes.now from }
+        requires may_read { MayReadAt
+            (chunk_call MAY_STOP P.step P.is_terminated B.limit input.bytes.now)
+            (P.value_of performer.old) (Text Nothing) self.old from }
         requires is { slice_index input.bytes.now from ≡ 0x1b }
-        ensures advances { Advances ⊤ MAY_STOP P.step P.is_terminated
-            (P.value_of performer.old)
-            (P.value_of performer.new) B.limit input.entry.bytes.now from result self.old self.new }
+        ensures advances { Advances ⊤
+            (chunk_call MAY_STOP P.step P.is_terminated B.limit input.entry.bytes.now)
+            (P.value_of performer.old) (P.value_of performer.new) from result self.old self.new }
         ensures moves { Moves 5 1 input.entry.bytes.now from result self.old self.new
             looks.old looks.new }
         // The caller paid one look for ESC; the four others that a byte may cost are left for
@@ -63,11 +64,11 @@ impl<B: Buffer> Machine<B> {
         input: Input<'_, B>,
         from: usize,
     ) -> usize
-        requires { MayRead MAY_STOP P.is_terminated
-            (P.value_of performer.old) Escape self.old input.bytes.now from }
-        ensures advances { Advances ⊤ MAY_STOP P.step P.is_terminated
-            (P.value_of performer.old)
-            (P.value_of performer.new) B.limit input.entry.bytes.now from result self.old self.new }
+        requires { MayRead (chunk_call MAY_STOP P.step P.is_terminated B.limit input.bytes.now)
+            (P.value_of performer.old) Escape self.old from }
+        ensures advances { Advances ⊤
+            (chunk_call MAY_STOP P.step P.is_terminated B.limit input.entry.bytes.now)
+            (P.value_of performer.old) (P.value_of performer.new) from result self.old self.new }
         ensures moves { Moves 3 0 input.entry.bytes.now from result self.old self.new
             looks.old looks.new }
     {
@@ -108,8 +109,7 @@ impl<B: Buffer> Machine<B> {
             → TakesBytes P.step
             (P.value_of performer.old) (P.value_of performer.new) B.limit place
             (byte ∷ []) self.new }
-        ensures handles { HandlesByte 2 P.step (P.value_of performer.old)
-            (P.value_of performer.new) self.old self.new looks.old looks.new }
+        ensures handles { HandlesByte 2 self.old self.new looks.old looks.new }
     {
         if is_final(byte) {
             self.begin_body(looks, performer, byte);
@@ -140,8 +140,7 @@ impl<B: Buffer> Machine<B> {
         ensures takes { Stands B.limit self.old AtEscape
             → TakesByte P.step (P.value_of performer.old) (P.value_of performer.new)
             B.limit AtEscape byte self.new }
-        ensures handles { HandlesByte 1 P.step (P.value_of performer.old)
-            (P.value_of performer.new) self.old self.new looks.old looks.new }
+        ensures handles { HandlesByte 1 self.old self.new looks.old looks.new }
     {
         if byte == b'P' {
             self.collected.begin_head();
@@ -164,11 +163,11 @@ impl<B: Buffer> Machine<B> {
         input: Input<'_, B>,
         from: usize,
     ) -> usize
-        requires { MayRead MAY_STOP P.is_terminated
-            (P.value_of performer.old) EscapeIntermediate self.old input.bytes.now from }
-        ensures advances { Advances ⊤ MAY_STOP P.step P.is_terminated
-            (P.value_of performer.old)
-            (P.value_of performer.new) B.limit input.entry.bytes.now from result self.old self.new }
+        requires { MayRead (chunk_call MAY_STOP P.step P.is_terminated B.limit input.bytes.now)
+            (P.value_of performer.old) EscapeIntermediate self.old from }
+        ensures advances { Advances ⊤
+            (chunk_call MAY_STOP P.step P.is_terminated B.limit input.entry.bytes.now)
+            (P.value_of performer.old) (P.value_of performer.new) from result self.old self.new }
         ensures moves { Moves 5 0 input.entry.bytes.now from result self.old self.new
             looks.old looks.new }
     {

@@ -1,6 +1,6 @@
 //! Ignored strings: SOS, PM, APC, and device control strings with a malformed head.
 ghost use Rattle.std.specs.Prelude.{⊤};
-ghost use Rattle.vte_core.specs.machine.Prelude.{Advances, IgnoredString, MayReadAt, Moves};
+ghost use Rattle.vte_core.specs.machine.Prelude.{Advances, IgnoredString, MayReadAt, Moves, chunk_call};
 
 use crate::buffer::Buffer;
 use crate::parser::machine::Machine;
@@ -15,11 +15,11 @@ impl<B: Buffer> Machine<B> {
         input: Input<'_, B>,
         from: usize,
     ) -> usize
-        requires { MayReadAt MAY_STOP P.is_terminated
-            (P.value_of performer.old) IgnoredString self.old input.bytes.now from }
-        ensures advances { Advances ⊤ MAY_STOP P.step P.is_terminated
-            (P.value_of performer.old)
-            (P.value_of performer.new) B.limit input.entry.bytes.now from result self.old self.new }
+        requires { MayReadAt (chunk_call MAY_STOP P.step P.is_terminated B.limit input.bytes.now)
+            (P.value_of performer.old) IgnoredString self.old from }
+        ensures advances { Advances ⊤
+            (chunk_call MAY_STOP P.step P.is_terminated B.limit input.entry.bytes.now)
+            (P.value_of performer.old) (P.value_of performer.new) from result self.old self.new }
         ensures moves { Moves 5 0 input.entry.bytes.now from result self.old self.new
             looks.old looks.new }
     {

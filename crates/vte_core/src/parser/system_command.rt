@@ -1,6 +1,6 @@
 //! Operating system commands.
 ghost use Rattle.std.specs.Prelude.{IfErr, IfOk, ⊤};
-ghost use Rattle.vte_core.specs.machine.Prelude.{Advances, MayReadAt, Moves, Refuses, SystemCommand, read_count};
+ghost use Rattle.vte_core.specs.machine.Prelude.{Advances, MayReadAt, Moves, Refuses, SystemCommand, chunk_call, read_count};
 
 use crate::buffer::Buffer;
 use crate::class::ends_all;
@@ -19,19 +19,19 @@ impl<B: Buffer> Machine<B> {
         input: Input<'_, B>,
         from: usize,
     ) -> Result<usize, Refused>
-        requires { MayReadAt MAY_STOP P.is_terminated
-            (P.value_of performer.old) SystemCommand self.old input.bytes.now from }
-        ensures advances { Advances ⊤ MAY_STOP P.step P.is_terminated
-            (P.value_of performer.old) (P.value_of performer.new) B.limit
-            input.entry.bytes.now from (read_count result) self.old self.new }
+        requires { MayReadAt (chunk_call MAY_STOP P.step P.is_terminated B.limit input.bytes.now)
+            (P.value_of performer.old) SystemCommand self.old from }
+        ensures advances { Advances ⊤
+            (chunk_call MAY_STOP P.step P.is_terminated B.limit input.entry.bytes.now)
+            (P.value_of performer.old) (P.value_of performer.new) from (read_count result) self.old
+            self.new }
         ensures moves { IfOk result
             (λ read.
             Moves 5 0 input.entry.bytes.now from read self.old self.new looks.old looks.new) }
         ensures refuses { IfErr result
             (λ refused.
-            Refuses MAY_STOP P.is_terminated (P.value_of performer.new) B.limit
-            input.entry.bytes.now
-            from refused.read self.old self.new looks.old looks.new) }
+            Refuses (chunk_call MAY_STOP P.step P.is_terminated B.limit input.entry.bytes.now)
+            (P.value_of performer.new) from refused.read self.old self.new looks.old looks.new) }
     {
         let end = looks.find_command_data_end(input, from);
         if !self.command.make_room(end - from) {

@@ -1,6 +1,6 @@
 //! Text: characters, runs of them, and malformed sequences.
 ghost use Rattle.std.specs.Prelude.{◌≡◌, ◌+◌, ◌*◌, ◌<◌, ◌≤◌, false, true, IfSome, length, slice_index};
-ghost use Rattle.vte_core.specs.machine.Prelude.{Advances, IsPrinted, MayReadAt, MayReadByte, Moves, NoCharacterStops, Nothing, PrintsRun, Text, looked};
+ghost use Rattle.vte_core.specs.machine.Prelude.{Advances, IsPrinted, MayReadAt, MayReadByte, Moves, NoCharacterStops, Nothing, PrintsRun, Text, chunk_call, looked};
 
 use crate::buffer::Buffer;
 use crate::class::ESCAPE;
@@ -65,13 +65,14 @@ impl<B: Buffer> Machine<B> {
         input: Input<'_, B>,
         from: usize,
     ) -> usize
-        requires may_read { MayReadAt MAY_STOP P.is_terminated (P.value_of performer.old)
-            (Text Nothing) self.old input.bytes.now from }
+        requires may_read { MayReadAt
+            (chunk_call MAY_STOP P.step P.is_terminated B.limit input.bytes.now)
+            (P.value_of performer.old) (Text Nothing) self.old from }
         requires no_stop { G.IN_RUNS ≡ true → MAY_STOP ≡ true
             → NoCharacterStops P.keeps P.step P.is_terminated }
-        ensures advances { Advances ⊥ MAY_STOP P.step P.is_terminated (P.value_of performer.old)
-            (P.value_of performer.new) B.limit
-            input.entry.bytes.now from result self.old self.new }
+        ensures advances { Advances ⊥
+            (chunk_call MAY_STOP P.step P.is_terminated B.limit input.entry.bytes.now)
+            (P.value_of performer.old) (P.value_of performer.new) from result self.old self.new }
         ensures moves { Moves 5 0 input.entry.bytes.now from result self.old self.new
             looks.old looks.new }
     {
@@ -156,14 +157,15 @@ impl<B: Buffer> Machine<B> {
         first: u8,
     ) -> usize
         requires in_runs { G.IN_RUNS ≡ true }
-        requires may_read { MayReadByte MAY_STOP P.is_terminated (P.value_of performer.old)
-            (Text Nothing) self.old input.bytes.now from first }
+        requires may_read { MayReadByte
+            (chunk_call MAY_STOP P.step P.is_terminated B.limit input.bytes.now)
+            (P.value_of performer.old) (Text Nothing) self.old from first }
         requires lead { 0xc2 ≤ first }
         requires fits { first < 0xf5 }
         requires no_stop { MAY_STOP ≡ true → NoCharacterStops P.keeps P.step P.is_terminated }
-        ensures advances { Advances ⊥ MAY_STOP P.step P.is_terminated (P.value_of performer.old)
-            (P.value_of performer.new) B.limit
-            input.entry.bytes.now from result self.old self.new }
+        ensures advances { Advances ⊥
+            (chunk_call MAY_STOP P.step P.is_terminated B.limit input.entry.bytes.now)
+            (P.value_of performer.old) (P.value_of performer.new) from result self.old self.new }
         ensures text { result < length input.entry.bytes.now → self.new.state ≡ Text Nothing }
         ensures moves { Moves 5 1 input.entry.bytes.now from result self.old self.new
             looks.old looks.new }

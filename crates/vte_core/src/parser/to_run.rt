@@ -1,7 +1,7 @@
 //! Runs of text and data in the input, for callers that take them from there.
 ghost use Rattle.std.specs.Prelude.{◌≡◌, ◌+◌, ◌*◌, ◌≤◌, true, false, ℕ, List, IfErr, IfOk, ⊤};
 ghost use Rattle.vte_core.specs.AdvanceToRun.{ReadsToRun};
-ghost use Rattle.vte_core.specs.machine.Prelude.{Advances, ComesToRun, Costs, EndsRun, HasReadUnder, MayReadAt, Moves, Nothing, RefusesAt, TellsOthers, Text, looked, place_count, start_count};
+ghost use Rattle.vte_core.specs.machine.Prelude.{Advances, ComesToRun, Costs, EndsRun, HasReadUnder, MayReadAt, Moves, Nothing, RefusesAt, TellsOthers, Text, chunk_call, looked, place_count, start_count};
 
 use crate::buffer::Buffer;
 use crate::class::ESCAPE;
@@ -52,13 +52,13 @@ impl<B: Buffer> Machine<B> {
         input: Input<'_, B>,
     ) -> Result<RunPlace, Refused>
         ensures comes { IfOk result
-            (λ place. ComesToRun P.step P.is_terminated (P.value_of performer.old)
-            (P.value_of performer.new)
-            B.limit input.entry.bytes.now place self.old self.new) }
+            (λ place. ComesToRun
+            (chunk_call true P.step P.is_terminated B.limit input.entry.bytes.now)
+            (P.value_of performer.old) (P.value_of performer.new) place self.old self.new) }
         ensures refuses { IfErr result
-            (λ refused. RefusesAt true P.step P.is_terminated (P.value_of performer.old)
-            (P.value_of performer.new)
-            B.limit input.entry.bytes.now refused.read self.old self.new) }
+            (λ refused. RefusesAt
+            (chunk_call true P.step P.is_terminated B.limit input.entry.bytes.now)
+            (P.value_of performer.old) (P.value_of performer.new) refused.read self.old self.new) }
         ensures costs { Costs 7 input.entry.bytes.now result
             (place_count result) self.old self.new looks.old looks.new }
         ensures others { (stream : List ℕ) → HasReadUnder B.limit self.old stream
@@ -105,12 +105,13 @@ impl<B: Buffer> Machine<B> {
         input: Input<'_, B>,
         from: usize,
     ) -> usize
-        requires may_read { MayReadAt true P.is_terminated (P.value_of performer.old)
-            (Text Nothing) self.old input.bytes.now from }
+        requires may_read { MayReadAt
+            (chunk_call true P.step P.is_terminated B.limit input.bytes.now)
+            (P.value_of performer.old) (Text Nothing) self.old from }
         requires other { EndsRun false input.bytes.now from }
-        ensures advances { Advances ⊤ true P.step P.is_terminated
-            (P.value_of performer.old) (P.value_of performer.new) B.limit
-            input.entry.bytes.now from result self.old self.new }
+        ensures advances { Advances ⊤
+            (chunk_call true P.step P.is_terminated B.limit input.entry.bytes.now)
+            (P.value_of performer.old) (P.value_of performer.new) from result self.old self.new }
         ensures moves { Moves 7 0 input.entry.bytes.now from result self.old self.new
             looks.old looks.new }
         ensures saves { looked looks.new + 7 * from + 4 ≤ looked looks.old + 7 * result }

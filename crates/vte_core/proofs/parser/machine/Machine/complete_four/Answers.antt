@@ -98,7 +98,7 @@ returns-then-IN_RUNS-clause-advances g c =
     let r = c.requires in
     let in_runs = sym c.IN_RUNS.ensures ∙ c.if-IN_RUNS.true in
     advances-if (λ given. absurd (false≢true (sym given.0 ∙ in_runs)))
-    (advances-text (r.no_stop in_runs) r.may_read.may_go_on r.may_read.within r.may_read.begun
+    (advances-text (r.no_stop in_runs) r.may_read.may_go_on r.may_read.begun
     (omega (arith, c.find_run_end_for-end.ensures.scans.low)) c.find_run_end_for-end.ensures.scans.high
     c.tell_text.ensures.printed)
 

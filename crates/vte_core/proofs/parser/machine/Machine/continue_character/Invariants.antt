@@ -1,13 +1,13 @@
 -- The call is inside the character that was begun, and has told nothing.
-use Rattle.vte_core.proofs.Common.{◌≡◌, not, eqb, Spends}
+use Rattle.vte_core.proofs.Common.{◌≡◌, not, eqb, Spends, chunk_call}
 use Rattle.vte_core.proofs.calls.Characters.{GoesOn}
 use Rattle.vte_core.proofs.parser.machine.Machine.continue_character.Given as goal
 
 abbrev pub invariant-loop-position : goal.invariant-loop-position
 invariant-loop-position g l = record {
-  goes : GoesOn (not (eqb g.row.MAY_STOP 0)) g.P.CountedPerform.step g.P.CountedPerform.is_terminated
-      (g.P.CountedPerform.value_of l.initial.performer) g.B.Buffer.limit
-      l.input.bytes.now l.from l.position l.fn.begun l.unfinished l.self;
+  goes : GoesOn (chunk_call (not (eqb g.row.MAY_STOP 0)) g.P.CountedPerform.step g.P.CountedPerform.is_terminated
+      g.B.Buffer.limit l.input.bytes.now) (g.P.CountedPerform.value_of l.initial.performer) l.from l.position l.fn.begun
+      l.unfinished l.self;
   same : g.P.CountedPerform.value_of l.performer ≡ g.P.CountedPerform.value_of l.initial.performer;
   spends : Spends 1 0 0 l.input.bytes.now l.from l.position l.initial.self l.self l.initial.looks l.looks;
 }

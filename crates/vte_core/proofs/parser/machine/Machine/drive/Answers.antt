@@ -11,6 +11,16 @@ loop-position-init g c =
     let f = c.finish_character-position.ensures in
     record { stands_at = f.stands_at; settled = f.settled; spends = search rules }
 
+-- The bytes that the state's function reads lead from there to where it ends.
+pub loop-position-preserved : goal.loop-position-preserved
+loop-position-preserved g c =
+    let read = c.in_ok-position.ensures.advances in
+    record {
+      stands_at = λ stream h. read.goes_on _ stream (c.loop-position.invariant.stands_at stream h);
+      settled = read.settled;
+      spends = search rules;
+    }
+
 -- A stop before a byte.
 pub returns-then-terminated-clause-reads : goal.returns-then-terminated-clause-reads
 returns-then-terminated-clause-reads g c =

@@ -1,13 +1,13 @@
 -- The call stands at this place, and no character is open there.
-use Rattle.vte_core.proofs.Common.{ℕ, ◌-◌, ◌<◌, not, eqb, List, length, Spends, HasReadUnder, IsSettled, StandsAt}
+use Rattle.vte_core.proofs.Common.{ℕ, ◌-◌, ◌<◌, not, eqb, List, length, Spends, HasReadUnder, IsSettled, StandsAt, chunk_call}
 use Rattle.vte_core.proofs.parser.machine.Machine.drive.Given as goal
 
 abbrev pub invariant-loop-position : goal.invariant-loop-position
 invariant-loop-position g l = record {
   stands_at : (stream : List ℕ) → HasReadUnder g.B.Buffer.limit l.fn.self stream
-      → StandsAt (not (eqb g.row.MAY_STOP 0)) g.P.CountedPerform.step g.P.CountedPerform.is_terminated
-      (g.P.CountedPerform.value_of l.fn.performer)
-      (g.P.CountedPerform.value_of l.performer) g.B.Buffer.limit stream l.input.bytes.now l.position l.self;
+      → StandsAt (chunk_call (not (eqb g.row.MAY_STOP 0)) g.P.CountedPerform.step g.P.CountedPerform.is_terminated
+      g.B.Buffer.limit l.input.bytes.now) (g.P.CountedPerform.value_of l.fn.performer)
+      (g.P.CountedPerform.value_of l.performer) stream l.position l.self;
   settled : l.position < length l.input.bytes.now → IsSettled l.self.state;
   spends : Spends 5 0 2 l.input.bytes.now 0 l.position l.fn.self l.self l.fn.looks l.looks;
 }

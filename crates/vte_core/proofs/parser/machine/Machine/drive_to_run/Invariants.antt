@@ -1,13 +1,13 @@
 -- As for `drive`; and what is told so far is told by no run.
-use Rattle.vte_core.proofs.Common.{ℕ, ◌-◌, ◌<◌, true, List, length, Spends, HasReadUnder, IsSettled, StandsAt, TellsOthers}
+use Rattle.vte_core.proofs.Common.{ℕ, ◌-◌, ◌<◌, true, List, length, Spends, HasReadUnder, IsSettled, StandsAt, TellsOthers, chunk_call}
 use Rattle.vte_core.proofs.parser.machine.Machine.drive_to_run.Given as goal
 
 abbrev pub invariant-loop-position : goal.invariant-loop-position
 invariant-loop-position g l = record {
   stands_at : (stream : List ℕ) → HasReadUnder g.B.Buffer.limit l.fn.self stream
-      → StandsAt true g.P.CountedPerform.step g.P.CountedPerform.is_terminated
-      (g.P.CountedPerform.value_of l.fn.performer)
-      (g.P.CountedPerform.value_of l.performer) g.B.Buffer.limit stream l.input.bytes.now l.position l.self;
+      → StandsAt
+      (chunk_call true g.P.CountedPerform.step g.P.CountedPerform.is_terminated g.B.Buffer.limit l.input.bytes.now)
+      (g.P.CountedPerform.value_of l.fn.performer) (g.P.CountedPerform.value_of l.performer) stream l.position l.self;
   settled : l.position < length l.input.bytes.now → IsSettled l.self.state;
   others : (stream : List ℕ) → HasReadUnder g.B.Buffer.limit l.fn.self stream
       → TellsOthers g.B.Buffer.limit stream l.input.bytes.now l.position;

@@ -7,6 +7,5 @@ pub returns-then-end-from-clause-advances : goal.returns-then-end-from-clause-ad
 returns-then-end-from-clause-advances g c =
     let ends = c.find_run_end_at_lead-end.ensures in
     let further : c.args.from < c.find_run_end_at_lead-end.result = omega (arith, c.if-end-from.true) in
-    advances-text
-    c.requires.no_stop c.requires.may_read.may_go_on c.requires.may_read.within c.requires.may_read.begun further
+    advances-text c.requires.no_stop c.requires.may_read.may_go_on c.requires.may_read.begun further
     ends.range.within c.tell_text.ensures.printed

@@ -1,15 +1,15 @@
 -- The call stands at this place, after ESC.
-use Rattle.vte_core.proofs.Common.{◌≡◌, not, eqb, Escape, Spends, Advances, MayGoOn}
+use Rattle.vte_core.proofs.Common.{◌≡◌, not, eqb, Escape, Spends, Advances, MayGoOn, chunk_call}
 use Rattle.vte_core.proofs.parser.machine.Machine.read_escape.Given as goal
 
 abbrev pub invariant-loop-position : goal.invariant-loop-position
 invariant-loop-position g l = record {
-  advances : Advances (Unit {0}) (not (eqb g.row.MAY_STOP 0)) g.P.CountedPerform.step g.P.CountedPerform.is_terminated
-      (g.P.CountedPerform.value_of l.initial.performer)
-      (g.P.CountedPerform.value_of l.performer) g.B.Buffer.limit l.input.bytes.now l.from l.position
+  advances : Advances (Unit {0}) (chunk_call (not (eqb g.row.MAY_STOP 0)) g.P.CountedPerform.step
+      g.P.CountedPerform.is_terminated g.B.Buffer.limit l.input.bytes.now)
+      (g.P.CountedPerform.value_of l.initial.performer) (g.P.CountedPerform.value_of l.performer) l.from l.position
       l.initial.self l.self;
-  may_go_on : MayGoOn (not (eqb g.row.MAY_STOP 0)) g.P.CountedPerform.is_terminated
-      (g.P.CountedPerform.value_of l.performer);
+  may_go_on : MayGoOn (chunk_call (not (eqb g.row.MAY_STOP 0)) g.P.CountedPerform.step g.P.CountedPerform.is_terminated
+      g.B.Buffer.limit l.input.bytes.now) (g.P.CountedPerform.value_of l.performer);
   begun : l.self.state ≡ Escape;
   spends : Spends 1 0 0 l.input.bytes.now l.from l.position l.initial.self l.self l.initial.looks l.looks;
 }

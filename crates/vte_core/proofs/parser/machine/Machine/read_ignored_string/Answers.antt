@@ -1,5 +1,5 @@
 -- Bytes of an ignored string lead back to it, one by one (`advances-by`); then it ends, or the bytes do.
-use Rattle.vte_core.proofs.Common.{◌≡◌, ℕ, zero, suc, ◌+◌, ◌-◌, ◌≤◌, Bool, Option, List, [], length, refl, arith, slice_index, Machine, IgnoredString, Event, Advances, MayGoOn, AreIgnored, InIgnoredString}
+use Rattle.vte_core.proofs.Common.{◌≡◌, ℕ, zero, suc, ◌+◌, ◌-◌, ◌≤◌, [], length, refl, arith, slice_index, Machine, IgnoredString, Advances, MayGoOn, AreIgnored, InIgnoredString, ChunkCall}
 use Rattle.vte_core.proofs.bytes.ClassCases.{ends_not_cancel}
 use Rattle.vte_core.proofs.calls.Arms.{advances-in, in_ignored, taken}
 use Rattle.vte_core.proofs.calls.Ends.{settled-by}
@@ -9,28 +9,24 @@ use Rattle.vte_core.proofs.places.PlaceLeads.{ignored-more}
 use Rattle.vte_core.proofs.parser.machine.Machine.read_ignored_string.Goals as goal
 
 -- n ignored bytes
-advances-by : {quiet V B : Type 0} {may_stop : Bool} {step : V → Event → V} {is_terminated : V → Bool} {value : V}
-    {limit : Option ℕ} {bytes : List ℕ} {parser : Machine B} (n i : ℕ)
-    → parser.state ≡ IgnoredString → i + n ≤ length bytes → AreIgnored bytes i (i + n)
-    → MayGoOn may_stop is_terminated value
-    → Advances quiet may_stop step is_terminated value value limit bytes i (i + n) parser parser
+advances-by : {quiet V B : Type 0} {call : ChunkCall V} {value : V} {parser : Machine B} (n i : ℕ)
+    → parser.state ≡ IgnoredString → i + n ≤ length call.bytes → AreIgnored call.bytes i (i + n) → MayGoOn call value
+    → Advances quiet call value value i (i + n) parser parser
 advances-by zero i begun within are may_go_on =
     advances-moved (omega arith) (advances-nothing (λ _. settled-by _ _ begun tt))
-advances-by {bytes = bytes} {parser = parser} (suc n) i begun within are may_go_on =
+advances-by {call = call} {parser = parser} (suc n) i begun within are may_go_on =
     let ordinary = are i (omega arith) (omega arith) in
     advances-moved (omega arith) (advances-then
     (advances-when tt (advances-in begun (omega (arith, within)) refl may_go_on ordinary
     (in_ignored parser
     (taken [] InIgnoredString refl (stands-by begun tt)
-    (ignored-more _ (slice_index bytes i) (ends_not_cancel _ ordinary)))) (settled-by _ _ begun tt)))
+    (ignored-more _ (slice_index call.bytes i) (ends_not_cancel _ ordinary)))) (settled-by _ _ begun tt)))
     (advances-by n (i + 1) begun (omega (arith, within))
     (λ k low high. are k (omega (arith, low)) (omega (arith, high))) may_go_on))
 
-advances-ignored : {quiet V B : Type 0} {may_stop : Bool} {step : V → Event → V} {is_terminated : V → Bool} {value : V}
-    {limit : Option ℕ} {bytes : List ℕ} {i j : ℕ} {parser : Machine B}
-    → parser.state ≡ IgnoredString → i ≤ j → j ≤ length bytes → AreIgnored bytes i j
-    → MayGoOn may_stop is_terminated value
-    → Advances quiet may_stop step is_terminated value value limit bytes i j parser parser
+advances-ignored : {quiet V B : Type 0} {call : ChunkCall V} {value : V} {i j : ℕ} {parser : Machine B}
+    → parser.state ≡ IgnoredString → i ≤ j → j ≤ length call.bytes → AreIgnored call.bytes i j → MayGoOn call value
+    → Advances quiet call value value i j parser parser
 advances-ignored {i = i} {j = j} begun low high are may_go_on =
     advances-moved (omega (arith, low))
     (advances-by (j - i) i begun (omega (arith, low, high))

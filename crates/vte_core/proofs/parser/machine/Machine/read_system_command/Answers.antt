@@ -16,7 +16,7 @@ pub returns-in-None-clause-advances : goal.returns-in-None-clause-advances
 returns-in-None-clause-advances g c =
     let r = c.requires in
     let found = c.find_command_data_end-end.ensures in
-    advances-items r.within r.begun refl found.low found.high
+    advances-items r.begun refl found.low found.high
     (λ k low high. (found.are k low high).0) r.may_go_on r.begun
     (λ items k. c.push_data.ensures.keeps items (keeps-same _ _ _ items c.make_room.ensures.same k))
 
@@ -26,7 +26,7 @@ returns-then-ends_all-clause-advances g c =
     let r = c.requires in
     let found = c.find_command_data_end-end.ensures in
     advances-then
-    (advances-items r.within r.begun refl found.low found.high
+    (advances-items r.begun refl found.low found.high
     (λ k low high. (found.are k low high).0) r.may_go_on r.begun
     (λ items k. c.push_data.ensures.keeps items (keeps-same _ _ _ items c.make_room.ensures.same k)))
     c.read_end.ensures.advances
@@ -46,7 +46,7 @@ returns-clause-advances g c =
     let ordinary = sym c.ends_all.ensures ∙ c.if-ends_all.false in
     let no_data : IsCommandData byte → ⊥ = λ d. found.ended within (rw here.1 at d) in
     advances-then
-    (advances-items {next = after_data} r.within begun refl found.low found.high
+    (advances-items {next = after_data} begun refl found.low found.high
     (λ k low high. (found.are k low high).0) r.may_go_on begun
     (λ items k. c.push_data.ensures.keeps items (keeps-same _ _ _ items c.make_room.ensures.same k)))
     (elim c.if-byte-eq59.branch [

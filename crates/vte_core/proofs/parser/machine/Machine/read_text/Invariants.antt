@@ -1,15 +1,19 @@
 -- The call stands at this place, between characters if bytes are left. A byte of text has three looks at most, and one
 -- more if it is searched; one of a text in runs, which is not searched, has five.
-use Rattle.vte_core.proofs.Common.{◌≡◌, ◌+◌, ◌-◌, ◌*◌, ◌<◌, ◌≤◌, ℕ, not, eqb, true, false, length, slice_index, Text, Nothing, looked, Advances, MayGoOn}
+use Rattle.vte_core.proofs.Common.{◌≡◌, ◌+◌, ◌-◌, ◌*◌, ◌<◌, ◌≤◌, ℕ, not, eqb, true, false, List, length, slice_index, Text, Nothing, looked, Advances, MayGoOn, ChunkCall, chunk_call}
 use Rattle.vte_core.proofs.parser.machine.Machine.read_text.Given as goal
+
+-- the call that reads these bytes
+abbrev pub this : (g : goal.Over) → List ℕ → ChunkCall g.P.CountedPerform.Value
+this g bytes =
+    chunk_call (not (eqb g.row.MAY_STOP 0)) g.P.CountedPerform.step g.P.CountedPerform.is_terminated
+    g.B.Buffer.limit bytes
 
 abbrev pub invariant-loop-position-2 : goal.invariant-loop-position-2
 invariant-loop-position-2 g l = record {
-  advances : Advances ⊥ (not (eqb g.row.MAY_STOP 0)) g.P.CountedPerform.step g.P.CountedPerform.is_terminated
-      (g.P.CountedPerform.value_of l.fn.performer)
-      (g.P.CountedPerform.value_of l.performer) g.B.Buffer.limit l.input.bytes.now l.from l.position l.fn.self l.self;
-  may_go_on : MayGoOn (not (eqb g.row.MAY_STOP 0)) g.P.CountedPerform.is_terminated
-      (g.P.CountedPerform.value_of l.performer);
+  advances : Advances ⊥ (this g l.input.bytes.now) (g.P.CountedPerform.value_of l.fn.performer)
+      (g.P.CountedPerform.value_of l.performer) l.from l.position l.fn.self l.self;
+  may_go_on : MayGoOn (this g l.input.bytes.now) (g.P.CountedPerform.value_of l.performer);
   between : l.position < length l.input.bytes.now → l.self.state ≡ Text Nothing;
   low : l.from ≤ l.position;
   high : l.position ≤ length l.input.bytes.now;
@@ -31,11 +35,9 @@ decreases-loop-position-2 g l = length l.front.bytes.now - l.position
 
 abbrev pub invariant-loop-position : goal.invariant-loop-position
 invariant-loop-position g l = record {
-  advances : Advances ⊥ (not (eqb g.row.MAY_STOP 0)) g.P.CountedPerform.step g.P.CountedPerform.is_terminated
-      (g.P.CountedPerform.value_of l.fn.performer)
-      (g.P.CountedPerform.value_of l.performer) g.B.Buffer.limit l.input.bytes.now l.from l.position l.fn.self l.self;
-  may_go_on : MayGoOn (not (eqb g.row.MAY_STOP 0)) g.P.CountedPerform.is_terminated
-      (g.P.CountedPerform.value_of l.performer);
+  advances : Advances ⊥ (this g l.input.bytes.now) (g.P.CountedPerform.value_of l.fn.performer)
+      (g.P.CountedPerform.value_of l.performer) l.from l.position l.fn.self l.self;
+  may_go_on : MayGoOn (this g l.input.bytes.now) (g.P.CountedPerform.value_of l.performer);
   between : l.position < length l.input.bytes.now → l.self.state ≡ Text Nothing;
   low : l.from ≤ l.position;
   high : l.position ≤ length l.input.bytes.now;

@@ -1,15 +1,17 @@
 -- The call stands before this byte, which neither is printed nor begins a longer character, and has told no run.
-use Rattle.vte_core.proofs.Common.{◌≡◌, ◌+◌, ◌-◌, ◌≤◌, true, false, is_in, from_to, length, Text, Nothing, Advances, looked, Spends}
+use Rattle.vte_core.proofs.Common.{◌≡◌, ◌+◌, ◌-◌, ◌≤◌, true, false, is_in, from_to, length, Text, Nothing, Advances, looked, Spends, chunk_call}
 use Rattle.vte_core.specs.machine.Prelude.{MayReadByte}
 use Rattle.vte_core.proofs.parser.machine.Machine.read_unprinted.Given as goal
 
 abbrev pub invariant-loop-byte : goal.invariant-loop-byte
 invariant-loop-byte g l = record {
-  advances : Advances (Unit {0}) true g.P.CountedPerform.step g.P.CountedPerform.is_terminated
-      (g.P.CountedPerform.value_of l.fn.performer)
-      (g.P.CountedPerform.value_of l.performer) g.B.Buffer.limit l.input.bytes.now l.from l.position l.fn.self l.self;
-  may_read : MayReadByte true g.P.CountedPerform.is_terminated (g.P.CountedPerform.value_of l.performer)
-      (Text Nothing) l.self l.input.bytes.now l.position l.byte;
+  advances : Advances (Unit {0})
+      (chunk_call true g.P.CountedPerform.step g.P.CountedPerform.is_terminated g.B.Buffer.limit l.input.bytes.now)
+      (g.P.CountedPerform.value_of l.fn.performer) (g.P.CountedPerform.value_of l.performer) l.from l.position l.fn.self
+      l.self;
+  may_read : MayReadByte
+      (chunk_call true g.P.CountedPerform.step g.P.CountedPerform.is_terminated g.B.Buffer.limit l.input.bytes.now)
+      (g.P.CountedPerform.value_of l.performer) (Text Nothing) l.self l.position l.byte;
   other : is_in (from_to 0x20 0x7f) l.byte ≡ false;
   lone : is_in (from_to 0xc2 0xf4) l.byte ≡ false;
   spends : Spends 3 0 1 l.input.bytes.now l.from l.position l.fn.self l.self l.fn.looks l.looks;

@@ -1,7 +1,7 @@
 -- What a run of text does to a call's progress: its characters one by one do the same. By induction over the
 -- characters, and for the performer by its contract over the whole run.
 use Rattle.vte_core.proofs.Common.{cases_Bool, inl, inr, Bool, List, Option, [], ap, arith, drop, false, length, map, refl, subst, sym, take, true, ℕ, ◌++◌, ◌+◌, ◌-◌, ◌<◌, ◌∙◌, ◌∷◌, ◌≡◌, ◌≢◌, ◌≤◌, encode, false≢true, append-nil, take-append-drop, All-append, All-head, All-nil, All-tail, All, slice_index, breaks_at, stream_at, told_before, Event, Print, replacement, after, added, cut_at_escape, escape, with_bodies, events}
-use Rattle.vte_core.proofs.Common.{is_left_out, run_event, character_event, is_control_character, malformed_event, text_outcome, Text, Machine, Nothing, Reads, Stands, InText, encodes, nat_tests, outcome_from, Advances, ProgressAt, MayGoOn, StandsAt, StandsInside, chars, IsUtf8, NoCharacterStops, AreRun, IsPrinted, PrintsRun}
+use Rattle.vte_core.proofs.Common.{StaysInRun, ends_run, run_event, character_event, is_control_character, malformed_event, text_outcome, Text, Machine, Nothing, Reads, Stands, InText, encodes, nat_tests, outcome_from, Advances, ProgressAt, MayGoOn, StandsAt, StandsInside, chars, IsUtf8, NoCharacterStops, AreRun, IsPrinted, PrintsRun}
 use Rattle.std.proofs.lemmas.List.{take-take}
 use Rattle.std.proofs.lemmas.List.Elements.{All-from_get_or}
 use Rattle.std.proofs.lemmas.Str.{inside_one, encodes-chars, scalars-chars}
@@ -38,38 +38,34 @@ pub told_as_characters : (limit : Option ℕ) (text : List ℕ) → IsUtf8 text 
 told_as_characters limit text is none =
     told_by_stream limit (InText []) text (map character_event (chars text)) refl (reads-characters limit text is none)
 
--- no character of the list is a control that a run leaves out
-abbrev ArePlain : Bool → List ℕ → Type 0
-ArePlain keeps cs = All (λ c. is_left_out keeps c ≡ false) cs
-
-plain-event : (keeps : Bool) (c : ℕ) → is_left_out keeps c ≡ false → character_event c ≡ run_event keeps c
+plain-event : (keeps : Bool) (c : ℕ) → StaysInRun keeps c → character_event c ≡ run_event keeps c
 unfolding character_event
 plain-event keeps c plain = grind (arith, nat_tests, layout-is_control c)
 
-plain-events : (keeps : Bool) (cs : List ℕ) → ArePlain keeps cs → map character_event cs ≡ map (run_event keeps) cs
+plain-events : (keeps : Bool) (cs : List ℕ) → All (StaysInRun keeps) cs → map character_event cs ≡ map (run_event keeps) cs
 plain-events keeps [] plain = refl
 plain-events keeps (c ∷ cs) plain =
-    let first = plain-event keeps c (All-head (λ c. is_left_out keeps c ≡ false) c cs plain) in
-    let rest = plain-events keeps cs (All-tail (λ c. is_left_out keeps c ≡ false) c cs plain) in
+    let first = plain-event keeps c (All-head (StaysInRun keeps) c cs plain) in
+    let rest = plain-events keeps cs (All-tail (StaysInRun keeps) c cs plain) in
     cc
 
-escape-left_out : (keeps : Bool) → is_left_out keeps escape ≡ true
-escape-left_out keeps = grind arith
+escape-ends_run : (keeps : Bool) → ends_run keeps escape ≡ true
+escape-ends_run keeps = grind arith
 
 replacement-event : (keeps : Bool) → run_event keeps replacement ≡ Print replacement
 replacement-event keeps = grind arith
 
-no_escape-encode : (keeps : Bool) (c : ℕ) → is_left_out keeps c ≡ false → All (λ b. b ≢ escape) (encode c)
+no_escape-encode : (keeps : Bool) (c : ℕ) → StaysInRun keeps c → All (λ b. b ≢ escape) (encode c)
 no_escape-encode keeps c plain = All-from_get_or (λ b. b ≢ escape) (encode c) 0 (λ k l e.
     let is : c ≡ escape = inside_one c [] (encode c) k (sym (append-nil (encode c))) l (omega (arith, e)) ∙ e in
-    absurd (false≢true (sym plain ∙ ap (is_left_out keeps) is ∙ escape-left_out keeps)))
+    absurd (false≢true (sym plain ∙ ap (ends_run keeps) is ∙ escape-ends_run keeps)))
 
-no_escape-encodes : (keeps : Bool) (cs : List ℕ) → ArePlain keeps cs → All (λ b. b ≢ escape) (encodes cs)
+no_escape-encodes : (keeps : Bool) (cs : List ℕ) → All (StaysInRun keeps) cs → All (λ b. b ≢ escape) (encodes cs)
 no_escape-encodes keeps [] plain = All-nil (λ b. b ≢ escape)
 no_escape-encodes keeps (c ∷ cs) plain =
     All-append (λ b. b ≢ escape) (encode c) (encodes cs)
-    (no_escape-encode keeps c (All-head (λ c. is_left_out keeps c ≡ false) c cs plain))
-    (no_escape-encodes keeps cs (All-tail (λ c. is_left_out keeps c ≡ false) c cs plain))
+    (no_escape-encode keeps c (All-head (StaysInRun keeps) c cs plain))
+    (no_escape-encodes keeps cs (All-tail (StaysInRun keeps) c cs plain))
 
 no_escape : (keeps : Bool) (run : List ℕ) → AreRun keeps run → All (λ b. b ≢ escape) run
 no_escape keeps run are =

@@ -6,7 +6,7 @@ use Rattle.vte_core.proofs.Common.{Place, refl, malformed_event, is_truncated, i
 use Rattle.vte_core.specs.IgnoredString.{ignored_string_outcome}
 use Rattle.vte_core.specs.Key.{ControlSequence, DeviceControl, SystemCommand, IgnoredString}
 use Rattle.vte_core.specs.machine.Place.{control_sequence_from, device_control_from, escape_from, system_command_from}
-use Rattle.vte_core.proofs.bytes.ClassLemmas.{Spans, spans}
+use Rattle.vte_core.proofs.bytes.ClassLemmas.{spans}
 use Rattle.vte_core.proofs.bytes.PieceLemmas.{head_is_no_control, head_is_no_end}
 use Rattle.vte_core.proofs.shapes.PlainKeys.{is_dropped, is_dropped_in_head, below_finals}
 use Rattle.vte_core.proofs.shapes.TextLemmas.{text_lone, text_outcome-well_formed}
@@ -41,8 +41,7 @@ pub escape-intermediate : (limit : Option ℕ) (b : ℕ) → class_of b ≡ Inte
     → Leads limit AtEscape b [] (InEscape (b ∷ []))
 unfolding body_outcome executed_events escape_outcome escape_from
 escape-intermediate limit b e =
-    let s : Spans Intermediate b =
-    spans b Intermediate e in record { leads = λ rest. simp (e, below_finals b (omega arith)) }
+    let s = spans b Intermediate e in record { leads = λ rest. simp (e, below_finals b (omega arith)) }
 
 pub escape-control_sequence : (limit : Option ℕ) (b : ℕ) → class_of b ≡ Final → key_of b ≡ ControlSequence
     → Leads limit AtEscape b [] (InControlSequence [])
@@ -190,7 +189,7 @@ pub command-control : (limit : Option ℕ) (items : List ℕ) (b : ℕ) → clas
     → Leads limit (InSystemCommand items) b [] (InSystemCommand items)
 unfolding system_command_from
 command-control limit items b e other =
-    let low : Spans Control b = spans b Control e in
+    let low = spans b Control e in
     let none : nat_le 0x20 b ≡ false = grind (arith, nat_tests) in
     record { leads = λ rest. simp (e, other, none) }
 

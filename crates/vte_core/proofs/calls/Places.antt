@@ -1,5 +1,13 @@
 -- How a call comes from one place to the next, to its end, or to a stop. A stretch of bytes that leads to a place adds
 -- its events to those told so far; at starts among them a call that may stop may stop.
+--
+-- `come-nowhere`: the start of a call
+-- `come-byte`: past a byte before which the call may stop; `come-carried`: past one inside a character
+-- `come-further`: past any stretch of bytes; `come-items`: past data bytes of a command
+-- `come-between`, `come-all`, `come-broken`: where something may start, because no character is open, no byte is left,
+-- or the next byte breaks the open one; `come-command`: back from there
+-- `come-starts`: there something starts
+-- `come-to`, `come-performs`: the public clauses of a call that stops, and of one that reads all
 use Rattle.vte_core.proofs.Common.{◌≡◌, ℕ, zero, suc, ◌+◌, ◌-◌, ◌<◌, ◌≤◌, inl, inr, Bool, true, false, Option, List, [], ◌∷◌, ◌++◌, length, take, drop, refl, ap, sym, subst, ◌∙◌, append_assoc, arith, slice_index, cases_Bool, cases_lt, append-nil, drop_more, take-add, breaks, breaks_at, IsStart, told_before, stream_at, Event, Print, replacement, after, added, open_end, ProgressAt, ProgressInside, MayGoOn, Reads, Place, InText}
 use Rattle.vte_core.proofs.Common.{InSystemCommand, IsAfter, IsBetween, open_at, ComesTo}
 use Rattle.vte_core.proofs.streams.After.{after-left, after-nothing, after-open_end, after-reads, added-reads, added-nothing}
@@ -171,9 +179,9 @@ module _ {V : Type 0} {may_stop : Bool} {step : V → Event → V} {is_terminate
       → ProgressAt may_stop step is_terminated old value limit stream bytes i (InSystemCommand items)
       → ProgressAt may_stop step is_terminated old value limit stream bytes (i + n)
       (InSystemCommand (items ++ take n (drop i bytes)))
-  come-items {i = i} zero items within low may_go_on c =
+  come-items {i} zero items within low may_go_on c =
       let same : i + 0 ≡ i = omega arith in rw (append-nil items, same) c
-  come-items {i = i} (suc n) items within low may_go_on c =
+  come-items {i} (suc n) items within low may_go_on c =
       let here : i < length bytes = omega (arith, within) in
       let b : ℕ = slice_index bytes i in
       let is_item : 0x20 ≤ b = low i (omega arith) (omega arith) in
@@ -253,4 +261,4 @@ module _ {V : Type 0} {may_stop : Bool} {step : V → Event → V} {is_terminate
   pub come-performs : {value : V} {n : ℕ} {place : Place} → n ≡ length bytes
       → ProgressAt may_stop step is_terminated old value limit stream bytes n place
       → value ≡ after step old (added limit stream bytes)
-  come-performs {n = n} all c = c.performed ∙ ap (after step old) (told-all limit stream bytes n all)
+  come-performs {n} all c = c.performed ∙ ap (after step old) (told-all limit stream bytes n all)

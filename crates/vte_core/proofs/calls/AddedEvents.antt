@@ -28,13 +28,13 @@ pub came-kept : {V : Type 0} {may_stop : Bool} {step : V → Event → V} {is_te
     {limit : Option ℕ} {stream bytes : List ℕ} {i : ℕ} {given : List Event} {read : List ℕ}
     {place : Place} → HasProgress may_stop step is_terminated old value limit stream bytes i given read place
     → HasProgress false keep never [] given limit stream bytes i given read place
-came-kept {given = given} c =
+came-kept {given} c =
     record { performed = sym (after-keep [] given); is_after = c.is_after; earlier = λ does. absurd (false≢true does) }
 
 kept-is : {limit : Option ℕ} {stream bytes : List ℕ} {i : ℕ} {value given : List Event} {read : List ℕ} {place : Place}
     → HasProgress false keep never [] value limit stream bytes i given read place
     → value ≡ given
-kept-is {given = given} c = c.performed ∙ after-keep [] given
+kept-is {given} c = c.performed ∙ after-keep [] given
 
 module _ {V B : Type 0} {may_stop : Bool} {step : V → Event → V} {is_terminated : V → Bool} {old value : V}
     {limit : Option ℕ} {stream bytes : List ℕ} {i : ℕ} {parser : Machine B} where
@@ -97,7 +97,7 @@ module _ {limit : Option ℕ} {stream bytes : List ℕ} {i : ℕ} where
       → i < length bytes → b ≡ slice_index bytes i
       → IsAfter limit (stream_at stream bytes i) place → Reads limit place (b ∷ []) these next → IsPlace next
       → All IsOther these → AddsOthers limit stream bytes i (i + 1)
-  adds-reads {b = b} {place = place} {next = next} {these = these} within is a r is_place are =
+  adds-reads {b} {place} {next} {these} within is a r is_place are =
       let one : take (i + 1 - i) (drop i bytes) ≡ b ∷ [] =
       let e : i + 1 - i ≡ 1 = omega arith in rw (e, drop_more bytes i 0 within, is) refl in
       let before : List Event = told_before limit stream bytes i in
@@ -122,7 +122,7 @@ module _ {limit : Option ℕ} {stream bytes : List ℕ} {i : ℕ} where
   pub adds-quiet : {b : ℕ} {place : Place} → i < length bytes
       → b ≡ slice_index bytes i → IsAfter limit (stream_at stream bytes i) place
       → IsPlace place → IsQuiet place b → AddsOthers limit stream bytes i (i + 1)
-  adds-quiet {b = b} {place = place} within is a is_place quiet =
+  adds-quiet {b} {place} within is a is_place quiet =
       let s = steps limit place b is_place in
       adds-reads within is a s.reads s.is_place (all_others s.told (s.others quiet))
 

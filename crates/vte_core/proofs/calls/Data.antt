@@ -15,7 +15,7 @@ advances-by : {V B : Type 0} {may_stop : Bool} {step : V → Event → V} {is_te
     (i + n) parser parser
 advances-by zero i begun within are none =
     advances-moved (omega arith) (advances-nothing (λ _. settled-by _ _ begun tt))
-advances-by {bytes = bytes} {parser = parser} (suc n) i begun within are none =
+advances-by {bytes} {parser} (suc n) i begun within are none =
     let here : i < length bytes = omega (arith, within) in
     let b : ℕ = slice_index bytes i in
     let put = are i (omega arith) (omega arith) in
@@ -42,5 +42,5 @@ advances-data {may_stop = may_stop} {step = step} {is_terminated = is_terminated
 -- a byte that is put, and those after it
 pub first-put : (bytes : List ℕ) {from end b : ℕ} → b ≡ slice_index bytes from → IsPut b → ArePut bytes (from + 1) end
     → ArePut bytes from end
-first-put bytes {from = from} {end = end} is put rest =
+first-put bytes {from} {end} is put rest =
     each-both IsPut bytes from (from + 1) end (each-one IsPut bytes from (subst IsPut is put)) rest

@@ -17,7 +17,7 @@ by_settled limit _ parser _ settled s = tt
 
 pub between-settled : {B : Type 0} {limit : Option ℕ} (parser : Machine B) → IsSettled parser.state → (place : Place)
     → Stands limit parser place → IsBetween place
-between-settled {limit = limit} parser settled place s = by_settled limit parser.state parser place settled s.by
+between-settled {limit} parser settled place s = by_settled limit parser.state parser place settled s.by
 
 pub settled-by : (state other : State) → state ≡ other → IsSettled other → IsSettled state
 settled-by state other e settled = subst IsSettled (sym e) settled
@@ -102,7 +102,7 @@ module _ {V B : Type 0} {may_stop : Bool} {step : V → Event → V} {is_termina
   pub ends-reads_all : {old value : V} {stream : List ℕ} {n : ℕ} {parser : Machine B} → n ≡ length bytes
       → StandsAt may_stop step is_terminated old value limit stream bytes n parser
       → HasReadUnder limit parser (stream ++ bytes)
-  ends-reads_all {stream = stream} {n = n} {parser = parser} all s =
+  ends-reads_all {stream} {n} {parser} all s =
       subst (HasReadUnder limit parser) (stream_at-all stream bytes n all) (ends-reads s)
 
   -- ---- where the loop of a call ends: at a stop, or with all bytes read

@@ -26,14 +26,14 @@ between-then bytes i j k low high =
 
 pub reads-nothing : {bytes : List ℕ} {i : ℕ} {part : HeadPart} {held : Collected} → i ≤ length bytes
     → ReadsHead bytes i i part part held held
-reads-nothing {bytes = bytes} {i = i} {part = part} {held = held} within =
+reads-nothing {bytes} {i} {part} {held} within =
     let none : i - i ≡ 0 = omega arith in
     record { low = omega arith; high = within; are = rw none tt; stands = λ head s. rw (none, append-nil head) s }
 
 pub reads-then : {bytes : List ℕ} {i j k : ℕ} {reached part next : HeadPart} {old mid new : Collected}
     → ReadsHead bytes i j reached part old mid → ReadsHead bytes j k part next mid new
     → ReadsHead bytes i k reached next old new
-reads-then {bytes = bytes} {i = i} {j = j} {k = k} a b =
+reads-then {bytes} {i} {j} {k} a b =
     let whole = between-then bytes i j k a.low b.low in
     record {
       low = omega (arith, a.low, b.low);
@@ -48,7 +48,7 @@ pub reads-head_byte : {bytes : List ℕ} {i b : ℕ} {part next : HeadPart} {old
     → b ≡ slice_index bytes i → is_head (class_of b) ≡ true
     → ((head : List ℕ) → StandsInHead old part head → StandsInHead new next (head ++ b ∷ []))
     → ReadsHead bytes i (i + 1) part next old new
-reads-head_byte {bytes = bytes} {i = i} {b = b} within at is stands =
+reads-head_byte {bytes} {i} {b} within at is stands =
     let one : take (i + 1 - i) (drop i bytes) ≡ b ∷ [] =
     let e : i + 1 - i ≡ 1 = omega arith in rw (e, drop_more bytes i 0 within, at) refl in
     record {
@@ -87,8 +87,7 @@ pub reads-parameter : {bytes : List ℕ} {from i b : ℕ} {reached : HeadPart} {
     → ((text : List ℕ) → CountsNumbers old text → CountsNumbers new (text ++ b ∷ []))
     → ReadsHead bytes from i reached (part_after reached from i) first old
     → ReadsHead bytes from (i + 1) reached (part_after reached from (i + 1)) first new
-reads-parameter {from = from} {i = i} {b = b} {reached = reached} {old = old}
-    {new = new} may within at is keeps counts before =
+reads-parameter {from} {i} {b} {reached} {old} {new} may within at is keeps counts before =
     rw (part_after-more reached from (i + 1) (omega (arith, before.low)))
     (reads-then before (reads-head_byte within at (parameter_is_head (class_of b) is)
     (λ head s.
@@ -157,9 +156,9 @@ module _ {V : Type 0} {may_stop : Bool} {step : V → Event → V} {is_terminate
       → ProgressAt may_stop step is_terminated old value limit stream bytes i (in_head shape head)
       → ProgressAt may_stop step is_terminated old value limit stream bytes (i + n)
       (in_head shape (head ++ take n (drop i bytes)))
-  come-head {i = i} shape zero head within more may_go_on c =
+  come-head {i} shape zero head within more may_go_on c =
       let same : i + 0 ≡ i = omega arith in rw (append-nil head, same) c
-  come-head {i = i} shape (suc n) head within more may_go_on c =
+  come-head {i} shape (suc n) head within more may_go_on c =
       let here : i < length bytes = omega (arith, within) in
       let b : ℕ = slice_index bytes i in
       let cut : drop i bytes ≡ b ∷ drop (i + 1) bytes = drop_more bytes i 0 here in

@@ -63,7 +63,7 @@ module _ {V B : Type 0} {may_stop : Bool} {step : V → Event → V} {is_termina
   pub inside-open : {i : ℕ} {u : Unfinished} {parser : Machine B} → parser.state ≡ Text u
       → StandsInside may_stop step is_terminated old mid limit stream bytes i parser
       → is_open (bytes_of u) ≡ true
-  inside-open {u = u} {parser = parser} e s = (by_text limit parser u s.place (stands-in e s.stands)).begun
+  inside-open {u} {parser} e s = (by_text limit parser u s.place (stands-in e s.stands)).begun
 
   -- a byte that the character goes on with
   pub carried-more : {i b : ℕ} {u v : Unfinished} {parser next : Machine B}
@@ -138,7 +138,7 @@ module _ {V B : Type 0} {may_stop : Bool} {step : V → Event → V} {is_termina
 pub opens-text : {B : Type 0} {limit : Option ℕ} {stream : List ℕ} {u : Unfinished} (parser : Machine B)
     → parser.state ≡ Text u → bytes_of u ≢ [] → HasReadUnder limit parser stream
     → open_end stream ≡ [] → ⊥
-opens-text {limit = limit} {stream = stream} {u = u} parser e some h none =
+opens-text {limit} {stream} {u} parser e some h none =
     let t = by_text limit parser u h.place (stands-in e h.stands) in
     some
     (sym (ap open_at t.same)

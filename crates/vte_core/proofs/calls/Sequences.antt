@@ -33,7 +33,7 @@ pub performs-dropped : {V B : Type 0} {step : V → Event → V} {value : V} {li
     → ends_all (class_of b) ≡ false → is_control (class_of b) ≡ false
     → (place : Place) → Stands limit parser place → IsBetween place
     → TakesBytes step value value limit place (b ∷ []) parser
-performs-dropped {limit = limit} {b = b} {parser = parser} begun head final ordinary control =
+performs-dropped {limit} {b} {parser} begun head final ordinary control =
     let dropped = left_is_dropped (class_of b) head final ordinary control in
     performs-in begun ordinary
     (at_escape parser
@@ -48,7 +48,7 @@ pub advances-bracket : {quiet V B : Type 0} {may_stop : Bool} {step : V → Even
     → next.state ≡ ControlSequence Entry → (HoldsIntermediates parser.collected [] → HoldsHead next.collected Entry [])
     → Advances quiet may_stop step is_terminated value value limit bytes i (i + 1) parser next
 unfolding class_of key_of
-advances-bracket {limit = limit} {parser = parser} begun within is may_go_on bracket state holds =
+advances-bracket {limit} {parser} begun within is may_go_on bracket state holds =
     advances-when tt (advances-in begun within is may_go_on (rw bracket refl)
     (at_escape parser
     (λ before. taken [] (InControlSequence []) refl (stands-by state (holds before))

@@ -16,7 +16,7 @@ advances-by : {quiet V B : Type 0} {may_stop : Bool} {step : V → Event → V} 
     → Advances quiet may_stop step is_terminated value value limit bytes i (i + n) parser parser
 advances-by zero i begun within are may_go_on =
     advances-moved (omega arith) (advances-nothing (λ _. settled-by _ _ begun tt))
-advances-by {bytes = bytes} {parser = parser} (suc n) i begun within are may_go_on =
+advances-by {bytes} {parser} (suc n) i begun within are may_go_on =
     let ordinary = are i (omega arith) (omega arith) in
     advances-moved (omega arith) (advances-then
     (advances-when tt (advances-in begun (omega (arith, within)) refl may_go_on ordinary

@@ -63,7 +63,8 @@ module _ (keeps : Bool) (bytes : List ℕ) (from a : ℕ) (within : from < lengt
       ap (take (suc m)) (drop_more bytes from 0 within) ∙ ap (λ x. x ∷ later m) (sym is) in
       record { m = m; parts = parts; well = subst (λ (x : List ℕ). is_well_formed x ≡ true) parts whole }
 
-  control-ends : (c : ℕ) → is_control_character c ≡ true → (keeps ≡ true → is_layout c ≡ false) → ends_run keeps c ≡ true
+  control-ends : (c : ℕ) → is_control_character c ≡ true → (keeps ≡ true → is_layout c ≡ false)
+      → ends_run keeps c ≡ true
   control-ends c control other = by_test keeps other
     where
       by_test : (keeps : Bool) → (keeps ≡ true → is_layout c ≡ false) → ends_run keeps c ≡ true

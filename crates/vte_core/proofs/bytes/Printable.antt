@@ -1,8 +1,9 @@
 -- The text of runs: bytes of ASCII, or a character, are well-formed text whose events are theirs, and two runs one
 -- after another are a run. By induction over the bytes.
-use Rattle.vte_core.proofs.Common.{◌≡◌, ℕ, ◌+◌, ◌-◌, ◌<◌, ◌≤◌, Bool, true, false, ◌&&◌, not, List, [], ◌∷◌, ◌++◌, map, length, get_or, take, drop, refl, sym, ap, subst, ◌∙◌, arith, and_right, nat_tests, drop_more, get_or-drop, All-append, All-nil, All-cons, All, slice_index, IsAscii, chars, Print, IsPrinted, ArePrinted, AreRun, IsRun, from_to, append-nil, encode, IsScalar, after, Event, is_in}
+use Rattle.vte_core.proofs.Common.{◌≡◌, ℕ, ◌+◌, ◌-◌, ◌<◌, ◌≤◌, Bool, true, false, ◌&&◌, not, List, [], ◌∷◌, ◌++◌, map, length, get_or, take, drop, refl, sym, ap, subst, ◌∙◌, arith, and_right, nat_tests, get_or-drop, All-append, All-nil, All-cons, All, slice_index, IsAscii, chars, Print, IsPrinted, ArePrinted, AreRun, IsRun, from_to, append-nil, encode, IsScalar, after, Event, is_in}
 use Rattle.vte_core.proofs.Common.{is_control_character, is_layout, StaysInRun, run_event}
 use Rattle.std.proofs.Common.{take-add}
+use Rattle.vte_core.proofs.bytes.Between.{one_byte}
 use Rattle.std.proofs.lemmas.List.{length-take, get_or-take}
 use Rattle.std.proofs.lemmas.List.Elements.{All-from_get_or}
 use Rattle.std.proofs.lemmas.Str.Ascii.{IsAscii-cons, IsAscii-from_reads, IsAscii-nil}
@@ -95,13 +96,6 @@ no_control_event keeps c e = grind (arith, nat_tests, layout-is_control c)
 
 pub printed-is : (b : ℕ) → is_in (from_to 0x20 0x7f) b ≡ true → IsPrinted b
 printed-is b e = grind (arith, nat_tests)
-
--- a run of one byte
-one_byte : (bytes : List ℕ) (from b : ℕ) → from < length bytes → b ≡ slice_index bytes from
-    → take (from + 1 - from) (drop from bytes) ≡ b ∷ []
-one_byte bytes from b within is =
-    ap (λ n. take n (drop from bytes)) (let e : from + 1 - from ≡ 1 = omega arith in e)
-    ∙ ap (take 1) (drop_more bytes from 0 within) ∙ ap (λ x. x ∷ []) (sym is)
 
 pub chars-one : (bytes : List ℕ) (from b : ℕ) → from < length bytes → b ≡ slice_index bytes from → IsPrinted b
     → chars (take (from + 1 - from) (drop from bytes)) ≡ b ∷ []

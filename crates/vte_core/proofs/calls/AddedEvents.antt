@@ -1,6 +1,6 @@
 -- What is told from place to place. A call is followed with a performer that keeps all events; so what any performer
 -- receives is a function of the bytes, and a stretch that tells no run is known by its events.
-use Rattle.vte_core.proofs.Common.{◌≡◌, ℕ, ◌+◌, ◌-◌, ◌<◌, inl, inr, Bool, false, Option, List, [], ◌∷◌, ◌++◌, length, take, drop, refl, ap, sym, ◌∙◌, append_assoc, append-nil, arith, cases_Bool, drop_more, slice_index, false≢true, All, All-append, All-cons, All-nil, Event, Print, replacement, after, added, told_before, stream_at, breaks_at, State, Text, DeviceData, Machine, StandsBy, ProgressAt, StandsAt, StandsInside, Reads}
+use Rattle.vte_core.proofs.Common.{◌≡◌, ℕ, ◌+◌, ◌-◌, ◌<◌, inl, inr, Bool, false, Option, List, [], ◌∷◌, ◌++◌, length, take, refl, ap, sym, ◌∙◌, append_assoc, append-nil, arith, cases_Bool, slice_index, false≢true, All, All-append, All-cons, All-nil, Event, Print, replacement, after, added, told_before, stream_at, breaks_at, State, Text, DeviceData, Machine, StandsBy, ProgressAt, StandsAt, StandsInside, Reads}
 use Rattle.vte_core.proofs.Common.{Place, InText, InData, IsAfter, AddsOthers, IsOther}
 use Rattle.vte_core.specs.machine.Completes.{AddsCharacter}
 use Rattle.vte_core.specs.machine.Progress.{HasProgress}
@@ -10,6 +10,7 @@ use Rattle.vte_core.proofs.fields.PlaceOfState.{IsPlace}
 use Rattle.vte_core.proofs.places.PlaceSteps.{steps}
 use Rattle.vte_core.proofs.places.TextSteps.{AreOthers, IsQuiet}
 use Rattle.vte_core.proofs.stops.Told.{told-between, told-broken}
+use Rattle.vte_core.proofs.bytes.Between.{one_byte}
 use Rattle.vte_core.proofs.streams.After.{added-reads}
 
 -- ---- a performer that keeps all events
@@ -98,8 +99,7 @@ module _ {limit : Option ℕ} {stream bytes : List ℕ} {i : ℕ} where
       → IsAfter limit (stream_at stream bytes i) place → Reads limit place (b ∷ []) these next → IsPlace next
       → All IsOther these → AddsOthers limit stream bytes i (i + 1)
   adds-reads {b} {place} {next} {these} within is a r is_place are =
-      let one : take (i + 1 - i) (drop i bytes) ≡ b ∷ [] =
-      let e : i + 1 - i ≡ 1 = omega arith in rw (e, drop_more bytes i 0 within, is) refl in
+      let one = one_byte bytes i b within is in
       let before : List Event = told_before limit stream bytes i in
       let all : added limit stream (take (i + 1) bytes) ≡ before ++ these =
       run-added limit stream bytes i (i + 1) (omega arith)

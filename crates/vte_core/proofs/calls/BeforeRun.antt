@@ -28,7 +28,9 @@ tells-open {limit} {stream} {bytes} {j} a opened =
       others = λ none. absurd (opened none);
       opened = subst (All IsBeyondAscii) (sym all) (elim a.are [
         | inl others ↦ beyond_ascii-all a.events others
-        | inr whole ↦ subst (All IsBeyondAscii) (sym whole.same) (beyond_ascii-character _ (beyond_ascii _ whole.well whole.long))
+        | inr whole ↦
+            subst (All IsBeyondAscii) (sym whole.same)
+            (beyond_ascii-character _ (beyond_ascii _ whole.well whole.long))
       ]);
     }
 

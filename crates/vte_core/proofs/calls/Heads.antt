@@ -3,8 +3,7 @@
 use Rattle.vte_core.specs.machine.ToRun.{IsQuietIn}
 use Rattle.vte_core.proofs.Common.{◌≡◌, ℕ, zero, suc, ◌+◌, ◌-◌, ◌<◌, ◌≤◌, ◌⊎◌, inr, eqb, Option, List, [], ◌∷◌, ◌++◌, Bool, true, false, length, take, drop, refl, sym, subst, append_assoc, arith, nat_tests, append-nil, drop-drop, drop_more, take-add, slice_index, MatchOption, class_of, is_head, is_parameter_text, AreInClass, Collected, HeadPart, Entry, Parameters, Machine, State, ControlSequence, DeviceControl, Event}
 use Rattle.vte_core.proofs.Common.{Leads, CountsNumbers, KeepsIntermediates, Stands, StandsBy, StandsInHead, Place, InControlSequence, InDeviceControl, IsBetween, Advances, ProgressAt, IsSettled, MayGoOn, TakesBytes, TakesByte, ends_all, part_after, ReadsHead, Some, None, told_before, false≢true}
-use Rattle.vte_core.proofs.bytes.ClassCases.{head_ends_nothing}
-use Rattle.vte_core.proofs.bytes.PieceLemmas.{AreOf-append, parameter_is_head}
+use Rattle.vte_core.proofs.bytes.ClassCases.{head_ends_nothing, AreInClass-append, parameter_is_head}
 use Rattle.vte_core.proofs.calls.Places.{come-between, come-byte}
 use Rattle.vte_core.proofs.calls.Arms.{performs-in}
 use Rattle.vte_core.proofs.calls.Ends.{settled-by}
@@ -13,6 +12,7 @@ use Rattle.vte_core.proofs.fields.HeadSteps.{holds-parameter}
 use Rattle.vte_core.proofs.fields.PlaceOfState.{IsPlace, stands-in}
 use Rattle.vte_core.proofs.places.PlaceLeads.{control-head, device-head}
 use Rattle.vte_core.proofs.calls.AddedEvents.{adds-same, come-told, keep, came-kept, never}
+use Rattle.vte_core.proofs.bytes.Between.{one_byte}
 use Rattle.vte_core.proofs.streams.StreamLemmas.{no_escape, reads-byte}
 
 -- ---- what is collected
@@ -38,7 +38,7 @@ reads-then {bytes} {i} {j} {k} a b =
     record {
       low = omega (arith, a.low, b.low);
       high = b.high;
-      are = rw whole (AreOf-append is_head _ _ a.are b.are);
+      are = rw whole (AreInClass-append is_head _ _ a.are b.are);
       stands =
           λ head s. rw (whole, ← append_assoc head (take (j - i) (drop i bytes)) (take (k - j) (drop j bytes)))
           (b.stands _ (a.stands head s));
@@ -49,8 +49,7 @@ pub reads-head_byte : {bytes : List ℕ} {i b : ℕ} {part next : HeadPart} {old
     → ((head : List ℕ) → StandsInHead old part head → StandsInHead new next (head ++ b ∷ []))
     → ReadsHead bytes i (i + 1) part next old new
 reads-head_byte {bytes} {i} {b} within at is stands =
-    let one : take (i + 1 - i) (drop i bytes) ≡ b ∷ [] =
-    let e : i + 1 - i ≡ 1 = omega arith in rw (e, drop_more bytes i 0 within, at) refl in
+    let one = one_byte bytes i b within at in
     record {
       low = omega arith;
       high = omega (arith, within);

@@ -15,6 +15,7 @@ use Rattle.vte_core.proofs.calls.States.{reads-item}
 use Rattle.vte_core.proofs.fields.PlaceOfState.{IsPlace, open_at-between}
 use Rattle.vte_core.proofs.streams.Performing.{after-append}
 use Rattle.vte_core.proofs.stops.Told.{breaks_at-all, breaks_at-between, breaks_at-byte, no_start, starts-between, starts-broken, stream_at-between, stream_at-broken, told-all, told-between, told-broken}
+use Rattle.vte_core.proofs.bytes.Between.{one_byte}
 use Rattle.vte_core.proofs.stops.Units.{added_from, after_from, breaks_there, goes_on_from}
 
 -- ---- the bytes of a call from one place to the next
@@ -143,8 +144,7 @@ module _ {V : Type 0} {may_stop : Bool} {step : V → Event → V} {is_terminate
       → ProgressAt may_stop step is_terminated old value limit stream bytes i place
       → ProgressInside may_stop step is_terminated old new limit stream bytes (i + 1) next
   further {i = i} {b = b} {place = place} {next = next} {these = these} within is here r =
-      let one : take (i + 1 - i) (drop i bytes) ≡ b ∷ [] =
-      let e : i + 1 - i ≡ 1 = omega arith in rw (e, drop_more bytes i 0 within, is) refl in
+      let one = one_byte bytes i b within is in
       come-further (omega arith) (omega (arith, within)) here (λ does k past below. absurd (omega (arith, past, below)))
       (subst (λ x. Reads limit place x these next) (sym one) r)
 

@@ -42,7 +42,8 @@ plain-event : (keeps : Bool) (c : ℕ) → StaysInRun keeps c → character_even
 unfolding character_event
 plain-event keeps c plain = grind (arith, nat_tests, layout-is_control c)
 
-plain-events : (keeps : Bool) (cs : List ℕ) → All (StaysInRun keeps) cs → map character_event cs ≡ map (run_event keeps) cs
+plain-events : (keeps : Bool) (cs : List ℕ) → All (StaysInRun keeps) cs
+    → map character_event cs ≡ map (run_event keeps) cs
 plain-events keeps [] plain = refl
 plain-events keeps (c ∷ cs) plain =
     let first = plain-event keeps c (All-head (StaysInRun keeps) c cs plain) in

@@ -70,7 +70,8 @@ is_segment b bytes = by_rows (rows_after_byte b utf8_rows) refl
     by_rows [] same = inr (inr (
         ap (λ (rows : List (List Range)). length (b ∷ segment rows)) same
         ∙ ap (λ (n : ℕ). length (b ∷ take n bytes)) (allowed_length_none bytes)))
-    by_rows (row ∷ more) same = by_tests (row ∷ more) same _ _ refl refl (allowed_length_stands (row ∷ more) bytes (λ e. cc))
+    by_rows (row ∷ more) same =
+        by_tests (row ∷ more) same _ _ refl refl (allowed_length_stands (row ∷ more) bytes (λ e. cc))
 
 pub divided_right : (b : ℕ) (bytes : List ℕ) → IsDividedRight b bytes
 unfolding is_truncated trailing_count

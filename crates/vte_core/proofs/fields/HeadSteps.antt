@@ -3,7 +3,7 @@ use Rattle.vte_core.proofs.Common.{◌≡◌, ℕ, ◌⊎◌, inl, inr, Bool, tr
 use Rattle.vte_core.proofs.Common.{KeepsNumbers, KeepsIntermediates, StandsInHead, StaysIllShaped}
 use Rattle.vte_core.specs.machine.Ready.{IsReady}
 use Rattle.vte_core.proofs.shapes.HeadLemmas.{begins-intermediates, head_of-parts, held-parts, held-well_shaped, list_all-not}
-use Rattle.vte_core.proofs.bytes.PieceLemmas.{AreOf-append}
+use Rattle.vte_core.proofs.bytes.ClassCases.{AreInClass-append}
 
 -- the numbers that are held are those of the same text
 pub CountsNumbers-kept : (old new : Collected) (text : List ℕ) → KeepsNumbers old new → CountsNumbers old text
@@ -32,7 +32,7 @@ holds-intermediate old new part head b h e k more = record {
   shape = rw h.shape (simp append_assoc);
   is_marker = h.is_marker;
   are_parameters = h.are_parameters;
-  are_intermediates = AreOf-append is_intermediate h.intermediates (b ∷ []) h.are_intermediates (rw e refl, tt);
+  are_intermediates = AreInClass-append is_intermediate h.intermediates (b ∷ []) h.are_intermediates (rw e refl, tt);
   reaches = omega (arith, length-append {A = ℕ});
   holds = rw append_assoc at (more (h.marker ++ h.intermediates) h.holds);
   counts = CountsNumbers-kept old new h.parameters k h.counts;
@@ -60,12 +60,12 @@ holds-marker old new head b h e k more =
     }
 
 -- a byte of the parameters
-parameter-if_no_intermediate : (old new : Collected) (part : HeadPart) (head : List ℕ) (b : ℕ) (h : HoldsHead old part head)
+after_no_intermediate : (old new : Collected) (part : HeadPart) (head : List ℕ) (b : ℕ) (h : HoldsHead old part head)
     → h.intermediates ≡ []
     → is_parameter_text (class_of b) ≡ true → KeepsIntermediates old new
     → ((text : List ℕ) → CountsNumbers old text → CountsNumbers new (text ++ b ∷ []))
     → HoldsHead new Parameters (head ++ b ∷ [])
-parameter-if_no_intermediate old new part head b h none is k more =
+after_no_intermediate old new part head b h none is k more =
     let kept : HoldsIntermediates old (h.marker ++ []) = rw none at h.holds in
     record {
       marker = h.marker;
@@ -73,7 +73,7 @@ parameter-if_no_intermediate old new part head b h none is k more =
       intermediates = [];
       shape = rw (h.shape, none) (simp (append-nil, append_assoc));
       is_marker = h.is_marker;
-      are_parameters = AreOf-append is_parameter_text h.parameters (b ∷ []) h.are_parameters (is, tt);
+      are_parameters = AreInClass-append is_parameter_text h.parameters (b ∷ []) h.are_parameters (is, tt);
       are_intermediates = tt;
       reaches = (omega (arith, length-append {A = ℕ}), refl);
       holds = Holds-kept old new (h.marker ++ []) k kept;
@@ -87,10 +87,10 @@ pub holds-parameter : (old new : Collected) (part : HeadPart) (head : List ℕ) 
     → ((text : List ℕ) → CountsNumbers old text → CountsNumbers new (text ++ b ∷ []))
     → HoldsHead new Parameters (head ++ b ∷ [])
 holds-parameter old new part head b (inl e) s is k more =
-    let h : HoldsHead old Entry head = rw e at s in parameter-if_no_intermediate old new Entry head b h h.reaches.2 is k more
+    let h : HoldsHead old Entry head = rw e at s in after_no_intermediate old new Entry head b h h.reaches.2 is k more
 holds-parameter old new part head b (inr e) s is k more =
     let h : HoldsHead old Parameters head =
-    rw e at s in parameter-if_no_intermediate old new Parameters head b h h.reaches.1 is k more
+    rw e at s in after_no_intermediate old new Parameters head b h h.reaches.1 is k more
 
 -- a marker after a marker or a parameter
 malformed-marker : (old : Collected) (head : List ℕ) (b : ℕ) → HoldsHead old Parameters head → class_of b ≡ Marker

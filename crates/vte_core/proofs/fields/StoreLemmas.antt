@@ -25,9 +25,8 @@ module _ (limit : Option ℕ) (bytes ends : List ℕ) where
   pub after_byte : has_room limit (length bytes) ≡ true → (item : ℕ) → item ≢ semicolon → (more : List ℕ) →
       pieces_from limit bytes ends (item ∷ more) ≡ pieces_from limit (bytes ++ item ∷ []) ends more
   after_byte room item other more =
-      let is_byte = ne_eqb item semicolon other in
-      let kept = kept_after limit (length bytes + 1) more in
-      rw (room, is_byte, length-append bytes (item ∷ []), append_assoc bytes (item ∷ []) (filter is_data_item kept)) refl
+      let kept = filter is_data_item (kept_after limit (length bytes + 1) more) in
+      rw (room, ne_eqb item semicolon other, length-append bytes (item ∷ []), append_assoc bytes (item ∷ []) kept) refl
 
   after_end : has_room limit (length bytes) ≡ true → (more : List ℕ) →
       pieces_from limit bytes ends (semicolon ∷ more) ≡ pieces_from limit bytes (ends ++ length bytes ∷ []) more

@@ -58,7 +58,8 @@ module _ {limit : Option ℕ} {place next : Place} {b : ℕ} where
       → (IsQuiet place b → AreOthers told) → Steps limit place b
   sequenced_by other known leads =
       let none = nothing_open limit next known.1 in
-      leads_on (λ text. absurd (no_text place known.0 text)) (inl none.0) (λ _. omega (arith, none.1)) other leads none.2
+      leads_on (λ text. absurd (no_text place known.0 text)) (inl none.0) (λ _. omega (arith, none.1)) other leads
+      none.2
 
   -- by the byte's class
   sequenced : {told : List Event} {k : Class} → class_of b ≡ k → ends_all k ≡ false → Sequenced place next
@@ -72,7 +73,8 @@ module _ {limit : Option ℕ} {place next : Place} {b : ℕ} where
       → Steps limit place b
   silent is no_end known leads = sequenced is no_end known leads (λ _ _. tt) (λ _. tt)
 
-  executed : class_of b ≡ Control → Sequenced place next → Leads limit place b (Execute b ∷ []) next → Steps limit place b
+  executed : class_of b ≡ Control → Sequenced place next → Leads limit place b (Execute b ∷ []) next
+      → Steps limit place b
   executed is known leads = sequenced is refl known leads (λ _ _. executed_low b (spans b Control is)) (λ _. tt)
 
 -- ---- after ESC

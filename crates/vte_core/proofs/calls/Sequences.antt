@@ -6,7 +6,7 @@ use Rattle.vte_core.proofs.calls.Arms.{advances-in, at_escape, performs-escape, 
 use Rattle.vte_core.proofs.fields.PlaceOfState.{stands-by, stands-in}
 use Rattle.vte_core.proofs.calls.Ends.{settled-by}
 use Rattle.vte_core.proofs.calls.Stretches.{advances-byte, advances-when}
-use Rattle.vte_core.proofs.places.PlaceLeads.{byte-dropped, escape-control_sequence}
+use Rattle.vte_core.proofs.places.PlaceLeads.{byte-dropped, escape-key}
 
 again : {V B : Type 0} (step : V → Event → V) (value : V) (limit : Option ℕ) (b : ℕ) (parser : Machine B)
     (place : Place) → parser.state ≡ Escape → b ≡ 0x1b
@@ -52,4 +52,4 @@ advances-bracket {limit} {parser} begun within is may_go_on bracket state holds 
     advances-when tt (advances-in begun within is may_go_on (rw bracket refl)
     (at_escape parser
     (λ before. taken [] (InControlSequence []) refl (stands-by state (holds before))
-    (rw bracket (escape-control_sequence limit 0x5b refl refl)))) (settled-by _ _ state tt))
+    (rw bracket (escape-key limit 0x5b _ refl refl refl)))) (settled-by _ _ state tt))

@@ -5,13 +5,12 @@ use Rattle.vte_core.proofs.Common.{kept_items, data_left, left_at, breaks, open_
 use Rattle.vte_core.proofs.bytes.FirstBytes.{Tests, ascii_breaks}
 use Rattle.vte_core.proofs.stops.Told.{breaks-broken}
 use Rattle.vte_core.specs.Class.{Escape}
-use Rattle.vte_core.specs.Key.{ControlSequence, DeviceControl, SystemCommand, IgnoredString}
 use Rattle.vte_core.proofs.places.BriefLemmas.{bounded-head, executed_low, other-head, two_at_most}
 use Rattle.vte_core.proofs.shapes.CancelLemmas.{cancel, closing_brief, closing_alone_brief}
 use Rattle.vte_core.proofs.bytes.ClassCases.{ends_not_cancel}
 use Rattle.vte_core.proofs.bytes.ClassLemmas.{Spans, spans}
 use Rattle.vte_core.proofs.shapes.PlainKeys.{below_finals}
-use Rattle.vte_core.proofs.places.PlaceLeads.{escape-control, escape-intermediate, escape-end, escape-control_sequence, escape-device_control, escape-system_command, escape-ignored_string, intermediate-control, intermediate-more, intermediate-end, control-control, byte-dropped, control-head, control-dispatched, control-silent, device-dropped, device-head, device-well_shaped, device-malformed, data-put, data-dropped}
+use Rattle.vte_core.proofs.places.PlaceLeads.{escape-key, escape-intermediate, escape-end, intermediate-more, intermediate-end, byte-dropped, byte-executed, control-head, control-dispatched, control-silent, device-dropped, device-head, device-well_shaped, device-malformed, data-put, data-dropped}
 use Rattle.vte_core.proofs.places.PlaceLeads.{data-terminator, command-item, command-control, command-bell, ignored-more}
 use Rattle.vte_core.proofs.fields.PlaceOfState.{IsPlace}
 use Rattle.vte_core.proofs.fields.KeptItems.{few_pieces, pieces_push, some_pieces}
@@ -80,16 +79,13 @@ module _ {limit : Option ℕ} {place next : Place} {b : ℕ} where
 -- ---- after ESC
 
 step-final : (limit : Option ℕ) (b : ℕ) (k : Key) → class_of b ≡ Final → key_of b ≡ k → Steps limit AtEscape b
-step-final limit b ControlSequence is k = silent is refl outside (escape-control_sequence limit b is k)
-step-final limit b DeviceControl is k = silent is refl outside (escape-device_control limit b is k)
-step-final limit b SystemCommand is k = silent is refl outside (escape-system_command limit b is k)
-step-final limit b IgnoredString is k = silent is refl outside (escape-ignored_string limit b is k)
 step-final limit b Dispatch is k =
     let s = spans b Final is in
     sequenced is refl outside (escape-end limit b Final is refl k) (λ _ _. (omega arith, s.1, omega arith)) (λ _. tt)
+step-final limit b key is k = silent is refl outside (escape-key limit b key is k refl)
 
 step-escape : (limit : Option ℕ) (b : ℕ) (k : Class) → class_of b ≡ k → ends_all k ≡ false → Steps limit AtEscape b
-step-escape limit b Control is no_end = executed is outside (escape-control limit b is)
+step-escape limit b Control is no_end = executed is outside (byte-executed limit AtEscape b refl is)
 step-escape limit b Intermediate is no_end = silent is no_end outside (escape-intermediate limit b is)
 step-escape limit b Final is no_end = step-final limit b (key_of b) is refl
 step-escape limit b Delete is no_end = silent is no_end outside (byte-dropped limit AtEscape b Delete refl is refl)
@@ -105,7 +101,7 @@ step-escape limit b k is no_end =
 
 step-intermediate : (limit : Option ℕ) (ints : List ℕ) (b : ℕ) (k : Class) → class_of b ≡ k → ends_all k ≡ false
     → Steps limit (InEscape ints) b
-step-intermediate limit ints b Control is no_end = executed is outside (intermediate-control limit ints b is)
+step-intermediate limit ints b Control is no_end = executed is outside (byte-executed limit (InEscape ints) b refl is)
 step-intermediate limit ints b Intermediate is no_end = silent is no_end outside (intermediate-more limit ints b is)
 step-intermediate limit ints b Delete is no_end =
     silent is no_end outside (byte-dropped limit (InEscape ints) b Delete refl is refl)
@@ -122,7 +118,7 @@ step-intermediate limit ints b k is no_end =
 
 step-control : (limit : Option ℕ) (head : List ℕ) (b : ℕ) (k : Class) → class_of b ≡ k → ends_all k ≡ false
     → Steps limit (InControlSequence head) b
-step-control limit head b Control is no_end = executed is outside (control-control limit head b is)
+step-control limit head b Control is no_end = executed is outside (byte-executed limit (InControlSequence head) b refl is)
 step-control limit head b Final is no_end = elim (cases_Bool (is_well_shaped (head_of head))) [
   | inl well ↦
       sequenced is no_end outside (control-dispatched limit head b is well)

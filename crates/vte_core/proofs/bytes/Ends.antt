@@ -13,7 +13,7 @@ AreIn (range ∷ ranges) bytes i =
 fits-in : (ranges : List Range) (bytes : List ℕ) (i m : ℕ) → fits ranges (take m (drop i bytes)) ≡ true
     → AreIn ranges bytes i
 fits-in [] bytes i m fit = tt
-fits-in (range ∷ ranges) bytes i zero fit = absurd (let e : false ≡ true = fit in false≢true e)
+fits-in (range ∷ ranges) bytes i zero fit = absurd (false≢true fit)
 fits-in (range ∷ ranges) bytes i (suc m) fit = elim (cases_lt i (length bytes)) [
   | inl within ↦
       let both = and_parts _ _ (rw (drop_more bytes i 0 within) at fit) in
@@ -39,7 +39,7 @@ fits-one range bytes i m fit =
   where
     one : (range : Range) (bytes : List ℕ) (i m : ℕ) → i < length bytes
         → fits (range ∷ []) (take m (drop i bytes)) ≡ true → take m (drop i bytes) ≡ slice_index bytes i ∷ []
-    one range bytes i zero within fit = absurd (let e : false ≡ true = fit in false≢true e)
+    one range bytes i zero within fit = absurd (false≢true fit)
     one range bytes i (suc m) within fit =
         let cut = drop_more bytes i 0 within in
         ap (take (suc m)) cut ∙ ap (λ x. slice_index bytes i ∷ x) (fits-none _ (and_parts _ _ (rw cut at fit)).1)
@@ -57,7 +57,7 @@ module _ (keeps : Bool) (bytes : List ℕ) (from a : ℕ) (within : from < lengt
 
   begins : (n : ℕ) → is_well_formed (take n (drop from bytes)) ≡ true → Begins n
   unfolding is_well_formed utf8_rows
-  begins zero whole = absurd (let e : false ≡ true = whole in false≢true e)
+  begins zero whole = absurd (false≢true whole)
   begins (suc m) whole =
       let parts : take (suc m) (drop from bytes) ≡ a ∷ later m =
       ap (take (suc m)) (drop_more bytes from 0 within) ∙ ap (λ x. x ∷ later m) (sym is) in
@@ -159,7 +159,7 @@ module _ (keeps : Bool) (bytes : List ℕ) (from a : ℕ) (within : from < lengt
 -- with the bytes
 pub ends-all : (keeps : Bool) (bytes : List ℕ) (place : ℕ) → length bytes ≤ place → EndsRun keeps bytes place
 unfolding is_well_formed utf8_rows
-ends-all keeps bytes place all zero far whole = absurd (let e : false ≡ true = whole in false≢true e)
+ends-all keeps bytes place all zero far whole = absurd (false≢true whole)
 ends-all keeps bytes place all (suc n) far whole = absurd (omega (arith, all, far))
 
 -- ASCII that is printed begins a run

@@ -23,31 +23,31 @@ in_range range b low high = and_from _ _ (le-leb range.first b low) (le-leb b ra
 pub below_range : (range : Range) (b : ℕ) → b < range.first → is_in range b ≡ false
 below_range range b low = and_left _ _ (lt-leb range.first b low)
 
+ascends_parts : (n : ℕ) (range : Range) (ranges : List Range) (rows : List (List Range))
+    → ascends n ((range ∷ ranges) ∷ rows) ≡ true
+    → (n ≤ range.first) × (range.first ≤ range.last) × (ascends (range.last + 1) rows ≡ true)
+ascends_parts n range ranges rows up =
+    let parts = and_parts (nat_le n range.first) (nat_le range.first range.last && ascends (range.last + 1) rows) up in
+    let rest = and_parts (nat_le range.first range.last) (ascends (range.last + 1) rows) parts.1 in
+    (leb-true _ _ parts.0, leb-true _ _ rest.0, rest.1)
+
 -- rows that begin above the byte want nothing after it
 pub none_after : (n b : ℕ) (rows : List (List Range)) → ascends n rows ≡ true → b < n → rows_after_byte b rows ≡ []
 none_after n b [] up low = refl
 none_after n b ([] ∷ rows) up low = cc
 none_after n b ((range ∷ ranges) ∷ rows) up low =
-    let parts : (nat_le n range.first ≡ true)
-    × ((nat_le range.first range.last && ascends (range.last + 1) rows) ≡ true) = and_parts _ _ up in
-    let rest : (nat_le range.first range.last ≡ true) × (ascends (range.last + 1) rows ≡ true) =
-    and_parts _ _ parts.1 in
-    let above : n ≤ range.first = leb-true _ _ parts.0 in
-    let ends : range.first ≤ range.last = leb-true _ _ rest.0 in
-    let left : is_in range b ≡ false = below_range range b (omega arith) in
-    rw left (none_after (range.last + 1) b rows rest.1 (omega arith))
+    let parts = ascends_parts n range ranges rows up in
+    rw (below_range range b (omega (arith, low, parts.0)))
+    (none_after (range.last + 1) b rows parts.2 (omega (arith, low, parts.0, parts.1)))
 
 AtMostOne-after_rows : (n b : ℕ) (rows : List (List Range)) → ascends n rows ≡ true → AtMostOne (rows_after_byte b rows)
 AtMostOne-after_rows n b [] up = tt
 AtMostOne-after_rows n b ([] ∷ rows) up = cc
 AtMostOne-after_rows n b ((range ∷ ranges) ∷ rows) up =
-    let parts : (nat_le n range.first ≡ true)
-    × ((nat_le range.first range.last && ascends (range.last + 1) rows) ≡ true) = and_parts _ _ up in
-    let rest : (nat_le range.first range.last ≡ true) × (ascends (range.last + 1) rows ≡ true) =
-    and_parts _ _ parts.1 in
+    let rest = (ascends_parts n range ranges rows up).2 in
     elim (cases_Bool (is_in range b)) [
-      | inl e ↦ rw e (later (leb-true _ _ (and_parts _ _ e).1) rest.1)
-      | inr e ↦ rw e (AtMostOne-after_rows (range.last + 1) b rows rest.1)
+      | inl e ↦ rw e (later (leb-true _ _ (and_parts _ _ e).1) rest)
+      | inr e ↦ rw e (AtMostOne-after_rows (range.last + 1) b rows rest)
     ]
   where
     later : b ≤ range.last → ascends (range.last + 1) rows ≡ true → AtMostOne (ranges ∷ rows_after_byte b rows)

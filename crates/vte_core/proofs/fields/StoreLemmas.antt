@@ -1,5 +1,7 @@
 -- What a store holds: how many bytes, and which pieces. The invariant `Keeps` says what more items give, and each byte
 -- either joins the last piece, ends it, or is dropped.
+--
+-- `after_X`: the pieces if X follows; `ends-X`: where pieces end; `keeps-X`: what is kept after X (`Keeps`).
 use Rattle.vte_core.proofs.Common.{◌≡◌, ◌≢◌, ℕ, ◌+◌, ◌-◌, ◌≤◌, ◌<◌, zero, suc, true, false, List, [], ◌∷◌, ◌++◌, length, take, drop, Option, Some, None, refl, sym, ap, ◌∙◌, arith, append_assoc, length-append, length-drop, length-take, inl, inr, All, concat, filter, slice_range, drop-append-le, take-append-le, All-head, All-tail, take-nil, cases_Bool, ltb-false, ltb-true, ne_eqb, semicolon, Stored, Keeps, PiecesEnd}
 use Rattle.vte_core.proofs.Common.{cut_data, cut_pieces, ends_after, fitting, pieces_from, Bool, drops_data, has_room, is_data_item, nat_tests, kept_after, kept_items, most_pieces, pieces_of}
 use Rattle.std.proofs.Common.{append-nil}
@@ -7,7 +9,7 @@ use Rattle.std.specs.Prelude.{◌||◌, nat_lt}
 use Rattle.std.proofs.lemmas.List.Elements.{filter-append}
 use Rattle.vte_core.proofs.fields.KeptItems.{cut_at_ends}
 
-abbrev IsDataItem : ℕ → Type 0
+abbrev pub IsDataItem : ℕ → Type 0
 IsDataItem b = b ≢ semicolon
 
 -- ---- the pieces if items follow, item by item

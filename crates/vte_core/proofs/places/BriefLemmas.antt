@@ -1,6 +1,6 @@
 -- The events of one byte are small: a character, a control, or a dispatch whose intermediates and final byte have
 -- bounds. By the kind of event.
-use Rattle.vte_core.proofs.Common.{IsOther, ◌≡◌, ℕ, ◌<◌, ◌≤◌, Bool, true, false, cond, Option, List, [], ◌∷◌, ◌++◌, length, refl, arith, nat_tests, IsBounded, IsBrief, IsExecuted, IsPrintable, IsShort, IsTiny, first_two, Event, Print, Execute, Hook, CsiDispatch, replacement, Head, sequence_event, reported_intermediates, character_event, malformed_event, is_control_character, is_well_formed, scalar_of}
+use Rattle.vte_core.proofs.Common.{◌≡◌, ℕ, ◌<◌, ◌≤◌, Bool, true, false, cond, Option, List, [], ◌∷◌, ◌++◌, length, refl, arith, nat_tests, IsBounded, IsBrief, IsExecuted, IsPrintable, IsShort, IsTiny, first_two, Event, Print, Execute, Hook, CsiDispatch, replacement, Head, sequence_event, reported_intermediates, character_event, malformed_event, is_control_character, is_well_formed, scalar_of}
 use Rattle.std.proofs.lemmas.List.{length-take}
 use Rattle.vte_core.proofs.fields.Parameters.{AreGroups-groups_of, some_group}
 use Rattle.vte_core.proofs.bytes.Scalars.{well_formed_is_scalar}
@@ -53,8 +53,3 @@ tiny-both limit (e ∷ []) [] t s = short_bounded limit e t
 tiny-both limit (e ∷ []) (f ∷ []) t s = (short_bounded limit e t, s)
 tiny-both limit (e ∷ []) (f ∷ g ∷ rest) t s = absurd s
 tiny-both limit (e ∷ f ∷ front) rest t s = absurd t
-
-pub other-head : (head : Head) (final : ℕ)
-    → IsOther (sequence_event CsiDispatch head final) × IsOther (sequence_event Hook head final)
-unfolding sequence_event
-other-head head final = (tt, tt)

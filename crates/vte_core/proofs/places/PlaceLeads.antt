@@ -1,5 +1,7 @@
 -- What one byte reports after each place, and where it leads: one lemma for each kind of place and of byte, by the
 -- definition of that shape alone.
+--
+-- A lemma is named by the place and what comes there, as `escape-end` for the end of a sequence right after ESC.
 use Rattle.vte_core.proofs.Common.{◌≡◌, ℕ, ◌≤◌, true, false, eqb, Option, List, [], ◌∷◌, ◌++◌, ap, sym, append_assoc, append-nil, arith, nat_tests, Class, Control, Intermediate, Delete, Digit, Colon, Semicolon, Marker, Final, High, dispatches_escape, class_of, is_cancel, is_device_data, is_head, Dispatch, key_of, body_outcome, control_sequence_end, control_sequence_outcome, data_outcome, device_control_end, ends_command}
 use Rattle.vte_core.proofs.Common.{ends_data, device_control_outcome, escape_outcome, executed_events, first_two, are_too_many, Execute, Hook, Put, Unhook, OscDispatch, CsiDispatch, EscDispatch, head_of, is_well_shaped, sequence_event, Leads, InText, AtEscape, InEscape, InControlSequence, InDeviceControl, InData, InSystemCommand, InIgnoredString, pieces_of, bell, system_command_outcome, text_outcome, character_event, Bool}
 use Rattle.vte_core.proofs.Common.{Place, refl, malformed_event, is_truncated, is_well_formed, scalar_of, nat_le}

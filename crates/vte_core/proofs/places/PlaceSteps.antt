@@ -1,11 +1,11 @@
 -- After every place every byte reports at most two events, of which the second is short, and leads to a place
 -- (`steps`): by cases of the place and of the byte's class, each by a lemma of `PlaceLeads`.
-use Rattle.vte_core.proofs.Common.{◌≡◌, ℕ, inl, inr, false, eqb, Option, List, refl, arith, cases_Bool, nat_tests, Class, Control, Cancel, Intermediate, Final, Delete, High, class_of, ends_all, Key, Dispatch, key_of, IsBrief, Event, head_of, is_well_shaped, Leads, Place, InText, AtEscape, InEscape, InControlSequence, InDeviceControl, InData, InSystemCommand, InIgnoredString, closing_events_at, escape, bell, pieces_of}
-use Rattle.vte_core.proofs.Common.{kept_items, data_left, left_at, breaks, open_at, sym, false≢true, ◌∙◌, [], ◌∷◌, ◌++◌, Execute, is_device_data, true}
+use Rattle.vte_core.proofs.Common.{◌≡◌, ℕ, inl, inr, false, eqb, Option, List, refl, arith, cases_Bool, nat_tests, Class, Control, Cancel, Intermediate, Final, Delete, High, class_of, ends_all, Key, Dispatch, key_of, IsBrief, Event, head_of, is_well_shaped, sequence_event, Leads, Place, InText, AtEscape, InEscape, InControlSequence, InDeviceControl, InData, InSystemCommand, InIgnoredString, closing_events_at, escape, bell, pieces_of}
+use Rattle.vte_core.proofs.Common.{kept_items, data_left, left_at, breaks, open_at, sym, false≢true, ◌∙◌, [], ◌∷◌, ◌++◌, Execute}
 use Rattle.vte_core.proofs.bytes.FirstBytes.{Tests, ascii_breaks}
 use Rattle.vte_core.proofs.stops.Told.{breaks-broken}
 use Rattle.vte_core.specs.Class.{Escape}
-use Rattle.vte_core.proofs.places.BriefLemmas.{bounded-head, executed_low, other-head, two_at_most}
+use Rattle.vte_core.proofs.places.BriefLemmas.{bounded-head, executed_low, two_at_most}
 use Rattle.vte_core.proofs.shapes.CancelLemmas.{cancel, closing_brief, closing_alone_brief}
 use Rattle.vte_core.proofs.bytes.ClassCases.{ends_not_cancel}
 use Rattle.vte_core.proofs.bytes.ClassLemmas.{Spans, spans}
@@ -118,11 +118,13 @@ step-intermediate limit ints b k is no_end =
 
 step-control : (limit : Option ℕ) (head : List ℕ) (b : ℕ) (k : Class) → class_of b ≡ k → ends_all k ≡ false
     → Steps limit (InControlSequence head) b
-step-control limit head b Control is no_end = executed is outside (byte-executed limit (InControlSequence head) b refl is)
+unfolding sequence_event
+step-control limit head b Control is no_end =
+    executed is outside (byte-executed limit (InControlSequence head) b refl is)
 step-control limit head b Final is no_end = elim (cases_Bool (is_well_shaped (head_of head))) [
   | inl well ↦
       sequenced is no_end outside (control-dispatched limit head b is well)
-      (λ size _. (bounded-head size (head_of head) b (spans b Final is)).0) (λ _. (other-head (head_of head) b).0)
+      (λ size _. (bounded-head size (head_of head) b (spans b Final is)).0) (λ _. tt)
   | inr ill ↦ silent is no_end outside (control-silent limit head b is ill)
 ]
 step-control limit head b Delete is no_end =
@@ -137,11 +139,12 @@ step-control limit head b k is no_end = silent is no_end outside (control-head l
 
 step-device : (limit : Option ℕ) (head : List ℕ) (b : ℕ) (k : Class) → class_of b ≡ k → ends_all k ≡ false
     → Steps limit (InDeviceControl head) b
+unfolding sequence_event
 step-device limit head b Control is no_end = silent is no_end outside (device-dropped limit head b Control is refl)
 step-device limit head b Final is no_end = elim (cases_Bool (is_well_shaped (head_of head))) [
   | inl well ↦
       sequenced is no_end outside (device-well_shaped limit head b is well)
-      (λ size _. (bounded-head size (head_of head) b (spans b Final is)).1) (λ _. (other-head (head_of head) b).1)
+      (λ size _. (bounded-head size (head_of head) b (spans b Final is)).1) (λ _. tt)
   | inr ill ↦ silent is no_end outside (device-malformed limit head b is ill)
 ]
 step-device limit head b Delete is no_end = silent is no_end outside (device-dropped limit head b Delete is refl)
@@ -154,9 +157,6 @@ step-device limit head b k is no_end = silent is no_end outside (device-head lim
 
 delete_is_no_terminator : (b : ℕ) → Spans Delete b → eqb b 0x9c ≡ false
 delete_is_no_terminator b s = grind (arith, nat_tests)
-
-data_quiet : (b : ℕ) (k : Class) → class_of b ≡ k → is_device_data k ≡ true → is_device_data (class_of b) ≡ false → ⊥
-data_quiet b k is put quiet = false≢true (sym quiet ∙ rw is put)
 
 step-data : (limit : Option ℕ) (b : ℕ) (k : Class) → class_of b ≡ k → ends_all k ≡ false → Steps limit InData b
 step-data limit b Delete is no_end =
@@ -171,7 +171,7 @@ step-data limit b Cancel is no_end = cc
 step-data limit b Escape is no_end = cc
 step-data limit b k is no_end =
     sequenced is no_end outside (data-put limit b (rw is refl)) (λ _ _. rw is refl)
-    (λ quiet. absurd (data_quiet b k is refl quiet))
+    (λ quiet. absurd (false≢true (sym quiet ∙ rw is refl)))
 
 -- ---- in an operating system command
 

@@ -37,7 +37,7 @@ unfoldable pub use Rattle.vte_core.specs.Key.{key_of}
 pub use Rattle.vte_core.specs.Laws.{AreParameters, CountsData, DispatchesShown}
 pub use Rattle.vte_core.specs.LongParser.{MeetsData, data_left, open_size, read_count}
 pub use Rattle.vte_core.specs.Looks.{looked}
-pub use Rattle.vte_core.specs.Others.{AddsOthers, IsOther, IsWide, TellsOthers}
+pub use Rattle.vte_core.specs.Others.{AddsOthers, IsOther, IsBeyondAscii, TellsOthers}
 pub use Rattle.vte_core.specs.Outcome.{IsLoss, NothingOpen, Open, OpenCharacter, OpenCommand, Outcome, closed_events, closing_events, leaves, tell, unfinished}
 pub use Rattle.vte_core.specs.Parameters.{AreGroups, Number, colon, count_of, greatest_number, grouped, is_colon, is_separator, most_numbers, number_of, numbers_of, semicolon, with_number}
 unfoldable pub use Rattle.vte_core.specs.Parameters.{groups_of, has_too_many_numbers, numbers, shown}
@@ -47,7 +47,7 @@ pub use Rattle.vte_core.specs.Stream.{added, cut_at_escape, escape, with_bodies,
 unfoldable pub use Rattle.vte_core.specs.Stream.{events, open_end, outcome}
 pub use Rattle.vte_core.specs.SystemCommand.{IsCommandData, bell, ends_command, has_room, is_data_item, kept_after, most_pieces, system_command_rest}
 unfoldable pub use Rattle.vte_core.specs.SystemCommand.{drops_data, kept_items, pieces_of, system_command_outcome}
-pub use Rattle.vte_core.specs.Text.{EndsRun, is_control_character, is_layout, is_left_out, segments_outcome, run_event}
+pub use Rattle.vte_core.specs.Text.{EndsRun, is_control_character, is_layout, ends_run, StaysInRun, segments_outcome, run_event}
 unfoldable pub use Rattle.vte_core.specs.Text.{character_event, executed_events, malformed_event, segment_event, text_outcome}
 pub use Rattle.vte_core.specs.Utf8.{Range, allowed_length, is_in, scalar_of, segments, segments_after, from_to, rows_after_bytes, rows_after_byte, is_complete}
 unfoldable pub use Rattle.vte_core.specs.Utf8.{trailing_count, is_truncated, is_well_formed, utf8_rows}

@@ -5,7 +5,6 @@ pub mod ClassCases
 pub mod ClassLemmas
 pub mod Ends
 pub mod FirstBytes
-pub mod PieceLemmas
 pub mod Scalars
 pub mod Scanning
 pub mod Utf8Lemmas

@@ -12,17 +12,17 @@ IsOther (Put byte) = ⊥
 IsOther _ = ⊤
 
 -- Neither a printed character of ASCII nor data.
-abbrev pub IsWide : Event → Type 0
-IsWide (Print c) = 0x80 ≤ c
-IsWide (Put byte) = ⊥
-IsWide _ = ⊤
+abbrev pub IsBeyondAscii : Event → Type 0
+IsBeyondAscii (Print c) = 0x80 ≤ c
+IsBeyondAscii (Put byte) = ⊥
+IsBeyondAscii _ = ⊤
 
 -- Before position n of a call nothing is told that belongs into a run: only the character that an
 -- earlier call began, if one was open.
 pub record TellsOthers (limit : Option ℕ) (stream bytes : List ℕ) (n : ℕ) : Type 0 where
   pub others : open_end stream ≡ [] → All IsOther (told_before limit stream bytes n)
   -- The character that an earlier call began isn't ASCII.
-  pub opened : All IsWide (told_before limit stream bytes n)
+  pub opened : All IsBeyondAscii (told_before limit stream bytes n)
 
 -- What is told between two positions of a call belongs into no run.
 pub record AddsOthers (limit : Option ℕ) (stream bytes : List ℕ) (i j : ℕ) : Type 0 where

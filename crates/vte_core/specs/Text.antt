@@ -16,18 +16,21 @@ abbrev pub is_layout : ℕ → Bool
 is_layout c = c == 0x09 || c == 0x0a || c == 0x0d
 
 -- The controls that end a run of text: all of them, or all but HT, LF and CR if it keeps these.
-abbrev pub is_left_out : Bool → ℕ → Bool
-is_left_out keeps c = not (keeps && is_layout c) && is_control_character c
+abbrev pub ends_run : Bool → ℕ → Bool
+ends_run keeps c = not (keeps && is_layout c) && is_control_character c
+
+abbrev pub StaysInRun : Bool → ℕ → Type 0
+StaysInRun keeps c = ends_run keeps c ≡ false
 
 -- No character of the text ends a run.
 abbrev pub IsRunText : Bool → List ℕ → Type 0
-IsRunText keeps text = All (λ c. is_left_out keeps c ≡ false) (chars text)
+IsRunText keeps text = All (StaysInRun keeps) (chars text)
 
--- No character of a run begins at the position: a well-formed sequence there is left out.
+-- No character of a run begins at the position: a well-formed sequence there ends the run.
 abbrev pub EndsRun : Bool → List ℕ → ℕ → Type 0
 EndsRun keeps bytes position =
     (n : ℕ) → position + n ≤ length bytes → is_well_formed (take n (drop position bytes)) ≡ true
-    → is_left_out keeps (scalar_of (take n (drop position bytes))) ≡ true
+    → ends_run keeps (scalar_of (take n (drop position bytes))) ≡ true
 
 -- No character of a text is a control.
 abbrev pub HasNoControls : List ℕ → Type 0

@@ -1,10 +1,15 @@
 -- What holds of each byte between two places: of one byte, of two stretches joined, of a block. By cases of where a
 -- place lies.
-use Rattle.vte_core.proofs.Common.{◌≡◌, ℕ, ◌+◌, ◌-◌, ◌<◌, ◌≤◌, inl, inr, List, length, take, drop, get_or, ap, subst, ◌∙◌, arith, cases_lt, take_rest, slice_index}
+use Rattle.vte_core.proofs.Common.{◌≡◌, ℕ, ◌+◌, ◌-◌, ◌<◌, ◌≤◌, inl, inr, List, [], ◌∷◌, length, take, drop, get_or, refl, ap, subst, ◌∙◌, arith, cases_lt, drop_more, take_rest, slice_index}
 use Rattle.std.proofs.lemmas.List.{length-drop, length-take}
 use Rattle.std.proofs.lemmas.Simd.{get_or-chunk}
 use Rattle.std.specs.Array.{IsFirstChunk}
 use Rattle.vte_core.specs.machine.Between.{Each}
+
+pub one_byte : (bytes : List ℕ) (from b : ℕ) → from < length bytes → b ≡ slice_index bytes from
+    → take (from + 1 - from) (drop from bytes) ≡ b ∷ []
+one_byte bytes from b within is =
+    let e : from + 1 - from ≡ 1 = omega arith in rw (e, drop_more bytes from 0 within, is) refl
 
 pub each-one : (holds : ℕ → Type 0) (bytes : List ℕ) (from : ℕ) → holds (slice_index bytes from)
     → Each holds bytes from (from + 1)

@@ -3,8 +3,8 @@
 use Rattle.vte_core.proofs.Common.{◌≡◌, ℕ, ◌+◌, ◌*◌, ◌%◌, ◌<◌, ◌≤◌, true, false, List, [], ◌∷◌, ◌++◌, refl, sym, ap, subst, ◌∙◌, arith, inl, inr, IsScalar, InScalarRange, and_from, cases_lt, nat_tests, Two, Three, from_to, is_in, is_well_formed, is_truncated, scalar_of, utf8_rows, second_range, Carries}
 use Rattle.vte_core.specs.declared.utf8.Carried.{Carried}
 use Rattle.vte_core.specs.declared.utf8.Carried.TheVariants.{Unfinished, Whole, Broken}
-use Rattle.vte_core.proofs.bytes.FirstBytes.{second_plain, continuation, rows_lone, rows_none, Tests, tests_none, tests_two, tests_three, tests_four, truncated_first, TruncatedTwo, truncated_two, TruncatedThree, truncated_three}
-use Rattle.vte_core.proofs.bytes.Scalars.{SecondByte, second_byte, continuation-bounds, scalar_of-in_range, well_formed_is_scalar}
+use Rattle.vte_core.proofs.bytes.FirstBytes.{second_plain, continuation, rows_lone, rows_none, Tests, tests_none, tests_two, tests_three, tests_four, truncated_first, truncated_two, truncated_three}
+use Rattle.vte_core.proofs.bytes.Scalars.{second_byte, continuation-bounds, scalar_of-in_range, well_formed_is_scalar}
 
 -- ---- nothing
 
@@ -29,7 +29,7 @@ pub record Spells (p : List ℕ) (number : ℕ) : Type 0 where
 pub spells_two : (a b : ℕ) → 0xc2 ≤ a → a < 0xe0 → is_in continuation b ≡ true
     → Spells (a ∷ b ∷ []) (a % 32 * 0x40 + b % 64)
 spells_two a b low high second =
-    let bounds : (0x80 ≤ b) × (b ≤ 0xbf) = continuation-bounds b second in
+    let bounds = continuation-bounds b second in
     let plain : second_range a ≡ continuation =
     second_plain a (omega arith) (omega arith) (omega arith) (omega arith) in
     record {
@@ -41,8 +41,8 @@ spells_two a b low high second =
 pub spells_three : (a b c : ℕ) → 0xe0 ≤ a → a < 0xf0 → is_in (second_range a) b ≡ true → is_in continuation c ≡ true
     → Spells (a ∷ b ∷ c ∷ []) ((a % 16 * 0x40 + b % 64) * 0x40 + c % 64)
 spells_three a b c low high second third =
-    let bytes : SecondByte a b = second_byte a b second in
-    let third_bounds : (0x80 ≤ c) × (c ≤ 0xbf) = continuation-bounds c third in
+    let bytes = second_byte a b second in
+    let third_bounds = continuation-bounds c third in
     record {
       is_whole = (tests_three a low high (b ∷ c ∷ [])).is_whole ∙ and_from _ _ second (and_from _ _ third refl);
       same = omega arith;
@@ -52,9 +52,9 @@ pub spells_four : (a b c d : ℕ) → 0xf0 ≤ a → a < 0xf5 → is_in (second_
     → is_in continuation d ≡ true
     → Spells (a ∷ b ∷ c ∷ d ∷ []) (((a % 8 * 0x40 + b % 64) * 0x40 + c % 64) * 0x40 + d % 64)
 spells_four a b c d low high second third fourth =
-    let bytes : SecondByte a b = second_byte a b second in
-    let third_bounds : (0x80 ≤ c) × (c ≤ 0xbf) = continuation-bounds c third in
-    let fourth_bounds : (0x80 ≤ d) × (d ≤ 0xbf) = continuation-bounds d fourth in
+    let bytes = second_byte a b second in
+    let third_bounds = continuation-bounds c third in
+    let fourth_bounds = continuation-bounds d fourth in
     record {
       is_whole =
           (tests_four a low high (b ∷ c ∷ d ∷ [])).is_whole
@@ -116,7 +116,7 @@ pub third_whole : (a b c number : ℕ) (r : Carried) → is_truncated (a ∷ b �
     → number ≡ (a % 16 * 0x40 + b % 64) * 0x40 + c % 64 → (InScalarRange number → r ≡ Whole number)
     → Carries (a ∷ b ∷ []) c r
 third_whole a b c number r more third below same makes =
-    let open_two : TruncatedTwo a b = truncated_two a b more in
+    let open_two = truncated_two a b more in
     whole_by (a ∷ b ∷ []) c number r
     (spells-same (spells_three a b c open_two.low below open_two.second third) same) makes
 
@@ -137,7 +137,7 @@ pub fourth_whole : (a b c d number : ℕ) (r : Carried) → is_truncated (a ∷ 
     → number ≡ ((a % 8 * 0x40 + b % 64) * 0x40 + c % 64) * 0x40 + d % 64 → (InScalarRange number → r ≡ Whole number)
     → Carries (a ∷ b ∷ c ∷ []) d r
 fourth_whole a b c d number r more fourth same makes =
-    let open_three : TruncatedThree a b c = truncated_three a b c more in
+    let open_three = truncated_three a b c more in
     whole_by (a ∷ b ∷ c ∷ []) d number r
     (spells-same
     (spells_four a b c d open_three.low open_three.high open_three.second open_three.third fourth) same) makes

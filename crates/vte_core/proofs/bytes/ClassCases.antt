@@ -1,7 +1,14 @@
 -- What the tests of a byte's class say together. All by cases of the class, of which most are absurd.
-use Rattle.vte_core.proofs.Common.{◌≡◌, ℕ, true, false, eqb, refl, arith, nat_tests, Class, Control, Cancel, Intermediate, Digit, Colon, Semicolon, Marker, Final, Delete, High, class_of, is_cancel, is_control, is_device_data, is_final, is_head, is_intermediate, dispatches_escape, ends_all, ends_data, IsCommandData}
+use Rattle.vte_core.proofs.Common.{◌≡◌, ℕ, true, false, eqb, refl, arith, nat_tests, Class, Control, Cancel, Intermediate, Digit, Colon, Semicolon, Marker, Final, Delete, High, class_of, is_cancel, is_control, is_device_data, is_final, is_head, is_intermediate, dispatches_escape, ends_all, ends_data, IsCommandData, Bool, List, [], ◌∷◌, ◌++◌, is_parameter_text, ends_head, AreInClass}
 use Rattle.vte_core.specs.Class.{Escape}
 use Rattle.vte_core.proofs.shapes.PlainKeys.{is_dropped, is_dropped_in_head}
+
+-- ---- texts of bytes of the same classes join
+
+pub AreInClass-append : (has : Class → Bool) (front rest : List ℕ) → AreInClass has front → AreInClass has rest
+    → AreInClass has (front ++ rest)
+AreInClass-append has [] rest are more = more
+AreInClass-append has (b ∷ front) rest are more = (are.0, AreInClass-append has front rest are.1 more)
 
 -- ---- one class each
 
@@ -50,6 +57,23 @@ ends_by_cancel b h n = grind (arith, nat_tests)
 pub ends_not_cancel : (k : Class) → ends_all k ≡ false → is_cancel k ≡ false
 ends_not_cancel Cancel h = cc
 ends_not_cancel _ h = refl
+
+-- ---- bytes of a head
+
+pub head_is_no_control : (k : Class) → is_head k ≡ true → is_control k ≡ false
+head_is_no_control Control h = cc
+head_is_no_control _ h = refl
+
+pub head_is_no_end : (k : Class) → is_head k ≡ true → ends_head k ≡ false
+head_is_no_end Cancel h = cc
+head_is_no_end Final h = cc
+head_is_no_end _ h = refl
+
+pub parameter_is_head : (k : Class) → is_parameter_text k ≡ true → is_head k ≡ true
+parameter_is_head Digit h = refl
+parameter_is_head Colon h = refl
+parameter_is_head Semicolon h = refl
+parameter_is_head _ h = cc
 
 -- ---- what is left
 

@@ -1,6 +1,6 @@
 -- Eight bytes as a word, and the marks of those that are no printed ASCII. Bit by bit: a borrow reaches a byte only
 -- from a byte below it that is marked itself, so up to the first mark none is missed.
-use Rattle.std.proofs.Common.{◌≡◌, ℕ, zero, suc, ◌+◌, ◌*◌, ◌%◌, ◌<◌, ◌≤◌, List, length, get_or, nat_eq, true, refl, ap, subst, arith, w64}
+use Rattle.std.proofs.Common.{◌≡◌, ℕ, zero, suc, ◌+◌, ◌*◌, ◌%◌, ◌<◌, ◌≤◌, List, length, get_or, nat_eq, ◌^◌, true, refl, ap, subst, arith, w64}
 use Rattle.std.proofs.lemmas.Bool.{agree_below_at, eqb-true}
 use Rattle.std.proofs.lemmas.Nat.{and_le_r, le_bytes_8}
 use Rattle.std.proofs.lemmas.Nat.Bits.{bit_at_and, bit_at_or, bit_at-lt}
@@ -8,13 +8,13 @@ use Rattle.std.specs.Int.{bit_at, from_le_bytes, to_le_bytes}
 use Rattle.std.specs.Prelude.{bit_and, bit_or}
 use Rattle.vte_core.specs.machine.TextRun.{IsPrinted, ArePrinted}
 
--- 20 is subtracted from each byte
+-- 0x20 is subtracted from each byte: 0xdfdfdfdfdfdfdfe0 is 2 ^ 64 - 0x2020202020202020
 abbrev pub less : ℕ → ℕ
-less word = (word + 16131858542891098080) % 18446744073709551616
+less word = (word + 0xdfdfdfdfdfdfdfe0) % 2 ^ 64
 
 -- bit 7 of each byte
 abbrev pub mask : ℕ
-mask = 9259542123273814144
+mask = 0x8080808080808080
 
 abbrev pub marks_of : ℕ → ℕ
 marks_of word = bit_and (bit_or (less word) word) mask
@@ -23,7 +23,7 @@ mask_at : (k : ℕ) → k < 8 → bit_at mask (8 * k + 7) ≡ 1
 mask_at k low = eqb-true _ _ (agree_below_at (λ k. nat_eq (bit_at mask (8 * k + 7)) 1) (λ k. true) 8 k refl low)
 
 -- a byte at whose bit 7 neither number has a 1
-byte : (word k : ℕ) → word < 18446744073709551616 → k < 8 → bit_at (less word) (8 * k + 7) ≡ 0
+byte : (word k : ℕ) → word < 2 ^ 64 → k < 8 → bit_at (less word) (8 * k + 7) ≡ 0
     → bit_at word (8 * k + 7) ≡ 0 → IsPrinted (get_or (to_le_bytes w64 word) k 0)
 byte word zero fits low x y = (omega (arith, fits, x, y), omega (arith, fits, x, y))
 byte word (suc zero) fits low x y = (omega (arith, fits, x, y), omega (arith, fits, x, y))
@@ -36,12 +36,12 @@ byte word (suc (suc (suc (suc (suc (suc (suc zero))))))) fits low x y =
     (omega (arith, fits, x, y), omega (arith, fits, x, y))
 byte word (suc (suc (suc (suc (suc (suc (suc (suc k)))))))) fits low x y = absurd (omega (arith, low))
 
-pub marks-fit : (word : ℕ) → marks_of word < 18446744073709551616
+pub marks-fit : (word : ℕ) → marks_of word < 2 ^ 64
 marks-fit word = omega (arith, and_le_r (bit_or (less word) word) mask)
 
 -- up to a byte that is marked, or all
 pub front-printed : (bytes : List ℕ) (word n : ℕ) → ((i : ℕ) → get_or bytes i 0 < 256) → length bytes ≡ 8
-    → word < 18446744073709551616
+    → word < 2 ^ 64
     → word ≡ from_le_bytes w64 bytes → n ≤ 8 → ((i : ℕ) → i < 8 * n → bit_at (marks_of word) i ≡ 0)
     → ArePrinted bytes 0 n
 front-printed bytes word n are long fits is most zeros k _ few =

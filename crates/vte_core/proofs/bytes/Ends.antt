@@ -1,6 +1,6 @@
 -- Where a run ends: no sequence that is printed begins at a place. Of a sequence that would begin there, the rows say
 -- the bytes; each test of the search excludes one row.
-use Rattle.vte_core.proofs.Common.{◌≡◌, ℕ, zero, suc, ◌+◌, ◌<◌, ◌≤◌, inl, inr, Bool, utf8_rows, true, false, List, [], ◌∷◌, length, take, drop, refl, sym, ap, subst, ◌∙◌, arith, false≢true, cases_Bool, cases_lt, and_parts, nat_tests, drop_all, drop_more, slice_index, Range, from_to, is_in, is_layout, is_left_out, is_control_character, is_well_formed, second_range, scalar_of, EndsRun}
+use Rattle.vte_core.proofs.Common.{◌≡◌, ℕ, zero, suc, ◌+◌, ◌<◌, ◌≤◌, inl, inr, Bool, utf8_rows, true, false, List, [], ◌∷◌, length, take, drop, refl, sym, ap, subst, ◌∙◌, arith, false≢true, cases_Bool, cases_lt, and_parts, nat_tests, drop_all, drop_more, slice_index, Range, from_to, is_in, is_layout, ends_run, is_control_character, is_well_formed, second_range, scalar_of, EndsRun}
 use Rattle.vte_core.proofs.bytes.Scalars.{continuation-bounds, in_range-bounds}
 use Rattle.vte_core.proofs.bytes.FirstBytes.{rows_lone, rows_none, continuation, fits, second_plain, tests_ascii, tests_none, tests_two, tests_three, tests_four}
 
@@ -13,7 +13,7 @@ AreIn (range ∷ ranges) bytes i =
 fits-in : (ranges : List Range) (bytes : List ℕ) (i m : ℕ) → fits ranges (take m (drop i bytes)) ≡ true
     → AreIn ranges bytes i
 fits-in [] bytes i m fit = tt
-fits-in (range ∷ ranges) bytes i zero fit = absurd (let e : false ≡ true = fit in false≢true e)
+fits-in (range ∷ ranges) bytes i zero fit = absurd (false≢true fit)
 fits-in (range ∷ ranges) bytes i (suc m) fit = elim (cases_lt i (length bytes)) [
   | inl within ↦
       let both = and_parts _ _ (rw (drop_more bytes i 0 within) at fit) in
@@ -39,7 +39,7 @@ fits-one range bytes i m fit =
   where
     one : (range : Range) (bytes : List ℕ) (i m : ℕ) → i < length bytes
         → fits (range ∷ []) (take m (drop i bytes)) ≡ true → take m (drop i bytes) ≡ slice_index bytes i ∷ []
-    one range bytes i zero within fit = absurd (let e : false ≡ true = fit in false≢true e)
+    one range bytes i zero within fit = absurd (false≢true fit)
     one range bytes i (suc m) within fit =
         let cut = drop_more bytes i 0 within in
         ap (take (suc m)) cut ∙ ap (λ x. slice_index bytes i ∷ x) (fits-none _ (and_parts _ _ (rw cut at fit)).1)
@@ -57,16 +57,17 @@ module _ (keeps : Bool) (bytes : List ℕ) (from a : ℕ) (within : from < lengt
 
   begins : (n : ℕ) → is_well_formed (take n (drop from bytes)) ≡ true → Begins n
   unfolding is_well_formed utf8_rows
-  begins zero whole = absurd (let e : false ≡ true = whole in false≢true e)
+  begins zero whole = absurd (false≢true whole)
   begins (suc m) whole =
       let parts : take (suc m) (drop from bytes) ≡ a ∷ later m =
       ap (take (suc m)) (drop_more bytes from 0 within) ∙ ap (λ x. x ∷ later m) (sym is) in
       record { m = m; parts = parts; well = subst (λ (x : List ℕ). is_well_formed x ≡ true) parts whole }
 
-  left_out : (c : ℕ) → is_control_character c ≡ true → (keeps ≡ true → is_layout c ≡ false) → is_left_out keeps c ≡ true
-  left_out c control other = by_test keeps other
+  control-ends : (c : ℕ) → is_control_character c ≡ true → (keeps ≡ true → is_layout c ≡ false)
+      → ends_run keeps c ≡ true
+  control-ends c control other = by_test keeps other
     where
-      by_test : (keeps : Bool) → (keeps ≡ true → is_layout c ≡ false) → is_left_out keeps c ≡ true
+      by_test : (keeps : Bool) → (keeps ≡ true → is_layout c ≡ false) → ends_run keeps c ≡ true
       by_test true other = rw (other refl) control
       by_test false other = control
 
@@ -79,7 +80,7 @@ module _ (keeps : Bool) (bytes : List ℕ) (from a : ℕ) (within : from < lengt
         | inl low ↦
             let none = fits-none (later p.m) (sym (tests_ascii a low (later p.m)).is_whole ∙ p.well) in
             let control : is_control_character a ≡ true = grind (arith, nat_tests) in
-            rw (p.parts, none) (left_out a control plain)
+            rw (p.parts, none) (control-ends a control plain)
         | inr high ↦ elim (cases_lt a 0xc2) [
           | inl below ↦
               absurd
@@ -113,7 +114,7 @@ module _ (keeps : Bool) (bytes : List ℕ) (from a : ℕ) (within : from < lengt
       let bounds = continuation-bounds b second in
       let number : scalar_of (a ∷ b ∷ []) ≡ b = omega (arith, control.0, bounds.0) in
       rw (p.parts, one.same, number)
-      (left_out b (grind (arith, nat_tests, control.1, bounds.0)) (λ _. grind (arith, nat_tests, bounds.0)))
+      (control-ends b (grind (arith, nat_tests, control.1, bounds.0)) (λ _. grind (arith, nat_tests, bounds.0)))
 
   -- a run ends at a byte E0..EF without a sequence of three
   pub ends-three : 0xe0 ≤ a → a < 0xf0
@@ -158,7 +159,7 @@ module _ (keeps : Bool) (bytes : List ℕ) (from a : ℕ) (within : from < lengt
 -- with the bytes
 pub ends-all : (keeps : Bool) (bytes : List ℕ) (place : ℕ) → length bytes ≤ place → EndsRun keeps bytes place
 unfolding is_well_formed utf8_rows
-ends-all keeps bytes place all zero far whole = absurd (let e : false ≡ true = whole in false≢true e)
+ends-all keeps bytes place all zero far whole = absurd (false≢true whole)
 ends-all keeps bytes place all (suc n) far whole = absurd (omega (arith, all, far))
 
 -- ASCII that is printed begins a run

@@ -12,10 +12,6 @@ second_plain a e0 ed f0 f4 = grind (arith, nat_tests)
 abbrev pub continuation : Range
 continuation = from_to 0x80 0xbf
 
-pub rows_ascii : (a : ℕ) → a < 0x80 → rows_after_byte a utf8_rows ≡ [] ∷ []
-unfolding utf8_rows
-rows_ascii a high = grind (arith, nat_tests)
-
 pub rows_lone : (a : ℕ) → 0x80 ≤ a → a < 0xc2 → rows_after_byte a utf8_rows ≡ []
 unfolding utf8_rows
 rows_lone a low high = grind (arith, nat_tests)
@@ -23,19 +19,6 @@ rows_lone a low high = grind (arith, nat_tests)
 pub rows_none : (a : ℕ) → 0xf5 ≤ a → rows_after_byte a utf8_rows ≡ []
 unfolding utf8_rows
 rows_none a low = grind (arith, nat_tests)
-
-pub rows_two : (a : ℕ) → 0xc2 ≤ a → a < 0xe0 → rows_after_byte a utf8_rows ≡ (second_range a ∷ []) ∷ []
-unfolding utf8_rows second_range
-rows_two a low high = grind (arith, nat_tests)
-
-pub rows_three : (a : ℕ) → 0xe0 ≤ a → a < 0xf0 → rows_after_byte a utf8_rows ≡ (second_range a ∷ continuation ∷ []) ∷ []
-unfolding utf8_rows second_range
-rows_three a low high = grind (arith, nat_tests)
-
-pub rows_four : (a : ℕ) → 0xf0 ≤ a → a < 0xf5
-    → rows_after_byte a utf8_rows ≡ (second_range a ∷ continuation ∷ continuation ∷ []) ∷ []
-unfolding utf8_rows second_range
-rows_four a low high = grind (arith, nat_tests)
 
 -- ---- the kinds of first bytes
 
@@ -125,20 +108,24 @@ tests_none a none u = record {
 }
 
 pub tests_ascii : (a : ℕ) → a < 0x80 → (u : List ℕ) → Tests (a ∷ u) (fits [] u) false
-tests_ascii a high u = tests_row a [] (rows_ascii a high) u
+unfolding utf8_rows
+tests_ascii a high u = tests_row a [] (grind (arith, nat_tests)) u
 
 pub tests_two : (a : ℕ) → 0xc2 ≤ a → a < 0xe0 → (u : List ℕ)
     → Tests (a ∷ u) (fits (second_range a ∷ []) u) (fits_front (second_range a ∷ []) u)
-tests_two a low high u = tests_row a _ (rows_two a low high) u
+unfolding utf8_rows second_range
+tests_two a low high u = tests_row a (second_range a ∷ []) (grind (arith, nat_tests)) u
 
 pub tests_three : (a : ℕ) → 0xe0 ≤ a → a < 0xf0 → (u : List ℕ)
     → Tests (a ∷ u) (fits (second_range a ∷ continuation ∷ []) u) (fits_front (second_range a ∷ continuation ∷ []) u)
-tests_three a low high u = tests_row a _ (rows_three a low high) u
+unfolding utf8_rows second_range
+tests_three a low high u = tests_row a (second_range a ∷ continuation ∷ []) (grind (arith, nat_tests)) u
 
 pub tests_four : (a : ℕ) → 0xf0 ≤ a → a < 0xf5 → (u : List ℕ)
     → Tests (a ∷ u) (fits (second_range a ∷ continuation ∷ continuation ∷ []) u)
     (fits_front (second_range a ∷ continuation ∷ continuation ∷ []) u)
-tests_four a low high u = tests_row a _ (rows_four a low high) u
+unfolding utf8_rows second_range
+tests_four a low high u = tests_row a (second_range a ∷ continuation ∷ continuation ∷ []) (grind (arith, nat_tests)) u
 
 -- ---- what a truncated sequence is
 

@@ -1,9 +1,12 @@
 -- The text of runs: bytes of ASCII, or a character, are well-formed text whose events are theirs, and two runs one
 -- after another are a run. By induction over the bytes.
-use Rattle.vte_core.proofs.Common.{◌≡◌, ℕ, zero, suc, ◌+◌, ◌-◌, ◌<◌, ◌≤◌, Bool, true, false, ◌&&◌, not, List, [], ◌∷◌, ◌++◌, map, length, get_or, take, drop, refl, sym, ap, subst, ◌∙◌, arith, and_right, nat_tests, drop_more, get_or-drop, All-append, All-nil, All-cons, All, slice_index, IsAscii, chars, Print, IsPrinted, ArePrinted, AreRun, IsRun, from_to, append-nil, encode, IsScalar, after, Event, is_in}
-use Rattle.vte_core.proofs.Common.{is_control_character, is_layout, is_left_out, run_event}
+use Rattle.vte_core.proofs.Common.{◌≡◌, ℕ, ◌+◌, ◌-◌, ◌<◌, ◌≤◌, Bool, true, false, ◌&&◌, not, List, [], ◌∷◌, ◌++◌, map, length, get_or, take, drop, refl, sym, ap, subst, ◌∙◌, arith, and_right, nat_tests, get_or-drop, All-append, All-nil, All-cons, All, slice_index, IsAscii, chars, Print, IsPrinted, ArePrinted, AreRun, IsRun, from_to, append-nil, encode, IsScalar, after, Event, is_in}
+use Rattle.vte_core.proofs.Common.{is_control_character, is_layout, StaysInRun, run_event}
 use Rattle.std.proofs.Common.{take-add}
+use Rattle.vte_core.proofs.bytes.Between.{one_byte}
 use Rattle.std.proofs.lemmas.List.{length-take, get_or-take}
+use Rattle.std.proofs.lemmas.List.Elements.{All-from_get_or}
+use Rattle.std.proofs.lemmas.Str.Ascii.{IsAscii-cons, IsAscii-from_reads, IsAscii-nil}
 use Rattle.std.proofs.Math.Seq.{drop-drop}
 use Rattle.std.proofs.lemmas.Str.{IsUtf8-encode, IsUtf8-nil, IsUtf8-append, IsUtf8-from_ascii, chars-nil, chars-append, chars-IsAscii, chars_past_char}
 
@@ -11,12 +14,12 @@ pub same-items : (xs ys : List ℕ) → map (λ x. x) xs ≡ ys → xs ≡ ys
 same-items [] ys e = e
 same-items (x ∷ xs) ys e = ap (λ t. x ∷ t) (same-items xs (map (λ x. x) xs) refl) ∙ e
 
--- ---- what a run leaves out
+-- ---- what ends a run
 
-pub no_control-stays : (keeps : Bool) (c : ℕ) → is_control_character c ≡ false → is_left_out keeps c ≡ false
+pub no_control-stays : (keeps : Bool) (c : ℕ) → is_control_character c ≡ false → StaysInRun keeps c
 no_control-stays keeps c e = and_right (not (keeps && is_layout c)) (is_control_character c) e
 
-pub layout-stays : (c : ℕ) → is_layout c ≡ true → is_left_out true c ≡ false
+pub layout-stays : (c : ℕ) → is_layout c ≡ true → StaysInRun true c
 layout-stays c e = rw e refl
 
 pub layout-is_control : (c : ℕ) → is_layout c ≡ true → is_control_character c ≡ true
@@ -32,63 +35,43 @@ pub printed-event : (keeps : Bool) (b : ℕ) → IsPrinted b → run_event keeps
 printed-event false b p = refl
 printed-event true b p = rw (no_layout b p) refl
 
-plain_byte : (b : ℕ) → IsPrinted b → is_control_character b ≡ false
-plain_byte b p = let low = p.0 in let high = p.1 in grind (arith, nat_tests)
+plain-stays : (keeps : Bool) (b : ℕ) → IsPrinted b → StaysInRun keeps b
+plain-stays keeps b p =
+    let low = p.0 in let high = p.1 in no_control-stays keeps b (grind (arith, nat_tests))
 
 -- ---- ASCII
 
-abbrev AllPrinted : List ℕ → Type 0
-AllPrinted [] = Unit {0}
-AllPrinted (b ∷ bytes) = IsPrinted b × AllPrinted bytes
-
-all_printed : (bytes : List ℕ) → ((k : ℕ) → k < length bytes → IsPrinted (get_or bytes k 0)) → AllPrinted bytes
-all_printed [] are = tt
-all_printed (b ∷ bytes) are = (are 0 (omega arith), all_printed bytes (λ k l. are (suc k) (omega (arith, l))))
-
-ascii : (bytes : List ℕ) → AllPrinted bytes → IsAscii bytes
-ascii [] are i = omega arith
-ascii (b ∷ bytes) are zero = are.0.1
-ascii (b ∷ bytes) are (suc i) = ascii bytes are.1 i
-
-ascii-one : (b : ℕ) → b < 0x80 → IsAscii (b ∷ [])
-ascii-one b below zero = below
-ascii-one b below (suc i) = omega arith
-
-plain : (keeps : Bool) (bytes : List ℕ) → AllPrinted bytes → All (λ c. is_left_out keeps c ≡ false) bytes
-plain keeps [] are = All-nil (λ c. is_left_out keeps c ≡ false)
-plain keeps (b ∷ bytes) are =
-    All-cons (λ c. is_left_out keeps c ≡ false) b bytes (no_control-stays keeps b (plain_byte b are.0))
-    (plain keeps bytes are.1)
-
-run_bytes : (keeps : Bool) (bytes : List ℕ) → IsAscii bytes → All (λ c. is_left_out keeps c ≡ false) bytes
+run_bytes : (keeps : Bool) (bytes : List ℕ) → IsAscii bytes → All (StaysInRun keeps) bytes
     → AreRun keeps bytes
 run_bytes keeps bytes a stay =
     record {
       utf8 = IsUtf8-from_ascii bytes a;
-      plain = subst (All (λ c. is_left_out keeps c ≡ false)) (sym (chars-IsAscii bytes a)) stay;
+      plain = subst (All (StaysInRun keeps)) (sym (chars-IsAscii bytes a)) stay;
     }
 
 pub printable-ascii : (keeps : Bool) (bytes : List ℕ) (n : ℕ) → ArePrinted bytes 0 n → AreRun keeps (take n bytes)
 printable-ascii keeps bytes n are =
-    let all : AllPrinted (take n bytes) = all_printed (take n bytes) (λ k l.
+    let printed : (k : ℕ) → k < length (take n bytes) → IsPrinted (get_or (take n bytes) k 0) = λ k l.
     let below : k < n = omega (arith, l, length-take n bytes) in
-    subst IsPrinted (sym (get_or-take n bytes k 0 below)) (are k (omega arith) below)) in
-    run_bytes keeps (take n bytes) (ascii (take n bytes) all) (plain keeps (take n bytes) all)
+    subst IsPrinted (sym (get_or-take n bytes k 0 below)) (are k (omega arith) below) in
+    run_bytes keeps (take n bytes)
+    (IsAscii-from_reads (take n bytes) (length (take n bytes)) (omega arith) (λ k l. (printed k l).1))
+    (All-from_get_or (StaysInRun keeps) (take n bytes) 0 (λ k l. plain-stays keeps _ (printed k l)))
 
 pub printable-nil : (keeps : Bool) → AreRun keeps []
 printable-nil keeps =
     record {
       utf8 = IsUtf8-nil;
       plain =
-          subst (All (λ c. is_left_out keeps c ≡ false)) (sym chars-nil) (All-nil (λ c. is_left_out keeps c ≡ false));
+          subst (All (StaysInRun keeps)) (sym chars-nil) (All-nil (StaysInRun keeps));
     }
 
 pub printable-append : (keeps : Bool) (xs ys : List ℕ) → AreRun keeps xs → AreRun keeps ys → AreRun keeps (xs ++ ys)
 printable-append keeps xs ys a b = record {
   utf8 = IsUtf8-append xs ys a.utf8 b.utf8;
   plain =
-      subst (All (λ c. is_left_out keeps c ≡ false)) (sym (chars-append xs ys a.utf8))
-      (All-append (λ c. is_left_out keeps c ≡ false) (chars xs) (chars ys) a.plain b.plain);
+      subst (All (StaysInRun keeps)) (sym (chars-append xs ys a.utf8))
+      (All-append (StaysInRun keeps) (chars xs) (chars ys) a.plain b.plain);
 }
 
 -- ---- one character
@@ -97,10 +80,10 @@ pub chars_encode : (c : ℕ) → IsScalar c → chars (encode c) ≡ c ∷ []
 chars_encode c is =
     chars_past_char (encode c) [] c (IsUtf8-encode c is) (sym (append-nil (encode c))) ∙ ap (λ cs. c ∷ cs) chars-nil
 
-pub run_one : (keeps : Bool) (c : ℕ) → IsScalar c → is_left_out keeps c ≡ false
-    → All (λ c. is_left_out keeps c ≡ false) (chars (encode c))
-run_one keeps c is stays = subst (All (λ c. is_left_out keeps c ≡ false)) (sym (chars_encode c is))
-    (All-cons (λ c. is_left_out keeps c ≡ false) c [] stays (All-nil (λ c. is_left_out keeps c ≡ false)))
+pub run_one : (keeps : Bool) (c : ℕ) → IsScalar c → StaysInRun keeps c
+    → All (StaysInRun keeps) (chars (encode c))
+run_one keeps c is stays = subst (All (StaysInRun keeps)) (sym (chars_encode c is))
+    (All-cons (StaysInRun keeps) c [] stays (All-nil (StaysInRun keeps)))
 
 pub after_one : {V : Type 0} (keeps : Bool) (step : V → Event → V) (old : V) (c : ℕ) → IsScalar c
     → after step old (map (run_event keeps) (chars (encode c))) ≡ step old (run_event keeps c)
@@ -114,26 +97,19 @@ no_control_event keeps c e = grind (arith, nat_tests, layout-is_control c)
 pub printed-is : (b : ℕ) → is_in (from_to 0x20 0x7f) b ≡ true → IsPrinted b
 printed-is b e = grind (arith, nat_tests)
 
--- a run of one byte
-one_byte : (bytes : List ℕ) (from b : ℕ) → from < length bytes → b ≡ slice_index bytes from
-    → take (from + 1 - from) (drop from bytes) ≡ b ∷ []
-one_byte bytes from b within is =
-    ap (λ n. take n (drop from bytes)) (let e : from + 1 - from ≡ 1 = omega arith in e)
-    ∙ ap (take 1) (drop_more bytes from 0 within) ∙ ap (λ x. x ∷ []) (sym is)
-
 pub chars-one : (bytes : List ℕ) (from b : ℕ) → from < length bytes → b ≡ slice_index bytes from → IsPrinted b
     → chars (take (from + 1 - from) (drop from bytes)) ≡ b ∷ []
 chars-one bytes from b within is printed =
-    ap chars (one_byte bytes from b within is) ∙ chars-IsAscii (b ∷ []) (ascii (b ∷ []) (printed, tt))
+    ap chars (one_byte bytes from b within is) ∙ chars-IsAscii (b ∷ []) (IsAscii-cons b [] printed.1 IsAscii-nil)
 
 -- HT, LF or CR, where these are kept
 pub run-layout : (bytes : List ℕ) (from b : ℕ) → from < length bytes → b ≡ slice_index bytes from → is_layout b ≡ true
     → IsRun true bytes from (from + 1)
 run-layout bytes from b within is layout =
     subst (AreRun true) (sym (one_byte bytes from b within is))
-    (run_bytes true (b ∷ []) (ascii-one b (layout-is_ascii b layout))
-    (All-cons (λ c. is_left_out true c ≡ false) b [] (layout-stays b layout)
-    (All-nil (λ c. is_left_out true c ≡ false))))
+    (run_bytes true (b ∷ []) (IsAscii-cons b [] (layout-is_ascii b layout) IsAscii-nil)
+    (All-cons (StaysInRun true) b [] (layout-stays b layout)
+    (All-nil (StaysInRun true))))
 
 pub run-none : (keeps : Bool) (bytes : List ℕ) (from : ℕ) → IsRun keeps bytes from from
 run-none keeps bytes from =

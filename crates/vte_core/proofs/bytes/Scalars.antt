@@ -17,7 +17,10 @@ in_range-bounds range b fits =
     let parts : (nat_le range.first b ≡ true) × (nat_le b range.last ≡ true) = and_parts _ _ fits in
     (leb-true _ _ parts.0, leb-true _ _ parts.1)
 
-pub continuation-bounds : (b : ℕ) → is_in continuation b ≡ true → (0x80 ≤ b) × (b ≤ 0xbf)
+abbrev pub IsContinuation : ℕ → Type 0
+IsContinuation b = (0x80 ≤ b) × (b ≤ 0xbf)
+
+pub continuation-bounds : (b : ℕ) → is_in continuation b ≡ true → IsContinuation b
 continuation-bounds b fits = in_range-bounds continuation b fits
 
 pub second_byte : (a b : ℕ) → is_in (second_range a) b ≡ true → SecondByte a b
@@ -36,9 +39,9 @@ second_byte a b fits = record {
 two_in_range : (a b : ℕ) → 0xc2 ≤ a → a < 0xe0 → SecondByte a b → InScalarRange (scalar_of (a ∷ b ∷ []))
 two_in_range a b low high second = inl (omega arith)
 
-three_in_range : (a b c : ℕ) → 0xe0 ≤ a → a < 0xf0 → SecondByte a b → 0x80 ≤ c → c ≤ 0xbf
+three_in_range : (a b c : ℕ) → 0xe0 ≤ a → a < 0xf0 → SecondByte a b → IsContinuation c
     → InScalarRange (scalar_of (a ∷ b ∷ c ∷ []))
-three_in_range a b c low high second c_low c_high =
+three_in_range a b c low high second third =
     elim (cases_lt a 0xed) [
       | inl below ↦ inl (omega arith)
       | inr from_ed ↦ elim (cases_eq a 0xed) [
@@ -47,9 +50,9 @@ three_in_range a b c low high second c_low c_high =
       ]
     ]
 
-four_in_range : (a b c d : ℕ) → 0xf0 ≤ a → a < 0xf5 → SecondByte a b → 0x80 ≤ c → c ≤ 0xbf → 0x80 ≤ d → d ≤ 0xbf
+four_in_range : (a b c d : ℕ) → 0xf0 ≤ a → a < 0xf5 → SecondByte a b → IsContinuation c → IsContinuation d
     → InScalarRange (scalar_of (a ∷ b ∷ c ∷ d ∷ []))
-four_in_range a b c d low high second c_low c_high d_low d_high =
+four_in_range a b c d low high second third fourth =
     elim (cases_eq a 0xf0) [
       | inl is_f0 ↦ let b_low : 0x90 ≤ b = second.not_overlong_four is_f0 in inr (omega arith, omega arith)
       | inr f0 ↦ elim (cases_eq a 0xf4) [
@@ -70,10 +73,9 @@ fits-length (range ∷ ranges) (b ∷ u) fit =
 pub data Sequence (p : List ℕ) : Type 0 where
   whole_one : (a : ℕ) → p ≡ a ∷ [] → a < 0x80 → Sequence p
   whole_two : (a b : ℕ) → p ≡ a ∷ b ∷ [] → 0xc2 ≤ a → a < 0xe0 → SecondByte a b → Sequence p
-  whole_three : (a b c : ℕ) → p ≡ a ∷ b ∷ c ∷ [] → 0xe0 ≤ a → a < 0xf0 → SecondByte a b
-      → (0x80 ≤ c) × (c ≤ 0xbf) → Sequence p
-  whole_four : (a b c d : ℕ) → p ≡ a ∷ b ∷ c ∷ d ∷ [] → 0xf0 ≤ a → a < 0xf5 → SecondByte a b → (0x80 ≤ c) × (c ≤ 0xbf)
-      → (0x80 ≤ d) × (d ≤ 0xbf) → Sequence p
+  whole_three : (a b c : ℕ) → p ≡ a ∷ b ∷ c ∷ [] → 0xe0 ≤ a → a < 0xf0 → SecondByte a b → IsContinuation c → Sequence p
+  whole_four : (a b c d : ℕ) → p ≡ a ∷ b ∷ c ∷ d ∷ [] → 0xf0 ≤ a → a < 0xf5 → SecondByte a b → IsContinuation c
+      → IsContinuation d → Sequence p
 
 two_fit : (a : ℕ) (u : List ℕ) → 0xc2 ≤ a → a < 0xe0 → fits (second_range a ∷ []) u ≡ true → Sequence (a ∷ u)
 two_fit a (b ∷ []) low high fit = whole_two a b refl low high (second_byte a b (and_parts _ _ fit).0)
@@ -116,9 +118,8 @@ pub scalar_of-in_range : (p : List ℕ) → is_well_formed p ≡ true → InScal
 scalar_of-in_range p whole = elim (sequence p whole) [
   | whole_one a is high ↦ rw is (inl (omega arith))
   | whole_two a b is low high second ↦ rw is (two_in_range a b low high second)
-  | whole_three a b c is low high second third ↦ rw is (three_in_range a b c low high second third.0 third.1)
-  | whole_four a b c d is low high second third fourth ↦
-      rw is (four_in_range a b c d low high second third.0 third.1 fourth.0 fourth.1)
+  | whole_three a b c is low high second third ↦ rw is (three_in_range a b c low high second third)
+  | whole_four a b c d is low high second third fourth ↦ rw is (four_in_range a b c d low high second third fourth)
 ]
 
 is_scalar : (c : ℕ) → InScalarRange c → IsScalar c

@@ -1,6 +1,6 @@
 -- What the rows of UTF-8 say of bytes one after the other. The rows ascend, so after a first byte at most one is left,
 -- and bytes are well formed, truncated or neither by what it still wants.
-use Rattle.vte_core.proofs.Common.{◌≡◌, ℕ, suc, ◌+◌, ◌<◌, ◌≤◌, Bool, true, false, not, ◌&&◌, List, [], ◌∷◌, ◌++◌, length, refl, sym, ap, ◌∙◌, arith, inl, inr, nat_le, list_any, false≢true, le-leb, lt-leb, leb-true, and_from, and_left, cases_Bool, and_parts, Range, is_in, utf8_rows, rows_after_byte, rows_after_bytes, is_complete, allowed_length}
+use Rattle.vte_core.proofs.Common.{◌≡◌, ◌≢◌, ℕ, suc, ◌+◌, ◌<◌, ◌≤◌, Bool, true, false, not, ◌&&◌, List, [], ◌∷◌, ◌++◌, length, refl, sym, ap, ◌∙◌, arith, inl, inr, nat_le, list_any, false≢true, le-leb, lt-leb, leb-true, and_from, and_left, cases_Bool, and_parts, Range, is_in, utf8_rows, rows_after_byte, rows_after_bytes, is_complete, allowed_length}
 
 -- ---- one row
 
@@ -23,31 +23,31 @@ in_range range b low high = and_from _ _ (le-leb range.first b low) (le-leb b ra
 pub below_range : (range : Range) (b : ℕ) → b < range.first → is_in range b ≡ false
 below_range range b low = and_left _ _ (lt-leb range.first b low)
 
+ascends_parts : (n : ℕ) (range : Range) (ranges : List Range) (rows : List (List Range))
+    → ascends n ((range ∷ ranges) ∷ rows) ≡ true
+    → (n ≤ range.first) × (range.first ≤ range.last) × (ascends (range.last + 1) rows ≡ true)
+ascends_parts n range ranges rows up =
+    let parts = and_parts (nat_le n range.first) (nat_le range.first range.last && ascends (range.last + 1) rows) up in
+    let rest = and_parts (nat_le range.first range.last) (ascends (range.last + 1) rows) parts.1 in
+    (leb-true _ _ parts.0, leb-true _ _ rest.0, rest.1)
+
 -- rows that begin above the byte want nothing after it
 pub none_after : (n b : ℕ) (rows : List (List Range)) → ascends n rows ≡ true → b < n → rows_after_byte b rows ≡ []
 none_after n b [] up low = refl
 none_after n b ([] ∷ rows) up low = cc
 none_after n b ((range ∷ ranges) ∷ rows) up low =
-    let parts : (nat_le n range.first ≡ true)
-    × ((nat_le range.first range.last && ascends (range.last + 1) rows) ≡ true) = and_parts _ _ up in
-    let rest : (nat_le range.first range.last ≡ true) × (ascends (range.last + 1) rows ≡ true) =
-    and_parts _ _ parts.1 in
-    let above : n ≤ range.first = leb-true _ _ parts.0 in
-    let ends : range.first ≤ range.last = leb-true _ _ rest.0 in
-    let left : is_in range b ≡ false = below_range range b (omega arith) in
-    rw left (none_after (range.last + 1) b rows rest.1 (omega arith))
+    let parts = ascends_parts n range ranges rows up in
+    rw (below_range range b (omega (arith, low, parts.0)))
+    (none_after (range.last + 1) b rows parts.2 (omega (arith, low, parts.0, parts.1)))
 
 AtMostOne-after_rows : (n b : ℕ) (rows : List (List Range)) → ascends n rows ≡ true → AtMostOne (rows_after_byte b rows)
 AtMostOne-after_rows n b [] up = tt
 AtMostOne-after_rows n b ([] ∷ rows) up = cc
 AtMostOne-after_rows n b ((range ∷ ranges) ∷ rows) up =
-    let parts : (nat_le n range.first ≡ true)
-    × ((nat_le range.first range.last && ascends (range.last + 1) rows) ≡ true) = and_parts _ _ up in
-    let rest : (nat_le range.first range.last ≡ true) × (ascends (range.last + 1) rows ≡ true) =
-    and_parts _ _ parts.1 in
+    let rest = (ascends_parts n range ranges rows up).2 in
     elim (cases_Bool (is_in range b)) [
-      | inl e ↦ rw e (later (leb-true _ _ (and_parts _ _ e).1) rest.1)
-      | inr e ↦ rw e (AtMostOne-after_rows (range.last + 1) b rows rest.1)
+      | inl e ↦ rw e (later (leb-true _ _ (and_parts _ _ e).1) rest)
+      | inr e ↦ rw e (AtMostOne-after_rows (range.last + 1) b rows rest)
     ]
   where
     later : b ≤ range.last → ascends (range.last + 1) rows ≡ true → AtMostOne (ranges ∷ rows_after_byte b rows)
@@ -111,6 +111,36 @@ pub allowed_length_none : (bytes : List ℕ) → allowed_length [] bytes ≡ 0
 allowed_length_none [] = refl
 allowed_length_none (b ∷ bytes) = refl
 
+-- of a byte and those after it: no row wants the byte, or it is allowed with what the rows left allow
+pub data Allowed (rows : List (List Range)) (b : ℕ) (bytes : List ℕ) : Type 0 where
+  unwanted : rows_after_byte b rows ≡ [] → allowed_length rows (b ∷ bytes) ≡ 0 → Allowed rows b bytes
+  wanted : rows_after_byte b rows ≢ []
+      → allowed_length rows (b ∷ bytes) ≡ suc (allowed_length (rows_after_byte b rows) bytes) → Allowed rows b bytes
+
+pub allowed : (rows : List (List Range)) (b : ℕ) (bytes : List ℕ) → Allowed rows b bytes
+allowed rows b bytes = by_rows (rows_after_byte b rows) refl
+  where
+    length_by : List (List Range) → ℕ
+    length_by left = elim left [ [] ↦ 0 | row ∷ more ↦ suc (allowed_length (row ∷ more) bytes) ]
+
+    by_rows : (left : List (List Range)) → rows_after_byte b rows ≡ left → Allowed rows b bytes
+    by_rows [] same = unwanted same (ap length_by same)
+    by_rows (row ∷ more) same =
+        wanted (λ none. let e : row ∷ more ≡ [] = sym same ∙ none in cc)
+        (ap length_by same ∙ sym (ap (λ left. suc (allowed_length left bytes)) same))
+
+-- if such a test holds after bytes, a row was left before them
+some_left : (test : List (List Range) → Bool) → test [] ≡ false → (bytes : List ℕ) (rows : List (List Range))
+    → test (rows_after_bytes bytes rows) ≡ true → rows ≢ []
+some_left test nothing bytes rows is none =
+    let same = ap (rows_after_bytes bytes) none ∙ rows_after_bytes_none bytes in
+    false≢true (sym (ap test same ∙ nothing) ∙ is)
+
+allowed_length_more : (rows : List (List Range)) (b : ℕ) (bytes : List ℕ) → rows_after_byte b rows ≢ []
+    → allowed_length rows (b ∷ bytes) ≡ suc (allowed_length (rows_after_byte b rows) bytes)
+allowed_length_more rows b bytes some =
+    elim (allowed rows b bytes) [ unwanted none _ ↦ absurd (some none) | wanted _ is ↦ is ]
+
 -- a sequence is allowed whole, and nothing after it
 pub allowed_length_whole : (rows : List (List Range)) (bytes x : List ℕ) → AtMostOne rows
     → some_whole (rows_after_bytes bytes rows) ≡ true
@@ -121,14 +151,8 @@ allowed_length_whole ([] ∷ []) [] (c ∷ x) one whole = refl
 allowed_length_whole ((range ∷ ranges) ∷ []) [] (c ∷ x) one whole = cc
 allowed_length_whole (row ∷ next ∷ rows) [] (c ∷ x) one whole = absurd one
 allowed_length_whole rows (b ∷ bytes) x one whole =
-    next (rows_after_byte b rows) whole
-    (allowed_length_whole (rows_after_byte b rows) bytes x (AtMostOne-next b rows one) whole)
-  where
-    next : (rows : List (List Range)) → some_whole (rows_after_bytes bytes rows) ≡ true
-        → allowed_length rows (bytes ++ x) ≡ length bytes
-        → elim rows [ [] ↦ 0 | row ∷ more ↦ suc (allowed_length (row ∷ more) (bytes ++ x)) ] ≡ suc (length bytes)
-    next [] whole same = absurd (false≢true (sym (ap some_whole (rows_after_bytes_none bytes)) ∙ whole))
-    next (row ∷ more) whole same = ap suc same
+    allowed_length_more rows b (bytes ++ x) (some_left some_whole refl bytes _ whole)
+    ∙ ap suc (allowed_length_whole (rows_after_byte b rows) bytes x (AtMostOne-next b rows one) whole)
 
 -- a truncated sequence is allowed whole, and nothing after it that no row wants there
 pub allowed_length_broken : (rows : List (List Range)) (bytes : List ℕ) (b : ℕ) (x : List ℕ)
@@ -136,23 +160,13 @@ pub allowed_length_broken : (rows : List (List Range)) (bytes : List ℕ) (b : �
     → rows_after_byte b (rows_after_bytes bytes rows) ≡ [] → allowed_length rows (bytes ++ b ∷ x) ≡ length bytes
 allowed_length_broken rows [] b x more none = rw (none, allowed_length)
 allowed_length_broken rows (c ∷ bytes) b x more none =
-    next (rows_after_byte c rows) more (allowed_length_broken (rows_after_byte c rows) bytes b x more none)
-  where
-    next : (rows : List (List Range)) → some_open (rows_after_bytes bytes rows) ≡ true
-        → allowed_length rows (bytes ++ b ∷ x) ≡ length bytes
-        → elim rows [ [] ↦ 0 | row ∷ more ↦ suc (allowed_length (row ∷ more) (bytes ++ b ∷ x)) ] ≡ suc (length bytes)
-    next [] more same = absurd (false≢true (sym (ap some_open (rows_after_bytes_none bytes)) ∙ more))
-    next (row ∷ rows) more same = ap suc same
+    allowed_length_more rows c (bytes ++ b ∷ x) (some_left some_open refl bytes _ more)
+    ∙ ap suc (allowed_length_broken (rows_after_byte c rows) bytes b x more none)
 
 -- a truncated sequence at the end is allowed whole
 pub allowed_length_end : (rows : List (List Range)) (bytes : List ℕ) → some_open (rows_after_bytes bytes rows) ≡ true
     → allowed_length rows bytes ≡ length bytes
 allowed_length_end rows [] more = refl
 allowed_length_end rows (c ∷ bytes) more =
-    next (rows_after_byte c rows) more (allowed_length_end (rows_after_byte c rows) bytes more)
-  where
-    next : (rows : List (List Range)) → some_open (rows_after_bytes bytes rows) ≡ true
-        → allowed_length rows bytes ≡ length bytes
-        → elim rows [ [] ↦ 0 | row ∷ more ↦ suc (allowed_length (row ∷ more) bytes) ] ≡ suc (length bytes)
-    next [] more same = absurd (false≢true (sym (ap some_open (rows_after_bytes_none bytes)) ∙ more))
-    next (row ∷ rows) more same = ap suc same
+    allowed_length_more rows c bytes (some_left some_open refl bytes _ more)
+    ∙ ap suc (allowed_length_end (rows_after_byte c rows) bytes more)

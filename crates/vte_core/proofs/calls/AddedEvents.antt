@@ -1,6 +1,6 @@
 -- What is told from place to place. A call is followed with a performer that keeps all events; so what any performer
 -- receives is a function of the bytes, and a stretch that tells no run is known by its events.
-use Rattle.vte_core.proofs.Common.{◌≡◌, ℕ, ◌+◌, ◌-◌, ◌<◌, inl, inr, false, Option, List, [], ◌∷◌, ◌++◌, length, take, drop, refl, ap, sym, ◌∙◌, append_assoc, append-nil, arith, cases_Bool, drop_more, slice_index, false≢true, All, All-append, All-cons, All-nil, Event, Print, replacement, after, added, told_before, stream_at, breaks_at, State, Text, DeviceData, Machine, StandsBy, StandsAt, StandsInside, Reads, ChunkCall, chunk_call}
+use Rattle.vte_core.proofs.Common.{◌≡◌, ℕ, ◌+◌, ◌-◌, ◌<◌, inl, inr, false, Option, List, [], ◌∷◌, ◌++◌, length, take, refl, ap, sym, ◌∙◌, append_assoc, append-nil, arith, cases_Bool, slice_index, false≢true, All, All-append, All-cons, All-nil, Event, Print, replacement, after, added, told_before, stream_at, breaks_at, State, Text, DeviceData, Machine, StandsBy, StandsAt, StandsInside, Reads, ChunkCall, chunk_call}
 use Rattle.vte_core.proofs.Common.{Place, InText, InData, IsAfter, AddsOthers, IsOther}
 use Rattle.vte_core.specs.machine.Completes.{AddsCharacter}
 use Rattle.vte_core.specs.machine.Progress.{HasProgress}
@@ -10,6 +10,7 @@ use Rattle.vte_core.proofs.fields.PlaceOfState.{IsPlace}
 use Rattle.vte_core.proofs.places.PlaceSteps.{steps}
 use Rattle.vte_core.proofs.places.TextSteps.{AreOthers, IsQuiet}
 use Rattle.vte_core.proofs.stops.Told.{told-between, told-broken}
+use Rattle.vte_core.proofs.bytes.Between.{one_byte}
 use Rattle.vte_core.proofs.streams.After.{added-reads}
 
 -- ---- a performer that keeps all events
@@ -27,12 +28,12 @@ after-keep given (event ∷ more) = after-keep (given ++ event ∷ []) more ∙ 
 came-kept : {V : Type 0} {call : ChunkCall V} {old value : V} {stream : List ℕ} {i : ℕ} {given : List Event}
     {read : List ℕ} {place : Place} → HasProgress call old value stream i given read place
     → HasProgress (keeping call.limit call.bytes) [] given stream i given read place
-came-kept {given = given} c =
+came-kept {given} c =
     record { performed = sym (after-keep [] given); is_after = c.is_after; earlier = λ does. absurd (false≢true does) }
 
 kept-is : {limit : Option ℕ} {stream bytes : List ℕ} {i : ℕ} {value given : List Event} {read : List ℕ} {place : Place}
     → HasProgress (keeping limit bytes) [] value stream i given read place → value ≡ given
-kept-is {given = given} c = c.performed ∙ after-keep [] given
+kept-is {given} c = c.performed ∙ after-keep [] given
 
 module _ {V B : Type 0} {call : ChunkCall V} {old value : V} {stream : List ℕ} {i : ℕ} {parser : Machine B} where
   pub keeps-at : StandsAt call old value stream i parser
@@ -89,9 +90,8 @@ module _ {limit : Option ℕ} {stream bytes : List ℕ} {i : ℕ} where
       → i < length bytes → b ≡ slice_index bytes i
       → IsAfter limit (stream_at stream bytes i) place → Reads limit place (b ∷ []) these next → IsPlace next
       → All IsOther these → AddsOthers limit stream bytes i (i + 1)
-  adds-reads {b = b} {place = place} {next = next} {these = these} within is a r is_place are =
-      let one : take (i + 1 - i) (drop i bytes) ≡ b ∷ [] =
-      let e : i + 1 - i ≡ 1 = omega arith in rw (e, drop_more bytes i 0 within, is) refl in
+  adds-reads {b} {place} {next} {these} within is a r is_place are =
+      let one = one_byte bytes i b within is in
       let before : List Event = told_before limit stream bytes i in
       let all : added limit stream (take (i + 1) bytes) ≡ before ++ these =
       run-added limit stream bytes i (i + 1) (omega arith)
@@ -114,7 +114,7 @@ module _ {limit : Option ℕ} {stream bytes : List ℕ} {i : ℕ} where
   pub adds-quiet : {b : ℕ} {place : Place} → i < length bytes
       → b ≡ slice_index bytes i → IsAfter limit (stream_at stream bytes i) place
       → IsPlace place → IsQuiet place b → AddsOthers limit stream bytes i (i + 1)
-  adds-quiet {b = b} {place = place} within is a is_place quiet =
+  adds-quiet {b} {place} within is a is_place quiet =
       let s = steps limit place b is_place in
       adds-reads within is a s.reads s.is_place (all_others s.told (s.others quiet))
 

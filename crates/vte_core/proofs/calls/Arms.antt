@@ -21,7 +21,7 @@ module _ {V B : Type 0} {step : V → Event → V} {old new : V} {limit : Option
       → ((place : Place) → StandsBy limit state parser place → TakesByte step old new limit place b next)
       → (place : Place) → Stands limit parser place → IsBetween place
       → TakesBytes step old new limit place (b ∷ []) next
-  performs-in {b = b} {next = next} e ordinary takes place s between =
+  performs-in {b} {next} e ordinary takes place s between =
       takes-performs step old new limit place b next (no_escape b ordinary) (takes place (stands-in e s))
 
   -- ESC closes what is open at a place
@@ -29,7 +29,7 @@ module _ {V B : Type 0} {step : V → Event → V} {old new : V} {limit : Option
       → next.state ≡ Escape → HoldsIntermediates next.collected [] → (place : Place) → Stands limit parser place
       → new ≡ after step old (closing_events_at limit place)
       → TakesBytes step old new limit place (b ∷ []) next
-  performs-escape {parser = parser} {next = next} is e holds place s closed =
+  performs-escape {parser} {next} is e holds place s closed =
       let reads : Reads limit place (escape ∷ []) (closing_events_at limit place) AtEscape =
       reads-escape limit place (stands-place parser place s) in
       subst (λ c. TakesBytes step old new limit place (c ∷ []) next) (sym is)

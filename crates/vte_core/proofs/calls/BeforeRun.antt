@@ -1,46 +1,48 @@
 -- What a call tells before a run is told by no run: nothing at its start, then what an open character is, then
 -- stretches of which each tells none.
-use Rattle.vte_core.proofs.Common.{◌≡◌, ℕ, inl, inr, Option, List, [], ◌++◌, ap, sym, subst, ◌∙◌, All, All-append, All-nil, Event, Machine, HasReadUnder, IsSettled, told_before, open_end, AddsOthers, IsOther, IsWide, TellsOthers}
+use Rattle.vte_core.proofs.Common.{◌≡◌, ℕ, inl, inr, Option, List, [], ◌++◌, ap, sym, subst, ◌∙◌, All, All-append, All-nil, Event, Machine, HasReadUnder, IsSettled, told_before, open_end, AddsOthers, IsOther, TellsOthers, IsBeyondAscii}
 use Rattle.vte_core.specs.machine.Completes.{AddsCharacter}
 use Rattle.vte_core.proofs.calls.Ends.{starts-at}
 use Rattle.vte_core.proofs.calls.AddedEvents.{keeping, told-at}
 use Rattle.vte_core.proofs.streams.After.{added-nothing}
-use Rattle.vte_core.proofs.streams.Others.{wide, wide_all, wide_character}
+use Rattle.vte_core.proofs.streams.Others.{beyond_ascii, beyond_ascii-all, beyond_ascii-character}
 
 -- nothing, at its start
 pub tells-nothing : {B : Type 0} {limit : Option ℕ} {stream bytes : List ℕ} {parser : Machine B}
     → IsSettled parser.state → HasReadUnder limit parser stream → TellsOthers limit stream bytes 0
-tells-nothing {limit = limit} {stream = stream} {bytes = bytes} settled h =
+tells-nothing {limit} {stream} {bytes} settled h =
     let none : [] ≡ told_before limit stream bytes 0 =
     told-at (starts-at {call = keeping limit bytes} settled h) in
     record {
       others = λ _. subst (All IsOther) none (All-nil IsOther);
-      opened = subst (All IsWide) none (All-nil IsWide);
+      opened = subst (All IsBeyondAscii) none (All-nil IsBeyondAscii);
     }
 
 -- what an open character is
 pub tells-open : {limit : Option ℕ} {stream begun bytes : List ℕ} {j : ℕ} → AddsCharacter limit stream begun bytes 0 j
     → (open_end stream ≡ [] → ⊥) → TellsOthers limit stream bytes j
-tells-open {limit = limit} {stream = stream} {bytes = bytes} {j = j} a opened =
+tells-open {limit} {stream} {bytes} {j} a opened =
     let all : told_before limit stream bytes j ≡ a.events =
     a.parts ∙ ap (λ (es : List Event). es ++ a.events) (added-nothing limit stream) in
     record {
       others = λ none. absurd (opened none);
-      opened = subst (All IsWide) (sym all) (elim a.are [
-        | inl others ↦ wide_all a.events others
-        | inr whole ↦ subst (All IsWide) (sym whole.same) (wide_character _ (wide _ whole.well whole.long))
+      opened = subst (All IsBeyondAscii) (sym all) (elim a.are [
+        | inl others ↦ beyond_ascii-all a.events others
+        | inr whole ↦
+            subst (All IsBeyondAscii) (sym whole.same)
+            (beyond_ascii-character _ (beyond_ascii _ whole.well whole.long))
       ]);
     }
 
 -- what is told up to place i, and what follows up to place j
 pub tells-more : {limit : Option ℕ} {stream bytes : List ℕ} {i j : ℕ} → TellsOthers limit stream bytes i
     → AddsOthers limit stream bytes i j → TellsOthers limit stream bytes j
-tells-more {limit = limit} {stream = stream} {bytes = bytes} {i = i} t a = record {
+tells-more {limit} {stream} {bytes} {i} t a = record {
   others =
       λ none.
       subst (All IsOther) (sym a.parts) (All-append IsOther (told_before limit stream bytes i) a.events (t.others none)
       a.are);
   opened =
-      subst (All IsWide) (sym a.parts)
-      (All-append IsWide (told_before limit stream bytes i) a.events t.opened (wide_all a.events a.are));
+      subst (All IsBeyondAscii) (sym a.parts)
+      (All-append IsBeyondAscii (told_before limit stream bytes i) a.events t.opened (beyond_ascii-all a.events a.are));
 }

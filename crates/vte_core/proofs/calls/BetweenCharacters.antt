@@ -76,7 +76,7 @@ pub performs-opened : {V B : Type 0} {step : V → Event → V} {value : V} {lim
     → b ≢ escape → Carries [] b (StillUnfinished v) → next.state ≡ Text v → (place : Place) → Stands limit parser place
     → IsBetween place
     → TakesBytes step value value limit place (b ∷ []) next
-performs-opened {limit = limit} {b = b} {v = v} {next = next} e n carries state =
+performs-opened {limit} {b} {v} {next} e n carries state =
     let more : is_truncated (b ∷ []) ≡ true = rw carries.0 at carries.1 in
     performs-begun e n
     (λ s. record {
@@ -129,8 +129,7 @@ adds-single : {B : Type 0} {limit : Option ℕ} {stream bytes : List ℕ} {i b :
     → b ≡ slice_index bytes i
     → Stands limit parser place
     → IsAfter limit (stream_at stream bytes i) place → AddsOthers limit stream bytes i (i + 1)
-adds-single {limit = limit} {stream = stream} {bytes = bytes} {i = i} {b = b}
-    {place = place} parser e n other no_lead within is s after =
+adds-single {limit} {stream} {bytes} {i} {b} {place} parser e n other no_lead within is s after =
     let one = single limit b n other no_lead in
     adds-reads within is
     (subst (IsAfter limit (stream_at stream bytes i)) (between_characters parser place e s) after)

@@ -26,7 +26,7 @@ bytes_more bytes i j n m begun far are =
 byte_more : (bytes : List ℕ) (i n : ℕ) (begun : List ℕ) {j b : ℕ} {u : List ℕ} → j < length bytes → j ≡ i + n
     → b ≡ slice_index bytes j → u ≡ begun ++ take n (drop i bytes)
     → u ++ b ∷ [] ≡ begun ++ take (n + 1) (drop i bytes)
-byte_more bytes i n begun {j = j} {u = u} within far is are =
+byte_more bytes i n begun {j} {u} within far is are =
     ap (λ (x : List ℕ). u ++ x) (ap (λ (x : ℕ). x ∷ []) is ∙ sym (ap (take 1) (drop_more bytes j 0 within)))
     ∙ bytes_more bytes i j n 1 begun far are
 

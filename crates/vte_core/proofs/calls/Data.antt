@@ -13,7 +13,7 @@ advances-by : {V B : Type 0} {call : ChunkCall V} {value : V} {parser : Machine 
     → Advances ⊥ call value (after call.step value (map Put (take n (drop i call.bytes)))) i (i + n) parser parser
 advances-by zero i begun within are none =
     advances-moved (omega arith) (advances-nothing (λ _. settled-by _ _ begun tt))
-advances-by {call = call} {parser = parser} (suc n) i begun within are none =
+advances-by {call} {parser} (suc n) i begun within are none =
     let here : i < length call.bytes = omega (arith, within) in
     let b : ℕ = slice_index call.bytes i in
     let put = are i (omega arith) (omega arith) in
@@ -28,7 +28,7 @@ advances-by {call = call} {parser = parser} (suc n) i begun within are none =
 pub advances-data : {V B : Type 0} {call : ChunkCall V} {old new : V} {i j : ℕ} {parser : Machine B}
     → parser.state ≡ DeviceData → i ≤ j → j ≤ length call.bytes → ArePut call.bytes i j → call.may_stop ≡ false
     → new ≡ after call.step old (map Put (take (j - i) (drop i call.bytes))) → Advances ⊥ call old new i j parser parser
-advances-data {call = call} {old = old} {i = i} {j = j} {parser = parser} begun low high are none performed =
+advances-data {call} {old} {i} {j} {parser} begun low high are none performed =
     subst (λ value. Advances ⊥ call old value i j parser parser) (sym performed)
     (advances-moved (omega (arith, low))
     (advances-by (j - i) i begun (omega (arith, low, high)) (λ k from to. are k from (omega (arith, low, to))) none))
@@ -36,5 +36,5 @@ advances-data {call = call} {old = old} {i = i} {j = j} {parser = parser} begun 
 -- a byte that is put, and those after it
 pub first-put : (bytes : List ℕ) {from end b : ℕ} → b ≡ slice_index bytes from → IsPut b → ArePut bytes (from + 1) end
     → ArePut bytes from end
-first-put bytes {from = from} {end = end} is put rest =
+first-put bytes {from} {end} is put rest =
     each-both IsPut bytes from (from + 1) end (each-one IsPut bytes from (subst IsPut is put)) rest

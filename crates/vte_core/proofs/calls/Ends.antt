@@ -17,7 +17,7 @@ by_settled limit _ parser _ settled s = tt
 
 pub between-settled : {B : Type 0} {limit : Option ℕ} (parser : Machine B) → IsSettled parser.state → (place : Place)
     → Stands limit parser place → IsBetween place
-between-settled {limit = limit} parser settled place s = by_settled limit parser.state parser place settled s.by
+between-settled {limit} parser settled place s = by_settled limit parser.state parser place settled s.by
 
 pub settled-by : (state other : State) → state ≡ other → IsSettled other → IsSettled state
 settled-by state other e settled = subst IsSettled (sym e) settled
@@ -35,7 +35,7 @@ module _ {V B : Type 0} {call : ChunkCall V} where
 
   pub settles : {old value : V} {stream : List ℕ} {i : ℕ} {parser : Machine B} → IsSettled parser.state
       → StandsInside call old value stream i parser → StandsAt call old value stream i parser
-  settles {parser = parser} settled s =
+  settles {parser} settled s =
       let between = between-settled parser settled s.place s.stands in
       record {
         place = s.place;
@@ -56,7 +56,7 @@ module _ {V B : Type 0} {call : ChunkCall V} where
 
   pub inside-moved : {old value : V} {stream : List ℕ} {i j : ℕ} {parser : Machine B} → i ≡ j
       → StandsInside call old value stream i parser → StandsInside call old value stream j parser
-  inside-moved {old = old} {value = value} {stream = stream} {parser = parser} e s =
+  inside-moved {old} {value} {stream} {parser} e s =
       subst (λ n. StandsInside call old value stream n parser) e s
 
   -- ---- the start and the end of a call
@@ -72,7 +72,7 @@ module _ {V B : Type 0} {call : ChunkCall V} where
   pub ends-comes : {old value : V} {stream : List ℕ} {n : ℕ} {parser : Machine B} → call.may_stop ≡ true
       → n ≤ length call.bytes → StandsAt call old value stream n parser
       → ComesTo call.step call.is_terminated old value call.limit stream call.bytes n
-  ends-comes {parser = parser} does within s =
+  ends-comes {parser} does within s =
       come-to does within
       (λ left. come-starts (stands-place parser s.place s.stands) (s.between left) left s.has_come) s.has_come
 
@@ -94,7 +94,7 @@ module _ {V B : Type 0} {call : ChunkCall V} where
 
   pub ends-reads_all : {old value : V} {stream : List ℕ} {n : ℕ} {parser : Machine B} → n ≡ length call.bytes
       → StandsAt call old value stream n parser → HasReadUnder call.limit parser (stream ++ call.bytes)
-  ends-reads_all {stream = stream} {n = n} {parser = parser} all s =
+  ends-reads_all {stream} {n} {parser} all s =
       subst (HasReadUnder call.limit parser) (stream_at-all stream call.bytes n all) (ends-reads s)
 
   -- ---- where the loop of a call ends: at a stop, or with all bytes read

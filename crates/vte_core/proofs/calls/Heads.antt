@@ -1,10 +1,9 @@
 -- The bytes of a head: a function that reads several of them goes on by each. `ReadsHeadUpTo` says which, without the
 -- performer, which learns of a head only at its end; both shapes share it.
 use Rattle.vte_core.specs.machine.ToRun.{IsQuietIn}
-use Rattle.vte_core.proofs.Common.{◌≡◌, ℕ, zero, suc, ◌+◌, ◌-◌, ◌<◌, ◌≤◌, ◌⊎◌, inr, eqb, Option, List, [], ◌∷◌, ◌++◌, Bool, true, false, length, take, drop, refl, sym, subst, append_assoc, arith, nat_tests, append-nil, drop-drop, drop_more, take-add, slice_index, MatchOption, class_of, is_head, is_parameter_text, AreInClass, Collected, HeadPart, Entry, Parameters, Machine, State, ControlSequence, DeviceControl, Event, ChunkCall}
-use Rattle.vte_core.proofs.Common.{Leads, CountsNumbers, KeepsIntermediates, Stands, StandsBy, StandsInHead, Place, InControlSequence, InDeviceControl, IsBetween, Advances, ProgressAt, StandsAt, IsSettled, MayGoOn, TakesBytes, TakesByte, ends_all, part_after, ReadsHead, Some, None, false≢true}
-use Rattle.vte_core.proofs.bytes.ClassCases.{head_ends_nothing}
-use Rattle.vte_core.proofs.bytes.PieceLemmas.{AreOf-append, parameter_is_head}
+use Rattle.vte_core.proofs.Common.{◌≡◌, ℕ, zero, suc, ◌+◌, ◌-◌, ◌<◌, ◌≤◌, ◌⊎◌, inr, eqb, Option, List, [], ◌∷◌, ◌++◌, Bool, true, false, length, take, drop, refl, sym, subst, append_assoc, arith, nat_tests, append-nil, drop-drop, drop_more, take-add, slice_index, MatchOption, class_of, is_head, is_parameter_text, AreInClass, Collected, HeadPart, Entry, Parameters, Machine, State, ControlSequence, DeviceControl, Event, ChunkCall, Leads, CountsNumbers, KeepsIntermediates, Stands, StandsBy, StandsInHead, Place, InControlSequence, InDeviceControl, IsBetween, Advances, ProgressAt, StandsAt, IsSettled, MayGoOn, TakesBytes, TakesByte, ends_all, part_after, ReadsHead, Some, None, false≢true}
+use Rattle.vte_core.proofs.bytes.ClassCases.{head_ends_nothing, AreInClass-append, parameter_is_head}
+use Rattle.vte_core.proofs.bytes.PieceLemmas.{parameter_is_head}
 use Rattle.vte_core.proofs.calls.Places.{come-between, come-byte}
 use Rattle.vte_core.proofs.calls.Arms.{performs-in}
 use Rattle.vte_core.proofs.calls.Ends.{settled-by}
@@ -13,6 +12,7 @@ use Rattle.vte_core.proofs.fields.HeadSteps.{holds-parameter}
 use Rattle.vte_core.proofs.fields.PlaceOfState.{IsPlace, stands-in}
 use Rattle.vte_core.proofs.places.PlaceLeads.{control-head, device-head}
 use Rattle.vte_core.proofs.calls.AddedEvents.{adds-same, keeps-at, told-at}
+use Rattle.vte_core.proofs.bytes.Between.{one_byte}
 use Rattle.vte_core.proofs.streams.StreamLemmas.{no_escape, reads-byte}
 
 -- ---- what is collected
@@ -26,19 +26,19 @@ between-then bytes i j k low high =
 
 pub reads-nothing : {bytes : List ℕ} {i : ℕ} {part : HeadPart} {held : Collected} → i ≤ length bytes
     → ReadsHead bytes i i part part held held
-reads-nothing {bytes = bytes} {i = i} {part = part} {held = held} within =
+reads-nothing {bytes} {i} {part} {held} within =
     let none : i - i ≡ 0 = omega arith in
     record { low = omega arith; high = within; are = rw none tt; stands = λ head s. rw (none, append-nil head) s }
 
 pub reads-then : {bytes : List ℕ} {i j k : ℕ} {reached part next : HeadPart} {old mid new : Collected}
     → ReadsHead bytes i j reached part old mid → ReadsHead bytes j k part next mid new
     → ReadsHead bytes i k reached next old new
-reads-then {bytes = bytes} {i = i} {j = j} {k = k} a b =
+reads-then {bytes} {i} {j} {k} a b =
     let whole = between-then bytes i j k a.low b.low in
     record {
       low = omega (arith, a.low, b.low);
       high = b.high;
-      are = rw whole (AreOf-append is_head _ _ a.are b.are);
+      are = rw whole (AreInClass-append is_head _ _ a.are b.are);
       stands =
           λ head s. rw (whole, ← append_assoc head (take (j - i) (drop i bytes)) (take (k - j) (drop j bytes)))
           (b.stands _ (a.stands head s));
@@ -48,9 +48,8 @@ pub reads-head_byte : {bytes : List ℕ} {i b : ℕ} {part next : HeadPart} {old
     → b ≡ slice_index bytes i → is_head (class_of b) ≡ true
     → ((head : List ℕ) → StandsInHead old part head → StandsInHead new next (head ++ b ∷ []))
     → ReadsHead bytes i (i + 1) part next old new
-reads-head_byte {bytes = bytes} {i = i} {b = b} within at is stands =
-    let one : take (i + 1 - i) (drop i bytes) ≡ b ∷ [] =
-    let e : i + 1 - i ≡ 1 = omega arith in rw (e, drop_more bytes i 0 within, at) refl in
+reads-head_byte {bytes} {i} {b} within at is stands =
+    let one = one_byte bytes i b within at in
     record {
       low = omega arith;
       high = omega (arith, within);
@@ -87,8 +86,7 @@ pub reads-parameter : {bytes : List ℕ} {from i b : ℕ} {reached : HeadPart} {
     → ((text : List ℕ) → CountsNumbers old text → CountsNumbers new (text ++ b ∷ []))
     → ReadsHead bytes from i reached (part_after reached from i) first old
     → ReadsHead bytes from (i + 1) reached (part_after reached from (i + 1)) first new
-reads-parameter {from = from} {i = i} {b = b} {reached = reached} {old = old}
-    {new = new} may within at is keeps counts before =
+reads-parameter {from} {i} {b} {reached} {old} {new} may within at is keeps counts before =
     rw (part_after-more reached from (i + 1) (omega (arith, before.low)))
     (reads-then before (reads-head_byte within at (parameter_is_head (class_of b) is)
     (λ head s.
@@ -154,9 +152,9 @@ module _ {V : Type 0} {call : ChunkCall V} where
       → i + n ≤ length call.bytes → AreInClass is_head (take n (drop i call.bytes)) → MayGoOn call value
       → ProgressAt call old value stream i (in_head shape head)
       → ProgressAt call old value stream (i + n) (in_head shape (head ++ take n (drop i call.bytes)))
-  come-head {i = i} shape zero head within more may_go_on c =
+  come-head {i} shape zero head within more may_go_on c =
       let same : i + 0 ≡ i = omega arith in rw (append-nil head, same) c
-  come-head {i = i} shape (suc n) head within more may_go_on c =
+  come-head {i} shape (suc n) head within more may_go_on c =
       let here : i < length call.bytes = omega (arith, within) in
       let b : ℕ = slice_index call.bytes i in
       let cut : drop i call.bytes ≡ b ∷ drop (i + 1) call.bytes = drop_more call.bytes i 0 here in
@@ -177,8 +175,8 @@ module _ {V : Type 0} {call : ChunkCall V} where
       → ReadsHead call.bytes i j reached part parser.collected next.collected → MayGoOn call value
       → next.state ≡ state_of shape part → StandsAt call old value stream i parser
       → StandsAt call old value stream j next
-  stands-head {old = old} {value = value} {stream = stream} {i = i} {j = j} {reached = reached} {part = part}
-      {parser = parser} {next = next} shape begun reads may_go_on state s =
+  stands-head {old} {value} {stream} {i} {j} {reached} {part}
+      {parser} {next} shape begun reads may_go_on state s =
       let k = place_in shape call.limit reached parser s.place (stands-in begun s.stands) in
       let here : ProgressAt call old value stream i (in_head shape k.head) =
       subst (ProgressAt call old value stream i) k.same s.has_come in
@@ -196,12 +194,12 @@ module _ {V : Type 0} {call : ChunkCall V} where
       (shape : Shape) → parser.state ≡ state_of shape reached
       → ReadsHead call.bytes i j reached part parser.collected next.collected → MayGoOn call value
       → next.state ≡ state_of shape part → Advances quiet call value value i j parser next
-  advances-head {part = part} {next = next} shape begun reads may_go_on state = record {
+  advances-head {part} {next} shape begun reads may_go_on state = record {
     goes_on = λ old stream s. stands-head shape begun reads may_go_on state s;
     settled = λ _. settled-by _ _ state (settled shape part);
     others = λ _ old stream s.
         adds-same (told-at
-        (stands-head {next = next} shape begun reads (λ does. absurd (false≢true does)) state (keeps-at s)));
+        (stands-head {next} shape begun reads (λ does. absurd (false≢true does)) state (keeps-at s)));
   }
 
   -- a part of a head and a byte after it, of which the caller says what it does there
@@ -209,11 +207,11 @@ module _ {V : Type 0} {call : ChunkCall V} where
       {held : Collected} (shape : Shape) → parser.state ≡ state_of shape reached
       → ReadsHead call.bytes i j reached part parser.collected held
       → (j < length call.bytes) × (b ≡ slice_index call.bytes j) → MayGoOn call old
-      → ((place : Place) → Stands {B = B} call.limit
+      → ((place : Place) → Stands {B} call.limit
       (record { state = state_of shape part; collected = held; command = parser.command }) place → IsBetween place
       → TakesBytes call.step old new call.limit place (b ∷ []) next) → IsSettled next.state
       → Advances quiet call old new i (j + 1) parser next
-  advances-past {B = B} {part = part} {parser = parser} {held = held} shape begun reads at may_go_on performs settled =
+  advances-past {B} {part} {parser} {held} shape begun reads at may_go_on performs settled =
       let head : Machine B = record { state = state_of shape part; collected = held; command = parser.command } in
       advances-then (advances-head {next = head} shape begun reads may_go_on refl)
       (advances-when (quiet_head shape part _) (advances-byte at.0 at.1 may_go_on performs settled))
@@ -225,7 +223,7 @@ pub performs-head : {V B : Type 0} {step : V → Event → V} {old new : V} {lim
     → ((head : List ℕ) → StandsInHead parser.collected part head
     → TakesByte step old new limit (in_head shape head) b next)
     → (place : Place) → Stands limit parser place → IsBetween place → TakesBytes step old new limit place (b ∷ []) next
-performs-head {step = step} {old = old} {new = new} {limit = limit} {b = b} {parser = parser}
-    {next = next} shape part e ordinary takes = performs-in e ordinary (λ place s.
+performs-head {step} {old} {new} {limit} {b} {parser}
+    {next} shape part e ordinary takes = performs-in e ordinary (λ place s.
     let k = place_in shape limit part parser place s in
     subst (λ p. TakesByte step old new limit p b next) (sym k.same) (takes k.head k.stands))

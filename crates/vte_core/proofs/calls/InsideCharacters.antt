@@ -29,7 +29,7 @@ by_other limit parser other u _ s = absurd s
 pub inside-same : {V B : Type 0} {call : ChunkCall V} {old new : V} {stream : List ℕ} {i : ℕ} {u : Unfinished}
     {parser next : Machine B} → parser.state ≡ Text u → next.state ≡ Text u → StandsInside call old new stream i parser
     → StandsInside call old new stream i next
-inside-same {call = call} {u = u} {parser = parser} {next = next} e f s =
+inside-same {call} {u} {parser} {next} e f s =
     record {
       place = s.place;
       stands = stands-by f (by_other call.limit parser next u s.place (stands-in e s.stands));
@@ -57,14 +57,14 @@ truncated-some (x ∷ u) more none = cc
 module _ {V B : Type 0} {call : ChunkCall V} {old mid : V} {stream : List ℕ} where
   pub inside-open : {i : ℕ} {u : Unfinished} {parser : Machine B} → parser.state ≡ Text u
       → StandsInside call old mid stream i parser → is_open (bytes_of u) ≡ true
-  inside-open {u = u} {parser = parser} e s = (by_text call.limit parser u s.place (stands-in e s.stands)).begun
+  inside-open {u} {parser} e s = (by_text call.limit parser u s.place (stands-in e s.stands)).begun
 
   -- a byte that the character goes on with
   pub carried-more : {i b : ℕ} {u v : Unfinished} {parser next : Machine B} → parser.state ≡ Text u
       → is_truncated (bytes_of u) ≡ true → Carries (bytes_of u) b (StillUnfinished v) → next.state ≡ Text v
       → StandsInside call old mid stream i parser → i < length call.bytes → b ≡ slice_index call.bytes i
       → StandsInside call old mid stream (i + 1) next
-  carried-more {i = i} {b = b} {u = u} {v = v} {parser = parser} {next = next} e opened carries state s within is =
+  carried-more {i} {b} {u} {v} {parser} {next} e opened carries state s within is =
       let t = by_text call.limit parser u s.place (stands-in e s.stands) in
       let more : is_truncated (bytes_of u ++ b ∷ []) ≡ true = subst (λ x. is_truncated x ≡ true) carries.0 carries.1 in
       record {
@@ -86,11 +86,11 @@ module _ {V B : Type 0} {call : ChunkCall V} {old mid : V} {stream : List ℕ} w
       → is_truncated (bytes_of u) ≡ true → Carries (bytes_of u) b (Whole c) → next.state ≡ Text Nothing
       → new ≡ call.step mid (character_event c) → StandsInside call old mid stream i parser → i < length call.bytes
       → b ≡ slice_index call.bytes i → j ≡ i + 1 → StandsAt call old new stream j next
-  carried-whole {new = new} {i = i} {b = b} {u = u} {parser = parser}
-      {next = next} e opened carries state performed s within is later =
+  carried-whole {new} {i} {b} {u} {parser}
+      {next} e opened carries state performed s within is later =
       let t = by_text call.limit parser u s.place (stands-in e s.stands) in
       let c =
-      come-carried {new = new} {next = InText []}
+      come-carried {new} {next = InText []}
       {these = character_event (scalar_of (bytes_of u ++ b ∷ [])) ∷ []} t.begun within is
       (truncated-some (bytes_of u) opened)
       (breaks-whole (bytes_of u) b carries.0)
@@ -111,7 +111,7 @@ module _ {V B : Type 0} {call : ChunkCall V} {old mid : V} {stream : List ℕ} w
       → is_truncated (bytes_of u) ≡ true → Carries (bytes_of u) b Broken → next.state ≡ Text Nothing
       → new ≡ call.step mid (Print replacement) → StandsInside call old mid stream i parser → i < length call.bytes
       → b ≡ slice_index call.bytes i → StandsAt call old new stream i next
-  carried-broken {i = i} {b = b} {u = u} {parser = parser} {next = next} e opened carries state performed s within is =
+  carried-broken {i} {b} {u} {parser} {next} e opened carries state performed s within is =
       let t = by_text call.limit parser u s.place (stands-in e s.stands) in
       record {
         place = InText [];
@@ -125,7 +125,7 @@ module _ {V B : Type 0} {call : ChunkCall V} {old mid : V} {stream : List ℕ} w
 pub opens-text : {B : Type 0} {limit : Option ℕ} {stream : List ℕ} {u : Unfinished} (parser : Machine B)
     → parser.state ≡ Text u → bytes_of u ≢ [] → HasReadUnder limit parser stream
     → open_end stream ≡ [] → ⊥
-opens-text {limit = limit} {stream = stream} {u = u} parser e some h none =
+opens-text {limit} {stream} {u} parser e some h none =
     let t = by_text limit parser u h.place (stands-in e h.stands) in
     some
     (sym (ap open_at t.same)

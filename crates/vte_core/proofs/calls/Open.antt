@@ -79,7 +79,7 @@ by_state limit _ parser s = absurd s
 
 pub unfinished : {B : Type 0} {limit : Option ℕ} {stream : List ℕ} (parser : Machine B)
     → HasReadUnder limit parser stream → (IsClosed parser.state → ⊥) → IsUnfinished limit stream
-unfinished {limit = limit} {stream = stream} parser h other =
+unfinished {limit} {stream} parser h other =
     not_alone limit stream h.place 0x30 zero_digit (stands-place parser h.place h.stands) h.is_after
     (λ here. other (by_state limit parser.state parser (subst (Stands limit parser) here h.stands).by))
 

@@ -1,5 +1,13 @@
 -- How a call comes from one place to the next, to its end, or to a stop. A stretch of bytes that leads to a place adds
 -- its events to those told so far; at starts among them a call that may stop may stop.
+--
+-- `come-nowhere`: the start of a call
+-- `come-byte`: past a byte before which the call may stop; `come-carried`: past one inside a character
+-- `come-further`: past any stretch of bytes; `come-items`: past data bytes of a command
+-- `come-between`, `come-all`, `come-broken`: where something may start, because no character is open, no byte is left,
+-- or the next byte breaks the open one; `come-command`: back from there
+-- `come-starts`: there something starts
+-- `come-to`, `come-performs`: the public clauses of a call that stops, and of one that reads all
 use Rattle.vte_core.proofs.Common.{◌≡◌, ℕ, zero, suc, ◌+◌, ◌-◌, ◌<◌, ◌≤◌, inl, inr, true, false, Option, List, [], ◌∷◌, ◌++◌, length, take, drop, refl, ap, sym, subst, ◌∙◌, append_assoc, arith, slice_index, cases_Bool, cases_lt, append-nil, drop_more, take-add, breaks, breaks_at, IsStart, told_before, stream_at, Event, Print, replacement, after, added, open_end, ProgressAt, ProgressInside, MayGoOn, Reads, Place, InText, ChunkCall}
 use Rattle.vte_core.proofs.Common.{InSystemCommand, IsAfter, IsBetween, open_at, ComesTo}
 use Rattle.vte_core.proofs.streams.After.{after-left, after-nothing, after-open_end, after-reads, added-reads, added-nothing}
@@ -7,6 +15,7 @@ use Rattle.vte_core.proofs.calls.States.{reads-item}
 use Rattle.vte_core.proofs.fields.PlaceOfState.{IsPlace, open_at-between}
 use Rattle.vte_core.proofs.streams.Performing.{after-append}
 use Rattle.vte_core.proofs.stops.Told.{breaks_at-all, breaks_at-between, breaks_at-byte, no_start, starts-between, starts-broken, stream_at-between, stream_at-broken, told-all, told-between, told-broken}
+use Rattle.vte_core.proofs.bytes.Between.{one_byte}
 use Rattle.vte_core.proofs.stops.Units.{added_from, after_from, breaks_there, goes_on_from}
 
 -- ---- the bytes of a call from one place to the next
@@ -54,26 +63,26 @@ module _ {V : Type 0} {call : ChunkCall V} {old : V} {stream : List ℕ} where
   -- no character is broken here: nothing is told more
   come-whole : {value : V} {i : ℕ} {place : Place} → breaks_at stream call.bytes i ≡ false
       → ProgressInside call old value stream i place → ProgressAt call old value stream i place
-  come-whole {i = i} whole c =
+  come-whole {i} whole c =
       rw (told-between call.limit stream call.bytes i whole, stream_at-between stream call.bytes i whole) c
 
   pub come-between : {value : V} {i : ℕ} {place : Place} → IsPlace place → IsBetween place
       → ProgressInside call old value stream i place → ProgressAt call old value stream i place
-  come-between {i = i} {place = place} is between c =
+  come-between {i} {place} is between c =
       come-whole
       (breaks_at-between stream call.bytes i
       (after-open_end call.limit (stream ++ take i call.bytes) place c.is_after is ∙ open_at-between place between)) c
 
   pub come-all : {value : V} {i : ℕ} {place : Place} → length call.bytes ≤ i
       → ProgressInside call old value stream i place → ProgressAt call old value stream i place
-  come-all {i = i} all c = come-whole (breaks_at-all stream call.bytes i all) c
+  come-all {i} all c = come-whole (breaks_at-all stream call.bytes i all) c
 
   -- U+FFFD is told for a character that the next byte breaks, and the parser stands as at first
   pub come-broken : {value new : V} {i b : ℕ} {place : Place} → IsPlace place → i < length call.bytes
       → b ≡ slice_index call.bytes i → breaks (open_at place) (b ∷ []) ≡ true
       → new ≡ call.step value (Print replacement) → ProgressInside call old value stream i place
       → ProgressAt call old new stream i (InText [])
-  come-broken {i = i} {b = b} {place = place} is_place within is broken performed c =
+  come-broken {i} {b} {place} is_place within is broken performed c =
       let here : breaks_at stream call.bytes i ≡ true =
       breaks_at-byte stream call.bytes (open_at place) i b within is
       (after-open_end call.limit (stream ++ take i call.bytes) place c.is_after is_place) ∙ broken in
@@ -98,8 +107,8 @@ module _ {V : Type 0} {call : ChunkCall V} {old : V} {stream : List ℕ} where
       → call.is_terminated (after call.step old (told_before call.limit stream call.bytes k)) ≡ false)
       → Reads call.limit place (take (j - i) (drop i call.bytes)) these next → new ≡ after call.step value these
       → IsPlace next → ProgressAt call old value stream i place → ProgressInside call old new stream j next
-  come-further {value = value} {i = i} {j = j} {place = place} {next = next}
-      {these = these} in_order within here inside r performed is_place c = record {
+  come-further {value} {i} {j} {place} {next}
+      {these} in_order within here inside r performed is_place c = record {
         performed =
             performed ∙ ap (λ v. after call.step v these) c.performed
             ∙ sym (after-append call.step old (told_before call.limit stream call.bytes i) these)
@@ -129,9 +138,8 @@ module _ {V : Type 0} {call : ChunkCall V} {old : V} {stream : List ℕ} where
       → (call.may_stop ≡ true → IsStart stream call.bytes i → call.is_terminated value ≡ false)
       → Reads call.limit place (b ∷ []) these next → new ≡ after call.step value these → IsPlace next
       → ProgressAt call old value stream i place → ProgressInside call old new stream (i + 1) next
-  further {i = i} {b = b} {place = place} {next = next} {these = these} within is here r =
-      let one : take (i + 1 - i) (drop i call.bytes) ≡ b ∷ [] =
-      let e : i + 1 - i ≡ 1 = omega arith in rw (e, drop_more call.bytes i 0 within, is) refl in
+  further {i} {b} {place} {next} {these} within is here r =
+      let one = one_byte call.bytes i b within is in
       come-further (omega arith) (omega (arith, within)) here (λ does k past below. absurd (omega (arith, past, below)))
       (subst (λ x. Reads call.limit place x these next) (sym one) r)
 
@@ -149,7 +157,7 @@ module _ {V : Type 0} {call : ChunkCall V} {old : V} {stream : List ℕ} where
       → breaks (open_at place) (b ∷ []) ≡ false → Reads call.limit place (b ∷ []) these next
       → new ≡ after call.step value these → IsPlace next → ProgressInside call old value stream i place
       → ProgressInside call old new stream (i + 1) next
-  come-carried {i = i} {b = b} {place = place} is_here within is some whole r performed is_place c =
+  come-carried {i} {b} {place} is_here within is some whole r performed is_place c =
       let ends : open_end (stream ++ take i call.bytes) ≡ open_at place =
       after-open_end call.limit (stream ++ take i call.bytes) place c.is_after is_here in
       further within is
@@ -162,9 +170,9 @@ module _ {V : Type 0} {call : ChunkCall V} {old : V} {stream : List ℕ} where
       → ((k : ℕ) → i ≤ k → k < i + n → 0x20 ≤ slice_index call.bytes k) → MayGoOn call value
       → ProgressAt call old value stream i (InSystemCommand items)
       → ProgressAt call old value stream (i + n) (InSystemCommand (items ++ take n (drop i call.bytes)))
-  come-items {i = i} zero items within low may_go_on c =
+  come-items {i} zero items within low may_go_on c =
       let same : i + 0 ≡ i = omega arith in rw (append-nil items, same) c
-  come-items {i = i} (suc n) items within low may_go_on c =
+  come-items {i} (suc n) items within low may_go_on c =
       let here : i < length call.bytes = omega (arith, within) in
       let b : ℕ = slice_index call.bytes i in
       let is_item : 0x20 ≤ b = low i (omega arith) (omega arith) in
@@ -179,7 +187,7 @@ module _ {V : Type 0} {call : ChunkCall V} {old : V} {stream : List ℕ} where
   -- ---- the start of a call
 
   pub come-nowhere : {place : Place} → IsAfter call.limit stream place → ProgressInside call old old stream 0 place
-  come-nowhere {place = place} a = record {
+  come-nowhere {place} a = record {
     performed = sym (ap (after call.step old) (added-nothing call.limit stream));
     is_after = rw (append-nil stream) a;
     earlier = λ does j below start. absurd (omega arith);
@@ -187,13 +195,13 @@ module _ {V : Type 0} {call : ChunkCall V} {old : V} {stream : List ℕ} where
 
   come-back : {value : V} {i : ℕ} {place : Place} → breaks_at stream call.bytes i ≡ false
       → ProgressAt call old value stream i place → ProgressInside call old value stream i place
-  come-back {i = i} whole c =
+  come-back {i} whole c =
       rw (told-between call.limit stream call.bytes i whole, stream_at-between stream call.bytes i whole) at c
 
   -- in a command no character was broken
   pub come-command : {value : V} {i : ℕ} {items : List ℕ} → ProgressAt call old value stream i (InSystemCommand items)
       → ProgressInside call old value stream i (InSystemCommand items)
-  come-command {value = value} {i = i} {items = items} c = elim (cases_Bool (breaks_at stream call.bytes i)) [
+  come-command {value} {i} {items} c = elim (cases_Bool (breaks_at stream call.bytes i)) [
     | inl broken ↦
         let a : IsAfter call.limit [] (InSystemCommand items) =
         subst (λ s. IsAfter call.limit s (InSystemCommand items)) (stream_at-broken stream call.bytes i broken)
@@ -209,7 +217,7 @@ module _ {V : Type 0} {call : ChunkCall V} {old : V} {stream : List ℕ} where
 
   pub come-starts : {value : V} {i : ℕ} {place : Place} → IsPlace place → IsBetween place → i < length call.bytes
       → ProgressAt call old value stream i place → IsStart stream call.bytes i
-  come-starts {i = i} {place = place} is between within c = elim (cases_Bool (breaks_at stream call.bytes i)) [
+  come-starts {i} {place} is between within c = elim (cases_Bool (breaks_at stream call.bytes i)) [
     | inl broken ↦ starts-broken stream call.bytes i within broken
     | inr whole ↦ starts-between stream call.bytes i within
         (ap open_end (sym (stream_at-between stream call.bytes i whole))
@@ -222,7 +230,7 @@ module _ {V : Type 0} {call : ChunkCall V} {old : V} {stream : List ℕ} where
   pub come-to : {value : V} {n : ℕ} {place : Place} → call.may_stop ≡ true → n ≤ length call.bytes
       → (n < length call.bytes → IsStart stream call.bytes n) → ProgressAt call old value stream n place
       → ComesTo call.step call.is_terminated old value call.limit stream call.bytes n
-  come-to {n = n} does within starts c =
+  come-to {n} does within starts c =
       let unread : List ℕ = drop n call.bytes in
       record {
         within = within;
@@ -242,4 +250,4 @@ module _ {V : Type 0} {call : ChunkCall V} {old : V} {stream : List ℕ} where
   -- the public clause of a call that reads all bytes
   pub come-performs : {value : V} {n : ℕ} {place : Place} → n ≡ length call.bytes
       → ProgressAt call old value stream n place → value ≡ after call.step old (added call.limit stream call.bytes)
-  come-performs {n = n} all c = c.performed ∙ ap (after call.step old) (told-all call.limit stream call.bytes n all)
+  come-performs {n} all c = c.performed ∙ ap (after call.step old) (told-all call.limit stream call.bytes n all)

@@ -23,7 +23,7 @@ left_here parser stream h = after-left None stream h.place h.is_after (stands-pl
 pub meets_data : {B : Type 0} {parser : Machine B} {stream bytes : List ℕ} {from : ℕ}
     → IsRefusedAt None parser.state parser.command bytes from
     → HasReadUnder None parser stream → MeetsData stream (slice_index bytes from)
-meets_data {parser = parser} {stream = stream} {bytes = bytes} {from = from} refused h =
+meets_data {parser} {stream} {bytes} {from} refused h =
     let byte : ℕ = slice_index bytes from in
     let k = in_command parser h.place refused.inside h.stands in
     let o = open_for parser.command k.items byte k.keeps refused.few refused.is_data.1 in
@@ -136,7 +136,7 @@ none_is_open parser stream other h =
 -- a store that was cleared has no data bytes
 pub nothing_stored : {held : Stored} → Keeps None held [] → length held.bytes ≡ 0
 unfolding pieces_of Rattle.vte_core.specs.SystemCommand.kept_items
-nothing_stored {held = held} keeps = pieces_stored None held [] keeps
+nothing_stored {held} keeps = pieces_stored None held [] keeps
 
 -- where there was memory for all bytes of the call, none is refused
 pub never_refused : {V B : Type 0} {may_stop : Bool} {step : V → Event → V} {is_terminated : V → Bool} {old new : V}
@@ -144,7 +144,7 @@ pub never_refused : {V B : Type 0} {may_stop : Bool} {step : V → Event → V} 
     → RefusesAt (chunk_call may_stop step is_terminated None bytes) old new n before parser → (stream : List ℕ)
     → HasReadUnder None before stream
     → open_size stream + length bytes ≤ before.command.capacity → before.command.capacity ≤ parser.command.capacity → ⊥
-never_refused {bytes = bytes} {n = n} {parser = parser} r stream h enough kept =
+never_refused {bytes} {n} {parser} r stream h enough kept =
     let stored =
     stored_is_open parser (stream ++ take n bytes) r.refused.inside (inside-reads (refuses-inside r stream h)) in
     omega (

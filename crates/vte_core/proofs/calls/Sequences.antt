@@ -6,7 +6,7 @@ use Rattle.vte_core.proofs.calls.Arms.{advances-in, at_escape, performs-escape, 
 use Rattle.vte_core.proofs.fields.PlaceOfState.{stands-by, stands-in}
 use Rattle.vte_core.proofs.calls.Ends.{settled-by}
 use Rattle.vte_core.proofs.calls.Stretches.{advances-byte, advances-when}
-use Rattle.vte_core.proofs.places.PlaceLeads.{byte-dropped, escape-control_sequence}
+use Rattle.vte_core.proofs.places.PlaceLeads.{byte-dropped, escape-key}
 
 again : {V B : Type 0} (step : V → Event → V) (value : V) (limit : Option ℕ) (b : ℕ) (parser : Machine B)
     (place : Place) → parser.state ≡ Escape → b ≡ 0x1b
@@ -19,7 +19,7 @@ again step value limit b parser _ e is s by = absurd by
 pub advances-again : {quiet V B : Type 0} {call : ChunkCall V} {value : V} {i b : ℕ} {parser : Machine B}
     → parser.state ≡ Escape → i < length call.bytes → b ≡ slice_index call.bytes i → MayGoOn call value → b ≡ 0x1b
     → Advances quiet call value value i (i + 1) parser parser
-advances-again {call = call} {value = value} {b = b} {parser = parser} begun within is may_go_on same =
+advances-again {call} {value} {b} {parser} begun within is may_go_on same =
     advances-when (rw begun tt) (advances-byte within is may_go_on
     (λ place s between. again call.step value call.limit b parser place begun same s (stands-in begun s))
     (settled-by _ _ begun tt))
@@ -30,7 +30,7 @@ pub performs-dropped : {V B : Type 0} {step : V → Event → V} {value : V} {li
     → ends_all (class_of b) ≡ false → is_control (class_of b) ≡ false
     → (place : Place) → Stands limit parser place → IsBetween place
     → TakesBytes step value value limit place (b ∷ []) parser
-performs-dropped {limit = limit} {b = b} {parser = parser} begun head final ordinary control =
+performs-dropped {limit} {b} {parser} begun head final ordinary control =
     let dropped = left_is_dropped (class_of b) head final ordinary control in
     performs-in begun ordinary
     (at_escape parser
@@ -42,8 +42,8 @@ pub advances-bracket : {quiet V B : Type 0} {call : ChunkCall V} {value : V} {i 
     → next.state ≡ ControlSequence Entry → (HoldsIntermediates parser.collected [] → HoldsHead next.collected Entry [])
     → Advances quiet call value value i (i + 1) parser next
 unfolding class_of key_of
-advances-bracket {call = call} {parser = parser} begun within is may_go_on bracket state holds =
+advances-bracket {call} {parser} begun within is may_go_on bracket state holds =
     advances-when tt (advances-in begun within is may_go_on (rw bracket refl)
     (at_escape parser
     (λ before. taken [] (InControlSequence []) refl (stands-by state (holds before))
-    (rw bracket (escape-control_sequence call.limit 0x5b refl refl)))) (settled-by _ _ state tt))
+    (rw bracket (escape-key call.limit 0x5b _ refl refl refl)))) (settled-by _ _ state tt))

@@ -14,7 +14,7 @@ by_text limit parser _ s = absurd s
 -- between characters of a text there is one place
 pub between_characters : {B : Type 0} {limit : Option ℕ} (parser : Machine B) (place : Place)
     → parser.state ≡ Text Nothing → Stands limit parser place → place ≡ InText []
-between_characters {limit = limit} parser place e s = by_text limit parser place (stands-in e s)
+between_characters {limit} parser place e s = by_text limit parser place (stands-in e s)
 
 -- ---- whether a call asks
 

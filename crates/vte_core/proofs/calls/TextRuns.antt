@@ -1,7 +1,6 @@
 -- What a run of text does to a call's progress: its characters one by one do the same. By induction over the
 -- characters, and for the performer by its contract over the whole run.
-use Rattle.vte_core.proofs.Common.{cases_Bool, inl, inr, Bool, List, Option, [], ap, arith, drop, false, length, map, refl, subst, sym, take, true, ℕ, ◌++◌, ◌+◌, ◌-◌, ◌<◌, ◌∙◌, ◌∷◌, ◌≡◌, ◌≢◌, ◌≤◌, encode, false≢true, append-nil, take-append-drop, All-append, All-head, All-nil, All-tail, All, slice_index, breaks_at, stream_at, told_before, Event, Print, replacement, after, added, cut_at_escape, escape, with_bodies, events, ChunkCall}
-use Rattle.vte_core.proofs.Common.{is_left_out, run_event, character_event, is_control_character, malformed_event, text_outcome, Text, Machine, Nothing, Reads, Stands, InText, encodes, nat_tests, outcome_from, Advances, ProgressAt, MayGoOn, StandsAt, StandsInside, chars, IsUtf8, NoCharacterStops, AreRun, IsPrinted, PrintsRun}
+use Rattle.vte_core.proofs.Common.{cases_Bool, inl, inr, Bool, List, Option, [], ap, arith, drop, false, length, map, refl, subst, sym, take, true, ℕ, ◌++◌, ◌+◌, ◌-◌, ◌<◌, ◌∙◌, ◌∷◌, ◌≡◌, ◌≢◌, ◌≤◌, encode, false≢true, append-nil, take-append-drop, All-append, All-head, All-nil, All-tail, All, slice_index, breaks_at, stream_at, told_before, Event, Print, replacement, after, added, cut_at_escape, escape, with_bodies, events, ChunkCall, run_event, character_event, is_control_character, malformed_event, text_outcome, Text, Machine, Nothing, Reads, Stands, InText, encodes, nat_tests, outcome_from, Advances, ProgressAt, MayGoOn, StandsAt, StandsInside, chars, IsUtf8, NoCharacterStops, AreRun, IsPrinted, PrintsRun, StaysInRun, ends_run}
 use Rattle.std.proofs.lemmas.List.{take-take}
 use Rattle.std.proofs.lemmas.List.Elements.{All-from_get_or}
 use Rattle.std.proofs.lemmas.Str.{inside_one, encodes-chars, scalars-chars}
@@ -38,38 +37,35 @@ pub told_as_characters : (limit : Option ℕ) (text : List ℕ) → IsUtf8 text 
 told_as_characters limit text is none =
     told_by_stream limit (InText []) text (map character_event (chars text)) refl (reads-characters limit text is none)
 
--- no character of the list is a control that a run leaves out
-abbrev ArePlain : Bool → List ℕ → Type 0
-ArePlain keeps cs = All (λ c. is_left_out keeps c ≡ false) cs
-
-plain-event : (keeps : Bool) (c : ℕ) → is_left_out keeps c ≡ false → character_event c ≡ run_event keeps c
+plain-event : (keeps : Bool) (c : ℕ) → StaysInRun keeps c → character_event c ≡ run_event keeps c
 unfolding character_event
 plain-event keeps c plain = grind (arith, nat_tests, layout-is_control c)
 
-plain-events : (keeps : Bool) (cs : List ℕ) → ArePlain keeps cs → map character_event cs ≡ map (run_event keeps) cs
+plain-events : (keeps : Bool) (cs : List ℕ) → All (StaysInRun keeps) cs
+    → map character_event cs ≡ map (run_event keeps) cs
 plain-events keeps [] plain = refl
 plain-events keeps (c ∷ cs) plain =
-    let first = plain-event keeps c (All-head (λ c. is_left_out keeps c ≡ false) c cs plain) in
-    let rest = plain-events keeps cs (All-tail (λ c. is_left_out keeps c ≡ false) c cs plain) in
+    let first = plain-event keeps c (All-head (StaysInRun keeps) c cs plain) in
+    let rest = plain-events keeps cs (All-tail (StaysInRun keeps) c cs plain) in
     cc
 
-escape-left_out : (keeps : Bool) → is_left_out keeps escape ≡ true
-escape-left_out keeps = grind arith
+escape-ends_run : (keeps : Bool) → ends_run keeps escape ≡ true
+escape-ends_run keeps = grind arith
 
 replacement-event : (keeps : Bool) → run_event keeps replacement ≡ Print replacement
 replacement-event keeps = grind arith
 
-no_escape-encode : (keeps : Bool) (c : ℕ) → is_left_out keeps c ≡ false → All (λ b. b ≢ escape) (encode c)
+no_escape-encode : (keeps : Bool) (c : ℕ) → StaysInRun keeps c → All (λ b. b ≢ escape) (encode c)
 no_escape-encode keeps c plain = All-from_get_or (λ b. b ≢ escape) (encode c) 0 (λ k l e.
     let is : c ≡ escape = inside_one c [] (encode c) k (sym (append-nil (encode c))) l (omega (arith, e)) ∙ e in
-    absurd (false≢true (sym plain ∙ ap (is_left_out keeps) is ∙ escape-left_out keeps)))
+    absurd (false≢true (sym plain ∙ ap (ends_run keeps) is ∙ escape-ends_run keeps)))
 
-no_escape-encodes : (keeps : Bool) (cs : List ℕ) → ArePlain keeps cs → All (λ b. b ≢ escape) (encodes cs)
+no_escape-encodes : (keeps : Bool) (cs : List ℕ) → All (StaysInRun keeps) cs → All (λ b. b ≢ escape) (encodes cs)
 no_escape-encodes keeps [] plain = All-nil (λ b. b ≢ escape)
 no_escape-encodes keeps (c ∷ cs) plain =
     All-append (λ b. b ≢ escape) (encode c) (encodes cs)
-    (no_escape-encode keeps c (All-head (λ c. is_left_out keeps c ≡ false) c cs plain))
-    (no_escape-encodes keeps cs (All-tail (λ c. is_left_out keeps c ≡ false) c cs plain))
+    (no_escape-encode keeps c (All-head (StaysInRun keeps) c cs plain))
+    (no_escape-encodes keeps cs (All-tail (StaysInRun keeps) c cs plain))
 
 no_escape : (keeps : Bool) (run : List ℕ) → AreRun keeps run → All (λ b. b ≢ escape) run
 no_escape keeps run are =
@@ -87,8 +83,8 @@ reads-text limit keeps run are =
 pub prints-one : {V : Type 0} {keeps : Bool} {step : V → Event → V} {old new : V} {bytes : List ℕ} {from b c : ℕ}
     → from < length bytes → b ≡ slice_index bytes from → IsPrinted b → c ≡ b
     → new ≡ step old (Print c) → PrintsRun keeps step old new bytes from (from + 1)
-prints-one {keeps = keeps} {step = step} {old = old} {bytes = bytes} {from = from}
-    {b = b} within is printed same e = record {
+prints-one {keeps} {step} {old} {bytes} {from}
+    {b} within is printed same e = record {
       run = run-ascii keeps bytes from (from + 1) (each-one IsPrinted bytes from (subst IsPrinted is printed));
       printed = e ∙ ap (λ x. step old (Print x)) same
           ∙ ap (λ event. step old event) (sym (printed-event keeps b printed))
@@ -132,7 +128,7 @@ not_stopped-told keeps step is_terminated never value limit stream bytes k goes 
 pub may_go_on-text : {V : Type 0} {keeps : Bool} (call : ChunkCall V) {old new : V} {i j : ℕ}
     → (call.may_stop ≡ true → NoCharacterStops keeps call.step call.is_terminated) → MayGoOn call old
     → PrintsRun keeps call.step old new call.bytes i j → MayGoOn call new
-may_go_on-text {keeps = keeps} call {old = old} {i = i} {j = j} never may_go_on prints does =
+may_go_on-text {keeps} call {old} {i} {j} never may_go_on prints does =
     let cs = chars (take (j - i) (drop i call.bytes)) in
     ap call.is_terminated prints.printed
     ∙ not_stopped keeps call.step call.is_terminated (never does) old (map (run_event keeps) cs) [] cs
@@ -143,7 +139,7 @@ pub may_go_on-malformed : {V : Type 0} (keeps : Bool) (call : ChunkCall V) {old 
     → (call.may_stop ≡ true → NoCharacterStops keeps call.step call.is_terminated) → MayGoOn call old → 0xa0 ≤ b
     → new ≡ call.step old (malformed_event (b ∷ [])) → MayGoOn call new
 unfolding malformed_event
-may_go_on-malformed keeps call {old = old} {b = b} never may_go_on high performed does =
+may_go_on-malformed keeps call {old} {b} never may_go_on high performed does =
     let printed : is_control_character b ≡ false = grind (arith, nat_tests) in
     let event : malformed_event (b ∷ []) ≡ run_event keeps replacement =
     rw printed (sym (no_control_event keeps replacement refl)) in
@@ -154,7 +150,7 @@ pub advances-text : {V B : Type 0} {call : ChunkCall V} {keeps : Bool} {old new 
     → (call.may_stop ≡ true → NoCharacterStops keeps call.step call.is_terminated) → MayGoOn call old
     → parser.state ≡ Text Nothing → i < j → j ≤ length call.bytes
     → PrintsRun keeps call.step old new call.bytes i j → Advances ⊥ call old new i j parser parser
-advances-text {V = V} {call = call} {keeps = keeps} {old = old} {new = new} {i = i} {j = j} {parser = parser}
+advances-text {V} {call} {keeps} {old} {new} {i} {j} {parser}
     never may_go_on e in_order high prints = record {
       goes_on = λ value stream s. settles (settled-by parser.state (Text Nothing) e tt) (inside-next value stream s);
       settled = λ _. settled-by parser.state (Text Nothing) e tt;

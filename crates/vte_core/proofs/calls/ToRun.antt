@@ -26,7 +26,7 @@ use Rattle.vte_core.proofs.streams.StreamLemmas.{no_escape, reads-append, reads-
 has-nowhere : {B : Type 0} {limit : Option ℕ} {bytes : List ℕ} {from : ℕ} {place : RunPlace} {parser : Machine B}
     → from ≤ length bytes → place.start ≡ from → place.end ≡ from
     → place.kind ≡ Empty → HasRun limit bytes place parser
-has-nowhere {limit = limit} {bytes = bytes} {from = from} {place = place} {parser = parser} within starts ends kind =
+has-nowhere {limit} {bytes} {from} {place} {parser} within starts ends kind =
     let none : bytes_at bytes place ≡ [] =
     ap (λ n. take n (drop place.start bytes))
     (let e : place.end - place.start ≡ 0 = omega (arith, starts, ends) in e) in
@@ -62,7 +62,7 @@ has-run : {B : Type 0} {limit : Option ℕ} {bytes : List ℕ} {place : RunPlace
     → Reads limit here (bytes_at bytes place) (kind_events place.kind (bytes_at bytes place)) here
     → IsRange bytes place.start place.end → AreOfKind place.kind (bytes_at bytes place)
     → IsWholeAt bytes place place.kind → HasRun limit bytes place parser
-has-run {limit = limit} {bytes = bytes} {place = place} {parser = parser} here is only reads range kind whole =
+has-run {limit} {bytes} {place} {parser} here is only reads range kind whole =
     let these : List ℕ = bytes_at bytes place in
     let events : List Event = kind_events place.kind these in
     record {
@@ -87,7 +87,7 @@ pub has-text : {B : Type 0} {limit : Option ℕ} {bytes : List ℕ} {from end : 
     → parser.state ≡ Text Nothing → from < end → end ≤ length bytes
     → IsRun false bytes from end → EndsRun false bytes end
     → HasRun limit bytes (record { start = from; end = end; kind = OfText }) parser
-has-text {limit = limit} {bytes = bytes} {from = from} {end = end} {parser = parser} between low high are ended =
+has-text {limit} {bytes} {from} {end} {parser} between low high are ended =
     has-run (InText []) refl (λ place s. between_characters parser place between s)
     (reads-text limit false (take (end - from) (drop from bytes)) are)
     (record { in_order = omega (arith, low); within = high }) are (low, ended)
@@ -117,7 +117,7 @@ pub has-data : {B : Type 0} {limit : Option ℕ} {bytes : List ℕ} {from end : 
     → parser.state ≡ DeviceData → from < end → end ≤ length bytes
     → ArePut bytes from end → (end < length bytes → IsPut (slice_index bytes end) → ⊥)
     → HasRun limit bytes (record { start = from; end = end; kind = OfData }) parser
-has-data {limit = limit} {bytes = bytes} {from = from} {end = end} {parser = parser} begun low high are ended =
+has-data {limit} {bytes} {from} {end} {parser} begun low high are ended =
     has-run InData tt (λ place s. by_data limit parser place (stands-in begun s))
     (reads-data limit bytes (end - from) from (omega (arith, low, high))
     (λ k above below. are k above (omega (arith, low, below))))
@@ -128,7 +128,7 @@ has-data {limit = limit} {bytes = bytes} {from = from} {end = end} {parser = par
 -- between characters a parser goes on as a new one
 pub anew : {B : Type 0} {limit : Option ℕ} {stream : List ℕ} (parser : Machine B) → parser.state ≡ Text Nothing
     → HasReadUnder limit parser stream → HasReadUnder limit parser []
-anew {limit = limit} parser begun h = record {
+anew {limit} parser begun h = record {
   place = InText [];
   stands = subst (Stands limit parser) (between_characters parser h.place begun h.stands) h.stands;
   is_after = after-nothing limit;
@@ -205,13 +205,13 @@ size_at bytes place range =
 takes-run : {B : Type 0} {limit : Option ℕ} {bytes : List ℕ} {place : RunPlace} {parser : Machine B} (taken : Taken)
     → HasRun limit bytes place parser
     → IsTaken place.kind (bytes_at bytes place) taken → TakesRun bytes place.end (bytes_at bytes place) place.kind taken
-takes-run {bytes = bytes} {place = place} taken h is =
+takes-run {bytes} {place} taken h is =
     takes bytes place place.kind taken is h.kind (size_at bytes place h.range) h.whole
 
 stands-run : {B : Type 0} {limit : Option ℕ} {bytes : List ℕ} {run : Run} {place : RunPlace} {parser : Machine B}
     → HasRun limit bytes place parser → run.start ≡ place.start
     → run.end ≡ place.end → IsTaken place.kind (bytes_at bytes place) run.taken → IsRunIn bytes run
-stands-run {bytes = bytes} {run = run} {place = place} h starts ends taken =
+stands-run {bytes} {run} {place} h starts ends taken =
     let these = takes-run run.taken h taken in
     let size = size_at bytes place h.range in
     record {

@@ -1,8 +1,8 @@
 -- The division of a text is Unicode's: the longest segment at each place, and nothing lost. Where the rows still
 -- allow a byte, a longer segment exists; where they don't, no longer one does.
-use Rattle.vte_core.proofs.Common.{◌≡◌, ℕ, zero, suc, ◌<◌, ◌≤◌, Bool, true, false, List, [], ◌∷◌, length, take, drop, refl, sym, ap, ◌∙◌, arith, inl, inr, length-take-le, concat, take-append-drop, false≢true, cases_lt, Range, utf8_rows, rows_after_byte, rows_after_bytes, is_well_formed, is_truncated, allowed_length, trailing_count, segments_after}
+use Rattle.vte_core.proofs.Common.{◌≡◌, ◌≢◌, ℕ, zero, suc, ◌<◌, ◌≤◌, Bool, true, false, List, [], ◌∷◌, length, take, drop, refl, sym, subst, ap, ◌∙◌, arith, inl, inr, length-take-le, concat, take-append-drop, false≢true, cases_lt, Range, utf8_rows, rows_after_byte, rows_after_bytes, is_well_formed, is_truncated, allowed_length, trailing_count, segments_after}
 use Rattle.vte_core.specs.Division.{IsSegment, IsAllDivided}
-use Rattle.vte_core.proofs.bytes.Utf8Lemmas.{rows_after_bytes_none, some_whole, some_open, neither_whole_nor_open, allowed_length_none}
+use Rattle.vte_core.proofs.bytes.Utf8Lemmas.{rows_after_bytes_none, some_whole, some_open, neither_whole_nor_open, allowed, allowed_length_none, unwanted, wanted}
 use Rattle.vte_core.proofs.shapes.TextLemmas.{trailing_count_whole}
 
 -- The segment that starts with b, followed by `bytes`, is the right one.
@@ -18,31 +18,22 @@ pub record IsDividedRight (b : ℕ) (bytes : List ℕ) : Type 0 where
 
 allowed_length-le : (rows : List (List Range)) (bytes : List ℕ) → allowed_length rows bytes ≤ length bytes
 allowed_length-le rows [] = omega arith
-allowed_length-le rows (b ∷ bytes) = next (rows_after_byte b rows) (allowed_length-le (rows_after_byte b rows) bytes)
-  where
-    next : (rows : List (List Range)) → allowed_length rows bytes ≤ length bytes
-        → elim rows [ [] ↦ 0 | row ∷ more ↦ suc (allowed_length (row ∷ more) bytes) ] ≤ length (b ∷ bytes)
-    next [] short = omega arith
-    next (row ∷ more) short = omega arith
+allowed_length-le rows (b ∷ bytes) = elim (allowed rows b bytes) [
+  | unwanted _ is ↦ omega (arith, is)
+  | wanted _ is ↦ omega (arith, is, allowed_length-le (rows_after_byte b rows) bytes)
+]
 
 -- some row still stands after what the rows allow
-allowed_length_stands : (row : List Range) (more : List (List Range)) (bytes : List ℕ)
-    → rows_after_bytes (take (allowed_length (row ∷ more) bytes) bytes) (row ∷ more) ≡ [] → ⊥
-allowed_length_stands row more [] none = cc
-allowed_length_stands row more (b ∷ bytes) none =
-    next (λ row more. allowed_length_stands row more bytes) (rows_after_byte b (row ∷ more)) refl none
+allowed_length_stands : (rows : List (List Range)) (bytes : List ℕ) → rows ≢ []
+    → rows_after_bytes (take (allowed_length rows bytes) bytes) rows ≢ []
+allowed_length_stands rows [] some none = some none
+allowed_length_stands rows (b ∷ bytes) some none = elim (allowed rows b bytes) [
+  | unwanted _ is ↦ some (stands is)
+  | wanted left is ↦ allowed_length_stands (rows_after_byte b rows) bytes left (stands is)
+]
   where
-    next : ((row : List Range) (more : List (List Range))
-        → rows_after_bytes (take (allowed_length (row ∷ more) bytes) bytes) (row ∷ more) ≡ [] → ⊥)
-        → (rows : List (List Range)) → rows_after_byte b (row ∷ more) ≡ rows
-        → rows_after_bytes
-        (take (elim rows [ [] ↦ 0 | row ∷ more ↦ suc (allowed_length (row ∷ more) bytes) ]) (b ∷ bytes))
-        (row ∷ more) ≡ [] → ⊥
-    next later [] same none = cc
-    next later (first ∷ rows) same none =
-        later first rows
-        (ap (λ (left : List (List Range)). rows_after_bytes (take (allowed_length (first ∷ rows) bytes) bytes) left)
-        (sym same) ∙ none)
+    stands : {n : ℕ} → allowed_length rows (b ∷ bytes) ≡ n → rows_after_bytes (take n (b ∷ bytes)) rows ≡ []
+    stands is = subst (λ n. rows_after_bytes (take n (b ∷ bytes)) rows ≡ []) is none
 
 -- no row still stands after more bytes than the rows allow
 allowed_length_longest : (rows : List (List Range)) (bytes : List ℕ) (n : ℕ) → allowed_length rows bytes < n
@@ -50,15 +41,11 @@ allowed_length_longest : (rows : List (List Range)) (bytes : List ℕ) (n : ℕ)
     → rows_after_bytes (take n bytes) rows ≡ []
 allowed_length_longest rows [] n past within = absurd (omega arith)
 allowed_length_longest rows (b ∷ bytes) zero past within = absurd (omega arith)
-allowed_length_longest rows (b ∷ bytes) (suc n) past within =
-    next (rows_after_byte b rows) past (allowed_length_longest (rows_after_byte b rows) bytes n)
-  where
-    next : (rows : List (List Range))
-        → elim rows [ [] ↦ 0 | row ∷ more ↦ suc (allowed_length (row ∷ more) bytes) ] < suc n
-        → (allowed_length rows bytes < n → n ≤ length bytes → rows_after_bytes (take n bytes) rows ≡ [])
-        → rows_after_bytes (take n bytes) rows ≡ []
-    next [] past later = rows_after_bytes_none (take n bytes)
-    next (row ∷ more) past later = later (omega arith) (omega arith)
+allowed_length_longest rows (b ∷ bytes) (suc n) past within = elim (allowed rows b bytes) [
+  | unwanted none _ ↦ ap (rows_after_bytes (take n bytes)) none ∙ rows_after_bytes_none (take n bytes)
+  | wanted _ is ↦
+      allowed_length_longest (rows_after_byte b rows) bytes n (omega (arith, past, is)) (omega (arith, within))
+]
 
 is_segment : (b : ℕ) (bytes : List ℕ) → IsSegment (b ∷ take (trailing_count b bytes) bytes)
 unfolding is_well_formed is_truncated trailing_count
@@ -83,28 +70,21 @@ is_segment b bytes = by_rows (rows_after_byte b utf8_rows) refl
     by_rows [] same = inr (inr (
         ap (λ (rows : List (List Range)). length (b ∷ segment rows)) same
         ∙ ap (λ (n : ℕ). length (b ∷ take n bytes)) (allowed_length_none bytes)))
-    by_rows (row ∷ more) same = by_tests (row ∷ more) same _ _ refl refl (allowed_length_stands row more bytes)
-
--- a longer front is nothing
-none_longer : (b : ℕ) (bytes : List ℕ) (n : ℕ) → trailing_count b bytes < n → n ≤ length bytes
-    → is_truncated (b ∷ take n bytes) ≡ false
-unfolding is_truncated trailing_count
-none_longer b bytes n past within =
-    ap some_open (allowed_length_longest (rows_after_byte b utf8_rows) bytes n past within)
-
-trailing_count-le : (b : ℕ) (bytes : List ℕ) → trailing_count b bytes ≤ length bytes
-unfolding trailing_count
-trailing_count-le b bytes = allowed_length-le (rows_after_byte b utf8_rows) bytes
+    by_rows (row ∷ more) same =
+        by_tests (row ∷ more) same _ _ refl refl (allowed_length_stands (row ∷ more) bytes (λ e. cc))
 
 pub divided_right : (b : ℕ) (bytes : List ℕ) → IsDividedRight b bytes
+unfolding is_truncated trailing_count
 divided_right b bytes = record {
-  within = trailing_count-le b bytes;
+  within = allowed_length-le (rows_after_byte b utf8_rows) bytes;
   is_segment = is_segment b bytes;
   whole =
       λ n within well. rw (take-append-drop n bytes) at (trailing_count_whole b (take n bytes) (drop n bytes) well)
       ∙ length-take-le n bytes within;
   longest = λ n within more. elim (cases_lt (trailing_count b bytes) n) [
-    | inl past ↦ absurd (false≢true (sym (none_longer b bytes n past within) ∙ more))
+    | inl past ↦
+        let none = allowed_length_longest (rows_after_byte b utf8_rows) bytes n past within in
+        absurd (false≢true (sym (ap some_open none) ∙ more))
     | inr reaches ↦ reaches
   ];
 }

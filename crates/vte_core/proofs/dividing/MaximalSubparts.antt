@@ -41,7 +41,7 @@ truncated_is_shorter b bytes d (a ∷ u) rest same more =
 right_segment : (b : ℕ) (bytes : List ℕ)
     → IsRightSegment (b ∷ take (trailing_count b bytes) bytes) (drop (trailing_count b bytes) bytes)
 right_segment b bytes =
-    let d : IsDividedRight b bytes = divided_right b bytes in
+    let d = divided_right b bytes in
     let all : b ∷ take (trailing_count b bytes) bytes ++ drop (trailing_count b bytes) bytes ≡ b ∷ bytes =
     ap (λ (u : List ℕ). b ∷ u) (take-append-drop (trailing_count b bytes) bytes) in
     record {
@@ -97,11 +97,11 @@ one_division [] (q ∷ those) are others same =
 one_division (p ∷ these) [] are others same =
     absurd (omega (arith, nonempty p are.0.is_segment, length-append p (concat these), ap length same))
 one_division (p ∷ these) (q ∷ those) are others same =
-    let le : length p ≤ length q = not_longer p (concat these) q (concat those) same are.0 others.0 in
+    let le = not_longer p (concat these) q (concat those) same are.0 others.0 in
     let ge : length q ≤ length p = not_longer q (concat those) p (concat these) (sym same) others.0 are.0 in
     let long : length p ≡ length q = omega arith in
     let parts = same_front p (concat these) q (concat those) same long in
-    let rest : these ≡ those = one_division these those are.1 others.1 parts.1 in
+    let rest = one_division these those are.1 others.1 parts.1 in
     let first : p ≡ q = parts.0 in
     cc
 

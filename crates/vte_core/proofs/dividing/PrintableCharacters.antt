@@ -1,6 +1,6 @@
 -- A character of two to four bytes, at the front of some bytes or in a call's input, that is no control: so it is a
 -- run.
-use Rattle.vte_core.proofs.Common.{◌≡◌, ℕ, suc, ◌+◌, ◌-◌, ◌<◌, ◌≤◌, Bool, true, false, List, [], ◌∷◌, length, take, drop, get_or, inl, inr, refl, sym, ap, subst, ◌∙◌, arith, and_from, scalar, encode, encodes, cases_eq, nat_tests, append-nil, drop_more, All-nil, All-cons, All, slice_index, second_range, is_control_character, is_left_out, from_to, is_in, is_well_formed, scalar_of, IsUtf8, chars, AreRun, IsRun}
+use Rattle.vte_core.proofs.Common.{◌≡◌, ℕ, suc, ◌+◌, ◌-◌, ◌<◌, ◌≤◌, Bool, true, false, List, [], ◌∷◌, length, take, drop, get_or, inl, inr, refl, sym, ap, subst, ◌∙◌, arith, and_from, scalar, encode, encodes, cases_eq, nat_tests, append-nil, drop_more, All-nil, All-cons, All, slice_index, second_range, is_control_character, StaysInRun, from_to, is_in, is_well_formed, scalar_of, IsUtf8, chars, AreRun, IsRun}
 use Rattle.std.proofs.lemmas.Str.{IsUtf8-encode, chars-encodes}
 use Rattle.vte_core.proofs.bytes.FirstBytes.{second_plain, tests_two, tests_three, tests_four}
 use Rattle.vte_core.proofs.bytes.Printable.{no_control-stays}
@@ -9,16 +9,16 @@ use Rattle.vte_core.proofs.dividing.Utf8Agrees.{four_from, three_from, well_form
 
 printable-whole : {keeps : Bool} (p : List ℕ) → is_well_formed p ≡ true → is_control_character (scalar_of p) ≡ false
     → AreRun keeps p
-printable-whole {keeps = keeps} p whole plain =
+printable-whole {keeps} p whole plain =
     let c : ℕ = scalar_of p in
     let same : encodes (c ∷ []) ≡ p = append-nil (encode c) ∙ well_formed_is_encoded p whole in
     let is : chars p ≡ c ∷ [] =
     ap chars (sym same) ∙ chars-encodes (c ∷ []) (and_from (scalar c) true (well_formed_is_scalar p whole) refl) in
     record {
       utf8 = subst IsUtf8 (well_formed_is_encoded p whole) (IsUtf8-encode c (well_formed_is_scalar p whole));
-      plain = subst (All (λ c. is_left_out keeps c ≡ false)) (sym is)
-          (All-cons (λ c. is_left_out keeps c ≡ false) c [] (no_control-stays keeps c plain)
-          (All-nil (λ c. is_left_out keeps c ≡ false)));
+      plain = subst (All (StaysInRun keeps)) (sym is)
+          (All-cons (StaysInRun keeps) c [] (no_control-stays keeps c plain)
+          (All-nil (StaysInRun keeps)));
     }
 
 -- a control of two bytes is C2 and less than A0
@@ -68,7 +68,7 @@ run-of : {keeps : Bool} (bytes : List ℕ) (from b : ℕ) (u : List ℕ) → fro
     → StandAt bytes from 1 u
     → 0xc2 ≤ b → (b ≡ 0xc2 → 0xa0 ≤ get_or u 0 0) → is_well_formed (b ∷ u) ≡ true
     → IsRun keeps bytes from (from + suc (length u))
-run-of {keeps = keeps} bytes from b u within is at low plain whole =
+run-of {keeps} bytes from b u within is at low plain whole =
     let same : take (suc (length u)) (drop from bytes) ≡ b ∷ u =
     ap (take (suc (length u))) (drop_more bytes from 0 within)
     ∙ ap (λ c. c ∷ take (length u) (drop (from + 1) bytes)) (sym is) ∙ ap (λ x. b ∷ x) (stand-take bytes from 1 u at) in

@@ -6,7 +6,7 @@ use Rattle.std.proofs.Common.{All}
 use Rattle.std.proofs.lemmas.Str.{encode_ascii, encode_same, encodes-chars, scalars-chars, IsUtf8-encode, IsUtf8-append, IsUtf8-nil}
 use Rattle.vte_core.proofs.dividing.DivisionLemmas.{all_divided}
 use Rattle.vte_core.proofs.bytes.FirstBytes.{continuation, ascii_alone, tests_two, tests_three, tests_four}
-use Rattle.vte_core.proofs.bytes.Scalars.{SecondByte, sequence, whole_one, whole_two, whole_three, whole_four, well_formed_is_scalar}
+use Rattle.vte_core.proofs.bytes.Scalars.{IsContinuation, SecondByte, sequence, whole_one, whole_two, whole_three, whole_four, well_formed_is_scalar}
 use Rattle.vte_core.proofs.shapes.TextLemmas.{trailing_count_whole, segments_first, text_outcome-well_formed, not_well_formed-nothing}
 use Rattle.vte_core.proofs.bytes.Utf8Lemmas.{in_range}
 use Rattle.vte_core.proofs.shapes.OutcomeLemmas.{tell-append}
@@ -40,9 +40,9 @@ encoded_two a b low high second =
 pub three_from : (a b d : ℕ) → 0xe0 ≤ a → SecondByte a b → 0x800 ≤ scalar_of (a ∷ b ∷ d ∷ [])
 three_from a b d low second = grind (arith, second.not_overlong_three)
 
-encoded_three : (a b d : ℕ) → 0xe0 ≤ a → a < 0xf0 → SecondByte a b → 0x80 ≤ d → d ≤ 0xbf
+encoded_three : (a b d : ℕ) → 0xe0 ≤ a → a < 0xf0 → SecondByte a b → IsContinuation d
     → encode (scalar_of (a ∷ b ∷ d ∷ [])) ≡ a ∷ b ∷ d ∷ []
-encoded_three a b d low high second d_low d_high =
+encoded_three a b d low high second third =
     let c : ℕ = (a - 0xe0) * 0x1000 + (b - 0x80) * 0x40 + (d - 0x80) in
     let first : 0xe0 + c / 0x1000 ≡ a = omega arith in
     let middle : 0x80 + (c / 0x40) % 0x40 ≡ b = omega arith in
@@ -52,29 +52,25 @@ encoded_three a b d low high second d_low d_high =
 pub four_from : (a b d e : ℕ) → 0xf0 ≤ a → SecondByte a b → 0x10000 ≤ scalar_of (a ∷ b ∷ d ∷ e ∷ [])
 four_from a b d e low second = grind (arith, second.not_overlong_four)
 
-encoded_four : (a b d e : ℕ) → 0xf0 ≤ a → a < 0xf5 → SecondByte a b → 0x80 ≤ d → d ≤ 0xbf → 0x80 ≤ e → e ≤ 0xbf
+encoded_four : (a b d e : ℕ) → 0xf0 ≤ a → a < 0xf5 → SecondByte a b → IsContinuation d → IsContinuation e
     → encode (scalar_of (a ∷ b ∷ d ∷ e ∷ [])) ≡ a ∷ b ∷ d ∷ e ∷ []
-encoded_four a b d e low high second d_low d_high e_low e_high =
+encoded_four a b d e low high second third fourth =
     let c : ℕ = (a - 0xf0) * 0x40000 + (b - 0x80) * 0x1000 + (d - 0x80) * 0x40 + (e - 0x80) in
     let first : 0xf0 + c / 0x40000 ≡ a = omega arith in
     let second_is : 0x80 + (c / 0x1000) % 0x40 ≡ b = omega arith in
-    let third : 0x80 + (c / 0x40) % 0x40 ≡ d = omega arith in
+    let third_is : 0x80 + (c / 0x40) % 0x40 ≡ d = omega arith in
     let last : 0x80 + c % 0x40 ≡ e = omega arith in
-    encode_four c (four_from a b d e low second) ∙ rw (first, second_is, third, last) refl
+    encode_four c (four_from a b d e low second) ∙ rw (first, second_is, third_is, last) refl
 
 pub well_formed_is_encoded : (p : List ℕ) → is_well_formed p ≡ true → encode (scalar_of p) ≡ p
 well_formed_is_encoded p well = elim (sequence p well) [
   | whole_one a is high ↦ rw is (encode_ascii a high)
   | whole_two a b is low high second ↦ rw is (encoded_two a b low high second)
-  | whole_three a b d is low high second third ↦ rw is (encoded_three a b d low high second third.0 third.1)
-  | whole_four a b d e is low high second third last ↦
-      rw is (encoded_four a b d e low high second third.0 third.1 last.0 last.1)
+  | whole_three a b d is low high second third ↦ rw is (encoded_three a b d low high second third)
+  | whole_four a b d e is low high second third last ↦ rw is (encoded_four a b d e low high second third last)
 ]
 
 -- ---- the encoding of a character is well formed
-
-in_plain : (b : ℕ) → 0x80 ≤ b → b ≤ 0xbf → is_in continuation b ≡ true
-in_plain b low high = in_range continuation b low high
 
 -- the second byte is one that the first allows
 in_second : (a b : ℕ) → SecondByte a b → is_in (second_range a) b ≡ true
@@ -123,7 +119,7 @@ formed_three c low high range =
       not_overlong_four = λ is. absurd (omega arith);
       not_past_the_last = λ is. absurd (omega arith);
     } in
-    let last : is_in continuation d ≡ true = in_plain d (omega arith) (omega arith) in
+    let last : is_in continuation d ≡ true = in_range continuation d (omega arith) (omega arith) in
     let whole = (tests_three a (omega arith) (omega arith) (b ∷ d ∷ [])).is_whole in
     rw (encode_three c low high) (whole ∙ rw (in_second a b second, last) refl)
 
@@ -141,8 +137,8 @@ formed_four c low high =
       not_overlong_four = λ is. omega arith;
       not_past_the_last = λ is. omega arith;
     } in
-    let third : is_in continuation d ≡ true = in_plain d (omega arith) (omega arith) in
-    let last : is_in continuation e ≡ true = in_plain e (omega arith) (omega arith) in
+    let third : is_in continuation d ≡ true = in_range continuation d (omega arith) (omega arith) in
+    let last : is_in continuation e ≡ true = in_range continuation e (omega arith) (omega arith) in
     let whole = (tests_four a (omega arith) (omega arith) (b ∷ d ∷ e ∷ [])).is_whole in
     rw (encode_four c low) (whole ∙ rw (in_second a b second, third, last) refl)
 
@@ -184,25 +180,25 @@ segments-encodes [] are = refl
 segments-encodes (c ∷ cs) are =
     let parts : (scalar c ≡ true) × (scalars cs ≡ true) = and_parts (scalar c) (scalars cs) are in
     segments-well_formed (encode c) (encodes cs) (encoded_is_well_formed c parts.0)
-    ∙ ap (λ pieces. encode c ∷ pieces) (segments-encodes cs parts.1)
+    ∙ ap (λ more. encode c ∷ more) (segments-encodes cs parts.1)
 
 -- the segments of a text of the library are the encodings of its characters
 pub segments_of_text : (text : List ℕ) → IsUtf8 text → segments text ≡ map encode (chars text)
 segments_of_text text is = rw (encodes-chars text is) at (segments-encodes (chars text) (scalars-chars text is))
 
-concat-well_formed : (pieces : List (List ℕ)) → All (λ piece. is_well_formed piece ≡ true) pieces
-    → IsUtf8 (concat pieces)
+abbrev IsWhole : List ℕ → Type 0
+IsWhole segment = is_well_formed segment ≡ true
+
+concat-well_formed : (those : List (List ℕ)) → All IsWhole those → IsUtf8 (concat those)
 concat-well_formed [] are = IsUtf8-nil
-concat-well_formed (piece ∷ pieces) are =
-    let well : is_well_formed piece ≡ true = All-head (λ piece. is_well_formed piece ≡ true) piece pieces are in
-    let first : IsUtf8 piece =
-    rw (well_formed_is_encoded piece well) at (IsUtf8-encode (scalar_of piece) (well_formed_is_scalar piece well)) in
-    let rest : All (λ piece. is_well_formed piece ≡ true) pieces =
-    All-tail (λ piece. is_well_formed piece ≡ true) piece pieces are in
-    IsUtf8-append piece (concat pieces) first (concat-well_formed pieces rest)
+concat-well_formed (segment ∷ more) are =
+    let well : IsWhole segment = All-head IsWhole segment more are in
+    let first : IsUtf8 segment = rw (well_formed_is_encoded segment well)
+    at (IsUtf8-encode (scalar_of segment) (well_formed_is_scalar segment well)) in
+    IsUtf8-append segment (concat more) first (concat-well_formed more (All-tail IsWhole segment more are))
 
 -- a text without a malformed segment is one of the library
-pub text_of_segments : (text : List ℕ) → All (λ piece. is_well_formed piece ≡ true) (segments text) → IsUtf8 text
+pub text_of_segments : (text : List ℕ) → All IsWhole (segments text) → IsUtf8 text
 text_of_segments text are = rw (all_divided text) at (concat-well_formed (segments text) are)
 
 -- ---- the events of a text of the library

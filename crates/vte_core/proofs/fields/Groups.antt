@@ -5,6 +5,15 @@ use Rattle.std.proofs.lemmas.List.{length-take-le, append_assoc}
 use Rattle.std.specs.Option.{unwrap_or}
 use Rattle.vte_core.specs.machine.Groups.{cut_by_lengths, AreLengths, AreStored, IsTakenOff}
 
+abbrev pub IsFilled : List ℕ → Type 0
+IsFilled group = 0 < length group
+
+abbrev IsSmallNumber : ℕ → Type 0
+IsSmallNumber number = number ≤ greatest_number
+
+abbrev pub AreSmall : List ℕ → Type 0
+AreSmall group = All IsSmallNumber group
+
 abbrev pub numbered : Bool → ℕ → Number
 numbered joined value = record { joined = joined; value = value }
 
@@ -50,23 +59,20 @@ count_of-cut_by_lengths (n ∷ lengths) numbers ok =
     )
 
 pub filled-cut_by_lengths : (lengths numbers : List ℕ) → AreLengths lengths numbers
-    → All (λ group. 0 < length group) (cut_by_lengths lengths numbers)
-filled-cut_by_lengths [] numbers ok = All-nil (λ (group : List ℕ). 0 < length group)
+    → All IsFilled (cut_by_lengths lengths numbers)
+filled-cut_by_lengths [] numbers ok = All-nil IsFilled
 filled-cut_by_lengths (n ∷ lengths) numbers ok =
-    let rest : (n ≤ length numbers) × (sum lengths ≡ length (drop n numbers)) = sum_rest n lengths numbers ok.whole in
-    All-cons (λ (group : List ℕ). 0 < length group) (take n numbers) (cut_by_lengths lengths (drop n numbers))
+    let rest = sum_rest n lengths numbers ok.whole in
+    All-cons IsFilled (take n numbers) (cut_by_lengths lengths (drop n numbers))
     (omega (arith, All-head (λ m. 0 < m) n lengths ok.filled, length-take-le n numbers rest.0))
     (filled-cut_by_lengths lengths (drop n numbers) (AreLengths-rest n lengths numbers ok))
-
-abbrev pub AreSmall : List ℕ → Type 0
-AreSmall group = All (λ number. number ≤ greatest_number) group
 
 small-cut_by_lengths : (lengths numbers : List ℕ) → AreSmall numbers → All AreSmall (cut_by_lengths lengths numbers)
 small-cut_by_lengths [] numbers small = All-nil AreSmall
 small-cut_by_lengths (n ∷ lengths) numbers small =
     All-cons AreSmall (take n numbers) (cut_by_lengths lengths (drop n numbers))
-    (All-take (λ number. number ≤ greatest_number) n numbers small)
-    (small-cut_by_lengths lengths (drop n numbers) (All-drop (λ number. number ≤ greatest_number) n numbers small))
+    (All-take IsSmallNumber n numbers small)
+    (small-cut_by_lengths lengths (drop n numbers) (All-drop IsSmallNumber n numbers small))
 
 pub AreGroups-cut_by_lengths : (lengths numbers : List ℕ) → AreStored lengths numbers → length numbers ≤ most_numbers
     → AreGroups (cut_by_lengths lengths numbers)
@@ -99,7 +105,7 @@ cut_by_lengths-push : (lengths numbers : List ℕ) (n : ℕ) (more : List ℕ) �
 cut_by_lengths-push [] [] n more whole size = ap (λ (group : List ℕ). group ∷ []) (take_all n more (omega arith))
 cut_by_lengths-push [] (x ∷ numbers) n more whole size = absurd (omega arith)
 cut_by_lengths-push (m ∷ lengths) numbers n more whole size =
-    let rest : (m ≤ length numbers) × (sum lengths ≡ length (drop m numbers)) = sum_rest m lengths numbers whole in
+    let rest = sum_rest m lengths numbers whole in
     rw (
       take-append-le m numbers more rest.0,
       drop-append-le m numbers more rest.0,

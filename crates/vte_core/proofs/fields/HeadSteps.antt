@@ -1,9 +1,11 @@
 -- What one byte makes of the head that is held: by the part of the head that was reached and the byte's class.
+--
+-- `holds-X`: the head is held after X (`HoldsHead`); `malformed-X`, `ill_shaped-X`: it stays ill-shaped after X.
 use Rattle.vte_core.proofs.Common.{◌≡◌, ℕ, ◌⊎◌, inl, inr, Bool, true, false, ◌||◌, List, [], ◌∷◌, ◌++◌, length, refl, ap, ◌∙◌, append_assoc, arith, length-append, append-nil, Class, Intermediate, Marker, class_of, is_head, is_intermediate, is_marker, is_parameter_text, Collected, HeadPart, Entry, Parameters, Intermediates, IllShaped, Event, head_of, is_well_shaped, sequence_event, HoldsIntermediates, CountsNumbers, HoldsNumbers, HoldsHead}
 use Rattle.vte_core.proofs.Common.{KeepsNumbers, KeepsIntermediates, StandsInHead, StaysIllShaped}
 use Rattle.vte_core.specs.machine.Ready.{IsReady}
 use Rattle.vte_core.proofs.shapes.HeadLemmas.{begins-intermediates, head_of-parts, held-parts, held-well_shaped, list_all-not}
-use Rattle.vte_core.proofs.bytes.PieceLemmas.{AreOf-append}
+use Rattle.vte_core.proofs.bytes.ClassCases.{AreInClass-append}
 
 -- the numbers that are held are those of the same text
 pub CountsNumbers-kept : (old new : Collected) (text : List ℕ) → KeepsNumbers old new → CountsNumbers old text
@@ -20,10 +22,6 @@ Holds-kept : (old new : Collected) (ints : List ℕ) → KeepsIntermediates old 
     → HoldsIntermediates new ints
 Holds-kept old new ints k h = record { kept = cc; too_many = k.too_many ∙ h.too_many }
 
-shape_more : (head marker parameters intermediates more : List ℕ) → head ≡ marker ++ (parameters ++ intermediates)
-    → head ++ more ≡ marker ++ (parameters ++ (intermediates ++ more))
-shape_more head marker parameters intermediates more e = rw e (simp append_assoc)
-
 -- an intermediate, wherever the head has come
 pub holds-intermediate : (old new : Collected) (part : HeadPart) (head : List ℕ) (b : ℕ) → HoldsHead old part head
     → class_of b ≡ Intermediate
@@ -33,10 +31,10 @@ holds-intermediate old new part head b h e k more = record {
   marker = h.marker;
   parameters = h.parameters;
   intermediates = h.intermediates ++ b ∷ [];
-  shape = shape_more head h.marker h.parameters h.intermediates (b ∷ []) h.shape;
+  shape = rw h.shape (simp append_assoc);
   is_marker = h.is_marker;
   are_parameters = h.are_parameters;
-  are_intermediates = AreOf-append is_intermediate h.intermediates (b ∷ []) h.are_intermediates (rw e refl, tt);
+  are_intermediates = AreInClass-append is_intermediate h.intermediates (b ∷ []) h.are_intermediates (rw e refl, tt);
   reaches = omega (arith, length-append {A = ℕ});
   holds = rw append_assoc at (more (h.marker ++ h.intermediates) h.holds);
   counts = CountsNumbers-kept old new h.parameters k h.counts;
@@ -63,13 +61,13 @@ holds-marker old new head b h e k more =
       counts = CountsNumbers-kept old new h.parameters k h.counts;
     }
 
--- a byte of the parameters, after nothing, a marker or a parameter
-holds_parameter : (old new : Collected) (part : HeadPart) (head : List ℕ) (b : ℕ) (h : HoldsHead old part head)
+-- a byte of the parameters
+after_no_intermediate : (old new : Collected) (part : HeadPart) (head : List ℕ) (b : ℕ) (h : HoldsHead old part head)
     → h.intermediates ≡ []
     → is_parameter_text (class_of b) ≡ true → KeepsIntermediates old new
     → ((text : List ℕ) → CountsNumbers old text → CountsNumbers new (text ++ b ∷ []))
     → HoldsHead new Parameters (head ++ b ∷ [])
-holds_parameter old new part head b h none is k more =
+after_no_intermediate old new part head b h none is k more =
     let kept : HoldsIntermediates old (h.marker ++ []) = rw none at h.holds in
     record {
       marker = h.marker;
@@ -77,23 +75,24 @@ holds_parameter old new part head b h none is k more =
       intermediates = [];
       shape = rw (h.shape, none) (simp (append-nil, append_assoc));
       is_marker = h.is_marker;
-      are_parameters = AreOf-append is_parameter_text h.parameters (b ∷ []) h.are_parameters (is, tt);
+      are_parameters = AreInClass-append is_parameter_text h.parameters (b ∷ []) h.are_parameters (is, tt);
       are_intermediates = tt;
       reaches = (omega (arith, length-append {A = ℕ}), refl);
       holds = Holds-kept old new (h.marker ++ []) k kept;
       counts = more h.parameters h.counts;
     }
 
+-- no intermediate is held where the head may have parameters
 pub holds-parameter : (old new : Collected) (part : HeadPart) (head : List ℕ) (b : ℕ)
     → (part ≡ Entry) ⊎ (part ≡ Parameters) → StandsInHead old part head
     → is_parameter_text (class_of b) ≡ true → KeepsIntermediates old new
     → ((text : List ℕ) → CountsNumbers old text → CountsNumbers new (text ++ b ∷ []))
     → HoldsHead new Parameters (head ++ b ∷ [])
 holds-parameter old new part head b (inl e) s is k more =
-    let h : HoldsHead old Entry head = rw e at s in holds_parameter old new Entry head b h h.reaches.2 is k more
+    let h : HoldsHead old Entry head = rw e at s in after_no_intermediate old new Entry head b h h.reaches.2 is k more
 holds-parameter old new part head b (inr e) s is k more =
     let h : HoldsHead old Parameters head =
-    rw e at s in holds_parameter old new Parameters head b h h.reaches.1 is k more
+    rw e at s in after_no_intermediate old new Parameters head b h h.reaches.1 is k more
 
 -- a marker after a marker or a parameter
 malformed-marker : (old : Collected) (head : List ℕ) (b : ℕ) → HoldsHead old Parameters head → class_of b ≡ Marker
@@ -110,10 +109,10 @@ malformed-marker old head b h is = record {
 }
 
 -- what is no intermediate after an intermediate
-malformed-shape_more : (old : Collected) (head : List ℕ) (b : ℕ) → HoldsHead old Intermediates head
+malformed-after_intermediate : (old : Collected) (head : List ℕ) (b : ℕ) → HoldsHead old Intermediates head
     → is_intermediate (class_of b) ≡ false → StaysIllShaped (head ++ b ∷ [])
 unfolding is_well_shaped
-malformed-shape_more old head b h is = record {
+malformed-after_intermediate old head b h is = record {
   stays = λ more.
       let e : (head ++ b ∷ []) ++ more ≡ h.marker ++ (h.parameters ++ (h.intermediates ++ (b ∷ more))) =
       rw h.shape (simp append_assoc) in
@@ -177,7 +176,7 @@ pub ill_shaped-late : (old : Collected) (part : HeadPart) (head : List ℕ) (b :
     → (part ≡ Entry → ⊥) → StaysIllShaped (head ++ b ∷ [])
 ill_shaped-late old Entry head b s h i p n = absurd (n refl)
 ill_shaped-late old Parameters head b s h i p n = malformed-marker old head b s (left_is_marker _ h (p (inr refl)) i)
-ill_shaped-late old Intermediates head b s h i p n = malformed-shape_more old head b s i
+ill_shaped-late old Intermediates head b s h i p n = malformed-after_intermediate old head b s i
 ill_shaped-late old IllShaped head b s h i p n = ill_shaped-more head b s
 
 -- what is handed over at the end of a head

@@ -1,4 +1,6 @@
 -- What one byte makes of the numbers that are held: the numbers of the text read so far, of which the last is open.
+--
+-- `counts-X`: the numbers are counted after X (`CountsNumbers`); `settles-X`: the last one is settled (`HoldsNumbers`).
 use Rattle.vte_core.proofs.Common.{◌≡◌, ℕ, ◌+◌, ◌<◌, ◌≤◌, ◌*◌, ◌-◌, min, Bool, true, false, List, [], ◌∷◌, ◌++◌, length, take, refl, ap, sym, ◌∙◌, arith, length-append, take_all, take-append-le, nat_tests, Collected, numbers, grouped, groups_of, has_too_many_numbers, with_number, count_of, most_numbers, is_separator, is_colon, greatest_number, CountsNumbers, HoldsNumbers, append_assoc, append-nil}
 use Rattle.std.proofs.lemmas.List.{length-take}
 use Rattle.vte_core.proofs.fields.Groups.{numbered}

@@ -2,7 +2,7 @@
 -- piece, and the others stay.
 use Rattle.vte_core.proofs.Common.{◌≡◌, ◌≢◌, ℕ, ◌<◌, suc, zero, None, List, [], ◌∷◌, ◌++◌, length, take, drop, refl, ap, ◌∙◌, arith, length-append, slice_range, ◌+◌, All-cons, All-nil, append-nil, concat, drop-append-le, drops_data, nat_tests, take_all, Stored, Keeps, PiecesEnd, cut_data, semicolon, most_pieces, pieces_of}
 use Rattle.std.proofs.lemmas.List.Folds.{concat-append}
-use Rattle.vte_core.proofs.fields.StoreLemmas.{after_byte, after_nothing, count-run, ends-within, pieces_held, slice_within}
+use Rattle.vte_core.proofs.fields.StoreLemmas.{IsDataItem, after_byte, after_nothing, count-run, ends-within, pieces_held, slice_within}
 
 -- the pieces of held bytes, and those with a byte more
 record GoesOn (start : ℕ) (bytes ends : List ℕ) (byte : ℕ) : Type 0 where
@@ -60,8 +60,7 @@ same_drops : (items : List ℕ) (byte : ℕ) (pieces : List (List ℕ)) (last : 
     → drops_data None (items ++ byte ∷ []) ≡ drops_data None items
 unfolding drops_data
 same_drops items byte pieces last before later other =
-    let more =
-    count-run items (byte ∷ []) (All-cons (λ b. b ≢ semicolon) byte [] other (All-nil (λ b. b ≢ semicolon))) in
+    let more = count-run items (byte ∷ []) (All-cons IsDataItem byte [] other (All-nil IsDataItem)) in
     rw (
       before,
       later,

@@ -4,33 +4,36 @@ use Rattle.vte_core.proofs.Common.{◌≡◌, ℕ, ◌+◌, ◌-◌, ◌*◌, �
 use Rattle.vte_core.proofs.Common.{is_separator, greatest_number, most_numbers, numbers_from, grouped, groups_of, with_number, count_of, AreGroups}
 use Rattle.std.proofs.lemmas.Int.Digits.{digits_value_push}
 use Rattle.std.proofs.lemmas.List.Splits.{slice_split_at, slice_split_none}
-use Rattle.vte_core.proofs.fields.Groups.{numbered}
+use Rattle.vte_core.proofs.fields.Groups.{IsFilled, numbered}
 
 -- ---- the numbers of a text, from its front
 
-split_numbers : (joined : Bool) (digits text : List ℕ) → All (λ b. is_separator b ≡ false) digits
+abbrev pub IsNoSeparator : ℕ → Type 0
+IsNoSeparator b = is_separator b ≡ false
+
+split_numbers : (joined : Bool) (digits text : List ℕ) → All IsNoSeparator digits
     → numbers_of (joined ∷ map is_colon (filter is_separator text))
     (map number_of (slice_split is_separator (digits ++ text)))
     ≡ numbers_from joined digits text
 split_numbers joined digits [] none = rw (append-nil digits, slice_split_none is_separator digits none) refl
 split_numbers joined digits (b ∷ text) none = elim (cases_Bool (is_separator b)) [
   | inl cuts ↦
-      let rest = split_numbers (is_colon b) [] text (All-nil (λ b. is_separator b ≡ false)) in
+      let rest = split_numbers (is_colon b) [] text (All-nil IsNoSeparator) in
       rw (slice_split_at is_separator digits b text none cuts, cuts)
       (ap (λ (l : List Number). numbered joined (number_of digits) ∷ l) rest)
   | inr stays ↦
       let rest =
-      split_numbers joined (digits ++ b ∷ []) text (All-push (λ b. is_separator b ≡ false) digits b none stays) in
+      split_numbers joined (digits ++ b ∷ []) text (All-push IsNoSeparator digits b none stays) in
       rw stays (rw (append_assoc digits (b ∷ []) text) at rest)
 ]
 
 pub numbers_are : (text : List ℕ) → numbers text ≡ numbers_from false [] text
 unfolding numbers
-numbers_are text = split_numbers false [] text (All-nil (λ b. is_separator b ≡ false))
+numbers_are text = split_numbers false [] text (All-nil IsNoSeparator)
 
 -- ---- the numbers of a longer text
 
-pub is_digit_no_separator : (d : ℕ) → 48 ≤ d → d < 58 → is_separator d ≡ false
+pub is_digit_no_separator : (d : ℕ) → 48 ≤ d → d < 58 → IsNoSeparator d
 is_digit_no_separator d low high = grind (arith, nat_tests)
 
 digit_value_is : (d : ℕ) → 48 ≤ d → d < 58 → digit_value d ≡ d - 48
@@ -135,13 +138,13 @@ some_group text =
     ))
 
 -- no group is empty
-pub filled-grouped : (ns : List Number) → All (λ group. 0 < length group) (grouped ns)
+pub filled-grouped : (ns : List Number) → All IsFilled (grouped ns)
 filled-grouped ns =
-    let keeps : Keeps (λ group. 0 < length group) (λ value. Unit {0}) = record {
+    let keeps : Keeps IsFilled (λ value. Unit {0}) = record {
       begins = λ value _. omega arith;
       joins = λ group value _ filled. omega (arith, length-append group (value ∷ []));
     } in
-    All-fold keeps [] ns (λ k d h. tt) (All-nil (λ (group : List ℕ). 0 < length group))
+    All-fold keeps [] ns (λ k d h. tt) (All-nil IsFilled)
 
 pub AreGroups-grouped : (ns : List Number) → length ns ≤ most_numbers → All IsSmall ns → AreGroups (grouped ns)
 AreGroups-grouped ns few small =

@@ -9,14 +9,14 @@ use Rattle.vte_core.proofs.shapes.TextLemmas.{text_end, text_nothing}
 pub stands-in : {B : Type 0} {limit : Option ℕ} {state : State} {parser : Machine B} {place : Place}
     → parser.state ≡ state → Stands limit parser place
     → StandsBy limit state parser place
-stands-in {limit = limit} {parser = parser} {place = place} e s =
+stands-in {limit} {parser} {place} e s =
     subst (λ state. StandsBy limit state parser place) e s.by
 
 -- a parser in a state stands at the place of which that state says so
 pub stands-by : {B : Type 0} {limit : Option ℕ} {state : State} {parser : Machine B} {place : Place}
     → parser.state ≡ state → StandsBy limit state parser place
     → Stands limit parser place
-stands-by {limit = limit} {parser = parser} {place = place} e by =
+stands-by {limit} {parser} {place} e by =
     record { by = subst (λ state. StandsBy limit state parser place) (sym e) by }
 
 by_escape : {B : Type 0} (limit : Option ℕ) (state : State) (parser : Machine B) → StandsBy limit state parser AtEscape
@@ -26,7 +26,7 @@ by_escape limit _ parser s = absurd s
 
 pub stands-escape : {B : Type 0} {limit : Option ℕ} (parser : Machine B) → Stands limit parser AtEscape
     → HoldsIntermediates parser.collected []
-stands-escape {limit = limit} parser s = by_escape limit parser.state parser s.by
+stands-escape {limit} parser s = by_escape limit parser.state parser s.by
 
 -- in that state there is one shape of places
 pub record InCommandAt {B : Type 0} (limit : Option ℕ) (parser : Machine B) (place : Place) : Type 0 where
@@ -41,7 +41,7 @@ by_items limit parser _ s = absurd s
 
 pub in_command : {B : Type 0} {limit : Option ℕ} (parser : Machine B) (place : Place) → parser.state ≡ SystemCommand
     → Stands limit parser place → InCommandAt limit parser place
-in_command {limit = limit} parser place e s = by_items limit parser place (stands-in e s)
+in_command {limit} parser place e s = by_items limit parser place (stands-in e s)
 
 -- what is true of a place where some parser stands
 abbrev pub IsPlace : Place → Type 0
@@ -56,7 +56,7 @@ by_place limit _ parser _ s = tt
 
 pub stands-place : {B : Type 0} {limit : Option ℕ} (parser : Machine B) (place : Place) → Stands limit parser place
     → IsPlace place
-stands-place {limit = limit} parser place s = by_place limit parser.state parser place s.by
+stands-place {limit} parser place s = by_place limit parser.state parser place s.by
 
 pub is_open-truncated : (u : List ℕ) → is_truncated u ≡ true → is_open u ≡ true
 is_open-truncated [] more = refl

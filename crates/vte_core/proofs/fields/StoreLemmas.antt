@@ -1,11 +1,16 @@
 -- What a store holds: how many bytes, and which pieces. The invariant `Keeps` says what more items give, and each byte
 -- either joins the last piece, ends it, or is dropped.
+--
+-- `after_X`: the pieces if X follows; `ends-X`: where pieces end; `keeps-X`: what is kept after X (`Keeps`).
 use Rattle.vte_core.proofs.Common.{◌≡◌, ◌≢◌, ℕ, ◌+◌, ◌-◌, ◌≤◌, ◌<◌, zero, suc, true, false, List, [], ◌∷◌, ◌++◌, length, take, drop, Option, Some, None, refl, sym, ap, ◌∙◌, arith, append_assoc, length-append, length-drop, length-take, inl, inr, All, concat, filter, slice_range, drop-append-le, take-append-le, All-head, All-tail, take-nil, cases_Bool, ltb-false, ltb-true, ne_eqb, semicolon, Stored, Keeps, PiecesEnd}
 use Rattle.vte_core.proofs.Common.{cut_data, cut_pieces, ends_after, fitting, pieces_from, Bool, drops_data, has_room, is_data_item, nat_tests, kept_after, kept_items, most_pieces, pieces_of}
 use Rattle.std.proofs.Common.{append-nil}
 use Rattle.std.specs.Prelude.{◌||◌, nat_lt}
 use Rattle.std.proofs.lemmas.List.Elements.{filter-append}
 use Rattle.vte_core.proofs.fields.KeptItems.{cut_at_ends}
+
+abbrev pub IsDataItem : ℕ → Type 0
+IsDataItem b = b ≢ semicolon
 
 -- ---- the pieces if items follow, item by item
 
@@ -22,15 +27,8 @@ module _ (limit : Option ℕ) (bytes ends : List ℕ) where
   pub after_byte : has_room limit (length bytes) ≡ true → (item : ℕ) → item ≢ semicolon → (more : List ℕ) →
       pieces_from limit bytes ends (item ∷ more) ≡ pieces_from limit (bytes ++ item ∷ []) ends more
   after_byte room item other more =
-      let is_byte = ne_eqb item semicolon other in
-      let kept = kept_after limit (length bytes + 1) more in
-      rw (
-        room,
-        is_byte,
-        length-append bytes (item ∷ []),
-        append_assoc bytes (item ∷ [])
-            (filter is_data_item kept),
-      ) refl
+      let kept = filter is_data_item (kept_after limit (length bytes + 1) more) in
+      rw (room, ne_eqb item semicolon other, length-append bytes (item ∷ []), append_assoc bytes (item ∷ []) kept) refl
 
   after_end : has_room limit (length bytes) ≡ true → (more : List ℕ) →
       pieces_from limit bytes ends (semicolon ∷ more) ≡ pieces_from limit bytes (ends ++ length bytes ∷ []) more
@@ -53,15 +51,15 @@ fitting-full (Some limit) count run full =
     let none : limit - count ≡ 0 = omega (arith, ltb-false count limit full) in rw none refl
 
 -- data bytes are kept as far as there is room
-after_run : (limit : Option ℕ) (bytes ends run more : List ℕ) → All (λ b. b ≢ semicolon) run →
+after_run : (limit : Option ℕ) (bytes ends run more : List ℕ) → All IsDataItem run →
     pieces_from limit bytes ends (run ++ more)
     ≡ pieces_from limit (bytes ++ fitting limit (length bytes) run) ends more
 after_run limit bytes ends [] more none = rw (fitting-nothing limit (length bytes), append-nil bytes) refl
 after_run limit bytes ends (b ∷ run) more none =
-    let rest = after_run limit (bytes ++ b ∷ []) ends run more (All-tail (λ b. b ≢ semicolon) b run none) in
+    let rest = after_run limit (bytes ++ b ∷ []) ends run more (All-tail IsDataItem b run none) in
     elim (cases_Bool (has_room limit (length bytes))) [
       | inl room ↦
-          let one = after_byte limit bytes ends room b (All-head (λ b. b ≢ semicolon) b run none) (run ++ more) in
+          let one = after_byte limit bytes ends room b (All-head IsDataItem b run none) (run ++ more) in
           let kept = fitting-room limit (length bytes) b run room in
           let same : bytes ++ fitting limit (length bytes) (b ∷ run)
           ≡ (bytes ++ b ∷ []) ++ fitting limit (length (bytes ++ b ∷ [])) run =
@@ -127,16 +125,12 @@ ends-complete start bytes (end ∷ ends) more later are =
 
 -- ---- how many data bytes came, and whether some were dropped
 
-data-run : (run : List ℕ) → All (λ b. b ≢ semicolon) run → filter is_data_item run ≡ run
+data-run : (run : List ℕ) → All IsDataItem run → filter is_data_item run ≡ run
 data-run [] none = refl
 data-run (b ∷ run) none =
-    rw (
-      ne_eqb b semicolon (All-head (λ b. b ≢ semicolon) b run none),
-      data-run run
-          (All-tail (λ b. b ≢ semicolon) b run none),
-    ) refl
+    rw (ne_eqb b semicolon (All-head IsDataItem b run none), data-run run (All-tail IsDataItem b run none)) refl
 
-pub count-run : (items run : List ℕ) → All (λ b. b ≢ semicolon) run
+pub count-run : (items run : List ℕ) → All IsDataItem run
     → length (filter is_data_item (items ++ run)) ≡ length (filter is_data_item items) + length run
 count-run items run none =
     rw (filter-append is_data_item items run, data-run run none) (length-append (filter is_data_item items) run)
@@ -187,7 +181,7 @@ none-counts limit held items more done keeps later =
 
 -- after 16 ends, data bytes are dropped
 pub keeps-later : (limit : Option ℕ) (old new : Stored) (items run : List ℕ) → length old.ends ≡ most_pieces
-    → All (λ b. b ≢ semicolon) run
+    → All IsDataItem run
     → new.bytes ≡ old.bytes → new.ends ≡ old.ends
     → new.dropped ≡ (old.dropped || nat_lt (length new.bytes - length old.bytes) (length run))
     → Keeps limit old items → Keeps limit new (items ++ run)
@@ -215,7 +209,7 @@ keeps-done limit held items done keeps = record {
 
 -- data bytes more
 pub keeps-run : (limit : Option ℕ) (old new : Stored) (items run : List ℕ) → length old.ends < most_pieces
-    → All (λ b. b ≢ semicolon) run
+    → All IsDataItem run
     → new.bytes ≡ old.bytes ++ fitting limit (length old.bytes) run → new.ends ≡ old.ends
     → new.dropped ≡ (old.dropped || nat_lt (length new.bytes - length old.bytes) (length run)) → Keeps limit old items
     → Keeps limit new (items ++ run)

@@ -1,13 +1,15 @@
 -- What one byte reports after each place, and where it leads: one lemma for each kind of place and of byte, by the
 -- definition of that shape alone.
+--
+-- A lemma is named by the place and what comes there, as `escape-end` for the end of a sequence right after ESC.
 use Rattle.vte_core.proofs.Common.{◌≡◌, ℕ, ◌≤◌, true, false, eqb, Option, List, [], ◌∷◌, ◌++◌, ap, sym, append_assoc, append-nil, arith, nat_tests, Class, Control, Intermediate, Delete, Digit, Colon, Semicolon, Marker, Final, High, dispatches_escape, class_of, is_cancel, is_device_data, is_head, Dispatch, key_of, body_outcome, control_sequence_end, control_sequence_outcome, data_outcome, device_control_end, ends_command}
 use Rattle.vte_core.proofs.Common.{ends_data, device_control_outcome, escape_outcome, executed_events, first_two, are_too_many, Execute, Hook, Put, Unhook, OscDispatch, CsiDispatch, EscDispatch, head_of, is_well_shaped, sequence_event, Leads, InText, AtEscape, InEscape, InControlSequence, InDeviceControl, InData, InSystemCommand, InIgnoredString, pieces_of, bell, system_command_outcome, text_outcome, character_event, Bool}
 use Rattle.vte_core.proofs.Common.{Place, refl, malformed_event, is_truncated, is_well_formed, scalar_of, nat_le}
 use Rattle.vte_core.specs.IgnoredString.{ignored_string_outcome}
-use Rattle.vte_core.specs.Key.{ControlSequence, DeviceControl, SystemCommand, IgnoredString}
+use Rattle.vte_core.specs.Key.{ControlSequence, DeviceControl, SystemCommand, IgnoredString, Key}
 use Rattle.vte_core.specs.machine.Place.{control_sequence_from, device_control_from, escape_from, system_command_from}
-use Rattle.vte_core.proofs.bytes.ClassLemmas.{Spans, spans}
-use Rattle.vte_core.proofs.bytes.PieceLemmas.{head_is_no_control, head_is_no_end}
+use Rattle.vte_core.proofs.bytes.ClassLemmas.{spans}
+use Rattle.vte_core.proofs.bytes.ClassCases.{head_is_no_control, head_is_no_end}
 use Rattle.vte_core.proofs.shapes.PlainKeys.{is_dropped, is_dropped_in_head, below_finals}
 use Rattle.vte_core.proofs.shapes.TextLemmas.{text_lone, text_outcome-well_formed}
 
@@ -30,46 +32,51 @@ byte-dropped limit _ b Delete at e h = record { leads = λ rest. simp e }
 byte-dropped limit _ b High at e h = record { leads = λ rest. simp e }
 byte-dropped limit _ b _ at e h = cc
 
--- ---- after ESC
+-- ---- C0
 
-pub escape-control : (limit : Option ℕ) (b : ℕ) → class_of b ≡ Control
-    → Leads limit AtEscape b (Execute b ∷ []) AtEscape
-unfolding body_outcome executed_events
-escape-control limit b e = record { leads = λ rest. simp e }
+-- where they are executed, and nothing changes
+abbrev pub executes : Place → Bool
+executes AtEscape = true
+executes (InEscape intermediates) = true
+executes (InControlSequence head) = true
+executes _ = false
+
+pub byte-executed : (limit : Option ℕ) (place : Place) (b : ℕ) → executes place ≡ true → class_of b ≡ Control
+    → Leads limit place b (Execute b ∷ []) place
+unfolding body_outcome escape_from control_sequence_from executed_events
+byte-executed limit AtEscape b at e = record { leads = λ rest. simp e }
+byte-executed limit (InEscape ints) b at e = record { leads = λ rest. simp e }
+byte-executed limit (InControlSequence head) b at e = record { leads = λ rest. simp e }
+byte-executed limit _ b at e = cc
+
+-- ---- after ESC
 
 pub escape-intermediate : (limit : Option ℕ) (b : ℕ) → class_of b ≡ Intermediate
     → Leads limit AtEscape b [] (InEscape (b ∷ []))
 unfolding body_outcome executed_events escape_outcome escape_from
 escape-intermediate limit b e =
-    let s : Spans Intermediate b =
-    spans b Intermediate e in record { leads = λ rest. simp (e, below_finals b (omega arith)) }
+    let s = spans b Intermediate e in record { leads = λ rest. simp (e, below_finals b (omega arith)) }
 
-pub escape-control_sequence : (limit : Option ℕ) (b : ℕ) → class_of b ≡ Final → key_of b ≡ ControlSequence
-    → Leads limit AtEscape b [] (InControlSequence [])
-unfolding body_outcome executed_events control_sequence_outcome control_sequence_from
-escape-control_sequence limit b e k = record { leads = λ rest. simp (e, k) }
+-- the place after a key that begins a body
+abbrev pub begun_by : Key → Place
+begun_by ControlSequence = InControlSequence []
+begun_by DeviceControl = InDeviceControl []
+begun_by SystemCommand = InSystemCommand []
+begun_by IgnoredString = InIgnoredString
+begun_by Dispatch = AtEscape
 
-pub escape-device_control : (limit : Option ℕ) (b : ℕ) → class_of b ≡ Final → key_of b ≡ DeviceControl
-    → Leads limit AtEscape b [] (InDeviceControl [])
-unfolding body_outcome executed_events device_control_outcome device_control_from
-escape-device_control limit b e k = record { leads = λ rest. simp (e, k) }
+abbrev pub begins_body : Key → Bool
+begins_body Dispatch = false
+begins_body _ = true
 
-pub escape-system_command : (limit : Option ℕ) (b : ℕ) → class_of b ≡ Final → key_of b ≡ SystemCommand
-    → Leads limit AtEscape b [] (InSystemCommand [])
-unfolding body_outcome executed_events system_command_outcome system_command_from
-escape-system_command limit b e k = record { leads = λ rest. simp (e, k) }
-
-pub escape-ignored_string : (limit : Option ℕ) (b : ℕ) → class_of b ≡ Final → key_of b ≡ IgnoredString
-    → Leads limit AtEscape b [] InIgnoredString
-unfolding body_outcome executed_events
-escape-ignored_string limit b e k = record { leads = λ rest. simp (e, k) }
+pub escape-key : (limit : Option ℕ) (b : ℕ) (k : Key) → class_of b ≡ Final → key_of b ≡ k → begins_body k ≡ true
+    → Leads limit AtEscape b [] (begun_by k)
+unfolding body_outcome executed_events control_sequence_outcome control_sequence_from device_control_outcome
+    device_control_from system_command_outcome system_command_from
+escape-key limit b Dispatch e is begins = cc
+escape-key limit b _ e is begins = record { leads = λ rest. simp (e, is) }
 
 -- ---- after ESC and intermediates
-
-pub intermediate-control : (limit : Option ℕ) (ints : List ℕ) (b : ℕ) → class_of b ≡ Control
-    → Leads limit (InEscape ints) b (Execute b ∷ []) (InEscape ints)
-unfolding escape_from executed_events
-intermediate-control limit ints b e = record { leads = λ rest. simp e }
 
 pub intermediate-more : (limit : Option ℕ) (ints : List ℕ) (b : ℕ) → class_of b ≡ Intermediate
     → Leads limit (InEscape ints) b [] (InEscape (ints ++ b ∷ []))
@@ -100,11 +107,6 @@ escape-end limit b Final e h key = record { leads = λ rest. simp (e, key) }
 escape-end limit b _ e h key = cc
 
 -- ---- in the head of a control sequence
-
-pub control-control : (limit : Option ℕ) (head : List ℕ) (b : ℕ) → class_of b ≡ Control
-    → Leads limit (InControlSequence head) b (Execute b ∷ []) (InControlSequence head)
-unfolding control_sequence_from executed_events
-control-control limit head b e = record { leads = λ rest. simp e }
 
 pub control-head : (limit : Option ℕ) (head : List ℕ) (b : ℕ) → is_head (class_of b) ≡ true
     → Leads limit (InControlSequence head) b [] (InControlSequence (head ++ b ∷ []))
@@ -190,7 +192,7 @@ pub command-control : (limit : Option ℕ) (items : List ℕ) (b : ℕ) → clas
     → Leads limit (InSystemCommand items) b [] (InSystemCommand items)
 unfolding system_command_from
 command-control limit items b e other =
-    let low : Spans Control b = spans b Control e in
+    let low = spans b Control e in
     let none : nat_le 0x20 b ≡ false = grind (arith, nat_tests) in
     record { leads = λ rest. simp (e, other, none) }
 

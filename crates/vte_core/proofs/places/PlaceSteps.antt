@@ -1,161 +1,177 @@
 -- After every place every byte reports at most two events, of which the second is short, and leads to a place
 -- (`steps`): by cases of the place and of the byte's class, each by a lemma of `PlaceLeads`.
-use Rattle.vte_core.proofs.Common.{◌≡◌, ℕ, inl, inr, false, eqb, Option, List, refl, arith, cases_Bool, nat_tests, Class, Control, Cancel, Intermediate, Final, Delete, High, class_of, ends_all, Key, Dispatch, key_of, IsBrief, Event, head_of, is_well_shaped, Leads, Place, InText, AtEscape, InEscape, InControlSequence, InDeviceControl, InData, InSystemCommand, InIgnoredString, closing_events_at, escape, bell, pieces_of}
-use Rattle.vte_core.proofs.Common.{kept_items, data_left, left_at, breaks, open_at, sym, false≢true, ◌∙◌, [], ◌∷◌, ◌++◌, Execute, is_device_data, true}
+use Rattle.vte_core.proofs.Common.{◌≡◌, ℕ, inl, inr, false, eqb, Option, List, refl, arith, cases_Bool, nat_tests, Class, Control, Cancel, Intermediate, Final, Delete, High, class_of, ends_all, Key, Dispatch, key_of, IsBrief, Event, head_of, is_well_shaped, sequence_event, Leads, Place, InText, AtEscape, InEscape, InControlSequence, InDeviceControl, InData, InSystemCommand, InIgnoredString, closing_events_at, escape, bell, pieces_of}
+use Rattle.vte_core.proofs.Common.{kept_items, data_left, left_at, breaks, open_at, sym, false≢true, ◌∙◌, [], ◌∷◌, ◌++◌, Execute}
 use Rattle.vte_core.proofs.bytes.FirstBytes.{Tests, ascii_breaks}
 use Rattle.vte_core.proofs.stops.Told.{breaks-broken}
 use Rattle.vte_core.specs.Class.{Escape}
-use Rattle.vte_core.specs.Key.{ControlSequence, DeviceControl, SystemCommand, IgnoredString}
-use Rattle.vte_core.proofs.places.BriefLemmas.{bounded-csi, bounded-hook, executed_low, other-csi, other-hook, two_at_most}
+use Rattle.vte_core.proofs.places.BriefLemmas.{bounded-head, executed_low, two_at_most}
 use Rattle.vte_core.proofs.shapes.CancelLemmas.{cancel, closing_brief, closing_alone_brief}
 use Rattle.vte_core.proofs.bytes.ClassCases.{ends_not_cancel}
 use Rattle.vte_core.proofs.bytes.ClassLemmas.{Spans, spans}
 use Rattle.vte_core.proofs.shapes.PlainKeys.{below_finals}
-use Rattle.vte_core.proofs.places.PlaceLeads.{escape-control, escape-intermediate, escape-end, escape-control_sequence, escape-device_control, escape-system_command, escape-ignored_string, intermediate-control, intermediate-more, intermediate-end, control-control, byte-dropped, control-head, control-dispatched, control-silent, device-dropped, device-head, device-well_shaped, device-malformed, data-put, data-dropped}
+use Rattle.vte_core.proofs.places.PlaceLeads.{escape-key, escape-intermediate, escape-end, intermediate-more, intermediate-end, byte-dropped, byte-executed, control-head, control-dispatched, control-silent, device-dropped, device-head, device-well_shaped, device-malformed, data-put, data-dropped}
 use Rattle.vte_core.proofs.places.PlaceLeads.{data-terminator, command-item, command-control, command-bell, ignored-more}
 use Rattle.vte_core.proofs.fields.PlaceOfState.{IsPlace}
 use Rattle.vte_core.proofs.fields.KeptItems.{few_pieces, pieces_push, some_pieces}
 use Rattle.vte_core.proofs.streams.StreamLemmas.{reads-escape, no_escape, cancel_is_no_escape}
 use Rattle.vte_core.proofs.places.TextSteps.{AreOthers, FitsLeft, IsLittle, IsQuiet, IsText, Steps, leads_on, steps-text}
 
--- a step between sequences and strings
-sequenced : {limit : Option ℕ} {place next : Place} {b : ℕ} {told : List Event} → (IsText place → ⊥) → open_at next ≡ []
-    → data_left (left_at limit next) ≡ 0
-    → eqb b escape ≡ false → Leads limit place b told next → IsPlace next
-    → ((size : Option ℕ) → FitsLeft size (left_at limit place) → IsBrief size told) → (IsQuiet place b → AreOthers told)
-    → Steps limit place b
-sequenced other closed none = leads_on (λ text. absurd (other text)) (inl closed) (λ _. omega (arith, none))
+abbrev IsOutside : Place → Type 0
+IsOutside (InText u) = ⊥
+IsOutside _ = Unit {0}
+
+abbrev HoldsNothing : Place → Type 0
+HoldsNothing (InText (a ∷ u)) = ⊥
+HoldsNothing (InSystemCommand (item ∷ items)) = ⊥
+HoldsNothing _ = Unit {0}
+
+-- From outside of text to a place that holds no bytes of a character or a command. Between places that are known this
+-- computes, and `outside` proves it.
+abbrev Sequenced : Place → Place → Type 0
+Sequenced place next = IsOutside place × HoldsNothing next
+
+outside : Unit {0} × Unit {0}
+outside = (tt, tt)
+
+no_text : (place : Place) → IsOutside place → IsText place → ⊥
+no_text (InText u) is text = is
+no_text _ is text = text
+
+nothing_open : (limit : Option ℕ) (place : Place) → HoldsNothing place
+    → (open_at place ≡ []) × (data_left (left_at limit place) ≡ 0) × IsPlace place
+unfolding pieces_of kept_items
+nothing_open limit (InText []) none = (refl, refl, refl)
+nothing_open limit (InText (a ∷ u)) none = absurd none
+nothing_open limit (InSystemCommand []) none = (refl, refl, tt)
+nothing_open limit (InSystemCommand (item ∷ items)) none = absurd none
+nothing_open limit _ none = (refl, refl, tt)
 
 -- a byte of the class, of which the class says that it is not ESC
 pub plain : (b : ℕ) (k : Class) → class_of b ≡ k → ends_all k ≡ false → eqb b escape ≡ false
 plain b k is no_end = no_escape b (rw is no_end)
 
--- a byte outside text, by its class, that tells nothing. Of places that are known, the three premises on them, here and
--- in `sequenced`, are `absurd refl refl`.
-silent : {limit : Option ℕ} {place next : Place} {b : ℕ} {k : Class} → class_of b ≡ k → ends_all k ≡ false
-    → (IsText place → ⊥) → open_at next ≡ [] → data_left (left_at limit next) ≡ 0 → Leads limit place b [] next
-    → IsPlace next → Steps limit place b
-silent is no_end other closed none leads placed =
-    sequenced other closed none (plain _ _ is no_end) leads placed (λ _ _. tt) (λ _. tt)
+module _ {limit : Option ℕ} {place next : Place} {b : ℕ} where
+  sequenced_by : {told : List Event} → eqb b escape ≡ false → Sequenced place next → Leads limit place b told next
+      → ((size : Option ℕ) → FitsLeft size (left_at limit place) → IsBrief size told)
+      → (IsQuiet place b → AreOthers told) → Steps limit place b
+  sequenced_by other known leads =
+      let none = nothing_open limit next known.1 in
+      leads_on (λ text. absurd (no_text place known.0 text)) (inl none.0) (λ _. omega (arith, none.1)) other leads
+      none.2
+
+  -- by the byte's class
+  sequenced : {told : List Event} {k : Class} → class_of b ≡ k → ends_all k ≡ false → Sequenced place next
+      → Leads limit place b told next
+      → ((size : Option ℕ) → FitsLeft size (left_at limit place) → IsBrief size told)
+      → (IsQuiet place b → AreOthers told) → Steps limit place b
+  sequenced is no_end = sequenced_by (plain _ _ is no_end)
+
+  -- a byte that tells nothing
+  silent : {k : Class} → class_of b ≡ k → ends_all k ≡ false → Sequenced place next → Leads limit place b [] next
+      → Steps limit place b
+  silent is no_end known leads = sequenced is no_end known leads (λ _ _. tt) (λ _. tt)
+
+  executed : class_of b ≡ Control → Sequenced place next → Leads limit place b (Execute b ∷ []) next
+      → Steps limit place b
+  executed is known leads = sequenced is refl known leads (λ _ _. executed_low b (spans b Control is)) (λ _. tt)
 
 -- ---- after ESC
 
 step-final : (limit : Option ℕ) (b : ℕ) (k : Key) → class_of b ≡ Final → key_of b ≡ k → Steps limit AtEscape b
-unfolding pieces_of kept_items
-step-final limit b ControlSequence is k = silent is refl absurd refl refl (escape-control_sequence limit b is k) tt
-step-final limit b DeviceControl is k = silent is refl absurd refl refl (escape-device_control limit b is k) tt
-step-final limit b SystemCommand is k = silent is refl absurd refl refl (escape-system_command limit b is k) tt
-step-final limit b IgnoredString is k = silent is refl absurd refl refl (escape-ignored_string limit b is k) tt
 step-final limit b Dispatch is k =
-    let s : Spans Final b =
-    spans b Final is in
-    sequenced absurd refl refl (plain b Final is refl) (escape-end limit b Final is refl k) refl
-    (λ _ _. (omega arith, s.1, omega arith)) (λ _. tt)
+    let s = spans b Final is in
+    sequenced is refl outside (escape-end limit b Final is refl k) (λ _ _. (omega arith, s.1, omega arith)) (λ _. tt)
+step-final limit b key is k = silent is refl outside (escape-key limit b key is k refl)
 
 step-escape : (limit : Option ℕ) (b : ℕ) (k : Class) → class_of b ≡ k → ends_all k ≡ false → Steps limit AtEscape b
-step-escape limit b Control is no_end =
-    sequenced absurd refl refl (plain b Control is no_end) (escape-control limit b is) tt
-    (λ _ _. executed_low b (spans b Control is)) (λ _. tt)
-step-escape limit b Intermediate is no_end = silent is no_end absurd refl refl (escape-intermediate limit b is) tt
+step-escape limit b Control is no_end = executed is outside (byte-executed limit AtEscape b refl is)
+step-escape limit b Intermediate is no_end = silent is no_end outside (escape-intermediate limit b is)
 step-escape limit b Final is no_end = step-final limit b (key_of b) is refl
-step-escape limit b Delete is no_end =
-    silent is no_end absurd refl refl (byte-dropped limit AtEscape b Delete refl is refl) tt
-step-escape limit b High is no_end =
-    silent is no_end absurd refl refl (byte-dropped limit AtEscape b High refl is refl) tt
+step-escape limit b Delete is no_end = silent is no_end outside (byte-dropped limit AtEscape b Delete refl is refl)
+step-escape limit b High is no_end = silent is no_end outside (byte-dropped limit AtEscape b High refl is refl)
 step-escape limit b Cancel is no_end = cc
 step-escape limit b Escape is no_end = cc
 step-escape limit b k is no_end =
-    let s : Spans k b = spans b k is in
-    sequenced absurd refl refl (plain b k is no_end) (escape-end limit b k is refl (below_finals b (omega arith))) refl
+    let s = spans b k is in
+    sequenced is no_end outside (escape-end limit b k is refl (below_finals b (omega arith)))
     (λ _ _. (omega arith, omega arith, omega arith)) (λ _. tt)
 
 -- ---- after ESC and intermediates
 
 step-intermediate : (limit : Option ℕ) (ints : List ℕ) (b : ℕ) (k : Class) → class_of b ≡ k → ends_all k ≡ false
     → Steps limit (InEscape ints) b
-step-intermediate limit ints b Control is no_end =
-    sequenced absurd refl refl (plain b Control is no_end) (intermediate-control limit ints b is) tt
-    (λ _ _. executed_low b (spans b Control is)) (λ _. tt)
-step-intermediate limit ints b Intermediate is no_end =
-    silent is no_end absurd refl refl (intermediate-more limit ints b is) tt
+step-intermediate limit ints b Control is no_end = executed is outside (byte-executed limit (InEscape ints) b refl is)
+step-intermediate limit ints b Intermediate is no_end = silent is no_end outside (intermediate-more limit ints b is)
 step-intermediate limit ints b Delete is no_end =
-    silent is no_end absurd refl refl (byte-dropped limit (InEscape ints) b Delete refl is refl) tt
+    silent is no_end outside (byte-dropped limit (InEscape ints) b Delete refl is refl)
 step-intermediate limit ints b High is no_end =
-    silent is no_end absurd refl refl (byte-dropped limit (InEscape ints) b High refl is refl) tt
+    silent is no_end outside (byte-dropped limit (InEscape ints) b High refl is refl)
 step-intermediate limit ints b Cancel is no_end = cc
 step-intermediate limit ints b Escape is no_end = cc
 step-intermediate limit ints b k is no_end =
-    let s : Spans k b = spans b k is in
-    sequenced absurd refl refl (plain b k is no_end) (intermediate-end limit ints b k is refl) refl
+    let s = spans b k is in
+    sequenced is no_end outside (intermediate-end limit ints b k is refl)
     (λ _ _. (two_at_most ints, omega arith, omega arith)) (λ _. tt)
 
 -- ---- in the head of a control sequence
 
 step-control : (limit : Option ℕ) (head : List ℕ) (b : ℕ) (k : Class) → class_of b ≡ k → ends_all k ≡ false
     → Steps limit (InControlSequence head) b
+unfolding sequence_event
 step-control limit head b Control is no_end =
-    sequenced absurd refl refl (plain b Control is no_end) (control-control limit head b is) tt
-    (λ _ _. executed_low b (spans b Control is)) (λ _. tt)
+    executed is outside (byte-executed limit (InControlSequence head) b refl is)
 step-control limit head b Final is no_end = elim (cases_Bool (is_well_shaped (head_of head))) [
   | inl well ↦
-      sequenced absurd refl refl (plain b Final is no_end) (control-dispatched limit head b is well) refl
-      (λ size _. bounded-csi size (head_of head) b (spans b Final is)) (λ _. other-csi (head_of head) b)
-  | inr ill ↦
-      silent is no_end absurd refl refl (control-silent limit head b is ill) refl
+      sequenced is no_end outside (control-dispatched limit head b is well)
+      (λ size _. (bounded-head size (head_of head) b (spans b Final is)).0) (λ _. tt)
+  | inr ill ↦ silent is no_end outside (control-silent limit head b is ill)
 ]
 step-control limit head b Delete is no_end =
-    silent is no_end absurd refl refl (byte-dropped limit (InControlSequence head) b Delete refl is refl) tt
+    silent is no_end outside (byte-dropped limit (InControlSequence head) b Delete refl is refl)
 step-control limit head b High is no_end =
-    silent is no_end absurd refl refl (byte-dropped limit (InControlSequence head) b High refl is refl) tt
+    silent is no_end outside (byte-dropped limit (InControlSequence head) b High refl is refl)
 step-control limit head b Cancel is no_end = cc
 step-control limit head b Escape is no_end = cc
-step-control limit head b k is no_end = silent is no_end absurd refl refl (control-head limit head b (rw is refl)) tt
+step-control limit head b k is no_end = silent is no_end outside (control-head limit head b (rw is refl))
 
 -- ---- in a device control string
 
 step-device : (limit : Option ℕ) (head : List ℕ) (b : ℕ) (k : Class) → class_of b ≡ k → ends_all k ≡ false
     → Steps limit (InDeviceControl head) b
-step-device limit head b Control is no_end =
-    silent is no_end absurd refl refl (device-dropped limit head b Control is refl) tt
+unfolding sequence_event
+step-device limit head b Control is no_end = silent is no_end outside (device-dropped limit head b Control is refl)
 step-device limit head b Final is no_end = elim (cases_Bool (is_well_shaped (head_of head))) [
   | inl well ↦
-      sequenced absurd refl refl (plain b Final is no_end) (device-well_shaped limit head b is well) tt
-      (λ size _. bounded-hook size (head_of head) b (spans b Final is)) (λ _. other-hook (head_of head) b)
-  | inr ill ↦
-      silent is no_end absurd refl refl (device-malformed limit head b is ill) tt
+      sequenced is no_end outside (device-well_shaped limit head b is well)
+      (λ size _. (bounded-head size (head_of head) b (spans b Final is)).1) (λ _. tt)
+  | inr ill ↦ silent is no_end outside (device-malformed limit head b is ill)
 ]
-step-device limit head b Delete is no_end =
-    silent is no_end absurd refl refl (device-dropped limit head b Delete is refl) tt
-step-device limit head b High is no_end =
-    silent is no_end absurd refl refl (device-dropped limit head b High is refl) tt
+step-device limit head b Delete is no_end = silent is no_end outside (device-dropped limit head b Delete is refl)
+step-device limit head b High is no_end = silent is no_end outside (device-dropped limit head b High is refl)
 step-device limit head b Cancel is no_end = cc
 step-device limit head b Escape is no_end = cc
-step-device limit head b k is no_end = silent is no_end absurd refl refl (device-head limit head b (rw is refl)) tt
+step-device limit head b k is no_end = silent is no_end outside (device-head limit head b (rw is refl))
 
 -- ---- in its data
 
 delete_is_no_terminator : (b : ℕ) → Spans Delete b → eqb b 0x9c ≡ false
 delete_is_no_terminator b s = grind (arith, nat_tests)
 
-data_quiet : (b : ℕ) (k : Class) → class_of b ≡ k → is_device_data k ≡ true → is_device_data (class_of b) ≡ false → ⊥
-data_quiet b k is put quiet = false≢true (sym quiet ∙ rw is put)
-
 step-data : (limit : Option ℕ) (b : ℕ) (k : Class) → class_of b ≡ k → ends_all k ≡ false → Steps limit InData b
 step-data limit b Delete is no_end =
-    sequenced absurd refl refl (plain b Delete is no_end)
-    (data-dropped limit b (rw is (delete_is_no_terminator b (spans b Delete is))) (rw is refl)) tt (λ _ _. tt) (λ _. tt)
+    sequenced is no_end outside
+    (data-dropped limit b (rw is (delete_is_no_terminator b (spans b Delete is))) (rw is refl)) (λ _ _. tt) (λ _. tt)
 step-data limit b High is no_end = elim (cases_Bool (eqb b 0x9c)) [
   | inl ends ↦
-      sequenced absurd refl refl (plain b High is no_end) (data-terminator limit b is ends) refl (λ _ _. tt)
-      (λ _. tt)
-  | inr other ↦
-      silent is no_end absurd refl refl (data-dropped limit b (rw is other) (rw is refl)) tt
+      sequenced is no_end outside (data-terminator limit b is ends) (λ _ _. tt) (λ _. tt)
+  | inr other ↦ silent is no_end outside (data-dropped limit b (rw is other) (rw is refl))
 ]
 step-data limit b Cancel is no_end = cc
 step-data limit b Escape is no_end = cc
 step-data limit b k is no_end =
-    sequenced absurd refl refl (plain b k is no_end) (data-put limit b (rw is refl)) tt (λ _ _. rw is refl)
-    (λ quiet. absurd (data_quiet b k is refl quiet))
+    sequenced is no_end outside (data-put limit b (rw is refl)) (λ _ _. rw is refl)
+    (λ quiet. absurd (false≢true (sym quiet ∙ rw is refl)))
 
 -- ---- in an operating system command
 
@@ -163,18 +179,18 @@ step-command : (limit : Option ℕ) (items : List ℕ) (b : ℕ) (k : Class) →
     → Steps limit (InSystemCommand items) b
 step-command limit items b Control is no_end = elim (cases_Bool (eqb b bell)) [
   | inl ends ↦
-      sequenced absurd refl refl (plain b Control is no_end) (command-bell limit items b is ends) refl
+      sequenced is no_end outside (command-bell limit items b is ends)
       (λ _ fits. (few_pieces limit items, fits, some_pieces limit items)) (λ _. tt)
   | inr other ↦
-      leads_on absurd (inl refl) (λ _. omega arith) (plain b Control is no_end)
-      (command-control limit items b is other) tt (λ _ _. tt) (λ _. tt)
+      leads_on (λ text. absurd text) (inl refl) (λ _. omega arith)
+      (plain b Control is no_end) (command-control limit items b is other) tt (λ _ _. tt) (λ _. tt)
 ]
 step-command limit items b Cancel is no_end = cc
 step-command limit items b Escape is no_end = cc
 step-command limit items b k is no_end =
-    let s : Spans k b = spans b k is in
-    leads_on absurd (inl refl) (λ none. rw none (pieces_push items b)) (plain b k is no_end)
-    (command-item limit items b (omega arith)) tt (λ _ _. tt) (λ _. tt)
+    let s = spans b k is in
+    leads_on (λ text. absurd text) (inl refl) (λ none. rw none (pieces_push items b))
+    (plain b k is no_end) (command-item limit items b (omega arith)) tt (λ _ _. tt) (λ _. tt)
 
 -- ---- any place
 
@@ -189,7 +205,7 @@ step-ordinary limit (InDeviceControl head) b k placed is no_end = step-device li
 step-ordinary limit InData b k placed is no_end = step-data limit b k is no_end
 step-ordinary limit (InSystemCommand items) b k placed is no_end = step-command limit items b k is no_end
 step-ordinary limit InIgnoredString b k placed is no_end =
-    silent is no_end absurd refl refl (ignored-more limit b (rw is (ends_not_cancel k no_end))) tt
+    silent is no_end outside (ignored-more limit b (rw is (ends_not_cancel k no_end)))
 
 -- ESC breaks a character
 escape_little : (limit : Option ℕ) (place : Place) → IsPlace place → IsText place
@@ -230,7 +246,7 @@ by_class limit place b Escape placed is =
     })
 by_class limit (InText u) b Cancel placed is = steps-text limit u b (cancel_is_no_escape b is) placed
 by_class limit place b Cancel placed is =
-    sequenced absurd refl refl (cancel_is_no_escape b is) (cancel limit place b placed is) refl
+    sequenced_by (cancel_is_no_escape b is) outside (cancel limit place b placed is)
     (λ size fits. closing_brief limit size place b fits (spans b Cancel is)) (cancel_others limit place b)
 by_class limit place b k placed is = step-ordinary limit place b k placed is refl
 

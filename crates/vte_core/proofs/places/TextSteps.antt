@@ -80,7 +80,7 @@ tiny_of next told little = elim little [ inl nothing ↦ subst IsTiny (sym nothi
 leads_little : {limit : Option ℕ} {u v : List ℕ} {b : ℕ} {told : List Event} → IsLittle (InText v) told
     → eqb b escape ≡ false → Leads limit (InText u) b told (InText v)
     → IsPlace (InText v) → Steps limit (InText u) b
-leads_little {limit} {v = v} {told = told} little e l is =
+leads_little {limit} {v} {told} little e l is =
     leads_on (λ _. little) (elim little [ inl nothing ↦ inr (inl nothing) | inr closed ↦ inl closed.0 ])
     (λ _. omega (arith, text_left limit v)) e l is
     (λ size _. tiny_brief size told (tiny_of (InText v) told little)) (λ quiet. absurd quiet)

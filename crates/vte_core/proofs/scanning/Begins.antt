@@ -1,7 +1,8 @@
 -- What a first byte begins: nothing, or a character with these ranges to come, as the rows of UTF-8 say.
-use Rattle.vte_core.proofs.Common.{List, [], arith, inl, inr, nat_le, refl, subst, sym, true, ℕ, ◌∙◌, ◌∷◌, ◌≡◌, ◌≢◌, ◌≤◌, and_parts, cases_Bool, cases_eq, cases_lt, false≢true, leb-true, nat_tests, Range, is_in, from_to, rows_after_byte, utf8_rows, second_range, IsPrinted, AreRun, is_layout}
+use Rattle.vte_core.proofs.Common.{List, [], arith, inl, inr, refl, subst, sym, true, ℕ, ◌∙◌, ◌∷◌, ◌≡◌, ◌≢◌, ◌≤◌, and_parts, cases_Bool, cases_eq, cases_lt, false≢true, nat_tests, Range, is_in, from_to, rows_after_byte, utf8_rows, second_range, IsPrinted, AreRun, is_layout}
 use Rattle.vte_core.proofs.bytes.Between.{each-one}
 use Rattle.vte_core.proofs.bytes.FirstBytes.{fits, tests_row, tests_two}
+use Rattle.vte_core.proofs.bytes.Scalars.{in_range-bounds}
 use Rattle.vte_core.proofs.bytes.Printable.{run-ascii, run-layout}
 use Rattle.vte_core.proofs.dividing.PrintableCharacters.{printable}
 use Rattle.vte_core.specs.machine.Automaton.{AutomatonState, Between, One, Two, Three, AfterE0, AfterED, AfterF0, AfterF4, AfterC2, Failed, next_between}
@@ -35,8 +36,7 @@ unfolding second_range
 after_c2 [] fit = absurd (false≢true fit)
 after_c2 (c ∷ u) fit =
     let parts = and_parts (is_in (from_to 0xa0 0xbf) c) (fits [] u) fit in
-    let high : 0xa0 ≤ c = leb-true 0xa0 c (and_parts (nat_le 0xa0 c) (nat_le c 0xbf) parts.0).0 in
-    printable 0xc2 (c ∷ u) (omega arith) (λ _. high)
+    printable 0xc2 (c ∷ u) (omega arith) (λ _. (in_range-bounds (from_to 0xa0 0xbf) c parts.0).0)
     ((tests_two 0xc2 (omega arith) (omega arith) (c ∷ u)).is_whole ∙ rw parts.1 (grind (arith, nat_tests)))
 
 pub begins : (b : ℕ) → Begins b

@@ -1,5 +1,5 @@
 -- What the automaton's readings of a text say: a block more, and where the last character ended.
-use Rattle.vte_core.proofs.Common.{Bool, List, [], ap, arith, drop, false, get_or, inl, inr, length, length-append, length-take, refl, subst, sym, take, true, ℕ, ◌++◌, ◌+◌, ◌<◌, ◌∙◌, ◌∷◌, ◌≡◌, ◌≢◌, ◌≤◌, take-add, encodes, encode, cases_lt, nat_tests, get_or-drop, All-cons, All-head, All-nil, All-tail, All, slice_index, is_left_out, chars, AreRun}
+use Rattle.vte_core.proofs.Common.{Bool, List, [], ap, arith, drop, false, get_or, inl, inr, length, length-append, length-take, refl, subst, sym, take, true, ℕ, ◌++◌, ◌+◌, ◌<◌, ◌∙◌, ◌∷◌, ◌≡◌, ◌≢◌, ◌≤◌, take-add, encodes, encode, cases_lt, nat_tests, get_or-drop, All-cons, All-head, All-nil, All-tail, All, slice_index, StaysInRun, chars, AreRun}
 use Rattle.std.proofs.lemmas.List.{get_or-take, get_or-append-add}
 use Rattle.std.proofs.lemmas.Str.{encode_ascii, encodes-chars}
 use Rattle.vte_core.specs.machine.Between.{Each}
@@ -80,10 +80,7 @@ byte_from bytes from at b is = is ∙ sym (get_or-drop from bytes at 0)
 abbrev AreAbove : List ℕ → Type 0
 AreAbove bytes = (k : ℕ) → k < length bytes → 0x20 ≤ get_or bytes k 0
 
-abbrev HoldsNone : Bool → List ℕ → Type 0
-HoldsNone keeps cs = All (λ c. is_left_out keeps c ≡ false) cs
-
-above : (c : ℕ) → 0x20 ≤ c → is_left_out true c ≡ false → is_left_out false c ≡ false
+above : (c : ℕ) → 0x20 ≤ c → StaysInRun true c → StaysInRun false c
 above c low e = grind (arith, nat_tests)
 
 -- a character below 20 is a byte
@@ -93,15 +90,15 @@ first_above c rest are = elim (cases_lt c 0x20) [
   | inl low ↦ subst (λ x. AreAbove (x ++ rest)) (encode_ascii c (omega (arith, low))) are 0 (omega arith)
 ]
 
-all_above : (cs : List ℕ) → AreAbove (encodes cs) → HoldsNone true cs → HoldsNone false cs
-all_above [] are all = All-nil (λ c. is_left_out false c ≡ false)
+all_above : (cs : List ℕ) → AreAbove (encodes cs) → All (StaysInRun true) cs → All (StaysInRun false) cs
+all_above [] are all = All-nil (StaysInRun false)
 all_above (c ∷ cs) are all =
     let rest : AreAbove (encodes cs) = λ k l.
     subst (λ b. 0x20 ≤ b) (get_or-append-add (encode c) (encodes cs) k 0)
     (are (length (encode c) + k) (omega (arith, l, length-append (encode c) (encodes cs)))) in
-    All-cons (λ c. is_left_out false c ≡ false) c cs
-    (above c (first_above c (encodes cs) are) (All-head (λ c. is_left_out true c ≡ false) c cs all))
-    (all_above cs rest (All-tail (λ c. is_left_out true c ≡ false) c cs all))
+    All-cons (StaysInRun false) c cs
+    (above c (first_above c (encodes cs) are) (All-head (StaysInRun true) c cs all))
+    (all_above cs rest (All-tail (StaysInRun true) c cs all))
 
 -- a run without bytes below 20 has none
 pub run-kept : (keeps : Bool) (text : List ℕ) (at end : ℕ) → (keeps ≡ false → Each (λ b. 0x20 ≤ b) text 0 at) → end ≤ at

@@ -1,10 +1,11 @@
 -- What the automaton's state says of the text that it has read: characters that are printed, and then the bytes of one
 -- that has begun. Each step of the automaton keeps that.
-use Rattle.vte_core.proofs.Common.{List, [], add-one, ap, append_assoc, arith, cond, drop, inl, inr, length, length-drop, nat_le, refl, subst, suc, sym, take, true, zero, ℕ, ◌&&◌, ◌++◌, ◌+◌, ◌-◌, ◌<◌, ◌∙◌, ◌∷◌, ◌≡◌, ◌≢◌, ◌≤◌, take-add, and_parts, cases_Bool, false≢true, leb-true, append-nil, get_or-drop, take_more, slice_index, Range, is_in, AreRun}
+use Rattle.vte_core.proofs.Common.{List, [], add-one, ap, append_assoc, arith, cond, drop, inl, inr, length, length-drop, refl, subst, suc, sym, take, true, zero, ℕ, ◌&&◌, ◌++◌, ◌+◌, ◌-◌, ◌<◌, ◌∙◌, ◌∷◌, ◌≡◌, ◌≢◌, ◌≤◌, take-add, cases_Bool, false≢true, append-nil, get_or-drop, take_more, slice_index, Range, is_in, AreRun}
 use Rattle.vte_core.specs.machine.Between.{Each}
 use Rattle.vte_core.proofs.bytes.Between.{each-next}
 use Rattle.vte_core.proofs.bytes.FirstBytes.{fits}
 use Rattle.vte_core.proofs.bytes.Printable.{printable-nil, printable-append}
+use Rattle.vte_core.proofs.bytes.Scalars.{in_range-bounds}
 use Rattle.vte_core.specs.machine.Automaton.{AutomatonState, Between, Failed, next_between, next_if_in, next_state, state_after}
 use Rattle.vte_core.proofs.scanning.Steps.{still, state_after-append, failed, between, gone, waiting, turn}
 use Rattle.vte_core.proofs.scanning.Begins.{prints, fails, opens, begins}
@@ -30,9 +31,7 @@ still-short Between = omega arith
 still-short _ = omega arith
 
 below_c0 : (range : Range) (b : ℕ) → range.last ≤ 0xbf → is_in range b ≡ true → b < 0xc0
-below_c0 range b last fit =
-    let high : b ≤ range.last = leb-true b range.last (and_parts (nat_le range.first b) (nat_le b range.last) fit).1 in
-    omega (arith, last, high)
+below_c0 range b last fit = omega (arith, last, (in_range-bounds range b fit).1)
 
 none-taken : (text : List ℕ) (at end : ℕ) → end ≡ at → take (at - end) (drop end text) ≡ []
 none-taken text at end same = let none : at - end ≡ 0 = omega (arith, same) in rw none refl

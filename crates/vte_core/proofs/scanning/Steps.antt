@@ -1,21 +1,19 @@
 -- The automaton over bytes one after another: a state is the list of ranges that the open character still wants
 -- (`still`), and a byte in the first of them takes it off.
 use Rattle.vte_core.proofs.Common.{List, [], ap, arith, get_or, length, refl, suc, ℕ, ◌++◌, ◌<◌, ◌∙◌, ◌∷◌, ◌≡◌, ◌≢◌, ◌≤◌, Range, from_to}
+use Rattle.vte_core.proofs.bytes.FirstBytes.{continuation}
 use Rattle.vte_core.specs.machine.Automaton.{AutomatonState, Between, One, Two, Three, AfterE0, AfterED, AfterF0, AfterF4, AfterC2, Failed, next_if_in, next_between, next_state, state_after}
-
-abbrev pub further : Range
-further = from_to 0x80 0xbf
 
 -- The ranges of the bytes that end the character.
 abbrev pub still : AutomatonState → List Range
 still Between = []
-still One = further ∷ []
-still Two = further ∷ further ∷ []
-still Three = further ∷ further ∷ further ∷ []
-still AfterE0 = from_to 0xa0 0xbf ∷ further ∷ []
-still AfterED = from_to 0x80 0x9f ∷ further ∷ []
-still AfterF0 = from_to 0x90 0xbf ∷ further ∷ further ∷ []
-still AfterF4 = from_to 0x80 0x8f ∷ further ∷ further ∷ []
+still One = continuation ∷ []
+still Two = continuation ∷ continuation ∷ []
+still Three = continuation ∷ continuation ∷ continuation ∷ []
+still AfterE0 = from_to 0xa0 0xbf ∷ continuation ∷ []
+still AfterED = from_to 0x80 0x9f ∷ continuation ∷ []
+still AfterF0 = from_to 0x90 0xbf ∷ continuation ∷ continuation ∷ []
+still AfterF4 = from_to 0x80 0x8f ∷ continuation ∷ continuation ∷ []
 still AfterC2 = from_to 0xa0 0xbf ∷ []
 still Failed = []
 
@@ -48,9 +46,9 @@ pub data Turn (s : AutomatonState) : Type 0 where
 pub turn : (s : AutomatonState) → Turn s
 unfolding next_state
 turn Between = between refl
-turn One = waiting Between further (λ e. cc) (omega arith) refl (λ b. refl)
-turn Two = waiting One further (λ e. cc) (omega arith) refl (λ b. refl)
-turn Three = waiting Two further (λ e. cc) (omega arith) refl (λ b. refl)
+turn One = waiting Between continuation (λ e. cc) (omega arith) refl (λ b. refl)
+turn Two = waiting One continuation (λ e. cc) (omega arith) refl (λ b. refl)
+turn Three = waiting Two continuation (λ e. cc) (omega arith) refl (λ b. refl)
 turn AfterE0 = waiting One (from_to 0xa0 0xbf) (λ e. cc) (omega arith) refl (λ b. refl)
 turn AfterED = waiting One (from_to 0x80 0x9f) (λ e. cc) (omega arith) refl (λ b. refl)
 turn AfterF0 = waiting Two (from_to 0x90 0xbf) (λ e. cc) (omega arith) refl (λ b. refl)

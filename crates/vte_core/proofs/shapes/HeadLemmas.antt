@@ -47,10 +47,10 @@ pub begins-intermediates : (has : Class → Bool) → has Intermediate ≡ false
 begins-intermediates has h [] more are none = none refl
 begins-intermediates has h (b ∷ bytes) more are none = rw (intermediate (class_of b) are.0) h
 
-list_all-AreOf : (bytes : List ℕ) → AreInClass is_intermediate bytes
+list_all-AreInClass : (bytes : List ℕ) → AreInClass is_intermediate bytes
     → list_all (λ b. is_intermediate (class_of b)) bytes ≡ true
-list_all-AreOf [] are = refl
-list_all-AreOf (b ∷ bytes) are = rw are.0 (list_all-AreOf bytes are.1)
+list_all-AreInClass [] are = refl
+list_all-AreInClass (b ∷ bytes) are = rw are.0 (list_all-AreInClass bytes are.1)
 
 pub list_all-not : (bytes : List ℕ) (b : ℕ) (more : List ℕ) → is_intermediate (class_of b) ≡ false
     → list_all (λ b. is_intermediate (class_of b)) (bytes ++ b ∷ more) ≡ false
@@ -73,4 +73,4 @@ pub held-well_shaped : (marker parameters intermediates : List ℕ) → IsMarker
     → is_well_shaped (head_of (marker ++ (parameters ++ intermediates))) ≡ true
 unfolding is_well_shaped
 held-well_shaped marker parameters intermediates is are these =
-    rw (held-parts marker parameters intermediates is are these) (list_all-AreOf intermediates these)
+    rw (held-parts marker parameters intermediates is are these) (list_all-AreInClass intermediates these)

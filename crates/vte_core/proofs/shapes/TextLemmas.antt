@@ -22,7 +22,7 @@ truncated_not_well_formed (a ∷ u) more =
     open_not_whole (rows_after_bytes u (rows_after_byte a utf8_rows))
     (AtMostOne-rows_after_bytes u _ (AtMostOne-first a)) more
 
--- ---- how far a piece goes
+-- ---- how far a segment goes
 
 pub trailing_count_whole : (a : ℕ) (u x : List ℕ) → is_well_formed (a ∷ u) ≡ true → trailing_count a (u ++ x) ≡ length u
 unfolding is_well_formed trailing_count
@@ -46,7 +46,7 @@ unfolding is_well_formed is_truncated trailing_count
 trailing_count_lone b x whole more =
     rw (neither_whole_nor_open (rows_after_byte b utf8_rows) whole more) (allowed_length_none x)
 
--- ---- the first piece of a text
+-- ---- the first segment of a text
 
 segments_after-length : (u x : List ℕ) → segments_after (length u) (u ++ x) ≡ segments x
 segments_after-length [] x = refl
@@ -58,11 +58,11 @@ segments_first a u x far = rw (far, take-append_seam u x, segments_after-length 
 
 -- ---- its event
 
--- a whole piece comes first
-pieces_outcome-first : (piece : List ℕ) (pieces : List (List ℕ)) → is_truncated piece ≡ false
-    → segments_outcome (piece ∷ pieces) ≡ tell (segment_event piece ∷ []) (segments_outcome pieces)
-pieces_outcome-first piece [] whole = rw whole refl
-pieces_outcome-first piece (next ∷ pieces) whole = refl
+-- a whole segment comes first
+segments_outcome-first : (segment : List ℕ) (more : List (List ℕ)) → is_truncated segment ≡ false
+    → segments_outcome (segment ∷ more) ≡ tell (segment_event segment ∷ []) (segments_outcome more)
+segments_outcome-first segment [] whole = rw whole refl
+segments_outcome-first segment (next ∷ more) whole = refl
 
 not_control : (a : ℕ) → 0xc2 ≤ a → is_control_character a ≡ false
 not_control a low = grind (arith, nat_tests)
@@ -83,7 +83,7 @@ text_outcome-first : (a : ℕ) (u x : List ℕ) → trailing_count a (u ++ x) �
     → text_outcome (a ∷ u ++ x) ≡ tell (segment_event (a ∷ u) ∷ []) (text_outcome x)
 unfolding text_outcome
 text_outcome-first a u x far whole =
-    ap (λ pieces. segments_outcome pieces) (segments_first a u x far) ∙ pieces_outcome-first (a ∷ u) (segments x) whole
+    ap segments_outcome (segments_first a u x far) ∙ segments_outcome-first (a ∷ u) (segments x) whole
 
 pub not_well_formed-nothing : is_well_formed [] ≡ false
 unfolding is_well_formed utf8_rows
@@ -104,7 +104,7 @@ pub text_broken : (u : List ℕ) (b : ℕ) → is_truncated u ≡ true → is_we
 unfolding text_outcome is_truncated
 text_broken [] b more _ _ x = cc
 text_broken (a ∷ u) b more whole more_after x =
-    ap (λ pieces. segments_outcome pieces)
+    ap segments_outcome
     (segments_first a u (b ∷ x) (trailing_count_broken a u b x more whole more_after))
     ∙ ap (λ (event : Event). tell (event ∷ []) (text_outcome (b ∷ x))) (segment_event-truncated (a ∷ u) more)
 
@@ -119,10 +119,10 @@ pub text_end : (u : List ℕ) → is_truncated u ≡ true
 unfolding text_outcome is_truncated
 text_end [] more = cc
 text_end (a ∷ u) more =
-    ap (λ pieces. segments_outcome pieces) one_piece ∙ rw more refl
+    ap segments_outcome one_segment ∙ rw more refl
   where
-    one_piece : segments (a ∷ u) ≡ (a ∷ u) ∷ []
-    one_piece =
+    one_segment : segments (a ∷ u) ≡ (a ∷ u) ∷ []
+    one_segment =
         let same : u ++ [] ≡ u = append-nil u in
         subst (λ (v : List ℕ). segments (a ∷ v) ≡ (a ∷ u) ∷ []) same
         (segments_first a u [] (ap (trailing_count a) same ∙ trailing_count_end a u more))

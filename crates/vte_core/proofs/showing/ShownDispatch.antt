@@ -1,9 +1,8 @@
 -- Groups sent in a control sequence come back: its head leads byte by byte to its final byte, and the head is read as
 -- the groups that it shows (`ShownGroups`).
 use Rattle.vte_core.proofs.Common.{◌≡◌, ℕ, true, Option, List, [], ◌∷◌, ◌++◌, refl, ◌∙◌, append_assoc, append-nil, class_of, is_parameter_text, AreInClass, CsiDispatch, sequence_event, head_of, is_well_shaped, key_of, AreParameters, DispatchesShown, shown, Reads, AtEscape, InControlSequence, InText, escape}
-use Rattle.vte_core.proofs.bytes.ClassCases.{head_ends_nothing}
-use Rattle.vte_core.proofs.bytes.PieceLemmas.{parameter_is_head}
-use Rattle.vte_core.proofs.places.PlaceLeads.{control-dispatched, control-head, escape-control_sequence}
+use Rattle.vte_core.proofs.bytes.ClassCases.{head_ends_nothing, parameter_is_head}
+use Rattle.vte_core.proofs.places.PlaceLeads.{control-dispatched, control-head, escape-key}
 use Rattle.vte_core.proofs.shapes.HeadLemmas.{held-parts, held-well_shaped}
 use Rattle.vte_core.proofs.showing.ShownGroups.{groups_of-shown, has_too_many_numbers-shown, parameters-shown}
 use Rattle.vte_core.proofs.streams.StreamLemmas.{no_escape, reads-append, reads-byte, reads-escape, reads-nothing}
@@ -31,7 +30,7 @@ reads-shown limit bytes are =
     let begun =
     reads-append limit (InText []) AtEscape (InControlSequence []) (escape ∷ []) (0x5b ∷ []) [] []
     (reads-escape limit (InText []) refl)
-    (reads-byte limit AtEscape _ 0x5b [] refl (escape-control_sequence limit 0x5b refl refl)) in
+    (reads-byte limit AtEscape _ 0x5b [] refl (escape-key limit 0x5b _ refl refl refl)) in
     let last =
     reads-byte limit (InControlSequence bytes) _ 0x6d _ refl (control-dispatched limit bytes 0x6d refl well_shaped) in
     let rest =

@@ -1,14 +1,14 @@
 -- The text of groups, read back: digits give their number back, `:` joins and `;` parts, so the groups are the same.
-use Rattle.vte_core.proofs.Common.{◌≡◌, ℕ, ◌<◌, ◌≤◌, Bool, true, false, if◌then◌else◌, List, [], ◌∷◌, ◌++◌, length, take, drop, subst, map, refl, sym, ap, ◌∙◌, arith, decimal, All, flat_map, fold, nat_tests, flat_map-append, append-nil, take_all, All-nil, All-cons, All-head, All-tail, All-append, All-map, All-weaker, fold-append, class_of, is_parameter_text, AreInClass, AreParameters, Number, numbers_from, colon}
+use Rattle.vte_core.proofs.Common.{◌≡◌, ℕ, ◌≤◌, Bool, true, false, if◌then◌else◌, List, [], ◌∷◌, ◌++◌, length, take, drop, subst, map, refl, sym, ap, ◌∙◌, arith, decimal, All, flat_map, fold, nat_tests, flat_map-append, append-nil, take_all, All-nil, All-cons, All-head, All-tail, All-append, All-map, All-weaker, fold-append, class_of, is_parameter_text, AreInClass, AreParameters, Number, numbers_from, colon}
 use Rattle.vte_core.proofs.Common.{semicolon, numbers, number_of, is_colon, is_separator, greatest_number, most_numbers, grouped, groups_of, has_too_many_numbers, with_number, count_of, shown}
 use Rattle.std.specs.Str.Parse.{AllDigits, digits_value}
 use Rattle.std.proofs.lemmas.Fmt.{decimal_is_IsNumeral}
 use Rattle.std.proofs.lemmas.List.{append_assoc}
 use Rattle.std.proofs.lemmas.List.Folds.{flat_map-map}
 use Rattle.std.proofs.lemmas.Str.Parse.{digit_from_value}
-use Rattle.vte_core.proofs.fields.Groups.{numbered, with_number-begins, with_number-joins}
-use Rattle.vte_core.proofs.fields.Parameters.{IsSmall, count_of-grouped, numbers_are}
-use Rattle.vte_core.proofs.showing.Shown.{after_colon, after_semicolon, group_text_from_front, shown_from_front}
+use Rattle.vte_core.proofs.fields.Groups.{AreSmall, IsFilled, numbered, with_number-begins, with_number-joins}
+use Rattle.vte_core.proofs.fields.Parameters.{IsNoSeparator, IsSmall, is_digit_no_separator, count_of-grouped, numbers_are}
+use Rattle.vte_core.proofs.showing.Shown.{after_semicolon, group_text_from_front, shown_from_front}
 
 -- 0 to 9
 abbrev IsDigit : ℕ → Type 0
@@ -26,12 +26,10 @@ number_of-decimal n small =
     let value : digits_value 10 (decimal n) ≡ n = (decimal_is_IsNumeral n (omega arith)).1 in
     omega (arith, value)
 
-no_separator : (b : ℕ) → IsDigit b → is_separator b ≡ false
-no_separator b digit = grind (arith, nat_tests)
-
-no_separators : (n : ℕ) → n ≤ greatest_number → All (λ b. is_separator b ≡ false) (decimal n)
+no_separators : (n : ℕ) → n ≤ greatest_number → All IsNoSeparator (decimal n)
 no_separators n small =
-    All-weaker IsDigit (λ b. is_separator b ≡ false) no_separator (decimal n) (digits-decimal n small)
+    All-weaker IsDigit IsNoSeparator (λ b digit. is_digit_no_separator b digit.0 (omega (arith, digit.1))) (decimal n)
+    (digits-decimal n small)
 
 -- ---- a text of numbers, each but the first with its separator before it
 
@@ -49,12 +47,12 @@ is_colon-separator : (n : Number) → is_colon (separator n) ≡ n.joined
 is_colon-separator n =
     elim n.joined as (λ v. is_colon (if v then colon else semicolon) ≡ v) [ true ↦ refl | false ↦ refl ]
 
-digits_after : (joined : Bool) (digits more text : List ℕ) → All (λ b. is_separator b ≡ false) more
+digits_after : (joined : Bool) (digits more text : List ℕ) → All IsNoSeparator more
     → numbers_from joined digits (more ++ text) ≡ numbers_from joined (digits ++ more) text
 digits_after joined digits [] text none = rw (append-nil digits) refl
 digits_after joined digits (b ∷ more) text none =
-    let rest = digits_after joined (digits ++ b ∷ []) more text (All-tail (λ b. is_separator b ≡ false) b more none) in
-    rw (All-head (λ b. is_separator b ≡ false) b more none) (rw (append_assoc digits (b ∷ []) more) at rest)
+    let rest = digits_after joined (digits ++ b ∷ []) more text (All-tail IsNoSeparator b more none) in
+    rw (All-head IsNoSeparator b more none) (rw (append_assoc digits (b ∷ []) more) at rest)
 
 spelled_after : (joined : Bool) (digits : List ℕ) (ns : List Number) → All IsSmall ns
     → numbers_from joined digits (flat_map spelled ns) ≡ numbered joined (number_of digits) ∷ ns
@@ -72,24 +70,17 @@ in_group : List ℕ → List Number
 in_group [] = []
 in_group (n ∷ ns) = numbered false n ∷ map (numbered true) ns
 
-abbrev AreFilled : List (List ℕ) → Type 0
-AreFilled groups = All (λ group. 0 < length group) groups
-
-spelled-joined : (ns : List ℕ) → flat_map spelled (map (numbered true) ns) ≡ flat_map after_colon ns
-spelled-joined ns = flat_map-map spelled (numbered true) ns
-
-groups-spelled : (groups : List (List ℕ)) → AreFilled groups
+groups-spelled : (groups : List (List ℕ)) → All IsFilled groups
     → flat_map spelled (flat_map in_group groups) ≡ flat_map after_semicolon groups
 unfolding in_group
 groups-spelled [] filled = refl
 groups-spelled ([] ∷ groups) filled =
-    absurd (omega (arith, All-head (λ (group : List ℕ). 0 < length group) [] groups filled))
+    absurd (omega (arith, All-head IsFilled [] groups filled))
 groups-spelled ((n ∷ ns) ∷ groups) filled =
-    let rest = groups-spelled groups (All-tail (λ (group : List ℕ). 0 < length group) (n ∷ ns) groups filled) in
+    let rest = groups-spelled groups (All-tail IsFilled (n ∷ ns) groups filled) in
     rw (
-      flat_map-append spelled (map (numbered true) ns)
-          (flat_map in_group groups),
-      spelled-joined ns,
+      flat_map-append spelled (map (numbered true) ns) (flat_map in_group groups),
+      flat_map-map spelled (numbered true) ns,
       group_text_from_front n ns,
       rest,
     )
@@ -103,7 +94,7 @@ shown-spelled (first ∷ groups) ok =
     ap (λ (l : List ℕ). semicolon ∷ l) (shown_from_front first groups)
     ∙ sym (groups-spelled (first ∷ groups) ok.groups_are.filled)
 
-IsSmall-in_group : (group : List ℕ) → All (λ value. value ≤ greatest_number) group → All IsSmall (in_group group)
+IsSmall-in_group : (group : List ℕ) → AreSmall group → All IsSmall (in_group group)
 unfolding in_group
 IsSmall-in_group [] small = All-nil IsSmall
 IsSmall-in_group (n ∷ ns) small =
@@ -111,13 +102,12 @@ IsSmall-in_group (n ∷ ns) small =
     All-cons IsSmall (numbered false n) (map (numbered true) ns) (All-head P n ns small)
     (All-map IsSmall (numbered true) ns (All-tail P n ns small))
 
-IsSmall-groups : (groups : List (List ℕ)) → All (λ group. All (λ value. value ≤ greatest_number) group) groups
-    → All IsSmall (flat_map in_group groups)
+IsSmall-groups : (groups : List (List ℕ)) → All AreSmall groups → All IsSmall (flat_map in_group groups)
 IsSmall-groups [] small = All-nil IsSmall
 IsSmall-groups (group ∷ groups) small =
-    let P : List ℕ → Type 0 = λ values. All (λ value. value ≤ greatest_number) values in
     All-append IsSmall (in_group group) (flat_map in_group groups)
-    (IsSmall-in_group group (All-head P group groups small)) (IsSmall-groups groups (All-tail P group groups small))
+    (IsSmall-in_group group (All-head AreSmall group groups small))
+    (IsSmall-groups groups (All-tail AreSmall group groups small))
 
 grouped-joined : (before : List (List ℕ)) (group ns : List ℕ)
     → fold with_number (before ++ group ∷ []) (map (numbered true) ns) ≡ before ++ (group ++ ns) ∷ []
@@ -127,14 +117,14 @@ grouped-joined before group (n ∷ ns) =
     ∙ grouped-joined before (group ++ n ∷ []) ns
     ∙ ap (λ (l : List ℕ). before ++ l ∷ []) (append_assoc group (n ∷ []) ns)
 
-grouped-groups : (before groups : List (List ℕ)) → AreFilled groups
+grouped-groups : (before groups : List (List ℕ)) → All IsFilled groups
     → fold with_number before (flat_map in_group groups) ≡ before ++ groups
 unfolding in_group
 grouped-groups before [] filled = sym (append-nil before)
 grouped-groups before ([] ∷ groups) filled =
-    absurd (omega (arith, All-head (λ (group : List ℕ). 0 < length group) [] groups filled))
+    absurd (omega (arith, All-head IsFilled [] groups filled))
 grouped-groups before ((n ∷ ns) ∷ groups) filled =
-    let rest = All-tail (λ (group : List ℕ). 0 < length group) (n ∷ ns) groups filled in
+    let rest = All-tail IsFilled (n ∷ ns) groups filled in
     let more = flat_map in_group groups in
     fold-append with_number (with_number before (numbered false n)) (map (numbered true) ns) more
     ∙ ap (λ (b : List (List ℕ)). fold with_number (fold with_number b (map (numbered true) ns)) more)

@@ -1,4 +1,7 @@
 -- Starts, what is told before them, and where a call stops: by whether the next byte breaks an open character.
+--
+-- `told-X`, `stream_at-X` and `starts-X` say of `told_before`, `stream_at` and `IsStart` what holds if X: the open
+-- character is `broken`, none is open (`between`), or `all` bytes are read. `breaks-X` and `breaks_at-X` say when.
 use Rattle.vte_core.proofs.Common.{◌≡◌, ℕ, ◌+◌, ◌<◌, ◌≤◌, inl, inr, true, false, Option, List, [], ◌∷◌, ◌++◌, length, take, drop, get_or, refl, ap, sym, ◌∙◌, arith, slice_index, false≢true, append-nil, drop_more, drop_all, take_all, breaks, breaks_at, IsStart, told_before, stream_at, Print, replacement, added, open_end, is_truncated, is_well_formed}
 use Rattle.vte_core.proofs.shapes.TextLemmas.{well_formed_not_truncated}
 

@@ -8,7 +8,7 @@ use Rattle.vte_core.proofs.places.BriefLemmas.{tiny-both}
 use Rattle.vte_core.proofs.places.TextSteps.{text_at}
 use Rattle.vte_core.proofs.streams.Resuming.{added-broken, resumes-after}
 use Rattle.vte_core.proofs.stops.Told.{breaks_at-byte, breaks_at-between, starts-between, starts-broken}
-use Rattle.vte_core.proofs.streams.StreamSteps.{AddedByByte, adds, LeadsTo, leads_to, events_grow, bytes_are_brief, opens_silently}
+use Rattle.vte_core.proofs.streams.StreamSteps.{adds, LeadsTo, leads_to, events_grow, bytes_are_brief, opens_silently}
 
 -- ---- a byte that belongs to an open character
 
@@ -20,7 +20,7 @@ TellsLittle limit stream b =
 tells_little : (limit : Option ℕ) (stream : List ℕ) (b : ℕ) → (open_end stream ≡ [] → ⊥)
     → breaks (open_end stream) (b ∷ []) ≡ false → TellsLittle limit stream b
 tells_little limit stream b some unbroken =
-    let a : AddedByByte limit stream b = adds limit stream b in
+    let a = adds limit stream b in
     let breaks_none : breaks (open_at a.place) (b ∷ []) ≡ false =
     ap (λ u. breaks u (b ∷ [])) (sym a.begun) ∙ unbroken in
     elim (a.step.little (text_at a.place (λ none. some (a.begun ∙ none))) breaks_none) [
@@ -137,7 +137,7 @@ module _ (limit : Option ℕ) (stream bytes : List ℕ) (i : ℕ) (within : i < 
   from_carried : Added limit stream bytes i → (open_end here ≡ [] → ⊥) → breaks (open_end here) (b ∷ []) ≡ false
       → Added limit stream bytes (i + 1)
   from_carried a some unbroken =
-      let little : TellsLittle limit here b = tells_little limit here b some unbroken in
+      let little = tells_little limit here b some unbroken in
       let last : List Event = added limit here (b ∷ []) in
       record {
         before = a.before;

@@ -1,5 +1,7 @@
 -- What is known of a place after a stream: further bytes give after both the same (`IsAfter`). `after-reads`: so they
 -- do after the bytes that lead from the place to another, whose events are added.
+--
+-- `added-X` says what `added` is in the case X, and `after-X` what `IsAfter` says of X.
 use Rattle.vte_core.proofs.Common.{◌≡◌, ℕ, Option, List, [], ◌++◌, length, drop, refl, ap, sym, ◌∙◌, append_assoc, append-nil, arith, drop_all, drop-append_seam, Machine, Stands, HasReadUnder, Event, tell, unfinished, added, events, outcome, open_end, Place, InText, IsAfter, open_at, left_at, outcome_from, events_from, Reads}
 use Rattle.vte_core.proofs.fields.PlaceOfState.{IsPlace, outcome_from-nothing, events_from-nothing, unfinished-at}
 use Rattle.vte_core.proofs.streams.Performing.{events-empty}

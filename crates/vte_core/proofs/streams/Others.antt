@@ -1,12 +1,12 @@
 -- Events that no run tells: a control, and a character of two bytes or more only where its event is no printed one.
 -- Such a character is never ASCII.
-use Rattle.vte_core.proofs.Common.{◌≡◌, ◌≢◌, ℕ, ◌<◌, ◌≤◌, true, inl, inr, List, [], ◌∷◌, ◌++◌, length, length-append, refl, ap, sym, ◌∙◌, arith, cases_Bool, cases_lt, nat_tests, Event, Print, Execute, Put, character_event, is_control_character, is_well_formed, scalar_of, IsOther, IsWide, All, All-cons, All-nil, All-weaker}
+use Rattle.vte_core.proofs.Common.{◌≡◌, ◌≢◌, ℕ, ◌<◌, ◌≤◌, true, inl, inr, List, [], ◌∷◌, ◌++◌, length, length-append, refl, ap, sym, ◌∙◌, arith, cases_Bool, cases_lt, nat_tests, Event, Print, Execute, Put, character_event, is_control_character, is_well_formed, scalar_of, IsOther, IsBeyondAscii, All, All-cons, All-nil, All-weaker}
 use Rattle.std.proofs.lemmas.Str.{length-encode}
 use Rattle.vte_core.proofs.dividing.Utf8Agrees.{well_formed_is_encoded}
 
 -- a sequence of two bytes or more is no character of ASCII
-pub wide : (p : List ℕ) → is_well_formed p ≡ true → 1 < length p → 0x80 ≤ scalar_of p
-wide p well long = elim (cases_lt (scalar_of p) 0x80) [
+pub beyond_ascii : (p : List ℕ) → is_well_formed p ≡ true → 1 < length p → 0x80 ≤ scalar_of p
+beyond_ascii p well long = elim (cases_lt (scalar_of p) 0x80) [
   | inl low ↦
       let size = sym (length-encode (scalar_of p)) ∙ ap length (well_formed_is_encoded p well) in
       absurd (grind (arith, nat_tests))
@@ -17,11 +17,11 @@ pub longer : (u : List ℕ) (b : ℕ) → u ≢ [] → 1 < length (u ++ b ∷ []
 longer [] b some = absurd (some refl)
 longer (a ∷ u) b some = omega (arith, length-append u (b ∷ []))
 
-pub wide_character : (c : ℕ) → 0x80 ≤ c → All IsWide (character_event c ∷ [])
+pub beyond_ascii-character : (c : ℕ) → 0x80 ≤ c → All IsBeyondAscii (character_event c ∷ [])
 unfolding character_event
-wide_character c high = elim (cases_Bool (is_control_character c)) [
-  | inl is ↦ rw is (All-cons IsWide (Execute c) [] tt (All-nil IsWide))
-  | inr is ↦ rw is (All-cons IsWide (Print c) [] high (All-nil IsWide))
+beyond_ascii-character c high = elim (cases_Bool (is_control_character c)) [
+  | inl is ↦ rw is (All-cons IsBeyondAscii (Execute c) [] tt (All-nil IsBeyondAscii))
+  | inr is ↦ rw is (All-cons IsBeyondAscii (Print c) [] high (All-nil IsBeyondAscii))
 ]
 
 pub other_control : (c : ℕ) → is_control_character c ≡ true → All IsOther (character_event c ∷ [])
@@ -29,10 +29,10 @@ unfolding character_event
 other_control c is = rw is (All-cons IsOther (Execute c) [] tt (All-nil IsOther))
 
 -- U+FFFD isn't ASCII
-wide_event : (event : Event) → IsOther event → IsWide event
-wide_event (Print c) is = omega (arith, is)
-wide_event (Put byte) is = absurd is
-wide_event _ is = tt
+beyond_ascii-event : (event : Event) → IsOther event → IsBeyondAscii event
+beyond_ascii-event (Print c) is = omega (arith, is)
+beyond_ascii-event (Put byte) is = absurd is
+beyond_ascii-event _ is = tt
 
-pub wide_all : (events : List Event) → All IsOther events → All IsWide events
-wide_all events are = All-weaker IsOther IsWide wide_event events are
+pub beyond_ascii-all : (events : List Event) → All IsOther events → All IsBeyondAscii events
+beyond_ascii-all events are = All-weaker IsOther IsBeyondAscii beyond_ascii-event events are

@@ -5,7 +5,7 @@ use Rattle.vte_core.proofs.streams.Performing.{events-empty, waits-broken}
 use Rattle.vte_core.proofs.stops.Told.{breaks-no_byte}
 use Rattle.vte_core.proofs.shapes.OutcomeLemmas.{tell-append}
 use Rattle.vte_core.proofs.streams.StreamLemmas.{outcome-after_nothing}
-use Rattle.vte_core.proofs.streams.StreamSteps.{LeadsTo, leads_to}
+use Rattle.vte_core.proofs.streams.StreamSteps.{leads_to}
 use Rattle.vte_core.proofs.streams.After.{after-open_end, events-told}
 
 -- the next byte is the first of those that are unread
@@ -25,7 +25,7 @@ resumes : (limit : Option ℕ) (stream unread more : List ℕ) → breaks (open_
     ≡ tell (events limit stream ++ Print replacement ∷ []) (outcome limit (unread ++ more))
 resumes limit stream [] more broken = absurd (false≢true (sym (breaks-no_byte (open_end stream)) ∙ broken))
 resumes limit stream (b ∷ unread) more broken =
-    let a : LeadsTo limit stream = leads_to limit stream in
+    let a = leads_to limit stream in
     let here : breaks (open_at a.place) (b ∷ unread) ≡ true =
     ap (λ (u : List ℕ). breaks u (b ∷ unread))
     (sym (after-open_end limit stream a.place a.is_after a.is_place)) ∙ broken in

@@ -1,7 +1,7 @@
 -- A stream of any bytes, from its front: each byte leads from a place to a place (`arrives`), so what a stream gives
 -- stays as it is whatever follows, and it begins anew where all places lead to the same.
 use Rattle.vte_core.specs.Laws.{Resyncs, ResyncsAfter, Grows, OpensSilently}
-use Rattle.vte_core.proofs.Common.{◌≡◌, ℕ, inl, inr, Option, List, [], ◌∷◌, ◌++◌, drop, length, refl, ap, sym, ◌∙◌, append_assoc, All, All-append, All-cons, All-nil, Cancel, class_of, IsBounded, IsBrief, Event, Place, InText, AtEscape, open_at, events_from, IsAfter, added, events, open_end, escape, Reads, InSystemCommand, left_at}
+use Rattle.vte_core.proofs.Common.{◌≡◌, ℕ, ◌+◌, ◌≤◌, inl, inr, Option, None, List, [], ◌∷◌, ◌++◌, arith, data_left, drop, length, refl, ap, sym, ◌∙◌, append_assoc, All, All-append, All-cons, All-nil, Cancel, class_of, IsBounded, IsBrief, Event, Place, InText, AtEscape, open_at, events_from, IsAfter, added, events, open_end, escape, Reads, InSystemCommand, left_at}
 use Rattle.vte_core.proofs.places.BriefLemmas.{short_bounded}
 use Rattle.vte_core.proofs.shapes.CancelLemmas.{cancel}
 use Rattle.vte_core.proofs.streams.After.{added-after, added-reads, after-events, after-nothing, after-open_end, after-reads}
@@ -18,15 +18,19 @@ left_fits limit (InText (a ∷ u)) = tt
 left_fits limit (InSystemCommand items) = pieces_fit limit items
 left_fits limit _ = tt
 
--- the bytes tell events after the place, and lead to a next place
-pub record Arrives (limit : Option ℕ) (place : Place) (bytes : List ℕ) : Type 0 where
+abbrev pub size_at : Option ℕ → Place → ℕ
+size_at limit place = data_left (left_at limit place)
+
+-- the bytes tell events of a bounded size after the place, and lead to a next place
+pub record Arrives (limit size : Option ℕ) (place : Place) (bytes : List ℕ) : Type 0 where
   pub told : List Event
   pub next : Place
   pub is_place : IsPlace next
   pub reads : Reads limit place bytes told next
-  pub bounded : All (IsBounded limit) told
+  pub bounded : All (IsBounded size) told
+  pub grows : limit ≡ None → size_at limit next ≤ size_at limit place + length bytes
 
-pub brief_bounded : (limit : Option ℕ) (told : List Event) → IsBrief limit told → All (IsBounded limit) told
+brief_bounded : (limit : Option ℕ) (told : List Event) → IsBrief limit told → All (IsBounded limit) told
 brief_bounded limit [] brief = All-nil (IsBounded limit)
 brief_bounded limit (event ∷ []) brief = All-cons (IsBounded limit) event [] brief (All-nil (IsBounded limit))
 brief_bounded limit (event ∷ last ∷ []) brief =
@@ -34,26 +38,32 @@ brief_bounded limit (event ∷ last ∷ []) brief =
     (All-cons (IsBounded limit) last [] (short_bounded limit last brief.1) (All-nil (IsBounded limit)))
 brief_bounded limit (_ ∷ _ ∷ _ ∷ _) brief = absurd brief
 
-pub arrives : (limit : Option ℕ) (place : Place) (bytes : List ℕ) → IsPlace place → Arrives limit place bytes
-arrives limit place [] is =
+-- the pieces that are left fit into the size at each place on the way
+pub arrives : (limit size : Option ℕ) (place : Place) (bytes : List ℕ) → IsPlace place
+    → ((on_way : Place) → (limit ≡ None → size_at limit on_way ≤ size_at limit place + length bytes)
+    → FitsLeft size (left_at limit on_way)) → Arrives limit size place bytes
+arrives limit size place [] is fits =
     record {
       told = [];
       next = place;
       is_place = is;
       reads = reads-nothing limit place;
-      bounded = All-nil (IsBounded limit);
+      bounded = All-nil (IsBounded size);
+      grows = λ _. omega arith;
     }
-arrives limit place (b ∷ bytes) is =
-    let first : Steps limit place b = steps limit place b is in
-    let rest : Arrives limit first.next bytes = arrives limit first.next bytes first.is_place in
+arrives limit size place (b ∷ bytes) is fits =
+    let first = steps limit place b is in
+    let rest = arrives limit size first.next bytes first.is_place
+    (λ on_way few. fits on_way (λ none. omega (arith, few none, first.grows none))) in
     record {
       told = first.told ++ rest.told;
       next = rest.next;
       is_place = rest.is_place;
       reads = reads-append limit place first.next rest.next (b ∷ []) bytes first.told rest.told first.reads rest.reads;
       bounded =
-          All-append (IsBounded limit) first.told rest.told
-          (brief_bounded limit first.told (first.brief limit (left_fits limit place))) rest.bounded;
+          All-append (IsBounded size) first.told rest.told
+          (brief_bounded size first.told (first.brief size (fits place (λ _. omega arith)))) rest.bounded;
+      grows = λ none. omega (arith, first.grows none, rest.grows none);
     }
 
 -- ---- the events of a stream from the events that it tells
@@ -73,7 +83,8 @@ pub record LeadsTo (limit : Option ℕ) (stream : List ℕ) : Type 0 where
 
 pub leads_to : (limit : Option ℕ) (stream : List ℕ) → LeadsTo limit stream
 leads_to limit stream =
-    let a : Arrives limit (InText []) stream = arrives limit (InText []) stream refl in
+    let a : Arrives limit limit (InText []) stream =
+    arrives limit limit (InText []) stream refl (λ place _. left_fits limit place) in
     record {
       place = a.next;
       is_place = a.is_place;
@@ -85,7 +96,7 @@ leads_to limit stream =
 
 pub events_grow : (limit : Option ℕ) → Grows limit
 events_grow limit stream more =
-    let a : LeadsTo limit stream = leads_to limit stream in
+    let a = leads_to limit stream in
     after-events limit stream more a.place a.is_after
     ∙ ap (λ es. events limit stream ++ es) (sym (added-after limit stream more a.place a.is_after))
 
@@ -101,7 +112,7 @@ grows_after limit stream bytes more a next told is reads =
 -- where the byte leads to a text between characters, what follows begins as a new stream
 resyncs_after : (limit : Option ℕ) (end : ℕ) → class_of end ≡ Cancel → ResyncsAfter limit end
 resyncs_after limit end e stream more =
-    let a : LeadsTo limit stream = leads_to limit stream in
+    let a = leads_to limit stream in
     let last =
     reads-byte limit a.place (InText []) end _ (cancel_is_no_escape end e) (cancel limit a.place end a.is_place e) in
     grows_after limit stream (end ∷ []) more a (InText []) _ refl last
@@ -118,7 +129,7 @@ resynchronises limit = record {
   cancel = resyncs_after limit 0x18 refl;
   substitute = resyncs_after limit 0x1a refl;
   escape = λ stream more.
-      let a : LeadsTo limit stream = leads_to limit stream in
+      let a = leads_to limit stream in
       grows_after limit stream (escape ∷ []) more a AtEscape _ tt (reads-escape limit a.place a.is_place)
       ∙ ap (λ es. events limit (stream ++ escape ∷ []) ++ es) (sym (escape_at_first limit more));
 }
@@ -134,8 +145,8 @@ pub record AddedByByte (limit : Option ℕ) (stream : List ℕ) (b : ℕ) : Type
 
 pub adds : (limit : Option ℕ) (stream : List ℕ) (b : ℕ) → AddedByByte limit stream b
 adds limit stream b =
-    let a : LeadsTo limit stream = leads_to limit stream in
-    let s : Steps limit a.place b = steps limit a.place b a.is_place in
+    let a = leads_to limit stream in
+    let s = steps limit a.place b a.is_place in
     let later = after-reads limit stream (b ∷ []) a.place s.next s.told a.is_after s.reads s.is_place in
     record {
       place = a.place;
@@ -147,11 +158,11 @@ adds limit stream b =
 
 pub bytes_are_brief : (limit : Option ℕ) (stream : List ℕ) (b : ℕ) → IsBrief limit (added limit stream (b ∷ []))
 bytes_are_brief limit stream b =
-    let a : AddedByByte limit stream b = adds limit stream b in rw a.told (a.step.brief limit (left_fits limit a.place))
+    let a = adds limit stream b in rw a.told (a.step.brief limit (left_fits limit a.place))
 
 pub opens_silently : (limit : Option ℕ) → OpensSilently limit
 opens_silently limit stream b =
-    let a : AddedByByte limit stream b = adds limit stream b in
+    let a = adds limit stream b in
     elim a.step.leaves [
       | inl none ↦ inl (a.ends ∙ none)
       | inr little ↦ elim little [ inl nothing ↦ inr (inl (a.told ∙ nothing)) | inr one ↦ inr (inr (a.told ∙ one)) ]

@@ -108,7 +108,7 @@ impl<B: Buffer> Machine<B> {
         position: usize,
     ) -> usize
         requires is { is_final (class_of byte) ≡ true }
-        requires room { position < 18446744073709551615 }
+        requires room { position + 1 < 2 ^ 64 }
         ensures next { result ≡ position + 1 }
         ensures takes { (head : List ℕ) → StandsInHead self.old.collected part head
             → TakesByte P.step (P.value_of performer.old) (P.value_of performer.new) B.limit
@@ -134,7 +134,7 @@ impl<B: Buffer> Machine<B> {
         byte: u8,
         position: usize,
     ) -> usize
-        requires room { position < 18446744073709551615 }
+        requires room { position + 1 < 2 ^ 64 }
         ensures next { result ≡ position + 1 }
         ensures dispatches { Dispatches P.step (P.value_of performer.old) (P.value_of performer.new)
             (CsiDispatch self.old.collected.params self.old.collected.intermediates.items ignore

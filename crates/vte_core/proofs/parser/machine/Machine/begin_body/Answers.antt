@@ -1,11 +1,12 @@
 -- By the key after ESC: `P`, `]`, that of an ignored string, or any other, which dispatches. The place after it is that
 -- shape with nothing read.
 use Rattle.vte_core.proofs.Common.{false, [], ◌∷◌, refl, ◌∙◌, arith, key_of, EscDispatch, InText, InDeviceControl, InSystemCommand, InIgnoredString}
+use Rattle.vte_core.specs.Key.{DeviceControl, IgnoredString, SystemCommand}
 use Rattle.vte_core.proofs.bytes.ClassCases.{final}
 use Rattle.vte_core.proofs.calls.Arms.{taken}
 use Rattle.vte_core.proofs.calls.Ends.{settled-by}
 use Rattle.vte_core.proofs.fields.PlaceOfState.{stands-escape, stands-text_begun}
-use Rattle.vte_core.proofs.places.PlaceLeads.{escape-device_control, escape-system_command, escape-ignored_string, escape-end}
+use Rattle.vte_core.proofs.places.PlaceLeads.{escape-key, escape-end}
 use Rattle.vte_core.proofs.shapes.PlainKeys.{other_key}
 use Rattle.vte_core.proofs.parser.machine.Machine.begin_body.Goals as goal
 
@@ -14,14 +15,14 @@ pub returns-then-byte-eq80-clause-takes : goal.returns-then-byte-eq80-clause-tak
 unfolding key_of
 returns-then-byte-eq80-clause-takes g c = λ s.
     taken [] (InDeviceControl []) refl (record { by = c.begin_head.ensures (stands-escape _ s) })
-    (escape-device_control _ c.args.byte (final _ c.requires.ends) (rw c.if-byte-eq80.true refl))
+    (escape-key _ c.args.byte DeviceControl (final _ c.requires.ends) (rw c.if-byte-eq80.true refl) refl)
 
 -- `]`: a command.
 pub returns-then-byte-eq93-clause-takes : goal.returns-then-byte-eq93-clause-takes
 unfolding key_of
 returns-then-byte-eq93-clause-takes g c = λ s.
     taken [] (InSystemCommand []) refl (record { by = c.clear.ensures.keeps })
-    (escape-system_command _ c.args.byte (final _ c.requires.ends) (rw c.if-byte-eq93.true refl))
+    (escape-key _ c.args.byte SystemCommand (final _ c.requires.ends) (rw c.if-byte-eq93.true refl) refl)
 
 -- `X`, `^` and `_`: an ignored string.
 pub returns-then-begins_ignored_string-clause-takes : goal.returns-then-begins_ignored_string-clause-takes
@@ -30,7 +31,7 @@ returns-then-begins_ignored_string-clause-takes g c = λ s.
     other_key c.args.byte c.requires.other c.if-byte-eq80.false c.if-byte-eq93.false
     ∙ rw (← c.begins_ignored_string.ensures, c.if-begins_ignored_string.true) refl in
     taken [] InIgnoredString refl (record { by = tt })
-    (escape-ignored_string _ c.args.byte (final _ c.requires.ends) key)
+    (escape-key _ c.args.byte IgnoredString (final _ c.requires.ends) key refl)
 
 -- Any other key is the final byte of an escape sequence.
 pub returns-else-begins_ignored_string-clause-takes : goal.returns-else-begins_ignored_string-clause-takes

@@ -7,7 +7,7 @@ use Rattle.vte_core.proofs.calls.Arms.{performs-in, at_escape, taken}
 use Rattle.vte_core.proofs.calls.Ends.{settled-by}
 use Rattle.vte_core.proofs.calls.Sequences.{performs-dropped}
 use Rattle.vte_core.proofs.fields.PlaceOfState.{stands-by, stands-text_begun}
-use Rattle.vte_core.proofs.places.PlaceLeads.{escape-control, escape-intermediate, escape-end}
+use Rattle.vte_core.proofs.places.PlaceLeads.{byte-executed, escape-intermediate, escape-end}
 use Rattle.vte_core.proofs.shapes.PlainKeys.{below_finals}
 use Rattle.vte_core.proofs.parser.machine.Machine.read_after_escape.Goals as goal
 
@@ -47,7 +47,7 @@ returns-then-is_control-clause-performs g c =
     performs-in c.requires.begun (rw is refl)
     (at_escape c.args.self.now
     (λ holds. taken (Execute b ∷ []) AtEscape c.execute_control.ensures.value (stands-by c.requires.begun holds)
-    (escape-control _ b is)))
+    (byte-executed _ AtEscape b refl is)))
 
 -- What is left is DEL and 80 to FF, which is dropped.
 pub returns-else-is_control-clause-performs : goal.returns-else-is_control-clause-performs

@@ -6,7 +6,7 @@ use Rattle.vte_core.proofs.calls.Arms.{taken}
 use Rattle.vte_core.proofs.calls.Heads.{ControlHead, advances-head, advances-past, performs-head}
 use Rattle.vte_core.proofs.calls.Stretches.{advances-moved}
 use Rattle.vte_core.proofs.fields.PlaceOfState.{stands-by}
-use Rattle.vte_core.proofs.places.PlaceLeads.{byte-dropped, control-control}
+use Rattle.vte_core.proofs.places.PlaceLeads.{byte-dropped, byte-executed}
 use Rattle.vte_core.proofs.parser.machine.Machine.read_control_sequence.Goals.{then-ends_all, else-ends_all+then-is_control, else-ends_all+else-is_control}
 use Rattle.vte_core.proofs.parser.machine.Machine.read_control_sequence.Goals as goal
 
@@ -49,7 +49,7 @@ returns-in-Some-clause-advances g c =
           (advances-past ControlHead c.requires.begun read.reads.head next c.requires.may_go_on
           (performs-head ControlHead part refl (rw is refl) (λ bytes stands.
           taken (Execute b ∷ []) (InControlSequence bytes) w.execute_control.ensures.value (stands-by refl stands)
-          (control-control _ bytes b is))) tt)
+          (byte-executed _ (InControlSequence bytes) b refl is))) tt)
       -- A byte that is dropped.
       | else-ends_all+else-is_control w ↦
           let ordinary = sym c.ends_all.ensures ∙ w.if-ends_all.false in

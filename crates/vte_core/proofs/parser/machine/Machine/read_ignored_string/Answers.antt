@@ -14,7 +14,7 @@ advances-by : {quiet V B : Type 0} {call : ChunkCall V} {value : V} {parser : Ma
     → Advances quiet call value value i (i + n) parser parser
 advances-by zero i begun within are may_go_on =
     advances-moved (omega arith) (advances-nothing (λ _. settled-by _ _ begun tt))
-advances-by {call = call} {parser = parser} (suc n) i begun within are may_go_on =
+advances-by {call} {parser} (suc n) i begun within are may_go_on =
     let ordinary = are i (omega arith) (omega arith) in
     advances-moved (omega arith) (advances-then
     (advances-when tt (advances-in begun (omega (arith, within)) refl may_go_on ordinary
@@ -27,7 +27,7 @@ advances-by {call = call} {parser = parser} (suc n) i begun within are may_go_on
 advances-ignored : {quiet V B : Type 0} {call : ChunkCall V} {value : V} {i j : ℕ} {parser : Machine B}
     → parser.state ≡ IgnoredString → i ≤ j → j ≤ length call.bytes → AreIgnored call.bytes i j → MayGoOn call value
     → Advances quiet call value value i j parser parser
-advances-ignored {i = i} {j = j} begun low high are may_go_on =
+advances-ignored {i} {j} begun low high are may_go_on =
     advances-moved (omega (arith, low))
     (advances-by (j - i) i begun (omega (arith, low, high))
     (λ k from to. are k from (omega (arith, low, to))) may_go_on)

@@ -6,7 +6,7 @@ use Rattle.vte_core.proofs.calls.Arms.{advances-in, in_escape, taken}
 use Rattle.vte_core.proofs.calls.Ends.{settled-by}
 use Rattle.vte_core.proofs.calls.Stretches.{advances-byte, advances-nothing, advances-when, advances-then}
 use Rattle.vte_core.proofs.fields.PlaceOfState.{stands-by, stands-text_begun}
-use Rattle.vte_core.proofs.places.PlaceLeads.{byte-dropped, intermediate-control, intermediate-end, intermediate-more}
+use Rattle.vte_core.proofs.places.PlaceLeads.{byte-dropped, byte-executed, intermediate-end, intermediate-more}
 use Rattle.vte_core.proofs.parser.machine.Machine.read_intermediates.Goals.{then-is_intermediate, else-is_intermediate+else-dispatches_escape+else-ends_all+else-is_control}
 use Rattle.vte_core.proofs.parser.machine.Machine.read_intermediates.Goals as goal
 
@@ -92,4 +92,4 @@ returns-then-is_control-clause-advances g c =
     (advances-when tt (advances-in v.begun (omega arith) c.at-byte.ensures.value v.may_go_on (rw is refl)
     (in_escape c.loop-position.self
     (λ ints holds. taken (Execute b ∷ []) (InEscape ints) c.execute_control.ensures.value (stands-by v.begun holds)
-    (intermediate-control _ ints b is))) (settled-by _ _ v.begun tt)))
+    (byte-executed _ (InEscape ints) b refl is))) (settled-by _ _ v.begun tt)))

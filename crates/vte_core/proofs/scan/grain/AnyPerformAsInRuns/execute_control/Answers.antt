@@ -1,5 +1,5 @@
 -- A control that is kept is a text of one character, whose event is the control.
-use Rattle.vte_core.proofs.Common.{◌≡◌, arith, true, false, low_scalar, IsScalar, is_left_out, is_layout, run_event, Execute, ap, sym, refl, ◌∙◌}
+use Rattle.vte_core.proofs.Common.{◌≡◌, arith, true, low_scalar, IsScalar, StaysInRun, is_layout, run_event, Execute, ap, sym, refl, ◌∙◌}
 use Rattle.vte_core.proofs.bytes.Printable.{after_one, layout-is_ascii, layout-stays, run_one}
 use Rattle.vte_core.proofs.scan.grain.AnyPerformAsInRuns.execute_control.Goals as goal
 
@@ -8,7 +8,7 @@ print_text-requires-clause-plain g c =
     let keeps : g.P.PerformText.keeps ≡ true = sym c.keeps_layout.ensures ∙ c.if-keeps_layout.true in
     let layout : is_layout c.args.byte ≡ true = sym c.is_layout.ensures ∙ c.if-is_layout.true in
     let scalar : IsScalar c.args.byte = low_scalar c.args.byte (omega (arith, layout-is_ascii c.args.byte layout)) in
-    let stays : is_left_out g.P.PerformText.keeps c.args.byte ≡ false = rw keeps (layout-stays c.args.byte layout) in
+    let stays : StaysInRun g.P.PerformText.keeps c.args.byte = rw keeps (layout-stays c.args.byte layout) in
     rw (c.encode_utf8.ensures.value, c.from.ensures) (run_one g.P.PerformText.keeps c.args.byte scalar stays)
 
 pub returns-then-keeps_layout : goal.returns-then-keeps_layout

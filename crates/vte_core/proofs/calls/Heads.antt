@@ -3,7 +3,6 @@
 use Rattle.vte_core.specs.machine.ToRun.{IsQuietIn}
 use Rattle.vte_core.proofs.Common.{◌≡◌, ℕ, zero, suc, ◌+◌, ◌-◌, ◌<◌, ◌≤◌, ◌⊎◌, inr, eqb, Option, List, [], ◌∷◌, ◌++◌, Bool, true, false, length, take, drop, refl, sym, subst, append_assoc, arith, nat_tests, append-nil, drop-drop, drop_more, take-add, slice_index, MatchOption, class_of, is_head, is_parameter_text, AreInClass, Collected, HeadPart, Entry, Parameters, Machine, State, ControlSequence, DeviceControl, Event, ChunkCall, Leads, CountsNumbers, KeepsIntermediates, Stands, StandsBy, StandsInHead, Place, InControlSequence, InDeviceControl, IsBetween, Advances, ProgressAt, StandsAt, IsSettled, MayGoOn, TakesBytes, TakesByte, ends_all, part_after, ReadsHead, Some, None, false≢true}
 use Rattle.vte_core.proofs.bytes.ClassCases.{head_ends_nothing, AreInClass-append, parameter_is_head}
-use Rattle.vte_core.proofs.bytes.PieceLemmas.{parameter_is_head}
 use Rattle.vte_core.proofs.calls.Places.{come-between, come-byte}
 use Rattle.vte_core.proofs.calls.Arms.{performs-in}
 use Rattle.vte_core.proofs.calls.Ends.{settled-by}
@@ -199,7 +198,7 @@ module _ {V : Type 0} {call : ChunkCall V} where
     settled = λ _. settled-by _ _ state (settled shape part);
     others = λ _ old stream s.
         adds-same (told-at
-        (stands-head {next} shape begun reads (λ does. absurd (false≢true does)) state (keeps-at s)));
+        (stands-head {next = next} shape begun reads (λ does. absurd (false≢true does)) state (keeps-at s)));
   }
 
   -- a part of a head and a byte after it, of which the caller says what it does there

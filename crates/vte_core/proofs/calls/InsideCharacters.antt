@@ -90,7 +90,7 @@ module _ {V B : Type 0} {call : ChunkCall V} {old mid : V} {stream : List ℕ} w
       {next} e opened carries state performed s within is later =
       let t = by_text call.limit parser u s.place (stands-in e s.stands) in
       let c =
-      come-carried {new} {next = InText []}
+      come-carried {new = new} {next = InText []}
       {these = character_event (scalar_of (bytes_of u ++ b ∷ [])) ∷ []} t.begun within is
       (truncated-some (bytes_of u) opened)
       (breaks-whole (bytes_of u) b carries.0)

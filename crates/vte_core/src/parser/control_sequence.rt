@@ -1,5 +1,5 @@
 //! Control sequences.
-ghost use Rattle.std.specs.Prelude.{◌≡◌, ◌+◌, ◌<◌, ℕ, true, List, ⊤};
+ghost use Rattle.std.specs.Prelude.{◌≡◌, ◌+◌, ◌<◌, ◌^◌, ℕ, true, List, ⊤};
 ghost use Rattle.vte_core.specs.machine.Prelude.{Advances, CsiDispatch, Dispatches, HandlesByte, InControlSequence, MayRead, Moves, StandsInHead, TakesByte, chunk_call, class_of, is_final};
 
 use crate::buffer::Buffer;

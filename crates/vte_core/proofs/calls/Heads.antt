@@ -206,7 +206,7 @@ module _ {V : Type 0} {call : ChunkCall V} where
       {held : Collected} (shape : Shape) → parser.state ≡ state_of shape reached
       → ReadsHead call.bytes i j reached part parser.collected held
       → (j < length call.bytes) × (b ≡ slice_index call.bytes j) → MayGoOn call old
-      → ((place : Place) → Stands {B} call.limit
+      → ((place : Place) → Stands {B = B} call.limit
       (record { state = state_of shape part; collected = held; command = parser.command }) place → IsBetween place
       → TakesBytes call.step old new call.limit place (b ∷ []) next) → IsSettled next.state
       → Advances quiet call old new i (j + 1) parser next

@@ -1,6 +1,6 @@
 -- What a call without a limit stores, and where it stops for lack of memory. What is stored of an open command is said
 -- of its place, so it holds of every parser that is at one.
-use Rattle.vte_core.proofs.Common.{◌≡◌, ℕ, ◌+◌, ◌≤◌, Bool, None, List, [], ◌∷◌, ◌++◌, length, take, Result, Ok, Err, IfErr, IfOk, IsOk, refl, ap, sym, subst, ◌∙◌, length-take, IsAfter, arith, concat, slice_index, Machine, Event, MeetsData, data_left, open_size, read_count, State, SystemCommand, ProgressAt, IsRefusedAt, RefusesAt, StandsInside, HasReadUnder, Stands, StandsBy, Place, InSystemCommand, InText, ChunkCall, chunk_call}
+use Rattle.vte_core.proofs.Common.{◌≡◌, ℕ, ◌+◌, ◌≤◌, Bool, None, List, [], ◌∷◌, ◌++◌, length, take, Result, Ok, Err, IfErr, IfOk, IsOk, refl, ap, sym, subst, ◌∙◌, length-take, IsAfter, arith, concat, slice_index, Machine, MeetsData, data_left, open_size, read_count, State, SystemCommand, ProgressAt, IsRefusedAt, RefusesAt, StandsInside, HasReadUnder, Stands, StandsBy, Place, InSystemCommand, InText, ChunkCall}
 use Rattle.vte_core.proofs.Common.{left_at, Stored, Keeps, Open, OpenCommand, drops_data, outcome, pieces_of, Refused}
 use Rattle.vte_core.proofs.calls.States.{reads-item}
 use Rattle.vte_core.proofs.calls.Places.{come-command}
@@ -139,23 +139,24 @@ unfolding pieces_of Rattle.vte_core.specs.SystemCommand.kept_items
 nothing_stored {held} keeps = pieces_stored None held [] keeps
 
 -- where there was memory for all bytes of the call, none is refused
-pub never_refused : {V B : Type 0} {may_stop : Bool} {step : V → Event → V} {is_terminated : V → Bool} {old new : V}
-    {bytes : List ℕ} {n : ℕ} {before parser : Machine B}
-    → RefusesAt (chunk_call may_stop step is_terminated None bytes) old new n before parser → (stream : List ℕ)
-    → HasReadUnder None before stream
-    → open_size stream + length bytes ≤ before.command.capacity → before.command.capacity ≤ parser.command.capacity → ⊥
-never_refused {bytes} {n} {parser} r stream h enough kept =
+pub never_refused : {V B : Type 0} {call : ChunkCall V} {old new : V} {n : ℕ} {before parser : Machine B}
+    → RefusesAt call old new n before parser → (stream : List ℕ) → HasReadUnder call.limit before stream
+    → open_size stream + length call.bytes ≤ before.command.capacity
+    → before.command.capacity ≤ parser.command.capacity → ⊥
+never_refused {call} {n} {parser} r stream h enough kept =
+    let read : List ℕ = take n call.bytes in
     let stored =
-    stored_is_open parser (stream ++ take n bytes) r.refused.inside (inside-reads (refuses-inside r stream h)) in
+    stored_is_open parser (stream ++ read) r.refused.inside
+    (subst (λ limit. HasReadUnder limit parser (stream ++ read)) r.refused.unlimited
+    (inside-reads (refuses-inside r stream h))) in
     omega (
       arith,
       stored,
-      (counts_data stream (take n bytes)).left,
+      (counts_data stream read).left,
       r.refused.lacks.lacks,
       r.refused.lacks.within,
       r.within,
-      length-take n
-          bytes,
+      length-take n call.bytes,
       enough,
       kept,
     )

@@ -93,37 +93,32 @@ prints-one {keeps} {step} {old} {bytes} {from}
 
 -- ---- a performer that no character stops
 
-not_stopped : {V : Type 0} (keeps : Bool) (step : V → Event → V) (is_terminated : V → Bool)
-    → NoCharacterStops keeps step is_terminated
-    → (value : V) (given rest : List Event) (cs : List ℕ)
-    → given ++ rest ≡ map (run_event keeps) cs → is_terminated value ≡ false
-    → is_terminated (after step value given) ≡ false
-not_stopped keeps step is_terminated never value [] rest cs e goes = goes
-not_stopped keeps step is_terminated never value (x ∷ given) rest [] e goes = cc
-not_stopped keeps step is_terminated never value (x ∷ given) rest (c ∷ cs) e goes =
-    let first : x ≡ run_event keeps c = cc in
-    let others : given ++ rest ≡ map (run_event keeps) cs = cc in
-    not_stopped keeps step is_terminated never (step value x) given rest cs others
-    (ap (λ event. is_terminated (step value event)) first ∙ never value c goes)
+module _ {V : Type 0} (keeps : Bool) (call : ChunkCall V)
+    (never : NoCharacterStops keeps call.step call.is_terminated) where
+  not_stopped : (value : V) (given rest : List Event) (cs : List ℕ) → given ++ rest ≡ map (run_event keeps) cs
+      → call.is_terminated value ≡ false → call.is_terminated (after call.step value given) ≡ false
+  not_stopped value [] rest cs e goes = goes
+  not_stopped value (x ∷ given) rest [] e goes = cc
+  not_stopped value (x ∷ given) rest (c ∷ cs) e goes =
+      let first : x ≡ run_event keeps c = cc in
+      let others : given ++ rest ≡ map (run_event keeps) cs = cc in
+      not_stopped (call.step value x) given rest cs others
+      (ap (λ event. call.is_terminated (call.step value event)) first ∙ never value c goes)
 
--- the U+FFFD of a broken character stops it neither
-not_stopped-told : {V : Type 0} (keeps : Bool) (step : V → Event → V) (is_terminated : V → Bool)
-    → NoCharacterStops keeps step is_terminated
-    → (value : V) (limit : Option ℕ) (stream bytes : List ℕ) (k : ℕ)
-    → is_terminated (after step value (added limit stream (take k bytes))) ≡ false
-    → is_terminated (after step value (told_before limit stream bytes k)) ≡ false
-not_stopped-told keeps step is_terminated never value limit stream bytes k goes =
-    elim (cases_Bool (breaks_at stream bytes k)) [
-      | inl broken ↦
-          rw (
-            told-broken limit stream bytes k broken,
-            after-append step value (added limit stream (take k bytes))
-                (Print replacement ∷ []),
-          )
-          (rw (replacement-event keeps) at
-          (never (after step value (added limit stream (take k bytes))) replacement goes))
-      | inr whole ↦ rw (told-between limit stream bytes k whole) goes
-    ]
+  -- the U+FFFD of a broken character stops it neither
+  not_stopped-told : (value : V) (stream : List ℕ) (k : ℕ)
+      → call.is_terminated (after call.step value (added call.limit stream (take k call.bytes))) ≡ false
+      → call.is_terminated (after call.step value (told_before call.limit stream call.bytes k)) ≡ false
+  not_stopped-told value stream k goes = elim (cases_Bool (breaks_at stream call.bytes k)) [
+    | inl broken ↦
+        rw (
+          told-broken call.limit stream call.bytes k broken,
+          after-append call.step value (added call.limit stream (take k call.bytes)) (Print replacement ∷ []),
+        )
+        (rw (replacement-event keeps) at
+        (never (after call.step value (added call.limit stream (take k call.bytes))) replacement goes))
+    | inr whole ↦ rw (told-between call.limit stream call.bytes k whole) goes
+  ]
 
 pub may_go_on-text : {V : Type 0} {keeps : Bool} (call : ChunkCall V) {old new : V} {i j : ℕ}
     → (call.may_stop ≡ true → NoCharacterStops keeps call.step call.is_terminated) → MayGoOn call old
@@ -131,7 +126,7 @@ pub may_go_on-text : {V : Type 0} {keeps : Bool} (call : ChunkCall V) {old new :
 may_go_on-text {keeps} call {old} {i} {j} never may_go_on prints does =
     let cs = chars (take (j - i) (drop i call.bytes)) in
     ap call.is_terminated prints.printed
-    ∙ not_stopped keeps call.step call.is_terminated (never does) old (map (run_event keeps) cs) [] cs
+    ∙ not_stopped keeps call (never does) old (map (run_event keeps) cs) [] cs
     (append-nil (map (run_event keeps) cs)) (may_go_on does)
 
 -- What is malformed in runs is told by U+FFFD, which is a character too.
@@ -176,12 +171,12 @@ advances-text {V} {call} {keeps} {old} {new} {i} {j} {parser}
         sym (added_both call.limit from front rest) ∙ ap (added call.limit from) (sym parts)
         ∙ added-reads call.limit from run (InText []) (InText []) _ c.is_after
         (reads-text call.limit keeps run prints.run) refl in
-        not_stopped-told keeps call.step call.is_terminated (never does) value call.limit stream call.bytes k
+        not_stopped-told keeps call (never does) value stream k
         (ap (λ es. call.is_terminated (after call.step value es)) (run-added call.limit stream call.bytes i k past)
         ∙ ap call.is_terminated
         (after-append call.step value (told_before call.limit stream call.bytes i) (added call.limit from front)
         ∙ ap (λ v. after call.step v (added call.limit from front)) (sym c.performed))
-        ∙ not_stopped keeps call.step call.is_terminated (never does) old (added call.limit from front)
+        ∙ not_stopped keeps call (never does) old (added call.limit from front)
         (added call.limit (from ++ front) rest) (chars run) all (may_go_on does))
 
     inside-next : (value : V) (stream : List ℕ) → StandsAt call value old stream i parser

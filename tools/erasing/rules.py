@@ -40,6 +40,7 @@ def _before(number):
     return hex(int(number, 0) - 1) if number.startswith("0x") else str(int(number, 0) - 1)
 
 
-def apply(source, rules):
+def apply(source, rules, are_needed=False):
     for rule in rules:
-        rewrite(source, *rule)
+        if not rewrite(source, *rule) and are_needed:
+            source.refuse(f"the plan has a rule that nothing here needs: {rule[0]}")

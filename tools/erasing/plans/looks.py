@@ -39,29 +39,18 @@ COUNTS = [
     ("CountedPerform<B, $g>", "PerformAs<$g>"), ("CountedPerform<$$b>, $g>", "PerformAs<$g>"),
 ]
 
-# The functions that may stop: the others only pass this parameter on.
-STOPPING = {"drive", "end_device_data", "read_by_state", "read_device_data", "read_end",
-          "read_ignored_string", "read_system_command", "read_text", "read_until_terminated"}
+# The functions that only pass on whether they may stop: the parameter goes.
+PASSING = (
+    "complete_four", "complete_three", "continue_character", "continue_control_sequence",
+    "finish_character", "read_at_lead", "read_character", "read_control_sequence",
+    "read_device_control", "read_escape", "read_intermediates", "read_sequence")
 
-
-def _head(names):
-    stops = ", const MAY_STOP: bool" * (names["f"] in STOPPING)
-    return f"fn {names['f']}<P: PerformAs<G>, G: Grain{stops}>("
-
-
-def _call(names):
-    name, grain = names["f"], names["g"]
-    if name in STOPPING:
-        return f"{name}::<P, {grain}, {names['a']}>("
-    # the arguments tell which performer it is, and its grain
-    return f"{name}(" if grain == "G" else f"{name}::<P, {grain}>("
-
-
-PARAMETERS = [
-    ("fn $f<P: PerformAs<G>, G: Grain, const MAY_STOP: bool>(", _head),
-    ("fn $f<P: PerformAs<G>, G: Grain, const MAY_STOP: bool,>(", _head),
-    ("$f::<P, $g, $a>(", _call),
-]
+PARAMETERS = [rule for name in PASSING for rule in (
+    (f"fn {name}<P: PerformAs<G>, G: Grain, const MAY_STOP: bool",
+     f"fn {name}<P: PerformAs<G>, G: Grain"),
+    (f"{name}::<P, $g, $a>(", f"{name}::<P, $g>("))]
+# the arguments tell which performer it is, and its grain
+PARAMETERS.append(("$f::<P, G>(", "$f("))
 
 # the files that count
 OF_FILES = {

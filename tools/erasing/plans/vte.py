@@ -62,18 +62,18 @@ VTE = Plan(
     },
     crate_conditions={name: 'feature = "ansi"' for name in ("vte_types", "vte_handler", "vte")},
     item_conditions={
-        "vte_core": {WITH_MEMORY: {"Vec", "long"}},
-        "vte_core/lib": {WITH_MEMORY: {"LongParser", "Refused"}, OWN: {"Saved"},
-                         'feature = "ansi"': {"InRuns", "Singly"}},
+        "vte_core": {WITH_MEMORY: "Vec long"},
+        "vte_core/lib": {WITH_MEMORY: "LongParser Refused", OWN: "Saved",
+                         'feature = "ansi"': "InRuns Singly"},
         # the module has the condition
         "vte_core/parser/long": None,
-        "vte_core/parser": {OWN: {"saved"}},
-        "vte_handler/lib": {OWN: {"by_call"}},
-        "vte/ansi": {WITH_LIMIT: {"processor"}},
+        "vte_core/parser": {OWN: "saved"},
+        "vte_handler/lib": {OWN: "by_call"},
+        "vte/ansi": {WITH_LIMIT: "processor"},
         "vte/ansi/parsing": {
-            WITH_LIMIT: {"ArrayString", "HandlerText", "InRuns", "Parser", "Singly", "TEXT_ROOM"}},
-        "vte/ansi/titles": {WITH_LIMIT: {"TEXT_ROOM"}},
-        "vte_types": {'feature = "serde"': {"serde"}},
+            WITH_LIMIT: "ArrayString HandlerText InRuns Parser Singly TEXT_ROOM"},
+        "vte/ansi/titles": {WITH_LIMIT: "TEXT_ROOM"},
+        "vte_types": {'feature = "serde"': "serde"},
     },
     dropped_files=frozenset({
         # it only counts
@@ -305,7 +305,8 @@ VTE = Plan(
         "vte/ansi/hold": "impl Hold",
         "vte/ansi/numbers": "impl NumberIterator for ParamsIter",
     },
-    default_bodies=frozenset({"Perform", "Handler"}),
+    default_bodies={"vte_core/perform": "pub trait Perform {",
+                    "vte_handler/handler": "pub trait Handler {"},
     handler={"vte_handler/handler": (
         ("title: Option<&str>", "title: Option<&str> as Option<String> = title.map(Into::into)"),
         ("prefix: &str", "prefix: &str as String = prefix.into()"),

@@ -20,6 +20,8 @@ def _as_functions(names):
     return re.sub(r"\bself\b", "looks", names["b"].replace("&mut self", "looks: &mut Looks<B>"))
 
 
+# Only a `Looks` is named `looks`: it is a field, and the first parameter and argument of what reads
+# or tells. If something else were taken out, rustc would refuse the call, or a name not declared.
 COUNTS = [
     ("impl<B> Looks<B> { $$$b }", _as_functions),
     ("looks: Looks::$f(),", ""), ("looks: &mut Looks<B>,", ""), ("looks: Looks<$$t>,", ""),
@@ -30,11 +32,13 @@ COUNTS = [
     ("looks.tell_text(performer, input, $$p)", "performer.print_text(text(input, $p))"),
     ("looks.tell_data(performer, input, $$p)", "performer.put_slice(data(input, $p))"),
     ("looks.$f(", "$f("), ("looks.$f::<$n>(", "$f::<$n>("),
-    ("&mut self.looks,", ""), ("looks,", ""), ("(looks)", "()"),
+    ("(&mut self.looks,", "("), ("(looks,", "("), ("(looks)", "()"),
     ("Input::new($x)", "$x"),
     ("Input<$a, B>", lambda names: "&[u8]" if names["a"] == "'_" else f"&{names['a']} [u8]"),
     ("input.up_to(", "up_to(input, "),
     ("input.take_run(", "take_run(input, "),
+    # the buffer that a `Looks` counts for: a function that has another use of its own `B` would no
+    # longer compile
     ("fn $f<B>", "fn $f"), ("fn $f<B, ", "fn $f<"),
     ("CountedPerform<B, $g>", "PerformAs<$g>"), ("CountedPerform<$$b>, $g>", "PerformAs<$g>"),
 ]
@@ -57,9 +61,11 @@ OF_FILES = {
     "vte_core/scan": [
         ("mod grain;", "pub(crate) mod grain;"), ("mod search;", "pub(crate) mod search;"),
         ("impl<'a, B> Input<'a, B> { $$$b }", "$b"),
+        # it counts, and returns nothing
         ("self.add($$$x);", ""),
         ("Input { bytes: $$x, buffer: PhantomData, }", "$x"),
-        ("$a.bytes", "input"),
+        # of an `Input`, which alone has `bytes` here
+        ("self.bytes", "input"), ("input.bytes", "input"),
         ("input[from..].first_chunk::<$n>()", "first_chunk::<$n>(&input[from..])"),
         ("fn up_to(self, to: usize) -> Self", "fn up_to(input: &[u8], to: usize) -> &[u8]"),
         ("fn text(self, from: usize, to: usize) -> &'a str",
@@ -73,7 +79,7 @@ OF_FILES = {
         ("unsafe {", f"{OF_TEXT}unsafe {{"),
     ],
     "vte_core/scan/search": [
-        ("self.add($$$x);", ""), ("$a.bytes", "input"),
+        ("self.add($$$x);", ""), ("input.bytes", "input"),
         # as a value, the answer would take two instructions more per byte
         ("is_command_data($$x)", "$x >= 0x20 && $x != b';'"),
     ],

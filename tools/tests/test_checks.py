@@ -2,6 +2,7 @@
 import contextlib
 import io
 import os
+import re
 import shutil
 import subprocess
 import sys
@@ -333,15 +334,14 @@ def test_what_the_eraser_refuses_is_told(words, folder):
 
 # ---- test
 
-# parts in the place of those of tools/test
-PARTS = """first|bash|part first
-lacking|no-such-command|part lacking
-
-second|bash cargo rust-1.2|echo missing: a thing: it was not tried; part second
-proofs|rt|rt ci"""
+# parts in the place of those of tools/test: those at once, and those after them
+PARTS = {
+    "": "part first bash try first\npart lacking no-such-command try lacking\n",
+    "    ": "    part second 'bash cargo rust-1.2' try second 'missing: a thing: not tried'\n"
+            "    part proofs rt rt ci\n"}
 PROGRAMS = {
-    "part": '#!/bin/sh\necho $1 >>asked\necho said by $1\n[ $1 != "$FAILS" ]\n',
-    "rt": "#!/bin/sh\npart proofs && echo 5 passed, 0 failed || ! echo 4 passed, 1 failed\n",
+    "try": '#!/bin/sh\necho $1 >>asked\necho said by $1\necho $2\n[ $1 != "$FAILS" ]\n',
+    "rt": "#!/bin/sh\ntry proofs && echo 5 passed, 0 failed || ! echo 4 passed, 1 failed\n",
     "cargo": "#!/bin/sh\n",
     "python3": "#!/bin/sh\nexit 1\n",
     "rustc": "#!/bin/sh\necho rustc 1.63.0\n",
@@ -362,8 +362,11 @@ PROGRAMS = {
     ("unknown", "", "", 1, "0 passed, 0 failed"),
 ])
 def test_what_is_run_and_listed(folder, words, fails, ran, status, last):
-    before, mark, after = (TOOLS / "test").read_text().partition("    cat <<'END'\n")
-    test = write("tools/test", before + mark + PARTS + after[after.index("\nEND\n"):], 0o755)
+    text = (TOOLS / "test").read_text()
+    for front, parts in PARTS.items():
+        text = re.sub(rf"^(?:{front}part (?:.*\\\n)*.*\n)+", lambda _, parts=parts: parts, text,
+                      flags=re.M)
+    test = write("tools/test", text, 0o755)
     for name, text in PROGRAMS.items():
         write(f"bin/{name}", text, 0o755)
     (folder / "temporary").mkdir()
@@ -382,5 +385,5 @@ def test_what_is_run_and_listed(folder, words, fails, ran, status, last):
         assert (f"said by {name}" in lines) == (name in (fails, "proofs"))
     is_asked = not words or "lacking" in words or words == "--strict"
     assert ("    lacking: it needs no-such-command" in lines) == is_asked
-    assert ("    a thing: it was not tried" in lines) == ("second" in ran)
+    assert ("    a thing: not tried" in lines) == ("second" in ran)
     assert not any((folder / "temporary").iterdir())

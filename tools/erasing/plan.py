@@ -76,3 +76,9 @@ class Plan:
     def homes_of(self, crate):
         return [(name, home) for place in ("", crate)
                 for home, names in self.homes.get(place, {}).items() for name in names.split()]
+
+
+def joined(*parts):
+    """The tables of a plan, of which each part has some entries."""
+    return {table: {key: it for part in parts for key, it in part.get(table, {}).items()}
+            for table in {table for part in parts for table in part}}

@@ -2,7 +2,7 @@
 `vte` or ours. tools/building erases these files when it builds.
 """
 from erasing.plan import Plan
-from erasing.plans.vte import HINTED
+from erasing.plans.ansi import HINTED
 
 PEER = Plan(
     folder="",

@@ -40,14 +40,21 @@ class Tool:
 
 # ---- check_trust
 
-@pytest.mark.parametrize("place, count, allowed", [
-    ("crates/x/src/lib.rt", 1, 0), ("rust/vtlog/src/prelude.rs", 2, 0),
-    ("crates/vte_core/src/utf8.rt", 2, 3), ("crates/vte_core/src/utf8.rt", 4, 3),
-    ("rust/vte/src/proved/vte_core/utf8.rs", 2, 2), ("old/crates/vte_core/src/utf8.rt", 3, 0)])
-def test_unsafe_is_counted(place, count, allowed):
-    write(place, "unsafe { f() } // unsafe, as unsafe_code is\n" * count)
-    told = [f"{place}: `unsafe` stands here {count} times, and {allowed} are allowed"]
-    assert [*Tool("check_trust").parts["faults"](place)] == told * (count != allowed)
+@pytest.mark.parametrize("place, text, told, allowed", [
+    ("crates/x/src/lib.rt", "fn f() { unsafe { g() } } // unsafe, as unsafe_code is", "1 f", "0"),
+    ("old/crates/vte_core/src/scan.rt", "fn text() { unsafe { g() } }", "1 text", "0"),
+    ("crates/vte_core/src/scan.rt", "fn text() { unsafe { g() } }", "1 text", "1 text"),
+    ("crates/vte_core/src/scan.rt", "fn text() {} fn g() { unsafe { h() } }", "1 g", "1 text"),
+    ("crates/vte_core/src/scan.rt", "fn text() { unsafe { unsafe } }", "2 text", "1 text"),
+    ("crates/vte_core/src/scan.rt", "", "0", "1 text"),
+    ("a.rs", "unsafe #[unsafe(no_mangle)]\npub extern \"C\" fn f() {} unsafe impl T for U {} "
+     "pub unsafe extern \"C\" fn g(h: unsafe fn()) { unsafe {} } macro_rules! m { unsafe }",
+     "7 - f T g m", "0"),
+])
+def test_places_of_unsafe(place, text, told, allowed):
+    write(place, text)
+    told = [f"{place}: `unsafe` stands here {told}; allowed is {allowed}"] * (told != allowed)
+    assert [*Tool("check_trust").parts["faults"](place)] == told
 
 
 @pytest.mark.parametrize("place, line, most", [

@@ -244,7 +244,7 @@ MUTANT = "# A rule.\nfile: src/lib.rt\nold: one\nnew: two\n# refused at abc1234 
 def crate():
     write("crates/c/src/lib.rt", "f(one); f(two);")
     for file in "crates.txt", "HANDLES", "crates/c/must-fail/other.edit":
-        write(file, "")
+        write(file, "# A rule.\nfile: src/lib.rt\n")
 
 
 # what stands in a mutant in the place of something, and what is wrong with it
@@ -264,6 +264,12 @@ def test_faults_of_mutants(crate, old, new, fault):
     told = [f"tools/mutants/c/m.edit: {fault}"] * bool(fault)
     said = "\n".join([*told, f"1 mutants, {len(told)} faults\n"])
     assert Tool("mutate").run("--check") == (len(told), said)
+
+
+def test_must_fail_edits_name_their_rule(crate):
+    write("crates/c/must-fail/other.edit", "file: src/lib.rt\n")
+    told = "crates/c/must-fail/other.edit: it names no rule\n0 mutants, 1 faults\n"
+    assert Tool("mutate").run("--check") == (1, told)
 
 
 def test_mutants_stand_once(crate):

@@ -49,8 +49,9 @@ def write_crate(plan, read_files):
             files[target(name)] = MARK.format(origin=f"crates/{crate}/src/{place}") + erased
             tests |= its_tests
             used |= its_used
-    if unknown := _named(plan) - names:
-        raise Failure(f"the plan names files that don't exist: {', '.join(sorted(unknown))}")
+    if unknown := (_named(plan) - names) | (plan.crate_conditions.keys() - plan.modules.keys()):
+        raise Failure("the plan names files or crates that don't exist: "
+                      f"{', '.join(sorted(unknown))}")
     if unused := {sought for sought, _ in plan.entries() - used}:
         raise Failure(f"the plan has what no file needs: {', '.join(sorted(unused))}")
     return files

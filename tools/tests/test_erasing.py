@@ -243,9 +243,10 @@ def test_failures_name_file_and_line():
 TABLES = {it.name: {"a/gone": {}} for it in fields(Plan) if it.default_factory is dict}
 
 
-@pytest.mark.parametrize("name, table", [*TABLES.items(), ("dropped_files", {"a/gone"})])
-def test_each_table_names_files_that_exist(name, table):
-    with pytest.raises(Failure, match="don't exist: a/gone"):
+@pytest.mark.parametrize("name, table", [
+    *TABLES.items(), ("dropped_files", {"a/gone"}), ("crate_conditions", {"gone": ""})])
+def test_each_table_names_what_exists(name, table):
+    with pytest.raises(Failure, match="don't exist: (a/)?gone"):
         write_crate(replace(plan(), **{name: table}), lambda _crate: {"x.rt": ""})
 
 

@@ -12,7 +12,7 @@ def table():
 
 @dataclass(frozen=True)
 class Plan:
-    """A Rust crate. What is by file, or by crate, has the name first."""
+    """A Rust crate. Tables are by file, unless they say something else."""
 
     folder: str  # what is written; nothing else stands there
     modules: dict  # the Rattle crates: the path of each, seen from anywhere in the Rust crate
@@ -21,21 +21,21 @@ class Plan:
     # where names come from
     other_crates: dict = table()  # those that aren't part of this one
     of_std: dict = table()  # modules of std that Rust's `core` hasn't, or has otherwise
-    homes: dict = table()  # modules with names for wherever these are used, by crate or for all
-    imports: dict = table()  # imports that lead elsewhere, or nowhere, where names begin so
+    homes: dict = table()  # by crate, or "" for all: modules, and their names that are imported
+    imports: dict = table()  # by the front of files' names: paths, and what is imported instead
 
     # under which conditions something is there
     crate_conditions: dict = table()  # of the crates' modules
-    item_conditions: dict = table()  # of items with one of some words; for a file None is none
+    item_conditions: dict = table()  # by crate too: conditions, and words of items that have them
 
     # what goes
     dropped_files: frozenset = frozenset()
     dropped_items: dict = table()  # items and functions, by their first words
 
     # what changes, and what comes
-    rules: dict = table()  # patterns and what stands in their place, by file, by crate or for all
+    rules: dict = table()  # by crate and "" for all, too: patterns, and what stands in their place
     first_lines: dict = table()  # lines above the first item
-    attributes: dict = table()  # with the first words of what each belongs to
+    attributes: dict = table()  # attributes, and the first words of what has them
     inlined: dict = table()  # impls whose functions are inlined
     default_bodies: dict = table()  # traits whose methods do nothing by default
     handler: dict = table()  # by the file of the trait `Handler`, rules for arguments it copies
@@ -46,7 +46,7 @@ class Plan:
     examples: dict = table()  # hidden lines before examples, and after "..", or None to drop these
 
     def conditions_of(self, source, words):
-        """The conditions of an item with these words."""
+        """The conditions of an item with these words. Those of a file with None have none."""
         of_file = self.item_conditions.get(source.name, {})
         if of_file is None:
             return ()

@@ -1,9 +1,13 @@
-"""What a run found, for other programs, as JSON."""
+"""What a run found, for other programs: JSON, and JUnit with a test per rule."""
 import json
+from xml.etree import ElementTree
 
-from judging.candidate import mark_of
-from judging.classes import level_of, rule_of
-from judging.report import shown_case
+from judging.candidate import mark_of, plain
+from judging.classes import BETWEEN, level_of, rule_of
+from judging.report import shown_case, shown_finding
+from judging.rules import ALONE, CUT, RULES
+
+TESTS = {**RULES, **ALONE, BETWEEN: CUT}
 
 
 def finding_object(finding, again):
@@ -27,3 +31,34 @@ def as_json(result, seed, again):
                        "different": result.different, "unassigned": result.unexplained,
                        "ended_early": result.ended_early or None, "new": len(result.new()),
                        "findings": findings}, indent=1)
+
+
+def tests(result, again):
+    """The name of each test, whether it is new that it fails, and what is told if it does."""
+    for name, rule in TESTS.items():
+        found = [it for it in result.findings.values() if rule_of(it.name)[-1] is rule]
+        found.sort(key=lambda finding: not finding.is_new)
+        told = "\n\n".join(shown_finding(finding, again) for finding in found)
+        yield name, bool(found and found[0].is_new), told
+    left = result.unexplained
+    yield "each difference has a class", left > 0, f"{left} streams have none" * (left > 0)
+    yield "streams are judged", not result.streams, "none was" * (not result.streams)
+
+
+def as_junit(result, seed, again):
+    suite = ElementTree.Element("testsuite", name=f"judge, seed {plain(seed)}")
+    for name, is_new, told in tests(result, again):
+        case = ElementTree.SubElement(suite, "testcase", classname="judge", name=name)
+        if told:
+            message = told.splitlines()[0] if is_new else "known"
+            kind = "failure" if is_new else "skipped"
+            ElementTree.SubElement(case, kind, message=message).text = told
+    if result.ended_early:
+        ElementTree.SubElement(suite, "system-out").text = f"ended early: {result.ended_early}"
+    for count, kind in ("tests", "testcase"), ("failures", "failure"), ("skipped", "skipped"):
+        suite.set(count, str(len(list(suite.iter(kind)))))
+    text = ElementTree.tostring(suite, encoding="unicode")
+    return f'<?xml version="1.0" encoding="UTF-8"?>\n{text}'
+
+
+FORMATS = {"json": as_json, "junit": as_junit}

@@ -13,6 +13,7 @@ from judging.classes import Difference
 from judging.judgement import Finding, Judgement
 from judging.rules import ALONE, CUT, RULES
 from support import TOOLS, program_in
+from tests.missing import miss
 
 
 # streams, house rules, and the events under them
@@ -311,15 +312,40 @@ def test_what_is_summed_up():
     assert report.shown_sum(Judgement(9), "1").startswith("9 streams, 0 differ; 0 classes, 0 of ")
 
 
-def test_json():
-    """Two rules, with texts that are escaped: one is known, of the other a kind is new."""
+def formatted(kind, **given):
+    """What a format makes of two rules, with texts that it has to escape: one is known, of the
+    other a kind is new."""
     found = {}
     for name, is_new in (("text/missing", False), ("colon/numbers", False), ("colon/leaked", True)):
         lines = ["print 0061", "(protocol: this is no event line: '<&#\">')"]
         difference, case = Difference([b"a#"], ["unhook"], lines), Case("x # y", [b"ab"])
         found[name] = Finding(name, difference, case, is_new)
-    told = json.loads(formats.as_json(Judgement(9, 4, found, "x"), "# \x1b]]>&",
-                                      lambda case: f"judge '{case}' # <&>"))
+    judgement = Judgement(**{"streams": 9, "different": 3, "findings": found, **given})
+    return formats.FORMATS[kind](judgement, "# \x1b]]>&", lambda case: f"judge '{case}' # <&>")
+
+
+@pytest.mark.parametrize("given, others", [
+    ({}, []), ({"different": 4}, ["each difference has a class"]),
+    ({"streams": 0}, ["streams are judged"])])
+def test_junit_is_read_by_its_library(given, others):
+    try:
+        import junitparser
+    except ImportError:
+        miss("there is no python3-junitparser")
+    told = formatted("junit", ended_early="a < b", **given)
+    suite = junitparser.JUnitXml.fromstring(told.encode())
+    results = {case.name: case.result for case in suite}
+    assert len(results) == len(formats.TESTS) + 2
+    failed, skipped = ([name for name, it in results.items() if it and isinstance(it[0], kind)]
+                       for kind in (junitparser.Failure, junitparser.Skipped))
+    assert (failed, skipped) == (["colon", *others], ["text"])
+    assert "'<&#\">'" in results["colon"][0].text
+    assert (suite.tests, suite.failures, suite.skipped) == (
+        len(results), 1 + len(others), 1)
+
+
+def test_json():
+    told = json.loads(formatted("json", different=4, ended_early="x"))
     findings = told.pop("findings")
     assert told == {"version": 2, "seed": "# \x1b]]>&", "streams": 9, "different": 4,
                     "unassigned": 1, "ended_early": "x", "new": 1}

@@ -26,12 +26,12 @@ STREAMS = ["ascii", "prose", "cjk", "latin1", "ls_color", "coloured", "dense_cel
            "bad_ff", "bad_trunc4", "bad_alternate", "lead_esc", "osc_title", "osc_clipboard",
            "sixel", "updates"]
 # streams with something to show on a screen
-SCREEN_STREAMS = [*STREAMS, "emoji", "unicode", "cursor"]
+SCREEN_STREAMS = [*STREAMS, "emoji", "cursor"]
 # streams to strip of sequences
 STRIPPED = ["ascii", "prose", "cjk", "cyrillic", "ls_color", "coloured", "random"]
 # the streams of each kind, by the bytes of a call
 RACES = {
-    "parser": {4096: [*STREAMS, "emoji", "unicode", "esc_flood", "ignored", "sos_open"],
+    "parser": {4096: [*STREAMS, "emoji", "esc_flood", "ignored", "sos_open"],
                65536: STREAMS, 1: ["ascii", "cjk", "dense_cells", "random"]},
     "screen": {4096: SCREEN_STREAMS},
     "processor": {4096: [*STREAMS, "cursor", "update_open"]},

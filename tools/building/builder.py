@@ -95,9 +95,14 @@ def placed_peers(is_ours, folder, profile, count):
 def copy_sources(folder):
     """The sources of tools/peer, with what they share with crates/, erased."""
     shutil.copytree(TOOLS / "peer" / "src", folder, dirs_exist_ok=True)
+    unused = PEER.entries()
     for crate, name in ((crate, name) for crate, names in SHARED.items() for name in names):
         text = (TOOLS.parent / "crates" / crate / "src" / f"{name}.rt").read_text()
-        (folder / f"{name}.rs").write_text(erase(text, crate, f"{crate}/{name}", PEER)[0])
+        erased, _, used = erase(text, crate, f"{crate}/{name}", PEER)
+        (folder / f"{name}.rs").write_text(erased)
+        unused -= used
+    if unused:
+        stop(f"the plan of tools/peer has what no file needs: {unused}")
 
 
 def run(words, what, environment=None, folder=None):

@@ -3,7 +3,6 @@ from pathlib import PurePosixPath
 
 from erasing import passes, wording
 from erasing.imports import rename_paths, settle_imports, words_of_code
-from erasing.patterns import rewrite
 from erasing.rules import GENERAL, OLDER, apply
 from erasing.source import Source
 from erasing.tokens import Refused
@@ -33,7 +32,7 @@ def read_files(top, crate):
 def write_crate(plan, read_files):
     """The files of a crate, by path below its folder. `read_files` answers those of a Rattle crate,
     by their places below its `src`."""
-    files, names, tests = {"mod.rs": _root(plan)}, set(), set()
+    files, names, tests, used = {"mod.rs": _root(plan)}, set(), set(), set()
     for crate in plan.modules:
         # those that declare modules of tests come first
         for place, text in sorted(read_files(crate).items(), key=_depth):
@@ -43,14 +42,18 @@ def write_crate(plan, read_files):
             if "laws" in name.split("/") or folders & (tests | plan.dropped_files):
                 continue
             try:
-                erased, its_tests = erase(text, crate, name, plan)
+                erased, its_tests, its_used = erase(text, crate, name, plan)
             except Refused as refused:
                 where = f"crates/{crate}/src/{place}:{refused.line or 1}"
                 raise Failure(f"{where}: {refused}") from None
             files[target(name)] = MARK.format(origin=f"crates/{crate}/src/{place}") + erased
             tests |= its_tests
-    if unknown := _named(plan) - names:
-        raise Failure(f"the plan names files that don't exist: {', '.join(sorted(unknown))}")
+            used |= its_used
+    if unknown := (_named(plan) - names) | (plan.crate_conditions.keys() - plan.modules.keys()):
+        raise Failure("the plan names files or crates that don't exist: "
+                      f"{', '.join(sorted(unknown))}")
+    if unused := {sought for sought, _ in plan.entries() - used}:
+        raise Failure(f"the plan has what no file needs: {', '.join(sorted(unused))}")
     return files
 
 
@@ -81,7 +84,8 @@ def _root(plan):
 
 
 def erase(text, crate, name, plan):
-    """The Rust of a Rattle file, and the modules of tests that it declares."""
+    """The Rust of a Rattle file, the modules of tests that it declares, and the entries of the plan
+    that it used."""
     source = Source(wording.reword(text, plan.comments.get(name, {})), name)
     passes.drop_ghosts(source)
     tests = passes.sort_attributes(source)
@@ -89,7 +93,8 @@ def erase(text, crate, name, plan):
     passes.drop_items(source, plan.dropped_items.get(name, ()))
     _drop_modules(source, name, plan)
     _apply_rules(source, crate, name, plan)
-    passes.give_bodies(source, plan.default_bodies)
+    if name in plan.default_bodies:
+        passes.give_bodies(source, plan.default_bodies[name])
     if name in plan.inlined:
         passes.inline(source, plan.inlined[name])
     passes.add_attributes(source, plan.attributes.get(name, {}))
@@ -103,7 +108,7 @@ def erase(text, crate, name, plan):
     if name in plan.handler:
         passes.wrap_handler(source, plan.handler[name])
     folder = name.removesuffix("/lib").removesuffix("/main")
-    return source.written(), {f"{folder}/{module}" for module in tests}
+    return source.written(), {f"{folder}/{module}" for module in tests}, source.used
 
 
 def _drop_modules(source, name, plan):
@@ -117,7 +122,5 @@ def _drop_modules(source, name, plan):
 
 
 def _apply_rules(source, crate, name, plan):
-    for rule in plan.rules.get(name, ()):
-        if not rewrite(source, *rule):
-            source.refuse(f"the plan has a rule that nothing here needs: {rule[0]}")
+    apply(source, plan.rules.get(name, ()), are_needed=True)
     apply(source, GENERAL + plan.rules.get("", []) + plan.rules.get(crate, []) + OLDER)

@@ -23,8 +23,10 @@ def renamed(source, at, path, crate, plan):
         if module not in OF_CORE and module not in plan.of_std:
             source.refuse(f"unknown module of std: {module}", at)
         root = f"core::{module}" if module in OF_CORE else plan.of_std[module]
+        source.used.add((module, root))
     else:
         roots = {**plan.modules, **plan.other_crates, "crate": plan.modules[crate]}
+        source.used.add((root, roots.get(root)))
         root = roots.get(root, root)
     return f"{root}::{rest}" if rest else root
 
@@ -66,7 +68,7 @@ def settle_imports(source, crate, plan, before):
         paths = []
         for visibility, path in names:
             name = path.rpartition("::")[2]
-            elsewhere = plan.imported_from(source.name, path)
+            elsewhere = plan.imported_from(source, path)
             is_needed = visibility or used[name] or not before[name]
             if elsewhere != "" and is_needed:
                 paths.append(elsewhere or renamed(source, at, path, crate, plan))
@@ -75,9 +77,9 @@ def settle_imports(source, crate, plan, before):
             source.replace(at, end, _lines(source, names[0][0], paths, plan))
         else:
             source.cut(source.attached(at), end)
-    homes = [f"{home}::{name}" for name, home in plan.homes_of(crate)
-             if name not in known and _uses(source, name)]
-    homes = _join(source, homes, plan)
+    needed = [it for it in plan.homes_of(crate) if it[0] not in known and _uses(source, it[0])]
+    source.used.update(needed)
+    homes = _join(source, [f"{home}::{name}" for name, home in needed], plan)
     if homes:
         *_, first = None, *(at for at, end in source.items() if imported(source, at, end))
         if first is None:
@@ -113,7 +115,7 @@ def _uses(source, name):
 
 
 def _conditions(source, path, plan):
-    return plan.conditions_of(source.name, set(re.findall(r"\w+", path)))
+    return plan.conditions_of(source, set(re.findall(r"\w+", path)))
 
 
 def _lines(source, visibility, paths, plan):

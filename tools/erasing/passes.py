@@ -72,16 +72,14 @@ def drop_items(source, fronts):
             source.cut(source.attached(start), source.item_end(start))
 
 
-def give_bodies(source, traits):
-    """The methods of these traits do nothing, or answer false, unless they are implemented."""
-    for at, end in source.items():
-        first = source.without_visibility(at)
-        if source.is_word(first, "trait") and source.text(source.after(first)) in traits:
-            for place in range(end, at, -1):
-                if source.is_sign(place, ";"):
-                    answers = source.text(source.before(place)) == "bool"
-                    source.replace(place, place, " {\nfalse\n}" if answers else " {}")
-            source.insert(at, "#[allow(unused_variables)]\n")
+def give_bodies(source, front):
+    """The methods of a trait do nothing, or answer false, unless they are implemented."""
+    at = source.place(front)
+    for place in range(source.item_end(at), at, -1):
+        if source.is_sign(place, ";"):
+            answers = source.text(source.before(place)) == "bool"
+            source.replace(place, place, " {\nfalse\n}" if answers else " {}")
+    source.insert(at, "#[allow(unused_variables)]\n")
 
 
 def add_attributes(source, attributes):
@@ -113,7 +111,7 @@ def set_conditions(source, conditions_of):
     for at, end in source.items():
         if not source.is_word(source.without_visibility(at), "use"):
             words = {source.text(place) for place in range(at, end)}
-            found = conditions_of(source.name, words)
+            found = conditions_of(source, words)
             source.insert(at, "".join(f"#[cfg({condition})]\n" for condition in found))
 
 
@@ -121,7 +119,7 @@ def document_members(source, docs):
     """Gives docs to members of these types that have none: by name, or for all others by `*`."""
     for front, texts in docs.items():
         at = source.item_end(source.place(front))
-        opened = source.match(at)
+        opened, left = source.match(at), {*texts}
         while (at := at - 1) > opened:
             at = source.match(at)
             first = source.with_visibility(at)
@@ -132,7 +130,10 @@ def document_members(source, docs):
                 words = re.sub(r"(?<!^)(?=[A-Z])", " ", name).capitalize()
                 snake = words.lower().replace(" ", "_")
                 source.insert(start, f"/// {text.format(name=name, words=words, snake=snake)}\n")
+                left.discard(name if name in texts else "*")
                 at = start
+        if left:
+            source.refuse(f"the plan has docs that no member needs: {', '.join(left)}", opened)
 
 
 def complete_examples(source, lines):
@@ -161,7 +162,7 @@ def wrap_handler(source, copies):
     head = "\n".join(f"    {line}" for line in (*docs, "pub trait Handler;"))
     opened = source.match(source.item_end(at))
     source.replace(source.attached(at), opened, f"handlers! {{\n{head}")
-    apply(source, copies)
+    apply(source, copies, are_needed=True)
 
 
 def add_above(source, lines):

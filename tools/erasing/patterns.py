@@ -89,6 +89,8 @@ def rewrite(source, pattern, by, holds=lambda names: True):
             else:
                 source.cut(source.attached(at), found[0])
             count += 1
+    if count:
+        source.used.add((pattern, by))
     return count
 
 

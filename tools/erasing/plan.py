@@ -12,7 +12,7 @@ def table():
 
 @dataclass(frozen=True)
 class Plan:
-    """A Rust crate. What is by file, or by crate, has the name first."""
+    """A Rust crate. Tables are by file, unless they say something else."""
 
     folder: str  # what is written; nothing else stands there
     modules: dict  # the Rattle crates: the path of each, seen from anywhere in the Rust crate
@@ -21,23 +21,23 @@ class Plan:
     # where names come from
     other_crates: dict = table()  # those that aren't part of this one
     of_std: dict = table()  # modules of std that Rust's `core` hasn't, or has otherwise
-    homes: dict = table()  # modules with names for wherever these are used, by crate or for all
-    imports: dict = table()  # imports that lead elsewhere, or nowhere, where names begin so
+    homes: dict = table()  # by crate, or "" for all: modules, and their names that are imported
+    imports: dict = table()  # by the front of files' names: paths, and what is imported instead
 
     # under which conditions something is there
     crate_conditions: dict = table()  # of the crates' modules
-    item_conditions: dict = table()  # of items with one of some words; for a file None is none
+    item_conditions: dict = table()  # by crate too: conditions, and words of items that have them
 
     # what goes
     dropped_files: frozenset = frozenset()
     dropped_items: dict = table()  # items and functions, by their first words
 
     # what changes, and what comes
-    rules: dict = table()  # patterns and what stands in their place, by file, by crate or for all
+    rules: dict = table()  # by crate and "" for all, too: patterns, and what stands in their place
     first_lines: dict = table()  # lines above the first item
-    attributes: dict = table()  # with the first words of what each belongs to
+    attributes: dict = table()  # attributes, and the first words of what has them
     inlined: dict = table()  # impls whose functions are inlined
-    default_bodies: frozenset = frozenset()  # traits whose methods do nothing by default
+    default_bodies: dict = table()  # traits whose methods do nothing by default
     handler: dict = table()  # by the file of the trait `Handler`, rules for arguments it copies
 
     # comments
@@ -45,20 +45,40 @@ class Plan:
     members: dict = table()  # docs of members that have none, by the first words of their type
     examples: dict = table()  # hidden lines before examples, and after "..", or None to drop these
 
-    def conditions_of(self, name, words):
-        """The conditions of an item with these words."""
-        of_file = self.item_conditions.get(name, {})
+    def conditions_of(self, source, words):
+        """The conditions of an item with these words. Those of a file with None have none."""
+        of_file = self.item_conditions.get(source.name, {})
         if of_file is None:
             return ()
-        found = {**self.item_conditions.get(name.partition("/")[0], {}), **of_file}
-        return tuple(condition for condition, wanted in found.items() if wanted & words)
+        of_crate = self.item_conditions.get(source.name.partition("/")[0], {})
+        found = [(word, condition) for condition, wanted in {**of_crate, **of_file}.items()
+                 for word in wanted.split() if word in words]
+        source.used.update(found)
+        return tuple(dict.fromkeys(condition for _, condition in found))
 
-    def imported_from(self, name, path):
+    def imported_from(self, source, path):
         """Another path for an import, or "" if it goes, or None."""
-        return next((new for front, imports in self.imports.items() if name.startswith(front)
-                     for old, new in imports.items()
-                     if path == old or not new and path.startswith(old)), None)
+        found = [it for front, imports in self.imports.items() if source.name.startswith(front)
+                 for it in imports.items()
+                 if path == it[0] or not it[1] and path.startswith(it[0])][:1]
+        source.used.update(found)
+        return found[0][1] if found else None
+
+    def entries(self):
+        """What a plan seeks in more than one file, each with what it becomes."""
+        found = {rule[:2] for rules in self.rules.values() for rule in rules}
+        found |= {it for imports in self.imports.values() for it in imports.items()}
+        for table in self.homes, self.item_conditions:
+            found |= {(word, key) for of_place in table.values()
+                      for key, words in (of_place or {}).items() for word in words.split()}
+        return found | self.of_std.items() | self.other_crates.items()
 
     def homes_of(self, crate):
         return [(name, home) for place in ("", crate)
                 for home, names in self.homes.get(place, {}).items() for name in names.split()]
+
+
+def joined(*parts):
+    """The tables of a plan, of which each part has some entries."""
+    return {table: {key: it for part in parts for key, it in part.get(table, {}).items()}
+            for table in {table for part in parts for table in part}}

@@ -7,17 +7,22 @@ from erasing.patterns import rewrite
 GENERAL = [
     ("laws::$f();", ""),
     ("impl<$$x> Model for $$t {}", ""), ("impl Model for $$t {}", ""),
-    # `T: Drop` says that a `T` may be let go, which Rust allows of all types
+    # `T: Drop` says that a `T` may be let go, which Rust allows of all types: after these signs
+    # `Drop` is always a bound
     ("+ Drop", ""), (": Drop", ""),
     # a `Formatter` of Rattle has its writer's type as a parameter
     ("<W: fmt::Write>", ""), ("Formatter<W>", "Formatter<'_>"),
 ]
 
-# There is one allocator: its parameter `A`, and values `alloc` of it, go.
+# There is one allocator: its parameter `A`, and values `alloc` of it, which only constructors take,
+# go. If something else had such a name, rustc would refuse a type or a call with one argument less
+# than it is declared with, or a name that isn't declared.
 ALLOCATORS = [
     ("<A: Allocator>", ""), (", A: Allocator>", ">"), (", A: Allocator + Copy>", ">"),
     ("<A>", ""), (", A>", ">"), (", A, >", ">"),
-    ("alloc: A,", ""), ("(alloc: A)", "()"), ("(alloc,", "("), ("(alloc)", "()"),
+    ("fn new(alloc: A,", "fn new("), ("fn new(alloc: A)", "fn new()"),
+    ("::new(alloc,", "::new("), ("::new(alloc)", "::new()"),
+    ("Vec::with_capacity(alloc,", "Vec::with_capacity("),
 ]
 
 # What the oldest Rust lacks: `is_sorted`, `let .. else`, and ranges of patterns without their last
@@ -40,6 +45,7 @@ def _before(number):
     return hex(int(number, 0) - 1) if number.startswith("0x") else str(int(number, 0) - 1)
 
 
-def apply(source, rules):
+def apply(source, rules, are_needed=False):
     for rule in rules:
-        rewrite(source, *rule)
+        if not rewrite(source, *rule) and are_needed:
+            source.refuse(f"the plan has a rule that nothing here needs: {rule[0]}")

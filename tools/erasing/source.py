@@ -13,6 +13,7 @@ class Source:
     def __init__(self, text, name):
         self.name = name
         self.tokens = split(text)
+        self.used = set()  # the entries of the plan (Plan.entries) that were of use here
 
     def text(self, at):
         return self.tokens[at].text if 0 <= at < len(self.tokens) else ""

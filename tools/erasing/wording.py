@@ -10,9 +10,12 @@ WIDTH = 96
 # lines of a comment that follow each other
 PARAGRAPH = re.compile(r"^( *)(//[/!]?) +(\S.*(?:\n\1\2 +\S.*)*)", re.M)
 
-# wording.json has, by file, words of comments with what replaces them, and the docs of members that
-# have none, by type: those of a member, or of all others with `{words}`, `{snake}` for its name
-VTE, VTLOG, MEMBERS = json.loads(Path(__file__).with_suffix(".json").read_text()).values()
+# wording.json has, by file, words of comments with what replaces them; the docs of members that
+# have none, by type: those of a member, or of all others with `{words}`, `{snake}` for its name;
+# and hidden lines of examples, or null if these go: the adapter has its own, or they call what is
+# the crate's own
+VTE, VTLOG, MEMBERS, EXAMPLES = json.loads(
+    Path(__file__).with_suffix(".json").read_text()).values()
 
 
 def reword(text, changes):

@@ -23,12 +23,8 @@ def characters(*ranges):
 
 
 CJK = characters(range(0x4E00, 0x9FA0, 7))
-KANA = characters(range(0x3041, 0x30FA))
-HANGUL = characters(range(0xAC00, 0xD7A4, 13))
 CYRILLIC = characters(range(0x410, 0x450))
 EMOJI = characters(range(0x1F300, 0x1F650), range(0x1F680, 0x1F6D0), range(0x1F900, 0x1FA00))
-JOINED = ["\U0001F468\u200D\U0001F469\u200D\U0001F467", "\U0001F44D\U0001F3FD", "\u2764\uFE0F",
-          "\U0001F1E9\U0001F1EA", "e\u0301", "a\u0308\u0323", "1\uFE0F\u20E3"]
 LATIN = list("abcdefghijklmnopqrstuvwxyz      " * 3 + "äöüßéèàñ")
 
 
@@ -60,13 +56,6 @@ def western(letters, encoding):
     def line(chance):
         return (pick(chance, letters, chance.randint(30, 100)) + "\r\n").encode(encoding)
     return line
-
-
-def unicode_lines(chance):
-    """Lines of CJK, kana, Hangul, Cyrillic, emoji, joined characters, and ASCII."""
-    scripts, weights = [CJK, KANA, HANGUL, CYRILLIC, EMOJI, JOINED], [8, 2, 2, 3, 3, 2]
-    text = pick(chance, chance.choices(scripts, weights)[0], chance.randint(5, 40))
-    return text.encode() + b" " + words(chance, 3, 20) + b"\r\n"
 
 
 # ---- colours and the cursor
@@ -152,7 +141,7 @@ PARTS = {
     # one byte in thirteen is malformed UTF-8
     "latin1": western(LATIN, "latin-1"),
     "cjk": script(CJK, ""), "cyrillic": script(CYRILLIC, " "), "emoji": script(EMOJI, ""),
-    "unicode": unicode_lines, "ls_color": ls_color, "coloured": coloured, "cursor": cursor,
+    "ls_color": ls_color, "coloured": coloured, "cursor": cursor,
     "updates": lambda chance: b"\x1b[?2026h\x1b[H%b\x1b[?2026l" % b"".join(
         coloured(chance) for _ in range(ROWS)),
     "osc_title": osc_title,

@@ -2,6 +2,7 @@
 import contextlib
 import io
 import os
+import re
 import shutil
 import subprocess
 import sys
@@ -39,14 +40,21 @@ class Tool:
 
 # ---- check_trust
 
-@pytest.mark.parametrize("place, count, allowed", [
-    ("crates/x/src/lib.rt", 1, 0), ("rust/vtlog/src/prelude.rs", 2, 0),
-    ("crates/vte_core/src/utf8.rt", 2, 3), ("crates/vte_core/src/utf8.rt", 4, 3),
-    ("rust/vte/src/proved/vte_core/utf8.rs", 2, 2), ("old/crates/vte_core/src/utf8.rt", 3, 0)])
-def test_unsafe_is_counted(place, count, allowed):
-    write(place, "unsafe { f() } // unsafe, as unsafe_code is\n" * count)
-    told = [f"{place}: `unsafe` stands here {count} times, and {allowed} are allowed"]
-    assert [*Tool("check_trust").parts["faults"](place)] == told * (count != allowed)
+@pytest.mark.parametrize("place, text, told, allowed", [
+    ("crates/x/src/lib.rt", "fn f() { unsafe { g() } } // unsafe, as unsafe_code is", "1 f", "0"),
+    ("old/crates/vte_core/src/scan.rt", "fn text() { unsafe { g() } }", "1 text", "0"),
+    ("crates/vte_core/src/scan.rt", "fn text() { unsafe { g() } }", "1 text", "1 text"),
+    ("crates/vte_core/src/scan.rt", "fn text() {} fn g() { unsafe { h() } }", "1 g", "1 text"),
+    ("crates/vte_core/src/scan.rt", "fn text() { unsafe { unsafe } }", "2 text", "1 text"),
+    ("crates/vte_core/src/scan.rt", "", "0", "1 text"),
+    ("a.rs", "unsafe #[unsafe(no_mangle)]\npub extern \"C\" fn f() {} unsafe impl T for U {} "
+     "pub unsafe extern \"C\" fn g(h: unsafe fn()) { unsafe {} } macro_rules! m { unsafe }",
+     "7 - f T g m", "0"),
+])
+def test_places_of_unsafe(place, text, told, allowed):
+    write(place, text)
+    told = [f"{place}: `unsafe` stands here {told}; allowed is {allowed}"] * (told != allowed)
+    assert [*Tool("check_trust").parts["faults"](place)] == told
 
 
 @pytest.mark.parametrize("place, line, most", [
@@ -236,7 +244,7 @@ MUTANT = "# A rule.\nfile: src/lib.rt\nold: one\nnew: two\n# refused at abc1234 
 def crate():
     write("crates/c/src/lib.rt", "f(one); f(two);")
     for file in "crates.txt", "HANDLES", "crates/c/must-fail/other.edit":
-        write(file, "")
+        write(file, "# A rule.\nfile: src/lib.rt\n")
 
 
 # what stands in a mutant in the place of something, and what is wrong with it
@@ -256,6 +264,12 @@ def test_faults_of_mutants(crate, old, new, fault):
     told = [f"tools/mutants/c/m.edit: {fault}"] * bool(fault)
     said = "\n".join([*told, f"1 mutants, {len(told)} faults\n"])
     assert Tool("mutate").run("--check") == (len(told), said)
+
+
+def test_must_fail_edits_name_their_rule(crate):
+    write("crates/c/must-fail/other.edit", "file: src/lib.rt\n")
+    told = "crates/c/must-fail/other.edit: it names no rule\n0 mutants, 1 faults\n"
+    assert Tool("mutate").run("--check") == (1, told)
 
 
 def test_mutants_stand_once(crate):
@@ -333,15 +347,14 @@ def test_what_the_eraser_refuses_is_told(words, folder):
 
 # ---- test
 
-# parts in the place of those of tools/test
-PARTS = """first|bash|part first
-lacking|no-such-command|part lacking
-
-second|bash cargo rust-1.2|echo missing: a thing: it was not tried; part second
-proofs|rt|rt ci"""
+# parts in the place of those of tools/test: those at once, and those after them
+PARTS = {
+    "": "part first bash try first\npart lacking no-such-command try lacking\n",
+    "    ": "    part second 'bash cargo rust-1.2' try second 'missing: a thing: not tried'\n"
+            "    part proofs rt rt ci\n"}
 PROGRAMS = {
-    "part": '#!/bin/sh\necho $1 >>asked\necho said by $1\n[ $1 != "$FAILS" ]\n',
-    "rt": "#!/bin/sh\npart proofs && echo 5 passed, 0 failed || ! echo 4 passed, 1 failed\n",
+    "try": '#!/bin/sh\necho $1 >>asked\necho said by $1\necho $2\n[ $1 != "$FAILS" ]\n',
+    "rt": "#!/bin/sh\ntry proofs && echo 5 passed, 0 failed || ! echo 4 passed, 1 failed\n",
     "cargo": "#!/bin/sh\n",
     "python3": "#!/bin/sh\nexit 1\n",
     "rustc": "#!/bin/sh\necho rustc 1.63.0\n",
@@ -362,8 +375,11 @@ PROGRAMS = {
     ("unknown", "", "", 1, "0 passed, 0 failed"),
 ])
 def test_what_is_run_and_listed(folder, words, fails, ran, status, last):
-    before, mark, after = (TOOLS / "test").read_text().partition("    cat <<'END'\n")
-    test = write("tools/test", before + mark + PARTS + after[after.index("\nEND\n"):], 0o755)
+    text = (TOOLS / "test").read_text()
+    for front, parts in PARTS.items():
+        text = re.sub(rf"^(?:{front}part (?:.*\\\n)*.*\n)+", lambda _, parts=parts: parts, text,
+                      flags=re.M)
+    test = write("tools/test", text, 0o755)
     for name, text in PROGRAMS.items():
         write(f"bin/{name}", text, 0o755)
     (folder / "temporary").mkdir()
@@ -382,5 +398,5 @@ def test_what_is_run_and_listed(folder, words, fails, ran, status, last):
         assert (f"said by {name}" in lines) == (name in (fails, "proofs"))
     is_asked = not words or "lacking" in words or words == "--strict"
     assert ("    lacking: it needs no-such-command" in lines) == is_asked
-    assert ("    a thing: it was not tried" in lines) == ("second" in ran)
+    assert ("    a thing: not tried" in lines) == ("second" in ran)
     assert not any((folder / "temporary").iterdir())

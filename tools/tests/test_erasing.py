@@ -15,8 +15,7 @@ from erasing.tokens import Refused, split
 
 
 def plan(**given):
-    return Plan(folder="o", modules={"a": "crate::a", "b": "crate::b"},
-                of_std={"alloc": "crate::prelude"}, **given)
+    return Plan(folder="o", modules={"a": "crate::a", "b": "crate::b"}, **given)
 
 
 # what is in ‹ › goes, and what is in « » comes
@@ -118,10 +117,10 @@ TEXTS = [
     (dict(members={"a/x": {"enum E {": {"*": "{words} {snake} {name}.", "Four": "4."}}}),
      "enum E {\n«/// One one One.\n»#[default] One,\n«/// Two words two_words TwoWords.\n»"
      "TwoWords(u8),\n/// Said.\nThree,\n«/// 4.\n»Four { a: u8 } }"),
-    (dict(members={"a/x": {"struct S {": {"b": "B.", "c": "C."}}}), "struct S { a: [b; 2],\n"
+    (dict(members={"a/x": {"struct S {": {"b": "B."}}}), "struct S { a: [b; 2],\n"
      "«/// B.\n»pub(crate) b: c::D<(b, c)>,\n/// Said.\n#[default] c: u8 } fn f(b: c) {}"),
     ({}, "fn f(k: «crate::»b::K) { «crate::»b::g(«crate::»b::h::<«crate::»b::I>(), c::b::J) }"),
-    (dict(default_bodies={"H"}), "«#[allow(unused_variables)]» pub(crate) trait H { "
+    (dict(default_bodies={"a/x": "trait H {"}), "«#[allow(unused_variables)]» trait H { "
      "fn f(&self) -> bool‹;›« { false }» fn g(&self, k: u8)‹;›« {}» } trait I { fn h(); } "
      "impl H for K { fn f(&self) -> bool { a; b } }"),
     (dict(inlined={"a/x": "impl V"}), "fn f() {} impl V { «#[inline]» pub(crate) fn f() {} "
@@ -130,7 +129,7 @@ TEXTS = [
                               "#[x]": ["pub struct S"]}}),
      "/// S.\n#[derive(Clone«, Eq»)] #[repr(C)] «#[x]» pub struct S; «#[derive(Eq)]» "
      "pub struct T; fn f() {}"),
-    (dict(item_conditions={"a": {"m": {"K"}}, "a/x": {"n": {"L"}}}),
+    (dict(item_conditions={"a": {"m": "K"}, "a/x": {"n": "L"}}),
      "«#[cfg(n)]» pub use c::L; «#[cfg(m)] use c::K;» use c::‹{K, M}›«M»; "
      "«#[cfg(m)]» fn f(k: K) { \"L\" } «#[cfg(m)] #[cfg(n)]» fn g() { L(K) } fn h() {}"),
     (dict(examples={"a/x": ("a;", "b;", "..", "c;")}),
@@ -160,7 +159,7 @@ def test_tokens_are_the_file():
 
 def test_traps():
     before, after = told(TRAPS)
-    text, tests = erase(before, "a", "a/x", plan())
+    text, tests, _ = erase(before, "a", "a/x", plan())
     assert words(text) == words(after)
     assert tests == {"a/x/cases", "a/x/tests"}
 
@@ -194,6 +193,9 @@ def test_comments_are_reworded():
     ("fn f() { (\n", 1, {}),
     ("fn f() {}\n", 1, dict(attributes={"a/x": {"#[x]": ["fn g"]}})),
     ("fn f() {}\n", 1, dict(rules={"a/x": [("g()", "")]})),
+    ("trait Handler {}\n", 1, dict(handler={"a/x": [("g()", "")]})),
+    ("\nenum E {\n/// A.\nA }\n", 2, dict(members={"a/x": {"enum E {": {"A": "One."}}})),
+    ("trait H {}\n", 1, dict(default_bodies={"a/x": "trait I {"})),
     ("const M: u8 = 1;\n", 1, dict(dropped_items={"a/x": ("const N",)})),
     ("mod z;\n", 1, dict(dropped_files={"a/x/y"})),
     ("", 1, dict(dropped_items={"a/x": ("fn f",)})),
@@ -241,10 +243,20 @@ def test_failures_name_file_and_line():
 TABLES = {it.name: {"a/gone": {}} for it in fields(Plan) if it.default_factory is dict}
 
 
-@pytest.mark.parametrize("name, table", [*TABLES.items(), ("dropped_files", {"a/gone"})])
-def test_each_table_names_files_that_exist(name, table):
-    with pytest.raises(Failure, match="don't exist: a/gone"):
+@pytest.mark.parametrize("name, table", [
+    *TABLES.items(), ("dropped_files", {"a/gone"}), ("crate_conditions", {"gone": ""})])
+def test_each_table_names_what_exists(name, table):
+    with pytest.raises(Failure, match="don't exist: (a/)?gone"):
         write_crate(replace(plan(), **{name: table}), lambda _crate: {"x.rt": ""})
+
+
+@pytest.mark.parametrize("given", [
+    dict(of_std={"gone": "b"}), dict(other_crates={"gone": "b"}), dict(imports={"a": {"gone": ""}}),
+    dict(homes={"": {"b": "gone"}}), dict(item_conditions={"a": {"b": "gone"}}),
+    dict(rules={"": [("gone", "")]})])
+def test_each_entry_is_needed(given):
+    with pytest.raises(Failure, match="what no file needs: gone"):
+        write_crate(plan(**given), lambda _crate: {"x.rt": "fn f() {}"})
 
 
 @pytest.mark.parametrize("text, pattern, stays", [

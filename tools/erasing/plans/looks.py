@@ -20,6 +20,8 @@ def _as_functions(names):
     return re.sub(r"\bself\b", "looks", names["b"].replace("&mut self", "looks: &mut Looks<B>"))
 
 
+# Only a `Looks` is named `looks`: it is a field, and the first parameter and argument of what reads
+# or tells. If something else were taken out, rustc would refuse the call, or a name not declared.
 COUNTS = [
     ("impl<B> Looks<B> { $$$b }", _as_functions),
     ("looks: Looks::$f(),", ""), ("looks: &mut Looks<B>,", ""), ("looks: Looks<$$t>,", ""),
@@ -30,47 +32,40 @@ COUNTS = [
     ("looks.tell_text(performer, input, $$p)", "performer.print_text(text(input, $p))"),
     ("looks.tell_data(performer, input, $$p)", "performer.put_slice(data(input, $p))"),
     ("looks.$f(", "$f("), ("looks.$f::<$n>(", "$f::<$n>("),
-    ("&mut self.looks,", ""), ("looks,", ""), ("(looks)", "()"),
+    ("(&mut self.looks,", "("), ("(looks,", "("), ("(looks)", "()"),
     ("Input::new($x)", "$x"),
     ("Input<$a, B>", lambda names: "&[u8]" if names["a"] == "'_" else f"&{names['a']} [u8]"),
     ("input.up_to(", "up_to(input, "),
     ("input.take_run(", "take_run(input, "),
+    # the buffer that a `Looks` counts for: a function that has another use of its own `B` would no
+    # longer compile
     ("fn $f<B>", "fn $f"), ("fn $f<B, ", "fn $f<"),
     ("CountedPerform<B, $g>", "PerformAs<$g>"), ("CountedPerform<$$b>, $g>", "PerformAs<$g>"),
 ]
 
-# The functions that may stop: the others only pass this parameter on.
-STOPPING = {"drive", "end_device_data", "read_by_state", "read_device_data", "read_end",
-          "read_ignored_string", "read_system_command", "read_text", "read_until_terminated"}
+# The functions that only pass on whether they may stop: the parameter goes.
+PASSING = (
+    "complete_four", "complete_three", "continue_character", "continue_control_sequence",
+    "finish_character", "read_at_lead", "read_character", "read_control_sequence",
+    "read_device_control", "read_escape", "read_intermediates", "read_sequence")
 
-
-def _head(names):
-    stops = ", const MAY_STOP: bool" * (names["f"] in STOPPING)
-    return f"fn {names['f']}<P: PerformAs<G>, G: Grain{stops}>("
-
-
-def _call(names):
-    name, grain = names["f"], names["g"]
-    if name in STOPPING:
-        return f"{name}::<P, {grain}, {names['a']}>("
-    # the arguments tell which performer it is, and its grain
-    return f"{name}(" if grain == "G" else f"{name}::<P, {grain}>("
-
-
-PARAMETERS = [
-    ("fn $f<P: PerformAs<G>, G: Grain, const MAY_STOP: bool>(", _head),
-    ("fn $f<P: PerformAs<G>, G: Grain, const MAY_STOP: bool,>(", _head),
-    ("$f::<P, $g, $a>(", _call),
-]
+PARAMETERS = [rule for name in PASSING for rule in (
+    (f"fn {name}<P: PerformAs<G>, G: Grain, const MAY_STOP: bool",
+     f"fn {name}<P: PerformAs<G>, G: Grain"),
+    (f"{name}::<P, $g, $a>(", f"{name}::<P, $g>("))]
+# the arguments tell which performer it is, and its grain
+PARAMETERS.append(("$f::<P, G>(", "$f("))
 
 # the files that count
 OF_FILES = {
     "vte_core/scan": [
         ("mod grain;", "pub(crate) mod grain;"), ("mod search;", "pub(crate) mod search;"),
         ("impl<'a, B> Input<'a, B> { $$$b }", "$b"),
+        # it counts, and returns nothing
         ("self.add($$$x);", ""),
         ("Input { bytes: $$x, buffer: PhantomData, }", "$x"),
-        ("$a.bytes", "input"),
+        # of an `Input`, which alone has `bytes` here
+        ("self.bytes", "input"), ("input.bytes", "input"),
         ("input[from..].first_chunk::<$n>()", "first_chunk::<$n>(&input[from..])"),
         ("fn up_to(self, to: usize) -> Self", "fn up_to(input: &[u8], to: usize) -> &[u8]"),
         ("fn text(self, from: usize, to: usize) -> &'a str",
@@ -84,7 +79,7 @@ OF_FILES = {
         ("unsafe {", f"{OF_TEXT}unsafe {{"),
     ],
     "vte_core/scan/search": [
-        ("self.add($$$x);", ""), ("$a.bytes", "input"),
+        ("self.add($$$x);", ""), ("input.bytes", "input"),
         # as a value, the answer would take two instructions more per byte
         ("is_command_data($$x)", "$x >= 0x20 && $x != b';'"),
     ],

@@ -2,14 +2,14 @@
 `vte` or ours. tools/building erases these files when it builds.
 """
 from erasing.plan import Plan
-from erasing.plans.vte import HINTED
+from erasing.plans.ansi import HINTED
 
 PEER = Plan(
     folder="",
     modules=dict.fromkeys(("test_lines", "examples", "race", "vte_handler"), "crate"),
     other_crates={"vte_core": "vte", "vte_types": "vte::ansi"},
-    item_conditions={"examples/performer": {"runs": {"PerformText"}},
-                     "vte_handler/by_call": {"runs": {"HandlerText"}}},
+    item_conditions={"examples/performer": {"runs": "PerformText"},
+                     "vte_handler/by_call": {"runs": "HandlerText"}},
     # the parser and the processor are those of tools/peer
     dropped_items={
         "race/screens": [

@@ -78,7 +78,7 @@ def test_each_house_rule_is_tested_and_on_the_page():
 def test_headings_of_rules_are_there():
     Page = run_path(str(TOOLS / "check_docs"))["Page"]
     links = [f"docs/EVENTS.md#{it.heading}" for it in [*RULES.values(), *ALONE.values(), CUT]]
-    own = json.loads((TOOLS / "rows/vectors/rules.json").read_text())
+    own = json.loads((TOOLS / "rows/for_vectors/rules.json").read_text())
     links += [it["page"] for it in own["rules"].values()]
     for page, _, heading in (link.partition("#") for link in links):
         assert heading in Page(TOOLS.parent / page).headings(), heading

@@ -1,0 +1,171 @@
+"""The part of rust/vte that is crates/vte_core: the parser. Plan says what each table is."""
+from erasing.passes import INLINE
+from erasing.plans import looks
+
+WITH_MEMORY = 'any(feature = "std", feature = "ansi")'
+# With `std` processors have no limit: what has one is there without it.
+WITH_LIMIT = 'not(feature = "std")'
+# What only other crates of this repository need, as a parser that is plain data.
+OWN = 'feature = "__own"'
+OWN_OR_ANSI = f'any({OWN}, feature = "ansi")'
+
+# Why `unsafe` is right, said where it stands; tests run with the assertions.
+OF_THREE = """\
+// SAFETY: the masks leave at most FFFF. Callers have tested `may_begin_three`, by which the
+// number is no surrogate's, D800 to DFFF.
+debug_assert!(may_begin_three(first, second) && is_continuation(third));
+"""
+OF_FOUR = """\
+// SAFETY: callers have tested `may_begin_four`, by which the front of the number is 10000 to
+// 10F000, and the remainders leave at most FFF for its rest.
+debug_assert!(may_begin_four(first, second));
+debug_assert!(is_continuation(third) && is_continuation(fourth));
+"""
+
+
+def private(*names):
+    """Rules by which functions are the crate's own."""
+    return [(f"pub fn {name}", f"pub(crate) fn {name}") for name in names]
+
+
+# The Rust crate's parsers and processors can be copied, with as much memory.
+CLONE = "#[derive(Clone)]"
+
+VTE_CORE = dict(
+    homes={
+        "vte_core": {
+            "crate::proved::vte_core::automaton": "skip_run_blocks",
+            "crate::proved::vte_core::run":
+                "begins_ascii find_ascii_run_end find_run_end_at_lead find_run_end "
+                "find_run_end_for",
+            "crate::proved::vte_core::scan":
+                "Grain InRuns Run RunKind RunPlace Singly data get get_block take_run "
+                "tell_character tell_single text up_to",
+            "crate::proved::vte_core::scan::grain": "PerformAs",
+            "crate::proved::vte_core::scan::search":
+                "find_command_data_end find_device_data_end find_string_end search_text",
+        },
+    },
+    item_conditions={
+        "vte_core": {WITH_MEMORY: "Vec long"},
+        "vte_core/lib": {WITH_MEMORY: "LongParser Refused", OWN: "Saved",
+                         'feature = "ansi"': "InRuns Singly"},
+        # the module has the condition
+        "vte_core/parser/long": None,
+        "vte_core/parser": {OWN: "saved"},
+    },
+    dropped_items={
+        "vte_core/scan": (
+            "enum Trail", "struct Looks", "struct Input", "impl<B> Clone for Input",
+            "impl<B> Copy for Input", "impl<const N: usize> Looks",
+            "impl<A: Allocator> Looks", "fn new", "fn len", "fn none", "fn add", "fn at",
+            "fn copy_to_array", "fn copy_to_vec", "fn tell_data", "fn tell_text"),
+        # their expressions stand where they are called
+        "vte_core/class": ("fn is_command_data",),
+        # only proofs use it
+        "vte_core/perform": ("trait PerformThroughText",),
+        # rustc derives it, with the same copies of the fields, and as much memory
+        "vte_core/parser": ("impl<const OSC_RAW_BUF_SIZE: usize> Clone for Parser",),
+        # nobody asks
+        "vte_core/parser/long": ("fn memory", "impl<A: Allocator + Clone> Clone for LongParser"),
+        "vte_core/store": ("fn capacity", "impl<A: Allocator + Clone> Clone for Store"),
+    },
+    imports={
+        "vte_core": {"arrayvec::ArrayVec": "crate::adapter::array_vec::ArrayVec",
+                     "memchr::memchr": "crate::prelude::memchr",
+                     "crate::scan::": ""},
+    },
+    rules={
+        **looks.OF_FILES,
+        "vte_core": looks.COUNTS + looks.PARAMETERS
+        + [("P: PerformThroughText", "P: PerformText"), (", PerformThroughText", "")],
+        "vte_core/parser": [
+            ("struct Parser<const OSC_RAW_BUF_SIZE: usize>",
+             "struct Parser<const OSC_RAW_BUF_SIZE: usize = MAX_OSC_RAW>"),
+            *private("advance_text_until_terminated"),
+        ],
+        "vte_core/parser/long": private("advance_text_until_terminated", "stored"),
+        "vte_core/perform": [
+            ("fn keeps_layout(&self) -> bool;", "fn keeps_layout(&self) -> bool { false }")],
+        # a performer takes the parts of what is held of a sequence
+        "vte_core/parser/escape": [
+            ("esc_dispatch(looks, &self.collected, byte)",
+             "esc_dispatch(self.collected.intermediates.as_slice(), self.collected.too_many, byte)")
+        ],
+        **{f"vte_core/parser/{module}": [
+            (f"{event}(looks, &self.collected, ignore, byte)",
+             f"{event}(&self.collected.params, self.collected.intermediates.as_slice(), ignore, "
+             "char::from(byte))")]
+           for module, event in (("control_sequence", "csi_dispatch"), ("device_control", "hook"))},
+        # writes nothing over what it held: that would take 1.02 times the instructions on colours
+        "vte_core/params": [
+            ("*self = Params::new();", "self.numbers.clear(); self.lengths.clear();")],
+        "vte_core/utf8": [
+            # else random bytes would take 1.02 times the instructions in the best build
+            ("number >= 0x10000 && number < 0x110000", "matches!(number, 0x10000..=0x10ffff)"),
+            # below the surrogates whatever the bytes are, as compilers see
+            ("unsafe { char::from_u32_unchecked(number_of_two($$a)) }",
+             "char::from_u32(number_of_two($a)).unwrap_or(char::REPLACEMENT_CHARACTER)"),
+            ("unsafe { char::from_u32_unchecked(number_of_three($$a)) }",
+             f"{OF_THREE}unsafe {{ char::from_u32_unchecked(number_of_three($a)) }}"),
+            ("unsafe { char::from_u32_unchecked(number_of_four($$a)) }",
+             f"{OF_FOUR}unsafe {{ char::from_u32_unchecked(number_of_four($a)) }}")],
+    },
+    attributes={
+        "vte_core/parser/machine": {CLONE: ["pub(crate) struct Machine"]},
+        "vte_core/parser": {
+            CLONE: ["pub struct Parser"],
+            '#[must_use = "the bytes after the stop are still to be read"]': [
+                "pub fn advance_until_terminated"],
+            f'#[cfg(any({OWN}, all(feature = "ansi", {WITH_LIMIT})))]': [
+                "pub(crate) fn advance_text_until_terminated"],
+        },
+        "vte_core/parser/to_run": {
+            '#[must_use = "the bytes after the run are still to be read"]': [
+                "pub fn advance_to_run"]},
+        "vte_core/params": {
+            '#[doc = include_str!("../../docs/params.md")]': ["pub struct Params {"],
+            "#[derive(Clone, Debug)]": ["pub struct ParamsIter"],
+            INLINE: ["pub(crate) fn is_full", "fn take_joined", "pub fn iter", "fn into_iter",
+                     "fn next"],
+            f"#[cfg({OWN})]": ["pub(crate) fn parts", "pub(crate) fn from_parts", "fn are_lengths"],
+        },
+        "vte_core/store": {
+            CLONE: ["pub(crate) struct Store"],
+            f"#[cfg({OWN})]": ["impl<const N: usize> Store<ArrayVec<u8, N>>", "fn are_piece_ends"],
+            f"#[cfg({OWN_OR_ANSI})]": ["pub(crate) fn len"],
+        },
+        "vte_core/parser/saved": {
+            "#[allow(clippy::new_without_default)]": ["pub fn new"],
+            "#[derive(Debug)]": ["pub struct Saved"],
+            "#[doc(hidden)]": ["pub fn save", "pub fn restored"],
+        },
+        "vte_core/perform": {
+            '#[doc = include_str!("../../docs/perform.md")]': ["pub trait Perform {"],
+            '#[doc = include_str!("../../docs/perform_text.md")]': ["pub trait PerformText: "]},
+        "vte_core/scan": {"#[allow(unsafe_code)]": ["pub(crate) fn text"]},
+        "vte_core/utf8": {"#[allow(unsafe_code)]": [
+            "pub(crate) fn character_of_three", "pub(crate) fn character_of_four"]},
+        # the loops over bytes: rustc compiles modules apart, and so would keep them from the
+        # performer that they call. The search would make the loop over bytes longer
+        "vte_core/parser/text": {INLINE: ["pub(crate) fn read_text"]},
+        "vte_core/scan/search": {"#[inline(never)]": ["pub(crate) fn search_text"]},
+        # as a part of a program's own function, its loops would keep their places on the stack
+        "vte_core/parser/drive": {"#[inline(never)]": ["pub(crate) fn drive<"]},
+        # .. and so would these, which are rare, if they were parts of it
+        **{f"vte_core/parser/{name}": {"#[inline(never)]": [f"pub(crate) fn read_{name}<"]}
+           for name in ("device_control", "system_command")},
+        "vte_core/parser/long": {
+            CLONE: ["pub struct LongParser"],
+            '#[must_use = "the memory may be refused"]': ["pub fn reserve"],
+            f"#[cfg({OWN_OR_ANSI})]": [
+                "pub(crate) fn advance_text_until_terminated", "pub(crate) fn stored"],
+        },
+    },
+    inlined={
+        "vte_core/buffer": "impl Buffer for Vec",
+        "vte_core/store": "impl Store<Vec",
+        "vte_core/parser/long": "impl LongParser",
+    },
+    default_bodies={"vte_core/perform": "pub trait Perform {"},
+)

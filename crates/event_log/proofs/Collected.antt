@@ -25,7 +25,7 @@ pub kept_by : {text_of : Event → List ℕ} {whole : List ℕ → List ℕ} {un
     → added usual_limit h.adds_up.since (unread ++ more) ≡ events ++ added usual_limit since (unread_then ++ more))
     → HasRead parser_then since → held_then ≡ record_of (held.bytes ++ flat_map text_of events) false
     → HasKept text_of whole held_then parser_then unread_then
-kept_by {text_of} {unread_then = unread_then} {held = held} events since h goes_on parsed holds = record {
+kept_by {text_of} {unread_then} {held} events since h goes_on parsed holds = record {
   adds_up = record {
     since = since;
     parsed = parsed;

@@ -42,7 +42,7 @@ pub written_more : {text_of : Event → List ℕ} {whole : List ℕ → List ℕ
     → ((part : List ℕ → List ℕ) → AddsUpTo text_of part [] parser unread
     → AddsUpTo text_of part collected parser_then unread_then)
     → Appends taken taken_then collected → HasWritten text_of whole taken_then parser_then unread_then
-written_more {unread = unread} {collected = collected} {taken_then = taken_then} h collects appends =
+written_more {unread} {collected} {taken_then} h collects appends =
     let k = collects _ (adds_up_at_first (record { since = h.adds_up.since; parsed = h.adds_up.parsed }) unread) in
     record {
       written = h.written ++ collected;
@@ -75,7 +75,7 @@ pub written_kept : {text_of : Event → List ℕ} {whole : List ℕ → List ℕ
     {taken taken_then : Option (List ℕ)} {unread : List ℕ}
     → HasWritten text_of whole taken parser unread → Keeps taken taken_then
     → HasWritten text_of whole taken_then parser unread
-written_kept {taken_then = taken_then} h keeps =
+written_kept {taken_then} h keeps =
     record { written = h.written; told = kept taken_then h.written (rw h.told at keeps); adds_up = h.adds_up }
 
 -- ---- a run
@@ -119,7 +119,7 @@ module _ {text_of : Event → List ℕ} {input held : List ℕ} {parser : Parser
       → ((whole : List ℕ → List ℕ) → HasWritten text_of whole taken parser []
       → HasWritten text_of (λ more. whole (piece ++ more)) taken_then parser_then [])
       → HasReadPart text_of input held (reads + 1) parser_then to_come_then taken_then
-  come_more {to_come_then = to_come_then} piece h consumes some writes =
+  come_more {to_come_then} piece h consumes some writes =
       let left = consumed to_come_then h.rest piece (rw h.left at consumes) in
       record {
         stream = h.stream ++ piece;
@@ -147,7 +147,7 @@ module _ {text_of : Event → List ℕ} {input held : List ℕ} {parser : Parser
       → HasReadPart text_of input held reads parser to_come taken
       → KeepsWhereTold to_come to_come_then → (failed ≡ true) ⊎ (most_reads ≤ reads)
       → WritesFront (means text_of) input held to_come_then taken failed
-  come_to_front {to_come_then = to_come_then} h keeps cause = record {
+  come_to_front {to_come_then} h keeps cause = record {
     stream = h.stream;
     rest = h.rest;
     parts = h.parts;
@@ -164,7 +164,7 @@ module _ {text_of : Event → List ℕ} {input held : List ℕ} {parser : Parser
       taken
       → Consumes to_come to_come_then [] → IsAtEnd to_come_then
       → WritesAll (means text_of) input held to_come_then taken
-  come_to_end {to_come_then = to_come_then} h consumes end =
+  come_to_end {to_come_then} h consumes end =
       let left = consumed to_come_then h.rest [] (rw h.left at consumes) in
       let none : left.rest ≡ [] = rw left.told at end in
       record {

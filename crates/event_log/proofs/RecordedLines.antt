@@ -17,7 +17,7 @@ short_replacement = refl
 pub reads_some : {old new : Record} {stream bytes : List ℕ} {n : ℕ} → old ≡ empty_record
     → StopsExactly (with_event line_of) is_to_be_written old new usual_limit stream bytes n → 0 < length bytes → 0 < n
 unfolding told_before
-reads_some {stream = stream} {bytes = bytes} {n = zero} empty s some =
+reads_some {stream} {bytes} {n = zero} empty s some =
     absurd (elim (cases_Bool (breaks_at stream bytes 0)) [
       | inl broken ↦ let e = rw (broken, added-nothing, empty) at s.comes.performed in let h = short_replacement in
           let f : ⊥ = cc (s.stops some) in f
@@ -33,7 +33,7 @@ pub kept_lines : {whole : List ℕ → List ℕ} {n : ℕ} {parser parser_then :
     → StopsExactly (with_event line_of) is_to_be_written old new usual_limit before.since unread n
     → HasRead parser_then (stream_at before.since unread n)
     → HasKept line_of whole new parser_then (drop n unread)
-kept_lines {whole = whole} {n = n} {parser = parser} {old = old} unread goes_on units empty before s parsed =
+kept_lines {whole} {n} {parser} {old} unread goes_on units empty before s parsed =
     let since = before.since in
     let h : HasKept line_of whole old parser unread = record {
       adds_up = record { since = since; parsed = before.parsed; goes_on = λ more. rw empty (before.goes_on more) };

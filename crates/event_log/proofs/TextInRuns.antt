@@ -48,7 +48,7 @@ pub kept_text : {whole : List ℕ → List ℕ} {unread : List ℕ} {parser pars
     → held_then ≡ after (with_event plain_text_of) held (added usual_limit h.adds_up.since chunk)
     → HasRead parser_then (h.adds_up.since ++ chunk)
     → HasKept plain_text_of whole held_then parser_then rest
-kept_text {held = held} chunk rest brief h parts room performed parsed =
+kept_text {held} chunk rest brief h parts room performed parsed =
     let since = h.adds_up.since in
     let reported = added usual_limit since chunk in
     let taken =

@@ -30,7 +30,7 @@ pub record Joins (keeps_all : Bool) (room : ℕ) (text : List ℕ) (is_first : B
 
 pub joins-begin : {keeps_all : Bool} {room : ℕ} {text : List ℕ} {all : List (List ℕ)} → text ≡ [] → FitsRoom room all
     → Joins keeps_all room text true all all
-joins-begin {keeps_all} {all = all} empty fits =
+joins-begin {keeps_all} {all} empty fits =
     record { joins = rw empty (joined-all (filter_map (text_in keeps_all) all)); fits = rw empty (omega (arith, fits)) }
 
 texts-more : (keeps_all : Bool) (piece : List ℕ) {part : List ℕ} (left : List (List ℕ))

@@ -32,7 +32,7 @@ continues-nothing since bytes = record { goes_on = λ more. refl; fronts = λ k 
 pub continues-then : {since next last bytes : List ℕ} {n m : ℕ} {told more : List Event}
     → Continues since next bytes n told → Continues next last (drop n bytes) m more
     → n ≤ length bytes → Continues since last bytes (n + m) (told ++ more)
-continues-then {bytes = bytes} {n = n} {m = m} {told = told} {more = more} a b within = record {
+continues-then {bytes} {n} {m} {told} {more} a b within = record {
   goes_on = λ unread. rw (append_assoc told, ← drop-drop m n bytes, a.goes_on unread, b.goes_on unread) refl;
   fronts = λ k below.
       rw (append_assoc told, ← drop-drop m n bytes, add_assoc n m k)

@@ -71,7 +71,7 @@ pub fed : {old new : Events} {parser : Parser 1024} {saved : Saved} {told : List
     → ((since : List ℕ) → HasRead parser since → HasReadSaved saved since)
     → (HaveOtherRecords (room_of old).stops (room_of new).events → 0 < length bytes → 0 < n)
     → HasFed old new saved told stream bytes rest n
-fed {old} {new} {told = told} {stream = stream} {bytes = bytes} {rest = rest} {n = n} starts h gone saves further =
+fed {old} {new} {told} {stream} {bytes} {rest} {n} starts h gone saves further =
     let there = encoded old new bytes gone.goes.items starts gone.goes.holds in
     let finds = found old new bytes gone.goes.items starts gone.goes.holds in
     record {

@@ -39,7 +39,7 @@ goes-run : {old new : Room} {since bytes : List ℕ} (run : Run) {from size : �
     → new ≡ with_wanted old (run_record (run_kind run) from size) → IsRunAt bytes run from size
     → added usual_limit since (take size (drop from bytes)) ≡ run_events run (take size (drop from bytes))
     → ReadsOn old new since (since ++ take size (drop from bytes)) bytes from size
-goes-run {old} {new} {since = since} {bytes = bytes} run {from = from} {size = size} free is stands adds =
+goes-run {old} {new} {since} {bytes} run {from} {size} free is stands adds =
     let part : List ℕ = take size (drop from bytes) in
     let goes_on = rw adds at (continues-added since (drop from bytes) size) in
     let before = λ (none : StopsAtNone old) (i : ℕ) (earlier : i < size).
@@ -152,7 +152,7 @@ goes-then : {old mid new : Room} {since next last bytes : List ℕ} {from n m : 
     (a : ReadsOn old mid since next bytes from n)
     → is_full mid ≡ false → from + n + m ≤ length bytes → ReadsOn mid new next last bytes (from + n) m
     → ReadsOn old new since last bytes from (n + m)
-goes-then {old} {mid} {since = since} {bytes = bytes} {from = from} {n = n} {m = m} a free within b =
+goes-then {old} {mid} {since} {bytes} {from} {n} {m} a free within b =
     let unread : List ℕ = drop from bytes in
     let size = length-drop from bytes in
     let rest : drop (from + n) bytes ≡ drop n unread = sym (drop-drop n from bytes) in
@@ -185,7 +185,7 @@ goes-then {old} {mid} {since = since} {bytes = bytes} {from = from} {n = n} {m =
 
 pub gone-nothing : {old : Room} {parser : Parser 1024} {since bytes : List ℕ} → HasRead parser since
     → HasReadOn old old parser since bytes 0 0
-gone-nothing {since = since} reads = record { next = since; reads = reads; goes = goes-nothing }
+gone-nothing {since} reads = record { next = since; reads = reads; goes = goes-nothing }
 
 pub gone-then : {old mid new : Room} {parser last : Parser 1024} {since bytes : List ℕ} {n m : ℕ}
     (a : HasReadOn old mid parser since bytes 0 n)

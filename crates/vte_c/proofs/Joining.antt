@@ -44,7 +44,7 @@ module _ {A : Type 0} {of : List Event → List A} where
       → ((more : List ℕ)
       → now ++ of (added usual_limit next (drop n bytes ++ more)) ≡ of (added usual_limit h.since (bytes ++ more)))
       → HasGiven of new (before ++ now) stream (drop n bytes ++ rest)
-  given_more {before = before} {next = next} now bytes rest n h reads goes_on = record {
+  given_more {before} {next} now bytes rest n h reads goes_on = record {
     since = next;
     reads = reads;
     goes_on =

@@ -87,7 +87,7 @@ pub written_more : {old new later : TextRoom} {stream bytes : List ℕ} {n : ℕ
     → later ≡ after with_text_of new (added usual_limit (stream ++ take n bytes) chunk)
     → HasRead parser_later ((stream ++ take n bytes) ++ chunk)
     → HasTextOf old later stream bytes (n + length chunk) parser_later
-written_more {old} {new} {stream = stream} {bytes = bytes} {n = n} chunk kept slow h parts fits performed parsed =
+written_more {old} {new} {stream} {bytes} {n} chunk kept slow h parts fits performed parsed =
     let before = added usual_limit stream (take n bytes) in
     let more = added usual_limit (stream ++ take n bytes) chunk in
     record {

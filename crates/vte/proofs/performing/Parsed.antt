@@ -68,7 +68,7 @@ module _ {H T B G V W : Type 0} (handler_of : H → V) (timeout_of : T → W) (r
       → ((size : ℕ) → KeepsMemory (reading.has_memory parser size) (reading.has_memory next size))
       → IsParsedOn (of_turns m.limit reading room_of timeout_of) parser lent next state (handler_of handler)
       (parse m s f)
-  given_back {lent = lent} at at_last at_timeout at_handler at_room read back_handler keeps =
+  given_back {lent} at at_last at_timeout at_handler at_room read back_handler keeps =
       let all = all_made in
       let is_handler = back_handler (sym (ap (λ lent. lent.handler_name) all)) in
       let last : old.last ≡ last_printed (events m.limit s.parsed) = at_last ∙ at.has_parsed.last in

@@ -22,7 +22,7 @@ pub record Progresses {V W : Type 0} (s t : State V W) (bytes left : List ℕ) :
 
 pub grown_bytes : {V W : Type 0} {s t : State V W} {bytes left : List ℕ} → Progresses s t bytes left
     → all_bytes t ++ left ≡ all_bytes s ++ bytes
-grown_bytes {s = s} {t = t} {bytes = bytes} {left = left} g =
+grown_bytes {s} {t} {bytes} {left} g =
     cc (
       g.parsed_is,
       g.each_once,
@@ -34,7 +34,7 @@ grown_bytes {s = s} {t = t} {bytes = bytes} {left = left} g =
 
 pub grows_on : {V W : Type 0} {s t u : State V W} {bytes rest left : List ℕ} → Progresses s t bytes rest
     → Progresses t u rest left → Progresses s u bytes left
-grows_on {s = s} {u = u} {left = left} a b = record {
+grows_on {s} {u} {left} a b = record {
   more = a.more ++ b.more;
   parsed_is = cc (a.parsed_is, b.parsed_is, append_assoc s.parsed a.more b.more);
   each_once = cc (a.each_once, b.each_once, append_assoc a.more b.more (u.held ++ left));
@@ -43,7 +43,7 @@ grows_on {s = s} {u = u} {left = left} a b = record {
 -- bytes that follow are left
 grows_before : {V W : Type 0} {s t : State V W} {bytes : List ℕ} → Progresses s t bytes [] → (left : List ℕ)
     → Progresses s t (bytes ++ left) left
-grows_before {s = s} {t = t} {bytes = bytes} g left = record {
+grows_before {s} {t} {bytes} g left = record {
   more = g.more;
   parsed_is = g.parsed_is;
   each_once =

@@ -11,7 +11,7 @@ use Rattle.vte.proofs.turns.HoldFacts.{stop_well, taken_well, turn_well}
 pub first_lacks : {i : ℕ} {bytes : Bor (List ℕ)} (lacks : ℕ → Type 0) (steps : List Step) (d : Step) (read : ℕ)
     → i < length steps → get_or steps i d ≡ Advance bytes
     → lacks (length bytes.now - read) → lacks (left_of_first (drop i steps) read)
-first_lacks {i = i} lacks steps d read inside is lacking = rw (drop_more steps i d inside, is) lacking
+first_lacks {i} lacks steps d read inside is lacking = rw (drop_more steps i d inside, is) lacking
 
 -- ---- for a timeout that is steady, a run is a function of the calls
 

@@ -76,7 +76,7 @@ pub stops_update : {P B T A V W : Type 0} {w : TurnsMeaning P B T W} {m : Meanin
     {before value : V} → KeepsMemory (HasMemory w old) (HasMemory w mid)
     → ((s : State V W) → AreAt w old before s → AreNextAt w mid new value (stop m s))
     → StopsUpdate w m old new before value
-stops_update {m = m} keeps ends = record {
+stops_update {m} keeps ends = record {
   stops = λ s at. (ends s at).are_at;
   memory = λ s at stream count had. (ends s at).memory stream count (keeps stream count had);
 }
@@ -94,7 +94,7 @@ pub ends_turn : {P B T A V W : Type 0} {w : TurnsMeaning P B T W} {m : Meaning V
     → MatchResult result (λ read. read ≤ length bytes) (λ refused. refused.read < length bytes)
     → EndsOpen m (stop_if_due m pending s) bytes result (AreNextAt w mid new value)
     → EndsTurn m s bytes result (AreNextAt w old new value)
-ends_turn {m = m} {s = s} {bytes = bytes} pending allowed parses keeps (Ok read) less e = record {
+ends_turn {m} {s} {bytes} pending allowed parses keeps (Ok read) less e = record {
   turned =
       record {
         pending = pending;
@@ -105,7 +105,7 @@ ends_turn {m = m} {s = s} {bytes = bytes} pending allowed parses keeps (Ok read)
       };
   halted = tt;
 }
-ends_turn {m = m} {s = s} {bytes = bytes} pending allowed parses keeps (Err refused) less e = record {
+ends_turn {m} {s} {bytes} pending allowed parses keeps (Err refused) less e = record {
   turned = tt;
   halted = record {
     next = parse m (stop_if_due m pending s) (take refused.read bytes);
@@ -157,7 +157,7 @@ module _ {V W : Type 0} (m : Meaning V W) (s : State V W) (bytes : List ℕ) whe
       → (r : HasReached count read (AreNextAt w first mid before)) → read < length bytes
       → Turned m r.here (take (length bytes - read) (drop read bytes)) n (AreNextAt w mid new value)
       → HasReached (count + 1) (read + n) (AreNextAt w first new value)
-  reaches-more {count = count} {read = read} {n = n} r some u =
+  reaches-more {count} {read} {n} r some u =
       let slice = take (length bytes - read) (drop read bytes) in
       let is : slice ≡ drop read bytes = rest_is bytes read (omega arith) in
       let left : 0 < length slice = rw (is, length-drop read bytes) (omega arith) in
@@ -172,7 +172,7 @@ module _ {V W : Type 0} (m : Meaning V W) (s : State V W) (bytes : List ℕ) whe
 
   taken : {read : ℕ} {IsThere : State V W → Type 0} (t : State V W) → TakesSome m s bytes t (drop read bytes)
       → IsThere t → HasTaken m s bytes read IsThere
-  taken {read = read} t takes at = record {
+  taken {read} t takes at = record {
     next = t;
     takes = takes;
     each_once = append_cancel_right _ _ (drop read bytes)
@@ -193,7 +193,7 @@ module _ {V W : Type 0} (m : Meaning V W) (s : State V W) (bytes : List ℕ) whe
       → (r : HasReached count read (AreNextAt w first mid before)) → read ≤ length bytes
       → Halted m r.here (take (length bytes - read) (drop read bytes)) n (AreNextAt w mid new value)
       → HasTaken m s bytes (read + n) (AreNextAt w first new value)
-  has_halted {read = read} {n = n} r inside h =
+  has_halted {read} {n} r inside h =
       let slice = take (length bytes - read) (drop read bytes) in
       let is : slice ≡ drop read bytes = rest_is bytes read inside in
       let left : drop n slice ≡ drop (read + n) bytes = rw (is, drop-drop n read bytes) in

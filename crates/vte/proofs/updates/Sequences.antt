@@ -65,7 +65,7 @@ pub suffix-length : {part text : List ℕ} → (s : IsSuffix part text) → s.fr
 suffix-length {part} {text} s = omega (arith, s.within, ap length s.is, length-drop s.front text)
 
 pub suffix-trans : {part middle text : List ℕ} → IsSuffix part middle → IsSuffix middle text → IsSuffix part text
-suffix-trans {text = text} s t = record {
+suffix-trans {text} s t = record {
   front = t.front + s.front;
   within = omega (arith, s.within, suffix-length t);
   is = cc (s.is, t.is, drop-drop s.front t.front text);

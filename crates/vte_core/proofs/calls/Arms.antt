@@ -46,7 +46,7 @@ pub advances-in : {V B : Type 0} {call : ChunkCall V} {old new : V} {i b : ℕ} 
     → MayGoOn call old → ends_all (class_of b) ≡ false
     → ((place : Place) → StandsBy call.limit state parser place → TakesByte call.step old new call.limit place b next)
     → IsSettled next.state → Advances (IsQuietIn state b) call old new i (i + 1) parser next
-advances-in {b = b} e within is may_go_on ordinary takes settled =
+advances-in {b} e within is may_go_on ordinary takes settled =
     advances-if (subst (λ (state : State). IsQuietIn state b) (sym e))
     (advances-byte within is may_go_on (performs-in e ordinary takes) settled)
 

@@ -93,7 +93,7 @@ module _ {V B : Type 0} {call : ChunkCall V} {value : V} {i : ℕ} {begun : Unfi
       → GoesOn call value i j begun u parser → (is_truncated (bytes_of u) ≡ true → Carries (bytes_of u) b (Whole c))
       → next.state ≡ Text Nothing → new ≡ call.step value (character_event c) → j < length call.bytes
       → b ≡ slice_index call.bytes j → k ≡ j + 1 → Completes call value new i k begun next
-  completes-whole {c = c} {u = u} {next = next} goes carries state performed within is later = record {
+  completes-whole {c} {u} {next} goes carries state performed within is later = record {
     stands_at = λ old stream parser e s. let more = goes.more (inside-open e s) in
         carried-whole refl more (carries more) state performed (goes.inside old stream parser e s) within is later;
     text = λ _. state;
@@ -123,7 +123,7 @@ module _ {V B : Type 0} {call : ChunkCall V} {value : V} {i : ℕ} {begun : Unfi
       → GoesOn call value i j begun u parser → (is_truncated (bytes_of u) ≡ true → Carries (bytes_of u) b Broken)
       → next.state ≡ Text Nothing → new ≡ call.step value (Print replacement) → j < length call.bytes
       → b ≡ slice_index call.bytes j → Completes call value new i j begun next
-  completes-broken {next = next} goes carries state performed within is = record {
+  completes-broken {next} goes carries state performed within is = record {
     stands_at = λ old stream parser e s. let more = goes.more (inside-open e s) in
         carried-broken refl more (carries more) state performed (goes.inside old stream parser e s) within is;
     text = λ _. state;
@@ -143,7 +143,7 @@ module _ {V B : Type 0} {call : ChunkCall V} {value : V} {i : ℕ} {begun : Unfi
   pub completes-then : {new : V} {j k : ℕ} {u : Unfinished} {parser next : Machine B}
       → GoesOn call value i j begun u parser → Completes call value new j k u next
       → Completes call value new i k begun next
-  completes-then {j = j} {u = u} {parser = parser} goes c = record {
+  completes-then {j} {u} {parser} goes c = record {
     stands_at =
         λ old stream begun e s. c.stands_at old stream (in_text parser u) refl (goes.inside old stream begun e s);
     text = c.text;
@@ -182,7 +182,7 @@ module _ {V B : Type 0} {call : ChunkCall V} {value : V} {i x y : ℕ} where
   pub goes-third : {z : ℕ} (next : Machine B) → 0xf0 ≤ x → is_in (second_range x) y ≡ true
       → is_in (from_to 0x80 0xbf) z ≡ true → i + 2 < length call.bytes → y ≡ slice_index call.bytes i
       → z ≡ slice_index call.bytes (i + 1) → GoesOn call value i (i + 2) (One x) (Three x y z) next
-  goes-third {z = z} next low second third within is is_third =
+  goes-third {z} next low second third within is is_third =
       let goes =
       goes-more {next = next} (goes-second next (omega arith) second (omega arith) is)
       (λ more. third_open x y z more third low) (omega arith) is_third in

@@ -16,7 +16,7 @@ pub advances-first : {V B given : Type 0} {call : ChunkCall V} {old new : V} {i 
     → MayReadByte call old (Text Nothing) parser i first → 0xc2 ≤ first → first < 0xf5
     → Completes call old new (i + 1) j (One first) next
     → Advances (given × EndsRun false call.bytes i) call old new i j parser next
-advances-first {call = call} {i = i} {first = first} {parser = parser} r lead fits completes = record {
+advances-first {call} {i} {first} {parser} r lead fits completes = record {
   goes_on = λ value stream s.
       completes.stands_at value stream (in_text parser (One first)) refl
       (reads-byte_at r.within r.is r.may_go_on

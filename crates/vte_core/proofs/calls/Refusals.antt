@@ -64,7 +64,7 @@ ok_only (Err refused) err never = absurd (never refused err)
 pub refuses-inside : {V B : Type 0} {call : ChunkCall V} {old new : V} {n : ℕ} {before parser : Machine B}
     → RefusesAt call old new n before parser → (stream : List ℕ) → HasReadUnder call.limit before stream
     → StandsInside call old new stream n parser
-refuses-inside {call = call} {old = old} {new = new} {n = n} {parser = parser} r stream h =
+refuses-inside {call} {old} {new} {n} {parser} r stream h =
     let s = r.stands_at stream h in
     let k = in_command parser s.place r.refused.inside s.stands in
     record {

@@ -6,7 +6,7 @@ use Rattle.vte.proofs.ansi.hold.Hold.add.Goals as goal
 
 is_end : {bytes old more : List ℕ} {start len : ℕ} → bytes ≡ old ++ more → len ≡ length old → start ≡ len - 7
     → IsEnd old more (take (length bytes - start) (drop start bytes)) start
-is_end {bytes} {start = start} is from position =
+is_end {bytes} {start} is from position =
     record {
       start_is = position ∙ ap (λ n. n - 7) from;
       is = take_all (length bytes - start) (drop start bytes) (rw length-drop (omega arith)) ∙ ap (drop start) is;

@@ -23,7 +23,7 @@ pub use Rattle.vte_core.specs.Parameters.{AreGroups, count_of, greatest_number, 
 unfoldable pub use Rattle.vte_core.specs.Parameters.{shown}
 pub use Rattle.vte_core.specs.Parser.{HasRead}
 pub use Rattle.vte_core.specs.Perform.{after}
-pub use Rattle.vte_core.specs.Stops.{GoesOnFromPlaces, TellsUnits}
+pub use Rattle.vte_core.specs.Stops.{GoesOnFromPositions, TellsUnits}
 pub use Rattle.vte_core.specs.Stream.{added, events, usual_limit}
 pub use Rattle.vte_core.specs.Text.{is_layout, run_event}
 pub use Rattle.vte_core.specs.declared.parser.Parser.{Parser}

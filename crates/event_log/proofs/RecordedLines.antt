@@ -1,7 +1,7 @@
 -- A recorder that is asked at each start loses no line: unless it is terminated, at most half of its room is in use,
 -- and the lines up to the next start fit into the rest.
 use Rattle.event_log.proofs.Common.{◌≡◌, inl, inr, ℕ, zero, suc, ◌<◌, false, List, [], length, drop, refl, ap, ◌∙◌, arith, cases_Bool, StopsExactly, breaks_at, told_before, stream_at, usual_limit}
-use Rattle.event_log.proofs.Common.{Print, replacement, HasRead, after, GoesOnFromPlaces, TellsUnits, Parser, line_of, hex_character, hex_length, six_hex_digits, hex_byte, hex_digit, AddsUpTo}
+use Rattle.event_log.proofs.Common.{Print, replacement, HasRead, after, GoesOnFromPositions, TellsUnits, Parser, line_of, hex_character, hex_length, six_hex_digits, hex_byte, hex_digit, AddsUpTo}
 use Rattle.event_log.proofs.Common.{HasKept, Record, empty_record, is_to_be_written, with_event, with_text}
 use Rattle.vte_core.proofs.streams.After.{added-nothing}
 use Rattle.event_log.proofs.Collected.{kept_by}
@@ -15,7 +15,7 @@ short_replacement = refl
 
 -- A call reads a byte: neither an empty recorder nor the line of a replacement character stops it at once.
 pub reads_some : {old new : Record} {stream bytes : List ℕ} {n : ℕ} → old ≡ empty_record
-    → StopsExactly (with_event line_of) is_to_be_written old new usual_limit stream bytes n → 0 < length bytes → 0 < n
+    → StopsExactly (with_event line_of) is_to_be_written old usual_limit stream bytes new n → 0 < length bytes → 0 < n
 unfolding told_before
 reads_some {stream} {bytes} {n = zero} empty s some =
     absurd (elim (cases_Bool (breaks_at stream bytes 0)) [
@@ -28,9 +28,9 @@ reads_some {n = suc n} empty s some = omega arith
 -- At a start where the recorder isn't terminated, at most half of the room is in use.
 pub kept_lines : {whole : List ℕ → List ℕ} {n : ℕ} {parser parser_then : Parser 1024} {old new : Record}
     (unread : List ℕ)
-    → GoesOnFromPlaces usual_limit → TellsUnits usual_limit → old ≡ empty_record
+    → GoesOnFromPositions usual_limit → TellsUnits usual_limit → old ≡ empty_record
     → (before : AddsUpTo line_of whole [] parser unread)
-    → StopsExactly (with_event line_of) is_to_be_written old new usual_limit before.since unread n
+    → StopsExactly (with_event line_of) is_to_be_written old usual_limit before.since unread new n
     → HasRead parser_then (stream_at before.since unread n)
     → HasKept line_of whole new parser_then (drop n unread)
 kept_lines {whole} {n} {parser} {old} unread goes_on units empty before s parsed =

@@ -19,7 +19,7 @@ pub use Rattle.std.specs.Option.{ok_or, option_or}
 pub use Rattle.std.specs.Prelude.{replicate, slice_index_or}
 pub use Rattle.std.specs.Str.{IsCharBoundary, IsUtf8}
 unfoldable pub use Rattle.std.specs.Str.{chars, is_utf8, trim_end, trim_start}
-pub use Rattle.vte_core.proofs.stops.Told.{starts-between, stream_at-between, told-between}
+pub use Rattle.vte_core.proofs.shapes.Told.{starts-settled, stream_at-settled, told-settled}
 pub use Rattle.vte_core.proofs.stops.Units.{added_both}
 pub use Rattle.vte_core.proofs.streams.After.{added-nothing}
 pub use Rattle.vte_core.proofs.streams.CommandSizes.{counts_data}
@@ -54,10 +54,10 @@ pub use Rattle.vte.specs.machine.Turns.{AreAt, AreNextAt, EndsOpen, EndsTurn, Ha
 pub use Rattle.vte.specs.machine.ShortMeaning.{short_meaning}
 pub use Rattle.vte.specs.Rendition.{attribute_calls, attributes_from}
 pub use Rattle.vte.specs.Synchronized.{begin_update, held_begin_count, begins_with, after_last_end, end_update, from_begin, last_part}
-pub use Rattle.vte.specs.machine.Texts.{FitsRoom, fits_room, joined_size, parts_left, with_separator}
+pub use Rattle.vte.specs.machine.Texts.{FitsRoom, fits_room, joined_size, parts_left, after_separator}
 pub use Rattle.vte_types.specs.Words.{after_word}
 pub use Rattle.vte.specs.Titles.{joined_texts, text_in}
 pub use Rattle.vte.specs.declared.ansi.laws.replays.Step.{Step}
 pub use Rattle.vte.specs.declared.ansi.laws.replays.Step.TheVariants.{Advance, StopSync}
-pub use Rattle.vte.specs.declared.ansi.performer.ProcessorState.{ProcessorState}
+pub use Rattle.vte.specs.declared.ansi.performer.PerformerState.{PerformerState}
 pub use Rattle.vte.specs.declared.ansi.turns.Turns.{Turns}

@@ -6,7 +6,7 @@ use Rattle.vte.specs.Numbers.{first_of, first_or, first_numbers, asks_other_keys
 use Rattle.vte.specs.Rendition.{attribute_calls}
 use Rattle.vte.specs.Maybe.{for_both, for_some}
 use Rattle.vte_types.specs.Rows.{Row, entry_of}
-use Rattle.vte.specs.Values.{behavior_of, bottom_of, cursor_rows, keyboard_modes, keys_rows, line_rows, path_rows, screen_rows, tab_rows, update_rows}
+use Rattle.vte.specs.Values.{behavior_of, bottom_of, cursor_rows, keyboard_modes, keys_rows, line_rows, path_rows, screen_rows, tab_rows, scp_update_rows}
 use Rattle.vte_handler.specs.Call.{Call}
 use Rattle.vte_handler.specs.Call as call
 use Rattle.vte_types.specs.Mode.{mode_of, private_mode_of}
@@ -37,7 +37,7 @@ modify_keys_calls resource value =
 abbrev pub scp_calls : ℕ → ℕ → List Call
 scp_calls path update =
     for_both (λ path update. call.SetScp path update) (entry_of path_rows path)
-    (entry_of update_rows update)
+    (entry_of scp_update_rows update)
 
 module _ (last : Option ℕ) (groups : List (List ℕ)) where
   -- Parameters as ECMA-48 names them, one per group: a number Pn is 1 if it is 0 or omitted, and an

@@ -43,10 +43,10 @@ pub use Rattle.vte_core.specs.IgnoredString
 pub use Rattle.vte_core.specs.Intermediates
 pub use Rattle.vte_core.specs.Key
 pub use Rattle.vte_core.specs.Laws
-pub use Rattle.vte_core.specs.LongAdvance
+pub use Rattle.vte_core.specs.LongParserCalls
 pub use Rattle.vte_core.specs.LongParser
 pub use Rattle.vte_core.specs.Looks
-pub use Rattle.vte_core.specs.Others
+pub use Rattle.vte_core.specs.Quiet
 pub use Rattle.vte_core.specs.Outcome
 pub use Rattle.vte_core.specs.Parameters
 pub use Rattle.vte_core.specs.Parser

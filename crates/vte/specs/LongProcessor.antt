@@ -9,7 +9,7 @@ use Rattle.vte.specs.Processor.{Meaning, State}
 use Rattle.vte.specs.ProcessorCalls.{IsAt, ReadsInTurns, Standing, StopsSync, held_of}
 use Rattle.vte.specs.Refusal.{HasTaken}
 use Rattle.vte.specs.declared.ansi.long_processor.LongProcessor.{LongProcessor}
-use Rattle.vte.specs.declared.ansi.performer.ProcessorState.{ProcessorState}
+use Rattle.vte.specs.declared.ansi.performer.PerformerState.{PerformerState}
 use Rattle.vte.specs.declared.ansi.turns.Turns.{Turns}
 
 abbrev pub held_long : {T A : Type 0} → LongProcessor T A → List ℕ
@@ -21,7 +21,7 @@ timeout_long processor = processor.turns.state.timeout
 -- The parser has read the parsed bytes, and the state has the last printed character and the
 -- timeout.
 pub record HasParsed {P B T W : Type 0} (parts : TurnsMeaning P B T W) (parser : P)
-    (state : ProcessorState T B) (parsed : List ℕ) (timeout : W) : Type 0 where
+    (state : PerformerState T B) (parsed : List ℕ) (timeout : W) : Type 0 where
   pub has_read : parts.reading.has_read parser parsed
   pub last : state.preceding_char ≡ last_printed (events parts.limit parsed)
   pub timeout_is : parts.timeout_of state.timeout ≡ timeout

@@ -41,8 +41,8 @@ keys_rows = (0, keys.Reset) ∷ (1, keys.EnableExceptWellDefined) ∷ (2, keys.E
 abbrev pub path_rows : List (Row ScpCharPath)
 path_rows = (0, path.Default) ∷ (1, path.LTR) ∷ (2, path.RTL) ∷ []
 
-abbrev pub update_rows : List (Row ScpUpdateMode)
-update_rows =
+abbrev pub scp_update_rows : List (Row ScpUpdateMode)
+scp_update_rows =
     (0, update.ImplementationDependant) ∷ (1, update.DataToPresentation)
     ∷ (2, update.PresentationToData) ∷ []
 

@@ -26,7 +26,7 @@ pub use Rattle.vte_core.specs.Parameters.{AreGroups, count_of}
 pub use Rattle.vte_core.specs.Parser.{HasRead}
 pub use Rattle.vte_core.specs.Perform.{after}
 pub use Rattle.vte_core.specs.Saved.{HasReadSaved}
-pub use Rattle.vte_core.specs.Stops.{GoesOnFromPlaces, TellsUnits}
+pub use Rattle.vte_core.specs.Stops.{GoesOnFromPositions, TellsUnits}
 pub use Rattle.vte_core.specs.Stream.{added, usual_limit}
 unfoldable pub use Rattle.vte_core.specs.Stream.{events, open_end}
 pub use Rattle.vte_core.specs.declared.parser.Parser.{Parser}

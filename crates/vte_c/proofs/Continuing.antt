@@ -1,6 +1,6 @@
 -- A parser that read a part of a call goes on as one that has read another stream (`Continues`), and so it does after
 -- the next part: what the parts add is joined.
-use Rattle.vte_c.proofs.Common.{AreFirst, Continues, Event, GoesOnFromPlaces, List, Print, [], add_assoc, added, ap, append-nil, append_assoc, arith, breaks, usual_limit}
+use Rattle.vte_c.proofs.Common.{AreFirst, Continues, Event, GoesOnFromPositions, List, Print, [], add_assoc, added, ap, append-nil, append_assoc, arith, breaks, usual_limit}
 use Rattle.vte_c.proofs.Common.{breaks_at, cases_Bool, drop, drop-drop, inl, inr, length, length-drop, open_end, refl, replacement, stream_at, suc, sym, take, take-add}
 use Rattle.vte_c.proofs.Common.{take-append-drop, told_before, true, zero, zero-add, ℕ, ◌++◌, ◌+◌, ◌∙◌, ◌∷◌, ◌≡◌, ◌≤◌}
 use Rattle.vte_core.proofs.stops.Units.{added_both}
@@ -59,7 +59,8 @@ breaks-next [] byte xs ys = refl
 breaks-next (a ∷ opened) byte xs ys = refl
 
 -- A call that stops before that byte has told U+FFFD, which no byte has added so far.
-broken_first : GoesOnFromPlaces usual_limit → (stream unread : List ℕ) (k : ℕ) → breaks (open_end stream) unread ≡ true
+broken_first : GoesOnFromPositions usual_limit → (stream unread : List ℕ) (k : ℕ)
+    → breaks (open_end stream) unread ≡ true
     → AreFirst (added usual_limit stream (take k unread)) (Print replacement ∷ added usual_limit [] (take k unread))
 unfolding told_before stream_at breaks_at
 broken_first goes_on stream unread zero broken =
@@ -75,7 +76,7 @@ broken_first goes_on stream (byte ∷ unread) (suc k) broken =
     (rw (append-nil front, told_before, stream_at, breaks_it, added-nothing usual_limit stream) at
     (goes_on stream front [] 0)))
 
-pub continues-call : GoesOnFromPlaces usual_limit → (since bytes : List ℕ) (n : ℕ)
+pub continues-call : GoesOnFromPositions usual_limit → (since bytes : List ℕ) (n : ℕ)
     → Continues since (stream_at since bytes n) bytes n (told_before usual_limit since bytes n)
 unfolding told_before stream_at breaks_at
 continues-call goes_on since bytes n = elim (cases_Bool (breaks_at since bytes n)) [

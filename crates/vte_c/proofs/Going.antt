@@ -1,6 +1,6 @@
 -- A call goes on (`ReadsOn`) by calls of the parser, whose events are written as long as there is room, and by the runs
 -- that these return. One step after another is a longer one (`goes-then`).
-use Rattle.vte_c.proofs.Common.{AreCharacters, Bool, ComesTo, DataRun, Event, ReadsOn, GoesOnFromPlaces, HasReadOn, HasItems, HasRead, HaveOtherRecords, InInput, IsRunOfKind, usual_limit}
+use Rattle.vte_c.proofs.Common.{AreCharacters, Bool, ComesTo, DataRun, Event, ReadsOn, GoesOnFromPositions, HasReadOn, HasItems, HasRead, HaveOtherRecords, InInput, IsRunOfKind, usual_limit}
 use Rattle.vte_c.proofs.Common.{IsRunAt, List, OpensSilently, Parser, Print, Put, Room, Run, Single, Starts, StopsAtNone, TellsUnits, TextRun, [], added, after, ap}
 use Rattle.vte_c.proofs.Common.{append-nil, arith, breaks_at, cases_Bool, cases_lt, chars, data_of, drop, drop-drop, false, false≢true, filter-append, flat_map, flat_map-append}
 use Rattle.vte_c.proofs.Common.{has, if◌then◌else◌, inl, inr, is_full, is_stop, item_events, kind_of, len_utf8_bounds, length, length-append, length-drop, length-encode, map}
@@ -100,11 +100,11 @@ goes_on_at_first old true starts others =
 -- The code cites these laws of the parser.
 pub record Laws : Type 0 where
   pub units : TellsUnits usual_limit
-  pub goes_on : GoesOnFromPlaces usual_limit
+  pub goes_on : GoesOnFromPositions usual_limit
   pub silent : OpensSilently usual_limit
 
 module _ (old new : Room) (since bytes : List ℕ) (from n : ℕ) (laws : Laws) (free : is_full old ≡ false)
-    (s : ComesTo with_event is_full old new usual_limit since (drop from bytes) n) where
+    (s : ComesTo with_event is_full old usual_limit since (drop from bytes) new n) where
   abbrev told_at : ℕ → List Event
   told_at i = told_before usual_limit since (drop from bytes) i
 

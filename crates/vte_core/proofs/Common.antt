@@ -37,8 +37,8 @@ unfoldable pub use Rattle.vte_core.specs.Key.{key_of}
 pub use Rattle.vte_core.specs.Laws.{AreParameters, CountsData, DispatchesShown}
 pub use Rattle.vte_core.specs.LongParser.{MeetsData, data_left, open_size, read_count}
 pub use Rattle.vte_core.specs.Looks.{looked}
-pub use Rattle.vte_core.specs.Others.{AddsOthers, IsOther, IsBeyondAscii, TellsOthers}
-pub use Rattle.vte_core.specs.Outcome.{IsLoss, NothingOpen, Open, OpenCharacter, OpenCommand, Outcome, closed_events, closing_events, leaves, tell, unfinished}
+pub use Rattle.vte_core.specs.Quiet.{AddsQuietly, IsQuietEvent, IsBeyondAscii, TellsQuietly}
+pub use Rattle.vte_core.specs.Outcome.{SaysLoss, NothingToClose, ToClose, CharacterToClose, CommandToClose, Outcome, events_before_escape, closing_events, leaves, tell, open_bytes}
 pub use Rattle.vte_core.specs.Parameters.{AreGroups, Number, colon, count_of, greatest_number, grouped, is_colon, is_separator, most_numbers, number_of, numbers_of, semicolon, with_number}
 unfoldable pub use Rattle.vte_core.specs.Parameters.{groups_of, has_too_many_numbers, numbers, shown}
 pub use Rattle.vte_core.specs.Perform.{after}
@@ -64,15 +64,15 @@ pub use Rattle.vte_core.specs.machine.Data.{AreIgnored, ArePut, IsIgnored}
 pub use Rattle.vte_core.specs.machine.Leads.{Leads, Reads}
 pub use Rattle.vte_core.specs.machine.Moves.{Spends}
 pub use Rattle.vte_core.specs.machine.Standing.{CountsNumbers, HoldsIntermediates, HoldsHead, HasReadUnder, IsMarker, KeepsIntermediates, KeepsNumbers, numbers_from, HoldsNumbers, Stands, StandsBy, StandsInHead, StaysIllShaped}
-pub use Rattle.vte_core.specs.machine.Place.{AtEscape, InControlSequence, InData, InDeviceControl, InEscape, InIgnoredString, InSystemCommand, InText, IsAfter, IsBetween, Place, closing_events_at, left_at, rest_outcome}
+pub use Rattle.vte_core.specs.machine.Place.{AtEscape, InControlSequence, InData, InDeviceControl, InEscape, InIgnoredString, InSystemCommand, InText, IsAfter, IsSettledPlace, Place, closing_events_at, left_at, rest_outcome}
 unfoldable pub use Rattle.vte_core.specs.machine.Place.{outcome_from}
-pub use Rattle.vte_core.specs.machine.Progress.{Advances, ChunkCall, chunk_call, ProgressAt, ProgressInside, IsRefusedAt, IsSettled, MayGoOn, ReadsUpTo, RefusesAt, StandsAt, StandsInside}
+pub use Rattle.vte_core.specs.machine.Progress.{Advances, ChunkCall, chunk_call, ProgressAt, ProgressInside, IsRefusedInCommand, IsSettled, MayGoOn, ReadsUpTo, ReadsUntilRefused, StandsAt, StandsInside}
 pub use Rattle.vte_core.specs.machine.Reading.{ReadsHead}
-pub use Rattle.vte_core.specs.machine.TextRun.{ArePrinted, AreRun, IsPrinted, IsRun, PrintsRun}
+pub use Rattle.vte_core.specs.machine.TextRun.{ArePrinted, IsUtf8Run, IsPrinted, IsRun, PrintsRun}
 pub use Rattle.vte_core.specs.machine.Scans.{IsRange, Scans}
-pub use Rattle.vte_core.specs.machine.Store.{Stored, Keeps, PiecesEnd, SameItems, cut_data, cut_pieces, ends_after, fitting, pieces_from}
+pub use Rattle.vte_core.specs.machine.Store.{Stored, HoldsItems, PiecesEnd, SameItems, cut_data, cut_pieces, ends_after, fitting, pieces_from}
 pub use Rattle.vte_core.specs.machine.Takes.{TakesBytes, TakesByte}
-pub use Rattle.vte_core.specs.machine.Unfinished.{Carries, bytes_of, is_open}
+pub use Rattle.vte_core.specs.machine.Unfinished.{Carries, bytes_of, may_continue}
 unfoldable pub use Rattle.vte_core.specs.machine.Unfinished.{second_range}
 
 -- ---- words of proofs alone

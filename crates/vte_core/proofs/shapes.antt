@@ -1,7 +1,5 @@
--- What a text gives from its front, the parts of a head, what a key begins, and what CAN and SUB do
--- at every place.
-pub mod CancelLemmas
+-- What a text gives from its front, and the parts of a head; what is told where the next byte breaks a character.
 pub mod HeadLemmas
 pub mod OutcomeLemmas
-pub mod PlainKeys
 pub mod TextLemmas
+pub mod Told

@@ -2,8 +2,7 @@
 pub mod After
 pub mod CommandSizes
 pub mod OpenEnds
-pub mod Others
-pub mod StreamLemmas
+pub mod QuietEvents
 pub mod StreamSteps
 pub mod Performing
 pub mod Resuming

@@ -9,7 +9,7 @@ use Rattle.vte_core.specs.Class.{IsPut}
 use Rattle.vte_core.specs.EarlyStop.{ComesTo, stream_at}
 use Rattle.vte_core.specs.Event.{Event, Print, Put}
 use Rattle.vte_core.specs.Looks.{looks}
-use Rattle.vte_core.specs.Others.{TellsOthers}
+use Rattle.vte_core.specs.Quiet.{TellsQuietly}
 use Rattle.vte_core.specs.Parser.{HasRead}
 use Rattle.vte_core.specs.Stream.{added}
 use Rattle.vte_core.specs.Text.{EndsRun, HasNoControls}
@@ -55,7 +55,7 @@ pub record ReturnsRun {V : Type 0} (step : V → Event → V) (is_terminated : V
   pub stands : IsRunIn bytes run
   -- The performer takes what is told before the run, and nothing of the run.
   pub comes : (stream : List ℕ) → HasReadBefore stream
-      → ComesTo step is_terminated old new limit stream bytes run.start
+      → ComesTo step is_terminated old limit stream bytes new run.start
   -- A call that performs the run would add its events.
   pub adds : (stream : List ℕ) → HasReadBefore stream
       → added limit (stream_at stream bytes run.start) (run_bytes run) ≡ run_events run
@@ -73,8 +73,8 @@ pub record ReadsToRun {V : Type 0} {N : ℕ} (step : V → Event → V) (is_term
   pub reads : (stream : List ℕ) → HasRead parser stream
       → HasRead next (stream_at stream bytes run.start ++ run_bytes run)
   -- Characters and data are left to the run.
-  pub others : (stream : List ℕ) → HasRead parser stream
-      → TellsOthers (Some N) stream bytes run.start
+  pub quietly : (stream : List ℕ) → HasRead parser stream
+      → TellsQuietly (Some N) stream bytes run.start
   -- At most 7 looks per byte read and 8 more, and at least one per byte read.
   pub count : looks next ≤ looks parser + 7 * run.end + 8
   pub least : looks parser + run.end ≤ looks next

@@ -14,7 +14,7 @@ pub record ReadsUntilTerminated {V : Type 0} {N : ℕ} (step : V → Event → V
   pub within : n ≤ length bytes
   -- The call ends at the first start where the performer is terminated, or else after all bytes.
   pub stops : (stream : List ℕ) → HasRead parser stream
-      → StopsExactly step is_terminated old new (Some N) stream bytes n
+      → StopsExactly step is_terminated old (Some N) stream bytes new n
   -- The parser goes on after the bytes read.
   pub reads : (stream : List ℕ) → HasRead parser stream → HasRead next (stream_at stream bytes n)
   -- At most 5 looks per byte read and 8 more, and at least one per byte read.

@@ -9,7 +9,7 @@ use Rattle.vte_core.specs.Escape.{escape_outcome}
 use Rattle.vte_core.specs.Event.{Execute}
 use Rattle.vte_core.specs.IgnoredString.{ignored_string_outcome}
 use Rattle.vte_core.specs.Key.{key_of}
-use Rattle.vte_core.specs.Outcome.{Outcome, NothingOpen, leaves, tell}
+use Rattle.vte_core.specs.Outcome.{Outcome, NothingToClose, leaves, tell}
 use Rattle.vte_core.specs.FirstMatch.{cut_before}
 use Rattle.vte_core.specs.SystemCommand.{system_command_outcome}
 use Rattle.vte_core.specs.Text.{text_outcome, executed_events}
@@ -25,7 +25,7 @@ shape_outcome limit Dispatch key bytes = escape_outcome (key ∷ bytes)
 -- The body from its key on. CAN and SUB are executed, and text follows. Without a key nothing is
 -- left open.
 abbrev pub body_rest : Option ℕ → List ℕ → Outcome
-body_rest limit [] = leaves NothingOpen
+body_rest limit [] = leaves NothingToClose
 body_rest limit (key ∷ bytes) =
     if is_cancel (class_of key) then tell (Execute key ∷ []) (text_outcome bytes)
     else shape_outcome limit (key_of key) key bytes

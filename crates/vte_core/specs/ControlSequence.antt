@@ -3,7 +3,7 @@ use Rattle.std.specs.Prelude.{ℕ, List, [], ◌∷◌, if◌then◌else◌}
 use Rattle.vte_core.specs.Class.{class_of, is_cancel, ends_head}
 use Rattle.vte_core.specs.Event.{Event, Execute, CsiDispatch}
 use Rattle.vte_core.specs.Head.{head_of, head_bytes, is_well_shaped, sequence_event}
-use Rattle.vte_core.specs.Outcome.{Outcome, NothingOpen, leaves, tell}
+use Rattle.vte_core.specs.Outcome.{Outcome, NothingToClose, leaves, tell}
 use Rattle.vte_core.specs.FirstMatch.{cut_before}
 use Rattle.vte_core.specs.Text.{text_outcome, executed_events}
 
@@ -17,7 +17,7 @@ control_sequence_end head end =
 
 -- The end, and the text that follows it. Without an end nothing is left open.
 abbrev pub control_sequence_rest : List ℕ → List ℕ → Outcome
-control_sequence_rest head [] = leaves NothingOpen
+control_sequence_rest head [] = leaves NothingToClose
 control_sequence_rest head (end ∷ text) = tell (control_sequence_end head end) (text_outcome text)
 
 -- The end is the first of 40..7E, CAN and SUB. Before it, C0 is executed, 20..3F are the head, and

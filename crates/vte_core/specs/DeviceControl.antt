@@ -5,7 +5,7 @@ use Rattle.vte_core.specs.Class.{class_of, is_cancel, is_device_data, ends_head}
 use Rattle.vte_core.specs.Event.{Event, Execute, Hook, Put, Unhook}
 use Rattle.vte_core.specs.Head.{head_of, head_bytes, is_well_shaped, sequence_event}
 use Rattle.vte_core.specs.IgnoredString.{ignored_string_outcome}
-use Rattle.vte_core.specs.Outcome.{Outcome, NothingOpen, OpenData, leaves, tell}
+use Rattle.vte_core.specs.Outcome.{Outcome, NothingToClose, DataToClose, leaves, tell}
 use Rattle.vte_core.specs.FirstMatch.{cut_before}
 use Rattle.vte_core.specs.Text.{text_outcome}
 
@@ -23,7 +23,7 @@ data_end end = if is_cancel (class_of end) then Unhook ∷ Execute end ∷ [] el
 
 -- The end of the data, and the text that follows it. Without an end the data stay open.
 abbrev pub data_rest : List ℕ → Outcome
-data_rest [] = leaves OpenData
+data_rest [] = leaves DataToClose
 data_rest (end ∷ text) = tell (data_end end) (text_outcome text)
 
 -- The data of a hooked string end at the first 9C, CAN or SUB. C0 and 20..7E are put, and the rest
@@ -44,7 +44,7 @@ device_control_end head end bytes =
 
 -- The end of the head, and the bytes that follow it. Without an end nothing is left open.
 abbrev pub device_control_rest : List ℕ → List ℕ → Outcome
-device_control_rest head [] = leaves NothingOpen
+device_control_rest head [] = leaves NothingToClose
 device_control_rest head (end ∷ bytes) = device_control_end head end bytes
 
 -- The head ends as that of a control sequence does, but C0 in it is dropped.

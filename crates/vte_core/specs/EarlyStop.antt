@@ -33,43 +33,44 @@ told_before limit stream bytes i =
     ++ (if breaks_at stream bytes i then Print replacement ∷ [] else [])
 
 -- The stream from which the parser continues after a stop at n: the empty one if the next byte
--- breaks a character.
+-- breaks a character, because U+FFFD was told for that character already.
 unfoldable pub stream_at : List ℕ → List ℕ → ℕ → List ℕ
 stream_at stream bytes n = if breaks_at stream bytes n then [] else stream ++ take n bytes
 
--- The performer was terminated at no start before i.
-abbrev pub NeverStopsBefore : {V : Type 0} → (V → Event → V) → (V → Bool) → V → Option ℕ → List ℕ
-    → List ℕ → ℕ → Type 0
-NeverStopsBefore step is_terminated old limit stream bytes i =
-    (start : ℕ) → start < i → IsStart stream bytes start
-    → is_terminated (after step old (told_before limit stream bytes start)) ≡ false
+-- Of a call: what an event does to the performer's value and when that is terminated, the value
+-- before the call, the limit of commands, the stream that was read, and the bytes of the call.
+module _ {V : Type 0} (step : V → Event → V) (is_terminated : V → Bool) (old : V)
+    (limit : Option ℕ) (stream bytes : List ℕ) where
+  -- The performer was terminated at no start before i.
+  abbrev pub NeverStopsBefore : ℕ → Type 0
+  NeverStopsBefore i = (start : ℕ) → start < i → IsStart stream bytes start
+      → is_terminated (after step old (told_before limit stream bytes start)) ≡ false
 
--- The performer has received the events of the first i bytes, and was terminated at no start before
--- i.
-pub record HasPassed {V : Type 0} (step : V → Event → V) (is_terminated : V → Bool) (old value : V)
-    (limit : Option ℕ) (stream bytes : List ℕ) (i : ℕ) : Type 0 where
-  pub performed : value ≡ after step old (added limit stream (take i bytes))
-  pub earlier : NeverStopsBefore step is_terminated old limit stream bytes i
+  -- The performer has received the events of the first i bytes, and was terminated at no start
+  -- before i.
+  pub record HasPassedBytes (value : V) (i : ℕ) : Type 0 where
+    pub performed : value ≡ after step old (added limit stream (take i bytes))
+    pub earlier : NeverStopsBefore i
 
--- The call came to position n: the performer took what is told before it, and was terminated at no
--- start before it.
-pub record ComesTo {V : Type 0} (step : V → Event → V) (is_terminated : V → Bool) (old new : V)
-    (limit : Option ℕ) (stream bytes : List ℕ) (n : ℕ) : Type 0 where
-  pub within : n ≤ length bytes
-  pub performed : new ≡ after step old (told_before limit stream bytes n)
-  pub earlier : NeverStopsBefore step is_terminated old limit stream bytes n
-  pub starts : n < length bytes → IsStart stream bytes n
-  -- The bytes from there on in a further call leave the performer as one call with all bytes would.
-  pub goes_on : after step new (added limit (stream_at stream bytes n) (drop n bytes))
-      ≡ after step old (added limit stream bytes)
+  -- The call came to position n: the performer took what is told before it, and was terminated at
+  -- no start before it.
+  pub record ComesTo (new : V) (n : ℕ) : Type 0 where
+    pub within : n ≤ length bytes
+    pub performed : new ≡ after step old (told_before limit stream bytes n)
+    pub earlier : NeverStopsBefore n
+    pub starts : n < length bytes → IsStart stream bytes n
+    -- The bytes from there on in a further call leave the performer as one call with all bytes
+    -- would.
+    pub goes_on : after step new (added limit (stream_at stream bytes n) (drop n bytes))
+        ≡ after step old (added limit stream bytes)
 
--- The call stopped at n: at the first start where the performer was terminated or, if there was
--- none, after all bytes.
-pub record StopsExactly {V : Type 0} (step : V → Event → V) (is_terminated : V → Bool) (old new : V)
-    (limit : Option ℕ) (stream bytes : List ℕ) (n : ℕ) : Type 0 where
-  pub comes : ComesTo step is_terminated old new limit stream bytes n
-  pub stops : n < length bytes → is_terminated new ≡ true
-  pub all : n ≡ length bytes → new ≡ after step old (added limit stream bytes)
+  -- The call stopped at n: at the first start where the performer was terminated or, if there was
+  -- none, after all bytes.
+  pub record StopsExactly (new : V) (n : ℕ) : Type 0 where
+    pub comes : ComesTo new n
+    pub stops : n < length bytes → is_terminated new ≡ true
+    -- as `comes` says, too
+    pub all : n ≡ length bytes → new ≡ after step old (added limit stream bytes)
 
 -- No character of a run terminates a performer.
 abbrev pub NoCharacterStops : {V : Type 0} → Bool → (V → Event → V) → (V → Bool) → Type 0

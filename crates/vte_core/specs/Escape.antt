@@ -4,7 +4,7 @@ use Rattle.std.specs.List.{filter}
 use Rattle.vte_core.specs.Class.{class_of, is_cancel, is_intermediate, ends_escape}
 use Rattle.vte_core.specs.Event.{Event, Execute, EscDispatch}
 use Rattle.vte_core.specs.Intermediates.{first_two, are_too_many}
-use Rattle.vte_core.specs.Outcome.{Outcome, NothingOpen, leaves, tell}
+use Rattle.vte_core.specs.Outcome.{Outcome, NothingToClose, leaves, tell}
 use Rattle.vte_core.specs.FirstMatch.{cut_before}
 use Rattle.vte_core.specs.Text.{text_outcome, executed_events}
 
@@ -16,7 +16,7 @@ escape_end intermediates end =
 
 -- The end, and the text that follows it. Without an end nothing is left open.
 abbrev pub escape_rest : List ℕ → List ℕ → Outcome
-escape_rest intermediates [] = leaves NothingOpen
+escape_rest intermediates [] = leaves NothingToClose
 escape_rest intermediates (end ∷ text) =
     tell (escape_end intermediates end ∷ []) (text_outcome text)
 

@@ -3,7 +3,7 @@
 use Rattle.std.specs.Prelude.{replicate, ◌≡◌, ℕ, true, false, List, [], ◌∷◌, ◌++◌, map, Option, codes}
 use Rattle.std.specs.List.{repeat}
 use Rattle.vte_core.specs.Event.{Event, Print, Execute, Hook, Put, Unhook, OscDispatch, CsiDispatch, EscDispatch}
-use Rattle.vte_core.specs.Outcome.{Open, OpenCommand}
+use Rattle.vte_core.specs.Outcome.{ToClose, CommandToClose}
 use Rattle.vte_core.specs.Stream.{events, outcome}
 
 -- A stream and its events.
@@ -171,13 +171,14 @@ store_of_two_examples =
 -- data.
 pub record OpenExample : Type 0 where
   pub stream : List ℕ
-  pub left : Open
+  pub left : ToClose
 
 abbrev pub keeps : List ℕ → List (List ℕ) → OpenExample
-keeps items pieces = record { stream = codes "\u{1b}]" ++ items; left = OpenCommand pieces false }
+keeps items pieces = record { stream = codes "\u{1b}]"
+    ++ items; left = CommandToClose pieces false }
 
 abbrev pub loses : List ℕ → List (List ℕ) → OpenExample
-loses items pieces = record { stream = codes "\u{1b}]" ++ items; left = OpenCommand pieces true }
+loses items pieces = record { stream = codes "\u{1b}]" ++ items; left = CommandToClose pieces true }
 
 abbrev pub AreLeft : Option ℕ → List OpenExample → Type 0
 AreLeft limit examples =

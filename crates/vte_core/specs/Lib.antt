@@ -17,11 +17,11 @@ pub mod IgnoredString
 pub mod Intermediates
 pub mod Key
 pub mod Laws
-pub mod LongAdvance
+pub mod LongParserCalls
 pub mod LongParser
 pub mod Looks
 pub mod machine
-pub mod Others
+pub mod Quiet
 pub mod Outcome
 pub mod Parameters
 pub mod Parser

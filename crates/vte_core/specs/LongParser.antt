@@ -5,7 +5,7 @@ use Rattle.vte_core.specs.declared.parser.long.LongParser.{LongParser}
 use Rattle.vte_core.specs.declared.parser.refused.Refused.{Refused}
 use Rattle.vte_core.specs.machine.Standing.{HasReadUnder}
 use Rattle.vte_core.specs.machine.Store.{LacksMemoryAt}
-use Rattle.vte_core.specs.Outcome.{Open, OpenCommand}
+use Rattle.vte_core.specs.Outcome.{ToClose, CommandToClose}
 use Rattle.vte_core.specs.Stream.{outcome}
 use Rattle.vte_core.specs.SystemCommand.{IsCommandData, most_pieces}
 
@@ -47,8 +47,8 @@ read_count (Ok read) = read
 read_count (Err refused) = refused.read
 
 -- How many data bytes the open operating system command has in its first 16 pieces.
-abbrev pub data_left : Open → ℕ
-data_left (OpenCommand pieces dropped) = length (concat pieces)
+abbrev pub data_left : ToClose → ℕ
+data_left (CommandToClose pieces dropped) = length (concat pieces)
 data_left _ = 0
 
 abbrev pub open_size : List ℕ → ℕ
@@ -58,7 +58,7 @@ open_size stream = data_left (outcome None stream).left
 abbrev pub StoresPieces : {A : Type 0} → LongParser A → List ℕ → Type 0
 StoresPieces parser stream =
     (pieces : List (List ℕ)) (dropped : Bool)
-    → (outcome None stream).left ≡ OpenCommand pieces dropped
+    → (outcome None stream).left ≡ CommandToClose pieces dropped
     → length parser.machine.command.bytes ≡ length (concat pieces)
 
 -- The stream ends in an open operating system command with fewer than 16 `;`, and the byte is data
@@ -68,7 +68,7 @@ pub record MeetsData (stream : List ℕ) (byte : ℕ) : Type 0 where
   pub last : List ℕ
   pub dropped : Bool
   pub few : length pieces < most_pieces
-  pub is_open : (outcome None stream).left ≡ OpenCommand (pieces ++ last ∷ []) dropped
+  pub is_open : (outcome None stream).left ≡ CommandToClose (pieces ++ last ∷ []) dropped
   pub is_data : IsCommandData byte
   pub joins : (outcome None (stream ++ byte ∷ [])).left
-      ≡ OpenCommand (pieces ++ (last ++ byte ∷ []) ∷ []) dropped
+      ≡ CommandToClose (pieces ++ (last ++ byte ∷ []) ∷ []) dropped

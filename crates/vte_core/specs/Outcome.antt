@@ -1,40 +1,42 @@
--- The outcome of a text, a body or a stream: its events, and what it leaves open at its end.
+-- The outcome of a text, a body or a stream: its events, and what is left to close at its end.
 use Rattle.std.specs.Prelude.{◌≡◌, ℕ, Bool, false, List, [], ◌∷◌, ◌++◌, ⊤}
 use Rattle.vte_core.specs.Event.{Event, Print, Unhook, OscDispatch, replacement}
 
-pub data Open : Type 0 where
-  NothingOpen : Open
+-- What an ESC that follows closes, with an event.
+pub data ToClose : Type 0 where
+  NothingToClose : ToClose
   -- these bytes of an unfinished character
-  OpenCharacter : List ℕ → Open
+  CharacterToClose : List ℕ → ToClose
   -- the data of a hooked device control string
-  OpenData : Open
+  DataToClose : ToClose
   -- an operating system command with these pieces, and whether data bytes of it are in none
-  OpenCommand : List (List ℕ) → Bool → Open
+  CommandToClose : List (List ℕ) → Bool → ToClose
 
--- The events of an ESC that follows.
-abbrev pub closing_events : Open → List Event
-closing_events NothingOpen = []
-closing_events (OpenCharacter bytes) = Print replacement ∷ []
-closing_events OpenData = Unhook ∷ []
-closing_events (OpenCommand pieces dropped) = OscDispatch pieces false ∷ []
+-- The events with which it is closed.
+abbrev pub closing_events : ToClose → List Event
+closing_events NothingToClose = []
+closing_events (CharacterToClose bytes) = Print replacement ∷ []
+closing_events DataToClose = Unhook ∷ []
+closing_events (CommandToClose pieces dropped) = OscDispatch pieces false ∷ []
 
 -- If a command is open, the flag says whether data bytes of it are in no piece.
-abbrev pub IsLoss : Open → Bool → Type 0
-IsLoss (OpenCommand pieces dropped) lost = lost ≡ dropped
-IsLoss _ lost = ⊤
+abbrev pub SaysLoss : ToClose → Bool → Type 0
+SaysLoss (CommandToClose pieces dropped) lost = lost ≡ dropped
+SaysLoss _ lost = ⊤
 
-abbrev pub unfinished : Open → List ℕ
-unfinished (OpenCharacter bytes) = bytes
-unfinished _ = []
+-- The bytes of an open character.
+abbrev pub open_bytes : ToClose → List ℕ
+open_bytes (CharacterToClose bytes) = bytes
+open_bytes _ = []
 
 pub record Outcome : Type 0 where
   -- the events, whatever follows
   pub told : List Event
-  -- what is open at the end
-  pub left : Open
+  -- what an ESC at the end would close
+  pub left : ToClose
 
--- An outcome without events, which leaves this open.
-abbrev pub leaves : Open → Outcome
+-- An outcome without events, which leaves this to close.
+abbrev pub leaves : ToClose → Outcome
 leaves left = record { told = []; left = left }
 
 -- An outcome with these events before its own.
@@ -42,5 +44,5 @@ abbrev pub tell : List Event → Outcome → Outcome
 tell events rest = record { told = events ++ rest.told; left = rest.left }
 
 -- All events if an ESC follows.
-abbrev pub closed_events : Outcome → List Event
-closed_events outcome = outcome.told ++ closing_events outcome.left
+abbrev pub events_before_escape : Outcome → List Event
+events_before_escape outcome = outcome.told ++ closing_events outcome.left

@@ -7,8 +7,8 @@ use Rattle.vte_core.specs.Stream.{added}
 
 -- What is reported before a position, and what the unread bytes and more add from there, is
 -- together what all bytes add.
-abbrev pub GoesOnFromPlaces : Option ℕ → Type 0
-GoesOnFromPlaces limit = (stream bytes more : List ℕ) (n : ℕ) →
+abbrev pub GoesOnFromPositions : Option ℕ → Type 0
+GoesOnFromPositions limit = (stream bytes more : List ℕ) (n : ℕ) →
     added limit stream (bytes ++ more)
     ≡ told_before limit stream bytes n
     ++ added limit (stream_at stream bytes n) (drop n bytes ++ more)

@@ -3,7 +3,7 @@ use Rattle.std.specs.Prelude.{◌≡◌, ◌≢◌, ℕ, List, [], ◌∷◌, �
 use Rattle.std.specs.Prelude.{if◌then◌else◌, ◌==◌}
 use Rattle.vte_core.specs.Body.{body_outcome}
 use Rattle.vte_core.specs.Event.{Event, Print}
-use Rattle.vte_core.specs.Outcome.{Outcome, unfinished, tell, closed_events}
+use Rattle.vte_core.specs.Outcome.{Outcome, open_bytes, tell, events_before_escape}
 use Rattle.vte_core.specs.Text.{text_outcome}
 
 abbrev pub escape : ℕ
@@ -25,7 +25,7 @@ cut_at_escape (b ∷ stream) =
 abbrev pub with_bodies : Option ℕ → Outcome → List (List ℕ) → Outcome
 with_bodies limit part [] = part
 with_bodies limit part (body ∷ bodies) =
-    tell (closed_events part) (with_bodies limit (body_outcome limit body) bodies)
+    tell (events_before_escape part) (with_bodies limit (body_outcome limit body) bodies)
 
 -- The limit of `Parser::new`.
 abbrev pub usual_limit : Option ℕ
@@ -55,4 +55,4 @@ IsUnfinished limit stream = added limit stream (0x30 ∷ []) ≢ Print 0x30 ∷ 
 -- The bytes of an unfinished character at the end of the stream. They are in text, so no limit
 -- affects them.
 unfoldable pub open_end : List ℕ → List ℕ
-open_end stream = unfinished (outcome None stream).left
+open_end stream = open_bytes (outcome None stream).left

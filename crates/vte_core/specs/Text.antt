@@ -4,7 +4,7 @@ use Rattle.std.specs.List.{All, filter}
 use Rattle.std.specs.Str.{chars}
 use Rattle.vte_core.specs.Class.{class_of, is_control}
 use Rattle.vte_core.specs.Event.{Event, Print, Execute, replacement}
-use Rattle.vte_core.specs.Outcome.{Outcome, NothingOpen, OpenCharacter, leaves, tell}
+use Rattle.vte_core.specs.Outcome.{Outcome, NothingToClose, CharacterToClose, leaves, tell}
 use Rattle.vte_core.specs.Utf8.{is_well_formed, is_truncated, scalar_of, segments}
 
 -- C0 and C1: U+0000..U+001F and U+0080..U+009F.
@@ -56,10 +56,10 @@ segment_event segment =
 
 -- The events of the segments in order. A truncated sequence at the end stays open.
 abbrev pub segments_outcome : List (List ℕ) → Outcome
-segments_outcome [] = leaves NothingOpen
+segments_outcome [] = leaves NothingToClose
 segments_outcome (segment ∷ []) =
-    if is_truncated segment then leaves (OpenCharacter segment)
-    else tell (segment_event segment ∷ []) (leaves NothingOpen)
+    if is_truncated segment then leaves (CharacterToClose segment)
+    else tell (segment_event segment ∷ []) (leaves NothingToClose)
 segments_outcome (segment ∷ next ∷ more) =
     tell (segment_event segment ∷ []) (segments_outcome (next ∷ more))
 

@@ -19,7 +19,7 @@ pub mod Moves
 pub mod Completes
 pub mod Reading
 -- Several bytes: data, what a search passes, runs of text.
-pub mod Between
+pub mod Each
 pub mod Data
 pub mod Scans
 pub mod TextRun

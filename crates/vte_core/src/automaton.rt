@@ -8,6 +8,7 @@ ghost use Rattle.std.specs.Prelude.{◌≡◌, ◌+◌, ◌*◌, ◌%◌, ◌<�
 ghost use Rattle.vte_core.specs.machine.Automaton.{AutomatonState, Between, state_code, next_between, next_state, state_after, HasScanned, LastEnd};
 ghost use Rattle.vte_core.specs.machine.Prelude.{Each, IsRun, Scans, is_layout, looked};
 
+use crate::class::is_layout;
 use crate::scan::{Input, Looks};
 use crate::utf8::is_printed_ascii;
 
@@ -205,12 +206,4 @@ fn has_control(block: &[u8; 16]) -> bool
         any |= *byte < 0x20;
     }
     any
-}
-
-/// Returns whether a byte is HT, LF or CR. Compilers make no vector instructions of `||`.
-#[inline(always)]
-pub(crate) fn is_layout(byte: u8) -> bool
-    ensures { result ≡ is_layout byte }
-{
-    (byte == b'\t') | (byte == b'\n') | (byte == b'\r')
 }

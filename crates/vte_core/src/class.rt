@@ -2,7 +2,7 @@
 #![tactic(auto, unfolding(crate::specs::Class::class_of))]
 
 ghost use Rattle.std.specs.Prelude.{◌≡◌, ◌-◌, ◌<◌, ◌≤◌, ◌↔◌, true, false, IsTrue, MatchOption};
-ghost use Rattle.vte_core.specs.machine.Prelude.{IsCommandData, begins_ignored_string, class_of, dispatches_escape, ends_all, is_control, is_device_data, is_final, is_head, is_intermediate, is_parameter_text, is_separator};
+ghost use Rattle.vte_core.specs.machine.Prelude.{IsCommandData, begins_ignored_string, class_of, dispatches_escape, ends_all, is_control, is_device_data, is_final, is_head, is_intermediate, is_layout, is_parameter_text, is_separator};
 
 pub(crate) const ESCAPE: u8 = 0x1b;
 
@@ -11,6 +11,14 @@ pub(crate) fn is_control(byte: u8) -> bool
     ensures { result ≡ is_control (class_of byte) }
 {
     byte < 0x20 && byte != 0x18 && byte != 0x1a && byte != ESCAPE
+}
+
+/// Returns whether a byte is HT, LF or CR. Compilers make no vector instructions of `||`.
+#[inline(always)]
+pub(crate) fn is_layout(byte: u8) -> bool
+    ensures { result ≡ is_layout byte }
+{
+    (byte == b'\t') | (byte == b'\n') | (byte == b'\r')
 }
 
 /// Returns whether a byte is CAN, SUB or ESC, which end whatever is open.

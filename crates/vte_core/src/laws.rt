@@ -9,7 +9,7 @@ ghost use Rattle.vte_core.specs.Examples.{store_of_five_examples, store_of_two_e
 ghost use Rattle.vte_core.specs.Examples.{AreLeft, open_command_examples};
 ghost use Rattle.vte_core.specs.Laws.{AreParameters, AreWellFormed, Resyncs, CountsData, DispatchesShown, GivesCharacters, Grows, IsDecoded, IsEncoding, OpensSilently};
 ghost use Rattle.vte_core.specs.Perform.{after};
-ghost use Rattle.vte_core.specs.Stops.{GoesOnFromPlaces, TellsUnits};
+ghost use Rattle.vte_core.specs.Stops.{GoesOnFromPositions, TellsUnits};
 ghost use Rattle.vte_core.specs.Stream.{added, events, usual_limit};
 ghost use Rattle.vte_core.specs.Utf8.{is_well_formed, segments};
 
@@ -82,7 +82,7 @@ pub fn opens_silently()
 /// them is a character or an executed byte.
 #[tactic(auto, using(crate::proofs::stops::Units::goes_on_from, crate::proofs::stops::Units::tells_units))]
 pub fn early_stops()
-    ensures goes_on { (limit : Option ℕ) → GoesOnFromPlaces limit }
+    ensures goes_on { (limit : Option ℕ) → GoesOnFromPositions limit }
     ensures units { (limit : Option ℕ) → TellsUnits limit }
 {}
 

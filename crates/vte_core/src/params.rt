@@ -4,7 +4,7 @@ ghost use Rattle.std.specs.Fmt.{decimal, WritesOnOk};
 ghost use Rattle.std.specs.Iterator.{YieldsFirstRef, item_count, at_most, UpTo};
 ghost use Rattle.std.specs.Iterator.SizeHint.{IsWithinCount};
 ghost use Rattle.std.specs.List.{join_with_byte};
-ghost use Rattle.vte_core.specs.machine.Groups.{AreParts, AreStored, IsTakenOff};
+ghost use Rattle.vte_core.specs.machine.Groups.{AreParts, AreFlatGroups, IsTakenOff};
 ghost use Rattle.vte_core.specs.Parameters.{with_number, count_of, colon, shown, AreGroups};
 
 use arrayvec::ArrayVec;
@@ -23,13 +23,13 @@ pub struct Params {
 
 impl Model for Params {
     ghost use Rattle.std.specs.Prelude.{List, ℕ};
-    ghost use Rattle.vte_core.specs.machine.Groups.{cut_by_lengths, AreStored};
+    ghost use Rattle.vte_core.specs.machine.Groups.{cut_by_lengths, AreFlatGroups};
 
     ghost Value = { List (List ℕ) };
 
     ghost view = { λ params. cut_by_lengths params.lengths.items params.numbers.items };
 
-    ghost invariant = { λ params. AreStored params.lengths.items params.numbers.items };
+    ghost invariant = { λ params. AreFlatGroups params.lengths.items params.numbers.items };
 }
 
 /// An iterator over the groups of a [`Params`], each a slice of its numbers.
@@ -140,7 +140,7 @@ fn take_joined(lengths: &mut ArrayVec<u8, 32>, joined: bool) -> Option<u8>
 /// Returns whether these are the lengths of groups with these numbers.
 #[tactic(auto, using(std::proofs::lemmas::Grind::elements, crate::proofs::fields::Groups::sum_take_more, crate::proofs::fields::Groups::sum_take_below, crate::proofs::fields::Groups::filled_take_more))]
 fn are_lengths(lengths: &[u8], numbers: &[u16]) -> bool
-    ensures { IsTrue result ↔ AreStored lengths.now numbers.now }
+    ensures { IsTrue result ↔ AreFlatGroups lengths.now numbers.now }
 {
     let mut left = numbers.len();
     for length in lengths {

@@ -3,7 +3,7 @@ ghost use Rattle.std.specs.Prelude.{◌≡◌, true, false, ℕ, List, [], Some,
 ghost use Rattle.vte_core.specs.Advance.{ReadsBytes};
 ghost use Rattle.vte_core.specs.AdvanceUntilTerminated.{ReadsUntilTerminated};
 ghost use Rattle.vte_core.specs.EarlyStop.{NoCharacterStops};
-ghost use Rattle.vte_core.specs.Outcome.{IsLoss};
+ghost use Rattle.vte_core.specs.Outcome.{SaysLoss};
 ghost use Rattle.vte_core.specs.Parser.{HasRead, IsCopyOf, lost_data};
 ghost use Rattle.vte_core.specs.Stream.{IsFinished, IsUnfinished, outcome};
 
@@ -189,7 +189,7 @@ impl<const OSC_RAW_BUF_SIZE: usize> Parser<OSC_RAW_BUF_SIZE> {
     pub fn command_lost_data(&self) -> bool
         ensures lost { result ≡ lost_data self.now }
         ensures open { (stream : List ℕ) → HasRead self.now stream
-            → IsLoss (outcome (Some OSC_RAW_BUF_SIZE) stream).left result }
+            → SaysLoss (outcome (Some OSC_RAW_BUF_SIZE) stream).left result }
     {
         self.machine.command_lost_data()
     }

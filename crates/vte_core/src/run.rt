@@ -1,11 +1,11 @@
-//! Where a run of printed text ends.
+//! Where a run of printed text ends. `scan/taken.rt` has the runs that callers take.
 //!
 //! A word is eight bytes. None is tried before a run has begun with single bytes, so that no byte
 //! is read often.
 ghost use Rattle.std.specs.Prelude.{◌≡◌, ◌+◌, ◌*◌, ◌<◌, ◌≤◌, ◌↔◌, true, false, None, MatchOption, IfSome, IsTrue, length, slice_index};
 ghost use Rattle.vte_core.specs.machine.Prelude.{ArePrinted, EndsRun, IsPrinted, IsRange, IsRun, Scans, TakesFew, is_in, looked, from_to};
 
-use crate::automaton::is_layout;
+use crate::class::is_layout;
 use crate::scan::{CountedPerform, Grain, Input, Looks};
 use crate::utf8::{is_continuation, is_lead, is_printed_ascii, may_begin_four, may_begin_three};
 
@@ -136,7 +136,7 @@ impl<B> Looks<B> {
         ensures ended { result < to → EndsRun keeps input.entry.bytes.now result }
         // One look per three bytes fewer than a run may take: these pay for the automaton.
         ensures count { 3 * looked self.new + 11 * from ≤ 3 * looked self.old + 11 * result + 12 }
-        ensures saved { to ≤ result
+        ensures spare { to ≤ result
             → 3 * looked self.new + 11 * from ≤ 3 * looked self.old + 11 * result }
     {
         let mut end = from;

@@ -22,7 +22,7 @@ use std::marker::PhantomData;
 use std::snapshot::Snapshot;
 use std::{mem, str};
 pub use taken::{Run, Taken};
-pub(crate) use taken::{RunKind, RunPlace};
+pub(crate) use taken::{RunKind, RunRange};
 
 /// The looks so far, and how many there were each time. Only contracts read it.
 #[derive(Drop)]
@@ -104,7 +104,7 @@ impl<'a, B> Input<'a, B> {
     }
 
     /// Returns the run that stands at a position, whose bytes were looked at.
-    pub(crate) fn take_run(self, place: RunPlace) -> Run<'a>
+    pub(crate) fn take_run(self, place: RunRange) -> Run<'a>
         requires range { IsRange self.bytes.now place.start place.end }
         requires kind { AreOfKind place.kind
             (take (place.end - place.start) (drop place.start self.bytes.now)) }

@@ -1,7 +1,7 @@
 //! The store of an operating system command.
 ghost use Rattle.std.specs.Prelude.{◌≡◌, ◌≢◌, ◌+◌, ◌-◌, ◌≤◌, ◌<◌, List, ℕ, [], ◌∷◌, ◌++◌, length, drop, map, take, false, ◌↔◌, IsTrue, All};
 ghost use Rattle.std.specs.List.Sorted.{IsNonDecreasing};
-ghost use Rattle.vte_core.specs.machine.Prelude.{ArePieceEnds, HasCapacity, Stored, IsRange, Keeps, OscDispatch, ReservesCapacity, SameItems, TakesFew, Tells, cut_pieces, most_pieces};
+ghost use Rattle.vte_core.specs.machine.Prelude.{ArePieceEnds, HasCapacity, Stored, IsRange, HoldsItems, OscDispatch, ReservesCapacity, SameItems, TakesFew, Tells, cut_pieces, most_pieces};
 
 use crate::buffer::Buffer;
 use crate::scan::{CountedPerform, Grain, Input, Looks};
@@ -44,7 +44,7 @@ impl<B: Buffer> Model for Store<B> {
 impl<B: Buffer> Store<B> {
     pub(crate) fn new(bytes: B) -> Self
         requires { B.held bytes ≡ [] }
-        ensures keeps { Keeps B.limit result [] }
+        ensures keeps { HoldsItems B.limit result [] }
         ensures memory { result.capacity ≡ B.capacity bytes }
     {
         Store {
@@ -55,7 +55,7 @@ impl<B: Buffer> Store<B> {
     }
 
     pub(crate) fn clear(&mut self)
-        ensures keeps { Keeps B.limit self.new [] }
+        ensures keeps { HoldsItems B.limit self.new [] }
         ensures memory { self.new.capacity ≡ self.old.capacity }
     {
         self.ends = ArrayVec::new();
@@ -94,8 +94,8 @@ impl<B: Buffer> Store<B> {
 
     /// Ends a piece at a `;`, if there is room.
     pub(crate) fn end_piece(&mut self)
-        ensures keeps { (items : List ℕ) → Keeps B.limit self.old items
-            → Keeps B.limit self.new (items ++ 0x3b ∷ []) }
+        ensures keeps { (items : List ℕ) → HoldsItems B.limit self.old items
+            → HoldsItems B.limit self.new (items ++ 0x3b ∷ []) }
         ensures memory { self.new.capacity ≡ self.old.capacity }
     {
         if !self.ends.is_full() && !self.bytes.is_full() {
@@ -116,8 +116,8 @@ impl<B: Buffer> Store<B> {
         requires data { All (λ b. b ≢ 0x3b) (take (to - from) (drop from input.bytes.now)) }
         requires memory { length self.old.ends < most_pieces
             → HasCapacity B.limit self.old.capacity (length self.old.bytes) (to - from) }
-        ensures keeps { (items : List ℕ) → Keeps B.limit self.old items
-            → Keeps B.limit self.new (items ++ take (to - from) (drop from input.entry.bytes.now)) }
+        ensures keeps { (items : List ℕ) → HoldsItems B.limit self.old items → HoldsItems B.limit
+            self.new (items ++ take (to - from) (drop from input.entry.bytes.now)) }
         ensures memory { self.old.capacity ≤ self.new.capacity }
         ensures few { TakesFew (to - from) looks.old looks.new }
     {

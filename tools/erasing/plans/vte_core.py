@@ -39,7 +39,7 @@ VTE_CORE = dict(
                 "begins_ascii find_ascii_run_end find_run_end_at_lead find_run_end "
                 "find_run_end_for",
             "crate::proved::vte_core::scan":
-                "Grain InRuns Run RunKind RunPlace Singly data get get_block take_run "
+                "Grain InRuns Run RunKind RunRange Singly data get get_block take_run "
                 "tell_character tell_single text up_to",
             "crate::proved::vte_core::scan::grain": "PerformAs",
             "crate::proved::vte_core::scan::search":

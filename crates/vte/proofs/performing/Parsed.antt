@@ -1,13 +1,13 @@
 -- What parsed bytes make of a handler and a timeout. A performer's value steps by events; all events together make the
 -- calls of their rows and set the timeout once per begin of an update. An early stop is the front up to the begin.
 use Rattle.vte.proofs.Common.{◌≡◌, ℕ, ◌+◌, ◌<◌, inl, inr, Bool, false, ◌||◌, nat_lt, All, List, [], ◌∷◌, ◌++◌, length, take, refl, ap, sym, ◌∙◌, arith, or-false}
-use Rattle.vte.proofs.Common.{cases_lt, false≢true, nat_tests, All-head, All-tail, told_before, stream_at, StopsExactly, Event, added, events, starts-between, stream_at-between, told-between, events_grow}
-use Rattle.vte.proofs.Common.{after, ProcessorState, begin_count, begins_in_event, calls_of, calls_from, last_printed_after, last_printed, last_printed_from, performer_value, Meaning, set_times, FitsText, PerformerValue}
+use Rattle.vte.proofs.Common.{cases_lt, false≢true, nat_tests, All-head, All-tail, told_before, stream_at, StopsExactly, Event, added, events, starts-settled, stream_at-settled, told-settled, events_grow}
+use Rattle.vte.proofs.Common.{after, PerformerState, begin_count, begins_in_event, calls_of, calls_from, last_printed_after, last_printed, last_printed_from, performer_value, Meaning, set_times, FitsText, PerformerValue}
 use Rattle.vte.proofs.Common.{with_event, of_turns, IsParsed, IsParsedOn, KeepsMemory, State, parse, begin_front, ParserMeaning}
 use Rattle.vte_core.specs.Perform.{after as performed}
 use Rattle.vte.specs.declared.ansi.performer.Performer.{Performer}
 use Rattle.vte.proofs.performing.CallLists.{after-append, added_calls-events, last-append, set_times-add}
-use Rattle.vte.proofs.turns.Fronts.{IsFront, closed_at, is_front, told_count, whole_at}
+use Rattle.vte.proofs.updates.Fronts.{IsFront, closed_at, is_front, told_count, whole_at}
 
 -- ---- the value after events
 
@@ -44,7 +44,7 @@ performed-events m lent (event ∷ events) fit =
 
 module _ {H T B G V W : Type 0} (handler_of : H → V) (timeout_of : T → W) (room_of : B → ℕ) (m : Meaning V W)
     (s : State V W) (f : List ℕ)
-    (old : PerformerValue V W) (new : Performer H T B G) {state : ProcessorState T B}
+    (old : PerformerValue V W) (new : Performer H T B G) {state : PerformerState T B}
     (fit : All (FitsText old.room) (added m.limit s.parsed f))
     (made : performer_value handler_of timeout_of room_of new
     ≡ performed (with_event m.step m.timeout) old (added m.limit s.parsed f))
@@ -59,7 +59,7 @@ module _ {H T B G V W : Type 0} (handler_of : H → V) (timeout_of : T → W) (r
   pub room_back : room_of state.text ≡ old.room
   room_back = rw is_state (ap (λ lent. lent.room) all_made)
 
-  pub given_back : {P : Type 0} {reading : ParserMeaning P} {parser next : P} {lent : ProcessorState T B} {value : V}
+  pub given_back : {P : Type 0} {reading : ParserMeaning P} {parser next : P} {lent : PerformerState T B} {value : V}
       {handler : H} → IsParsed (of_turns m.limit reading room_of timeout_of) parser lent value s
       → old.last ≡ lent.preceding_char → old.timeout ≡ timeout_of lent.timeout → old.handler ≡ value
       → old.room ≡ room_of lent.text
@@ -99,7 +99,7 @@ terminated_by m lent (event ∷ events) =
 
 module _ {V W : Type 0} (m : Meaning V W) {old new : PerformerValue V W} (goes_on : old.terminated ≡ false)
     {p r : List ℕ} {n : ℕ}
-    (stop : StopsExactly (with_event m.step m.timeout) (λ lent. lent.terminated) old new m.limit p r n) where
+    (stop : StopsExactly (with_event m.step m.timeout) (λ lent. lent.terminated) old m.limit p r new n) where
   front : IsFront m.limit p r (length (begin_front m.limit p r))
   front = is_front m.limit p r
 
@@ -121,7 +121,7 @@ module _ {V W : Type 0} (m : Meaning V W) {old new : PerformerValue V W} (goes_o
       let within : k < length r = omega (arith, stop.comes.within) in
       let goes_on =
       rw (terminated_at k) at (stop.comes.earlier k less
-      (starts-between p r k within (closed_at m.limit p r k f within))) in
+      (starts-settled p r k within (closed_at m.limit p r k f within))) in
       grind (arith, nat_tests, f.begins within)
 
   pub stops_at_front : n ≡ length (begin_front m.limit p r)
@@ -137,7 +137,7 @@ module _ {V W : Type 0} (m : Meaning V W) {old new : PerformerValue V W} (goes_o
   stop_performs =
       let f =
       front in
-      rw (f.is, ← stops_at_front, ← told-between m.limit p r n (rw stops_at_front (whole_at m.limit p r _ f)))
+      rw (f.is, ← stops_at_front, ← told-settled m.limit p r n (rw stops_at_front (whole_at m.limit p r _ f)))
       stop.comes.performed
 
   pub stop_terminated : new.terminated ≡ nat_lt 0 (begin_count (added m.limit p (begin_front m.limit p r)))
@@ -148,4 +148,4 @@ module _ {V W : Type 0} (m : Meaning V W) {old new : PerformerValue V W} (goes_o
   pub stop_stream : stream_at p r n ≡ p ++ begin_front m.limit p r
   stop_stream =
       let f =
-      front in rw (f.is, ← stops_at_front) (stream_at-between p r n (rw stops_at_front (whole_at m.limit p r _ f)))
+      front in rw (f.is, ← stops_at_front) (stream_at-settled p r n (rw stops_at_front (whole_at m.limit p r _ f)))

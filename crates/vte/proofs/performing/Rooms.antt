@@ -5,7 +5,7 @@ use Rattle.vte.proofs.Common.{false≢true, nat_tests, All-cons, All-drop, All-h
 use Rattle.vte.proofs.Common.{added, events, LongParser, Refused, added_both, counts_data, events_are_bounded, PerformsAll, PerformsUntilStop, FitsText, PerformerValue, HasRoom, KeepsMemory, fits_room, short_meaning}
 use Rattle.vte.proofs.Common.{long_meaning}
 use Rattle.vte_core.specs.Brief.{IsBounded}
-use Rattle.vte_core.specs.LongAdvance.{ReadsBytesLong, ReadsUntilTerminatedLong}
+use Rattle.vte_core.specs.LongParserCalls.{ReadsBytesLong, ReadsUntilTerminatedLong}
 use Rattle.vte_core.specs.LongParser.{memory_of, open_size, read_count}
 use Rattle.vte.specs.declared.ansi.titles.TheConstants.{TEXT_ROOM}
 use Rattle.vte_core.specs.declared.parser.Parser.{Parser}

@@ -3,7 +3,7 @@
 use Rattle.vte.proofs.Common.{ℕ, ◌+◌, ◌<◌, List, [], ◌∷◌, ◌++◌, length, take, drop, get_or, refl, ap, append-nil, Bor, drop_more, take_more, Step, Advance, StopSync, Meaning, Advanced}
 use Rattle.vte.proofs.Common.{HoldsWellAt, TakesSteps, Replayed, State, stop, ◌≡◌, ◌-◌, HasTaken, inl, inr, Bool, sym, ◌∙◌, IsSteady, TakesAllTurns, done, turns}
 use Rattle.vte.specs.Refusal.{IsFirstRefused, left_of_first}
-use Rattle.vte.proofs.replays.EachOnce.{replay_grows}
+use Rattle.vte.proofs.turns.EachOnce.{replay_grows}
 use Rattle.vte.proofs.replays.Tellings.{tells-replay}
 use Rattle.vte.proofs.turns.HoldFacts.{stop_well, taken_well, turn_well}
 

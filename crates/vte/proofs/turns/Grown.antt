@@ -2,7 +2,7 @@
 -- given bytes at the start leaves room for what is left, turn by turn.
 use Rattle.vte.proofs.Common.{◌≡◌, ℕ, ◌+◌, ◌-◌, ◌<◌, inl, inr, List, ◌++◌, length, Result, Ok, Err, refl, ap, arith, length-append, Refused, LongParser, counts_data}
 use Rattle.vte.proofs.Common.{AdvancesLong, Bor, Turns, Meaning, AreAt, HasTaken, LacksSome, ReadsSome, HasRoom, State, drop, length-drop, unlimited}
-use Rattle.vte.proofs.turns.Standings.{reads_in_turns}
+use Rattle.vte.proofs.replays.Standings.{reads_in_turns}
 use Rattle.vte.specs.declared.ansi.growing_text.GrowingText.{GrowingText}
 use Rattle.vte.specs.declared.ansi.long_processor.LongProcessor.{LongProcessor}
 use Rattle.vte.proofs.turns.Slices.{some_grow}

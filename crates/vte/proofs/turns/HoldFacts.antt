@@ -5,8 +5,8 @@ use Rattle.vte.proofs.Common.{length-append, arith, cases_Bool, cases_lt, falseâ
 use Rattle.vte.proofs.Common.{TimeoutMeaning, AllowsOnly, IsSteady, begin_count, IsOutsideUpdate, IsInsideUpdate, Meaning, set_times}
 use Rattle.vte.proofs.Common.{update_nanos, HoldsWellAt, begin_update, held_begin_count, after_last_end, from_begin, last_part, State, TakesTurns, stop, begin_front, open_turn, release}
 use Rattle.vte.proofs.Common.{extend, hold_turn, turn, done, turns, most_held, ap, append-nil}
-use Rattle.vte.proofs.replays.EachOnce.{stop_if_due_none}
-use Rattle.vte.proofs.turns.Fronts.{is_front}
+use Rattle.vte.proofs.turns.EachOnce.{stop_if_due_none}
+use Rattle.vte.proofs.updates.Fronts.{is_front}
 use Rattle.vte.proofs.turns.Kinds.{holds_all, holds_rest, is_held, is_stopped, stop_if_due, turn_holds, turn_parses}
 use Rattle.vte.proofs.updates.Sequences.{StaysHeld, cases_Option, begins_with-append, stays_held, suffix-length}
 

@@ -6,8 +6,8 @@ use Rattle.vte.proofs.Common.{◌∙◌, arith, length-append, length-drop, appe
 use Rattle.vte.proofs.Common.{take-append-drop, take_all, take_at, added, IsSteady, begin_count, IsOutsideUpdate, Meaning, HoldsWellAt, Halted, IsAtBegin, IsOpenAt, Opened}
 use Rattle.vte.proofs.Common.{TakesAllTurns, OpenTurn, OpenTurnHalts, State, TakesSome, TakesTurns, begin_front, between, done, kind_of, open_turn, parse, turn, turns, within}
 use Rattle.vte.proofs.performing.CallLists.{after-append, added_calls-append, added_calls-nothing, set_times-add}
-use Rattle.vte.proofs.replays.EachOnce.{Progresses, grows_on, stop_if_due_grows, stop_if_due_none, parse_grows, turns_grow}
-use Rattle.vte.proofs.turns.Fronts.{begins_in, front_after, front_is_all, front_of_more, front_some, none_begin, none_begin_in}
+use Rattle.vte.proofs.turns.EachOnce.{Progresses, grows_on, stop_if_due_grows, stop_if_due_none, parse_grows, turns_grow}
+use Rattle.vte.proofs.updates.Fronts.{begins_in, front_after, front_is_all, front_of_more, front_some, none_begin, none_begin_in}
 use Rattle.vte.proofs.turns.Kinds.{OpensAndHalts, opens_first, stop_if_due, turn_parses}
 use Rattle.vte.proofs.turns.HoldFacts.{stop_if_due_outside, taken_well}
 

@@ -3,7 +3,7 @@ use Rattle.std.specs.Prelude.{◌≡◌, ℕ, ◌-◌, Option, Some, None, List,
 use Rattle.vte.specs.ProcessorCalls.{held_of}
 use Rattle.vte.specs.Synchronized.{after_last_end, held_begin_count, from_begin, last_part}
 use Rattle.vte.specs.declared.ansi.hold.Hold.{Hold}
-use Rattle.vte.specs.declared.ansi.release.Added.{Added}
+use Rattle.vte.specs.declared.ansi.release.Release.{Release}
 
 -- The bytes before the held ones, which the last turn released.
 abbrev pub released_of : {A : Type 0} → Hold A → List ℕ
@@ -25,7 +25,7 @@ pub record IsEnd (held more text : List ℕ) (start : ℕ) : Type 0 where
   pub is : text ≡ drop start (held ++ more)
 
 -- The result of adding the last `new` of these bytes to the others.
-pub record Adds (bytes : List ℕ) (new : ℕ) (added : Added) : Type 0 where
+pub record Adds (bytes : List ℕ) (new : ℕ) (added : Release) : Type 0 where
   pub begins : added.begins ≡ held_begin_count new (last_part bytes)
   pub released : added.released ≡ length bytes - length (still_held bytes)
 

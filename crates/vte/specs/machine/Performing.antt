@@ -65,7 +65,7 @@ pub record HasStopped {P V W : Type 0} (reading : ParserMeaning P) (limit : Opti
     (step : PerformerValue V W → Event → PerformerValue V W) (next : P)
     (old new : PerformerValue V W)
     (stream bytes : List ℕ) (read : ℕ) : Type 0 where
-  pub stops : StopsExactly step (λ lent. lent.terminated) old new limit stream bytes read
+  pub stops : StopsExactly step (λ lent. lent.terminated) old limit stream bytes new read
   pub fits : All (FitsText old.room) (added limit stream bytes)
   pub reads : reading.has_read next (stream_at stream bytes read)
 

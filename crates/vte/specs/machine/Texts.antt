@@ -11,9 +11,9 @@ parts_left separator None = []
 parts_left separator (Some text) = parts_of separator text.now
 
 -- Every text but the first is preceded by `;`.
-abbrev pub with_separator : Bool → List ℕ → List ℕ
-with_separator true text = text
-with_separator false text = 0x3b ∷ text
+abbrev pub after_separator : Bool → List ℕ → List ℕ
+after_separator true text = text
+after_separator false text = 0x3b ∷ text
 
 -- All bytes, and a separator for each piece.
 abbrev pub joined_size : List (List ℕ) → ℕ

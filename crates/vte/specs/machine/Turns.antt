@@ -8,24 +8,24 @@ use Rattle.vte.specs.Memory.{HasMemory, KeepsMemory, TurnsMeaning}
 use Rattle.vte.specs.Processor.{Meaning, State, begin_front, open_turn, parse, turn}
 use Rattle.vte.specs.ProcessorCalls.{IsAt}
 use Rattle.vte.specs.Refusal.{TakesSome}
-use Rattle.vte.specs.declared.ansi.performer.ProcessorState.{ProcessorState}
+use Rattle.vte.specs.declared.ansi.performer.PerformerState.{PerformerState}
 use Rattle.vte.specs.declared.ansi.turns.Turns.{Turns}
 
 -- The parser, the state lent to it and the handler's value are as the state says, whatever is held.
 pub record IsParsed {P B T V W : Type 0} (parts : TurnsMeaning P B T W) (parser : P)
-    (lent : ProcessorState T B) (value : V) (s : State V W) : Type 0 where
+    (lent : PerformerState T B) (value : V) (s : State V W) : Type 0 where
   pub has_parsed : HasParsed parts parser lent s.parsed s.timeout
   pub handler_is : value ≡ s.handler
 
 -- `IsParsed`, and there is memory for `count` bytes.
 pub record IsParsedWithRoom {P B T V W : Type 0} (parts : TurnsMeaning P B T W) (parser : P)
-    (lent : ProcessorState T B) (value : V) (s : State V W) (count : ℕ) : Type 0 where
+    (lent : PerformerState T B) (value : V) (s : State V W) (count : ℕ) : Type 0 where
   pub is_parsed : IsParsed parts parser lent value s
   pub room : parts.reading.has_memory parser (parts.room_of lent.text) s.parsed count
 
 -- `IsParsed`, with the memory that was there before.
 pub record IsParsedOn {P B T V W : Type 0} (parts : TurnsMeaning P B T W) (parser : P)
-    (lent : ProcessorState T B) (next : P) (back : ProcessorState T B) (value : V) (s : State V W)
+    (lent : PerformerState T B) (next : P) (back : PerformerState T B) (value : V) (s : State V W)
     : Type 0 where
   pub is_parsed : IsParsed parts next back value s
   pub memory : KeepsMemory (parts.reading.has_memory parser (parts.room_of lent.text))

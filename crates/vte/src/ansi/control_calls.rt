@@ -14,7 +14,7 @@ use crate::ansi::input::InputAs;
 use crate::ansi::numbers::{NumberIterator, first_number};
 use crate::ansi::rendition::perform_attributes;
 use crate::ansi::values::{
-    character_path, keyboard_behavior, keyboard_modes, scrolling_bottom, update_mode,
+    character_path, keyboard_behavior, keyboard_modes, scrolling_bottom, scp_update_mode,
 };
 use vte_core::Params;
 use vte_handler::Handler;
@@ -54,7 +54,7 @@ pub(crate) fn perform_control<H: InputAs<G>, G>(
         ([b' '], 'q') => set_cursor_style(handler, numbers.next_or(0)),
         ([b' '], 'k') => {
             let path = character_path(numbers.next_or(0));
-            let update = update_mode(numbers.next_or(0));
+            let update = scp_update_mode(numbers.next_or(0));
             if let (Some(path), Some(update)) = (path, update) {
                 handler.set_scp(path, update);
             }

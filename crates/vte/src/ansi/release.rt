@@ -10,7 +10,7 @@ const ESCAPE: u8 = 0x1b;
 
 /// What is found when bytes are added to a hold.
 #[derive(Clone, Copy)]
-pub(crate) struct Added {
+pub(crate) struct Release {
     /// How many updates begin among the added bytes, after the last one that ends.
     pub(crate) begins: usize,
     /// How many bytes are released: none if no update ends, otherwise those before the next update,
@@ -21,7 +21,7 @@ pub(crate) struct Added {
 /// Finds what a hold releases, given its end, from a position on: the new bytes, and at most seven
 /// before them. No update ends among the older bytes, so it is enough to search these, backward,
 /// down to the last end-update.
-pub(crate) fn find_release(text: &[u8], start: usize) -> Added
+pub(crate) fn find_release(text: &[u8], start: usize) -> Release
     requires { start + length text.now < 2 ^ 64 }
     ensures { (held more : List ℕ) → IsEnd held more text.now start → after_last_end held ≡ None
         → Adds (held ++ more) (length more) result }
@@ -39,11 +39,11 @@ pub(crate) fn find_release(text: &[u8], start: usize) -> Added
             begins += 1;
         } else if ends_update(sequence) {
             let released = begin;
-            return Added { begins, released };
+            return Release { begins, released };
         }
     }
     let released = 0;
-    Added { begins, released }
+    Release { begins, released }
 }
 
 /// Returns whether the text starts with a begin-update.

@@ -10,7 +10,7 @@ ghost use Rattle.vte_handler.specs.Timeout.{timeout_meaning};
 
 use crate::ansi::hold::{Hold, MOST_HELD};
 use crate::ansi::parsing::{EventParser, ParseAs, parse_all, parse_until_begin};
-use crate::ansi::performer::{ProcessorState, UPDATE_TIMEOUT_MILLIS};
+use crate::ansi::performer::{PerformerState, UPDATE_TIMEOUT_MILLIS};
 use crate::ansi::text_buffer::TextBuffer;
 use std::alloc::Allocator;
 use std::time::Duration;
@@ -27,7 +27,7 @@ const SLICE: usize = 65_536;
 pub(crate) struct Turns<P: Drop, B: Drop, T: Drop, A: Allocator> {
     pub(crate) parser: P,
     pub(crate) hold: Hold<A>,
-    pub(crate) state: ProcessorState<T, B>,
+    pub(crate) state: PerformerState<T, B>,
 }
 
 impl<P: EventParser + Drop, B: TextBuffer + Drop, T: Timeout + Drop, A: Allocator> Turns<
@@ -50,7 +50,7 @@ impl<P: EventParser + Drop, B: TextBuffer + Drop, T: Timeout + Drop, A: Allocato
             Ok(hold) => Ok(Turns {
                 parser,
                 hold,
-                state: ProcessorState {
+                state: PerformerState {
                     preceding_char: None,
                     text,
                     timeout,

@@ -1,7 +1,7 @@
 //! What the numbers of control sequences select.
 ghost use Rattle.std.specs.Prelude.{◌≡◌};
 ghost use Rattle.vte_types.specs.Rows.{entry_of};
-ghost use Rattle.vte.specs.Values.{behavior_of, bottom_of, keyboard_modes as modes_of, path_rows, update_rows};
+ghost use Rattle.vte.specs.Values.{behavior_of, bottom_of, keyboard_modes as modes_of, path_rows, scp_update_rows};
 
 use vte_types::{KeyboardModes, KeyboardModesApplyBehavior, ScpCharPath, ScpUpdateMode};
 
@@ -46,8 +46,8 @@ pub(crate) fn character_path(number: u16) -> Option<ScpCharPath>
 }
 
 /// Returns how what is shown follows the path, the second selection of SCP.
-pub(crate) fn update_mode(number: u16) -> Option<ScpUpdateMode>
-    ensures { result ≡ entry_of update_rows number }
+pub(crate) fn scp_update_mode(number: u16) -> Option<ScpUpdateMode>
+    ensures { result ≡ entry_of scp_update_rows number }
 {
     match number {
         0 => Some(ScpUpdateMode::ImplementationDependant),

@@ -1,7 +1,7 @@
 -- What the tests of a byte's class say together. All by cases of the class, of which most are absurd.
 use Rattle.vte_core.proofs.Common.{◌≡◌, ℕ, true, false, eqb, refl, arith, nat_tests, Class, Control, Cancel, Intermediate, Digit, Colon, Semicolon, Marker, Final, Delete, High, class_of, is_cancel, is_control, is_device_data, is_final, is_head, is_intermediate, dispatches_escape, ends_all, ends_data, IsCommandData, Bool, List, [], ◌∷◌, ◌++◌, is_parameter_text, ends_head, AreInClass}
 use Rattle.vte_core.specs.Class.{Escape}
-use Rattle.vte_core.proofs.shapes.PlainKeys.{is_dropped, is_dropped_in_head}
+use Rattle.vte_core.proofs.bytes.PlainKeys.{is_dropped, is_dropped_in_head}
 
 -- ---- texts of bytes of the same classes join
 

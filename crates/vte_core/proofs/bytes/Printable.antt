@@ -1,9 +1,9 @@
 -- The text of runs: bytes of ASCII, or a character, are well-formed text whose events are theirs, and two runs one
 -- after another are a run. By induction over the bytes.
-use Rattle.vte_core.proofs.Common.{◌≡◌, ℕ, ◌+◌, ◌-◌, ◌<◌, ◌≤◌, Bool, true, false, ◌&&◌, not, List, [], ◌∷◌, ◌++◌, map, length, get_or, take, drop, refl, sym, ap, subst, ◌∙◌, arith, and_right, nat_tests, get_or-drop, All-append, All-nil, All-cons, All, slice_index, IsAscii, chars, Print, IsPrinted, ArePrinted, AreRun, IsRun, from_to, append-nil, encode, IsScalar, after, Event, is_in}
+use Rattle.vte_core.proofs.Common.{◌≡◌, ℕ, ◌+◌, ◌-◌, ◌<◌, ◌≤◌, Bool, true, false, ◌&&◌, not, List, [], ◌∷◌, ◌++◌, map, length, get_or, take, drop, refl, sym, ap, subst, ◌∙◌, arith, and_right, nat_tests, get_or-drop, All-append, All-nil, All-cons, All, slice_index, IsAscii, chars, Print, IsPrinted, ArePrinted, IsUtf8Run, IsRun, from_to, append-nil, encode, IsScalar, after, Event, is_in}
 use Rattle.vte_core.proofs.Common.{is_control_character, is_layout, StaysInRun, run_event}
 use Rattle.std.proofs.Common.{take-add}
-use Rattle.vte_core.proofs.bytes.Between.{one_byte}
+use Rattle.vte_core.proofs.bytes.EachLemmas.{one_byte}
 use Rattle.std.proofs.lemmas.List.{length-take, get_or-take}
 use Rattle.std.proofs.lemmas.List.Elements.{All-from_get_or}
 use Rattle.std.proofs.lemmas.Str.Ascii.{IsAscii-cons, IsAscii-from_reads, IsAscii-nil}
@@ -42,14 +42,14 @@ plain-stays keeps b p =
 -- ---- ASCII
 
 run_bytes : (keeps : Bool) (bytes : List ℕ) → IsAscii bytes → All (StaysInRun keeps) bytes
-    → AreRun keeps bytes
+    → IsUtf8Run keeps bytes
 run_bytes keeps bytes a stay =
     record {
       utf8 = IsUtf8-from_ascii bytes a;
       plain = subst (All (StaysInRun keeps)) (sym (chars-IsAscii bytes a)) stay;
     }
 
-pub printable-ascii : (keeps : Bool) (bytes : List ℕ) (n : ℕ) → ArePrinted bytes 0 n → AreRun keeps (take n bytes)
+pub printable-ascii : (keeps : Bool) (bytes : List ℕ) (n : ℕ) → ArePrinted bytes 0 n → IsUtf8Run keeps (take n bytes)
 printable-ascii keeps bytes n are =
     let printed : (k : ℕ) → k < length (take n bytes) → IsPrinted (get_or (take n bytes) k 0) = λ k l.
     let below : k < n = omega (arith, l, length-take n bytes) in
@@ -58,7 +58,7 @@ printable-ascii keeps bytes n are =
     (IsAscii-from_reads (take n bytes) (length (take n bytes)) (omega arith) (λ k l. (printed k l).1))
     (All-from_get_or (StaysInRun keeps) (take n bytes) 0 (λ k l. plain-stays keeps _ (printed k l)))
 
-pub printable-nil : (keeps : Bool) → AreRun keeps []
+pub printable-nil : (keeps : Bool) → IsUtf8Run keeps []
 printable-nil keeps =
     record {
       utf8 = IsUtf8-nil;
@@ -66,7 +66,8 @@ printable-nil keeps =
           subst (All (StaysInRun keeps)) (sym chars-nil) (All-nil (StaysInRun keeps));
     }
 
-pub printable-append : (keeps : Bool) (xs ys : List ℕ) → AreRun keeps xs → AreRun keeps ys → AreRun keeps (xs ++ ys)
+pub printable-append : (keeps : Bool) (xs ys : List ℕ) → IsUtf8Run keeps xs → IsUtf8Run keeps ys
+    → IsUtf8Run keeps (xs ++ ys)
 printable-append keeps xs ys a b = record {
   utf8 = IsUtf8-append xs ys a.utf8 b.utf8;
   plain =
@@ -106,14 +107,14 @@ chars-one bytes from b within is printed =
 pub run-layout : (bytes : List ℕ) (from b : ℕ) → from < length bytes → b ≡ slice_index bytes from → is_layout b ≡ true
     → IsRun true bytes from (from + 1)
 run-layout bytes from b within is layout =
-    subst (AreRun true) (sym (one_byte bytes from b within is))
+    subst (IsUtf8Run true) (sym (one_byte bytes from b within is))
     (run_bytes true (b ∷ []) (IsAscii-cons b [] (layout-is_ascii b layout) IsAscii-nil)
     (All-cons (StaysInRun true) b [] (layout-stays b layout)
     (All-nil (StaysInRun true))))
 
 pub run-none : (keeps : Bool) (bytes : List ℕ) (from : ℕ) → IsRun keeps bytes from from
 run-none keeps bytes from =
-    subst (λ n. AreRun keeps (take n (drop from bytes))) (let e : 0 ≡ from - from = omega arith in e)
+    subst (λ n. IsUtf8Run keeps (take n (drop from bytes))) (let e : 0 ≡ from - from = omega arith in e)
     (printable-nil keeps)
 
 pub run-ascii : (keeps : Bool) (bytes : List ℕ) (from to : ℕ) → ArePrinted bytes from to → IsRun keeps bytes from to
@@ -128,5 +129,5 @@ run-append keeps bytes i j k first second a b =
     let whole : take (k - i) (drop i bytes) ≡ take (j - i) (drop i bytes) ++ take (k - j) (drop j bytes) =
     ap (λ n. take n (drop i bytes)) (let e : k - i ≡ j - i + (k - j) = omega (arith, first, second) in e)
     ∙ take-add (j - i) (k - j) (drop i bytes) ∙ ap (λ x. take (j - i) (drop i bytes) ++ take (k - j) x) same in
-    subst (AreRun keeps) (sym whole)
+    subst (IsUtf8Run keeps) (sym whole)
     (printable-append keeps (take (j - i) (drop i bytes)) (take (k - j) (drop j bytes)) a b)

@@ -1,16 +1,16 @@
 -- What is told from place to place. A call is followed with a performer that keeps all events; so what any performer
 -- receives is a function of the bytes, and a stretch that tells no run is known by its events.
 use Rattle.vte_core.proofs.Common.{◌≡◌, ℕ, ◌+◌, ◌-◌, ◌<◌, inl, inr, false, Option, List, [], ◌∷◌, ◌++◌, length, take, refl, ap, sym, ◌∙◌, append_assoc, append-nil, arith, cases_Bool, slice_index, false≢true, All, All-append, All-cons, All-nil, Event, Print, replacement, after, added, told_before, stream_at, breaks_at, State, Text, DeviceData, Machine, StandsBy, StandsAt, StandsInside, Reads, ChunkCall, chunk_call}
-use Rattle.vte_core.proofs.Common.{Place, InText, InData, IsAfter, AddsOthers, IsOther}
+use Rattle.vte_core.proofs.Common.{Place, InText, InData, IsAfter, AddsQuietly, IsQuietEvent}
 use Rattle.vte_core.specs.machine.Completes.{AddsCharacter}
 use Rattle.vte_core.specs.machine.Progress.{HasProgress}
 use Rattle.vte_core.specs.machine.ToRun.{IsQuietIn}
-use Rattle.vte_core.proofs.calls.Places.{run-added}
+use Rattle.vte_core.proofs.calls.Places.{stretch-added}
 use Rattle.vte_core.proofs.fields.PlaceOfState.{IsPlace}
 use Rattle.vte_core.proofs.places.PlaceSteps.{steps}
 use Rattle.vte_core.proofs.places.TextSteps.{AreOthers, IsQuiet}
-use Rattle.vte_core.proofs.stops.Told.{told-between, told-broken}
-use Rattle.vte_core.proofs.bytes.Between.{one_byte}
+use Rattle.vte_core.proofs.shapes.Told.{told-settled, told-broken}
+use Rattle.vte_core.proofs.bytes.EachLemmas.{one_byte}
 use Rattle.vte_core.proofs.streams.After.{added-reads}
 
 -- ---- a performer that keeps all events
@@ -38,7 +38,7 @@ kept-is {given} c = c.performed ∙ after-keep [] given
 module _ {V B : Type 0} {call : ChunkCall V} {old value : V} {stream : List ℕ} {i : ℕ} {parser : Machine B} where
   pub keeps-at : StandsAt call old value stream i parser
       → StandsAt (keeping call.limit call.bytes) [] (told_before call.limit stream call.bytes i) stream i parser
-  keeps-at s = record { place = s.place; stands = s.stands; between = s.between; has_come = came-kept s.has_come }
+  keeps-at s = record { place = s.place; stands = s.stands; settled = s.settled; has_come = came-kept s.has_come }
 
   pub keeps-inside : StandsInside call old value stream i parser
       → StandsInside (keeping call.limit call.bytes) [] (added call.limit stream (take i call.bytes)) stream i parser
@@ -55,10 +55,11 @@ added-inside s = kept-is s.has_come
 
 -- ---- a byte outside of text and data
 
-all_others : (events : List Event) → AreOthers events → All IsOther events
-all_others [] are = All-nil IsOther
-all_others (event ∷ []) are = All-cons IsOther event [] are (All-nil IsOther)
-all_others (event ∷ next ∷ events) are = All-cons IsOther event (next ∷ events) are.0 (all_others (next ∷ events) are.1)
+all_others : (events : List Event) → AreOthers events → All IsQuietEvent events
+all_others [] are = All-nil IsQuietEvent
+all_others (event ∷ []) are = All-cons IsQuietEvent event [] are (All-nil IsQuietEvent)
+all_others (event ∷ next ∷ events) are = All-cons IsQuietEvent event (next ∷ events) are.0
+    (all_others (next ∷ events) are.1)
 
 pub quiet-place : {B : Type 0} (limit : Option ℕ) (state : State) (parser : Machine B) (place : Place) (b : ℕ)
     → IsQuietIn state b → StandsBy limit state parser place → IsQuiet place b
@@ -72,15 +73,16 @@ quiet-place limit _ parser _ b quiet s = tt
 
 module _ {limit : Option ℕ} {stream bytes : List ℕ} {i : ℕ} where
   pub adds-same : {j : ℕ} → told_before limit stream bytes i ≡ told_before limit stream bytes j
-      → AddsOthers limit stream bytes i j
+      → AddsQuietly limit stream bytes i j
   adds-same e =
-      record { events = []; are = All-nil IsOther; parts = sym e ∙ sym (append-nil (told_before limit stream bytes i)) }
+      record { events = []; are = All-nil IsQuietEvent; parts = sym e
+          ∙ sym (append-nil (told_before limit stream bytes i)) }
 
-  pub adds-then : {j k : ℕ} → AddsOthers limit stream bytes i j
-      → AddsOthers limit stream bytes j k → AddsOthers limit stream bytes i k
+  pub adds-then : {j k : ℕ} → AddsQuietly limit stream bytes i j
+      → AddsQuietly limit stream bytes j k → AddsQuietly limit stream bytes i k
   adds-then a b = record {
     events = a.events ++ b.events;
-    are = All-append IsOther a.events b.events a.are b.are;
+    are = All-append IsQuietEvent a.events b.events a.are b.are;
     parts =
         b.parts ∙ ap (λ (es : List Event). es ++ b.events) a.parts
         ∙ append_assoc (told_before limit stream bytes i) a.events b.events;
@@ -89,12 +91,12 @@ module _ {limit : Option ℕ} {stream bytes : List ℕ} {i : ℕ} where
   pub adds-reads : {b : ℕ} {place next : Place} {these : List Event}
       → i < length bytes → b ≡ slice_index bytes i
       → IsAfter limit (stream_at stream bytes i) place → Reads limit place (b ∷ []) these next → IsPlace next
-      → All IsOther these → AddsOthers limit stream bytes i (i + 1)
+      → All IsQuietEvent these → AddsQuietly limit stream bytes i (i + 1)
   adds-reads {b} {place} {next} {these} within is a r is_place are =
       let one = one_byte bytes i b within is in
       let before : List Event = told_before limit stream bytes i in
       let all : added limit stream (take (i + 1) bytes) ≡ before ++ these =
-      run-added limit stream bytes i (i + 1) (omega arith)
+      stretch-added limit stream bytes i (i + 1) (omega arith)
       ∙ ap (λ (es : List Event). before ++ es)
       (ap (added limit (stream_at stream bytes i)) one
       ∙ added-reads limit (stream_at stream bytes i) (b ∷ []) place next these a r is_place) in
@@ -102,25 +104,25 @@ module _ {limit : Option ℕ} {stream bytes : List ℕ} {i : ℕ} where
         | inl broken ↦ record {
           events = these ++ Print replacement ∷ [];
           are =
-              All-append IsOther these (Print replacement ∷ []) are
-              (All-cons IsOther (Print replacement) [] refl (All-nil IsOther));
+              All-append IsQuietEvent these (Print replacement ∷ []) are
+              (All-cons IsQuietEvent (Print replacement) [] refl (All-nil IsQuietEvent));
           parts =
               told-broken limit stream bytes (i + 1) broken ∙ ap (λ (es : List Event). es ++ Print replacement ∷ []) all
               ∙ append_assoc before these (Print replacement ∷ []);
         }
-        | inr whole ↦ record { events = these; are = are; parts = told-between limit stream bytes (i + 1) whole ∙ all }
+        | inr whole ↦ record { events = these; are = are; parts = told-settled limit stream bytes (i + 1) whole ∙ all }
       ]
 
   pub adds-quiet : {b : ℕ} {place : Place} → i < length bytes
       → b ≡ slice_index bytes i → IsAfter limit (stream_at stream bytes i) place
-      → IsPlace place → IsQuiet place b → AddsOthers limit stream bytes i (i + 1)
+      → IsPlace place → IsQuiet place b → AddsQuietly limit stream bytes i (i + 1)
   adds-quiet {b} {place} within is a is_place quiet =
       let s = steps limit place b is_place in
-      adds-reads within is a s.reads s.is_place (all_others s.told (s.others quiet))
+      adds-reads within is a s.reads s.is_place (all_others s.told (s.quietly quiet))
 
   -- what is told of a character whose first byte told nothing
   pub adds-character : {begun : List ℕ} {j : ℕ} (a : AddsCharacter limit stream begun bytes (i + 1) j)
-      → told_before limit stream bytes i ≡ added limit stream (take (i + 1) bytes) → All IsOther a.events
-      → AddsOthers limit stream bytes i j
+      → told_before limit stream bytes i ≡ added limit stream (take (i + 1) bytes) → All IsQuietEvent a.events
+      → AddsQuietly limit stream bytes i j
   adds-character a silent are =
       record { events = a.events; are = are; parts = a.parts ∙ ap (λ (es : List Event). es ++ a.events) (sym silent) }

@@ -1,12 +1,12 @@
 -- A byte that a state's function reads: the state says at which place the parser is, so what the byte does after that
 -- place is what the function must have done.
-use Rattle.vte_core.proofs.Common.{◌≡◌, ℕ, ◌+◌, ◌<◌, false, Option, List, [], ◌∷◌, sym, subst, length, slice_index, class_of, ends_all, Machine, State, Escape, EscapeIntermediate, DeviceData, SystemCommand, IgnoredString, Event, Advances, MayGoOn, IsSettled, Leads, Reads, HoldsIntermediates, Stands, StandsBy, TakesBytes, Place, AtEscape, InEscape, InData, InSystemCommand, InIgnoredString, IsBetween, closing_events_at, Keeps, TakesByte, ChunkCall}
+use Rattle.vte_core.proofs.Common.{◌≡◌, ℕ, ◌+◌, ◌<◌, false, Option, List, [], ◌∷◌, sym, subst, length, slice_index, class_of, ends_all, Machine, State, Escape, EscapeIntermediate, DeviceData, SystemCommand, IgnoredString, Event, Advances, MayGoOn, IsSettled, Leads, Reads, HoldsIntermediates, Stands, StandsBy, TakesBytes, Place, AtEscape, InEscape, InData, InSystemCommand, InIgnoredString, IsSettledPlace, closing_events_at, HoldsItems, TakesByte, ChunkCall}
 use Rattle.vte_core.proofs.Common.{after, escape}
 use Rattle.vte_core.proofs.calls.Stretches.{advances-byte, advances-if}
 use Rattle.vte_core.specs.machine.ToRun.{IsQuietIn}
 use Rattle.vte_core.proofs.fields.PlaceOfState.{stands-by, stands-in, stands-place}
 use Rattle.vte_core.proofs.streams.Performing.{takes-performs}
-use Rattle.vte_core.proofs.streams.StreamLemmas.{no_escape, reads-escape}
+use Rattle.vte_core.proofs.places.StreamLemmas.{no_escape, reads-escape}
 
 module _ {V B : Type 0} {step : V → Event → V} {old new : V} {limit : Option ℕ} where
   pub taken : {place : Place} {byte : ℕ} {parser : Machine B} (told : List Event) (next : Place)
@@ -19,9 +19,9 @@ module _ {V B : Type 0} {step : V → Event → V} {old new : V} {limit : Option
   pub performs-in : {b : ℕ} {state : State} {parser next : Machine B}
       → parser.state ≡ state → ends_all (class_of b) ≡ false
       → ((place : Place) → StandsBy limit state parser place → TakesByte step old new limit place b next)
-      → (place : Place) → Stands limit parser place → IsBetween place
+      → (place : Place) → Stands limit parser place → IsSettledPlace place
       → TakesBytes step old new limit place (b ∷ []) next
-  performs-in {b} {next} e ordinary takes place s between =
+  performs-in {b} {next} e ordinary takes place s settled =
       takes-performs step old new limit place b next (no_escape b ordinary) (takes place (stands-in e s))
 
   -- ESC closes what is open at a place
@@ -71,7 +71,7 @@ module _ {V B : Type 0} {step : V → Event → V} {old new : V} {limit : Option
   in_data takes InData s = takes
   in_data takes _ s = absurd s
 
-  pub in_system_command : ((items : List ℕ) → Keeps limit parser.command items
+  pub in_system_command : ((items : List ℕ) → HoldsItems limit parser.command items
       → TakesByte step old new limit (InSystemCommand items) b next)
       → (place : Place) → StandsBy limit SystemCommand parser place → TakesByte step old new limit place b next
   in_system_command takes (InSystemCommand items) s = takes items s

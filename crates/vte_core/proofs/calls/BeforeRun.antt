@@ -1,31 +1,31 @@
 -- What a call tells before a run is told by no run: nothing at its start, then what an open character is, then
 -- stretches of which each tells none.
-use Rattle.vte_core.proofs.Common.{◌≡◌, ℕ, inl, inr, Option, List, [], ◌++◌, ap, sym, subst, ◌∙◌, All, All-append, All-nil, Event, Machine, HasReadUnder, IsSettled, told_before, open_end, AddsOthers, IsOther, TellsOthers, IsBeyondAscii}
+use Rattle.vte_core.proofs.Common.{◌≡◌, ℕ, inl, inr, Option, List, [], ◌++◌, ap, sym, subst, ◌∙◌, All, All-append, All-nil, Event, Machine, HasReadUnder, IsSettled, told_before, open_end, AddsQuietly, IsQuietEvent, TellsQuietly, IsBeyondAscii}
 use Rattle.vte_core.specs.machine.Completes.{AddsCharacter}
 use Rattle.vte_core.proofs.calls.Ends.{starts-at}
 use Rattle.vte_core.proofs.calls.AddedEvents.{keeping, told-at}
 use Rattle.vte_core.proofs.streams.After.{added-nothing}
-use Rattle.vte_core.proofs.streams.Others.{beyond_ascii, beyond_ascii-all, beyond_ascii-character}
+use Rattle.vte_core.proofs.streams.QuietEvents.{beyond_ascii, beyond_ascii-all, beyond_ascii-character}
 
 -- nothing, at its start
 pub tells-nothing : {B : Type 0} {limit : Option ℕ} {stream bytes : List ℕ} {parser : Machine B}
-    → IsSettled parser.state → HasReadUnder limit parser stream → TellsOthers limit stream bytes 0
+    → IsSettled parser.state → HasReadUnder limit parser stream → TellsQuietly limit stream bytes 0
 tells-nothing {limit} {stream} {bytes} settled h =
     let none : [] ≡ told_before limit stream bytes 0 =
     told-at (starts-at {call = keeping limit bytes} settled h) in
     record {
-      others = λ _. subst (All IsOther) none (All-nil IsOther);
+      quietly = λ _. subst (All IsQuietEvent) none (All-nil IsQuietEvent);
       opened = subst (All IsBeyondAscii) none (All-nil IsBeyondAscii);
     }
 
 -- what an open character is
 pub tells-open : {limit : Option ℕ} {stream begun bytes : List ℕ} {j : ℕ} → AddsCharacter limit stream begun bytes 0 j
-    → (open_end stream ≡ [] → ⊥) → TellsOthers limit stream bytes j
+    → (open_end stream ≡ [] → ⊥) → TellsQuietly limit stream bytes j
 tells-open {limit} {stream} {bytes} {j} a opened =
     let all : told_before limit stream bytes j ≡ a.events =
     a.parts ∙ ap (λ (es : List Event). es ++ a.events) (added-nothing limit stream) in
     record {
-      others = λ none. absurd (opened none);
+      quietly = λ none. absurd (opened none);
       opened = subst (All IsBeyondAscii) (sym all) (elim a.are [
         | inl others ↦ beyond_ascii-all a.events others
         | inr whole ↦
@@ -35,12 +35,13 @@ tells-open {limit} {stream} {bytes} {j} a opened =
     }
 
 -- what is told up to place i, and what follows up to place j
-pub tells-more : {limit : Option ℕ} {stream bytes : List ℕ} {i j : ℕ} → TellsOthers limit stream bytes i
-    → AddsOthers limit stream bytes i j → TellsOthers limit stream bytes j
+pub tells-more : {limit : Option ℕ} {stream bytes : List ℕ} {i j : ℕ} → TellsQuietly limit stream bytes i
+    → AddsQuietly limit stream bytes i j → TellsQuietly limit stream bytes j
 tells-more {limit} {stream} {bytes} {i} t a = record {
-  others =
+  quietly =
       λ none.
-      subst (All IsOther) (sym a.parts) (All-append IsOther (told_before limit stream bytes i) a.events (t.others none)
+      subst (All IsQuietEvent) (sym a.parts)
+          (All-append IsQuietEvent (told_before limit stream bytes i) a.events (t.quietly none)
       a.are);
   opened =
       subst (All IsBeyondAscii) (sym a.parts)

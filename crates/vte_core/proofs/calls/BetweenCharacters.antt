@@ -1,7 +1,7 @@
 -- A byte between characters: it is one (`performs-printed`), a control or malformed (`performs-single`), or the first
 -- of one (`performs-opened`). What the code does is what `places/PlaceLeads` says of the byte, and the parser is at the
 -- next place. A single byte tells nothing that a run would (`advances-single`).
-use Rattle.vte_core.proofs.Common.{◌≡◌, ◌≢◌, ℕ, ◌+◌, ◌<◌, ◌≤◌, inl, inr, true, false, Option, List, [], ◌∷◌, length, refl, ap, sym, subst, ◌∙◌, arith, cases_lt, nat_tests, slice_index, Advances, Machine, Text, Nothing, Event, Print, replacement, Stands, TakesBytes, Place, InText, IsBetween, Carries, escape, character_event, malformed_event, from_to, is_in, is_truncated, is_well_formed, Unfinished, All-cons, All-nil, IsOther, Execute, is_control_character, AddsOthers, IsAfter, stream_at, Reads, All, cases_Bool, ChunkCall}
+use Rattle.vte_core.proofs.Common.{◌≡◌, ◌≢◌, ℕ, ◌+◌, ◌<◌, ◌≤◌, inl, inr, true, false, Option, List, [], ◌∷◌, length, refl, ap, sym, subst, ◌∙◌, arith, cases_lt, nat_tests, slice_index, Advances, Machine, Text, Nothing, Event, Print, replacement, Stands, TakesBytes, Place, InText, IsSettledPlace, Carries, escape, character_event, malformed_event, from_to, is_in, is_truncated, is_well_formed, Unfinished, All-cons, All-nil, IsQuietEvent, Execute, is_control_character, AddsQuietly, IsAfter, stream_at, Reads, All, cases_Bool, ChunkCall}
 use Rattle.vte_core.specs.declared.utf8.Carried.TheVariants.{Unfinished as StillUnfinished}
 use Rattle.vte_core.proofs.bytes.CarriedLemmas.{begins_none}
 use Rattle.vte_core.proofs.bytes.FirstBytes.{ascii_alone}
@@ -11,9 +11,9 @@ use Rattle.vte_core.proofs.calls.Stretches.{advances-byte, advances-telling, not
 use Rattle.vte_core.specs.machine.Prelude.{MayReadByte}
 use Rattle.vte_core.proofs.calls.States.{between_characters}
 use Rattle.vte_core.proofs.places.PlaceLeads.{text-lone, text-unfinished, text-whole}
-use Rattle.vte_core.proofs.streams.Others.{other_control}
+use Rattle.vte_core.proofs.streams.QuietEvents.{other_control}
 use Rattle.vte_core.proofs.calls.AddedEvents.{adds-reads}
-use Rattle.vte_core.proofs.streams.StreamLemmas.{reads-byte}
+use Rattle.vte_core.proofs.places.StreamLemmas.{reads-byte}
 
 prints : (b : ℕ) → is_in (from_to 0x20 0x7f) b ≡ true → character_event b ≡ Print b
 unfolding character_event
@@ -22,7 +22,7 @@ prints b printed = grind (arith, nat_tests)
 module _ {V B : Type 0} {step : V → Event → V} {old new : V} {limit : Option ℕ} {b : ℕ} {parser : Machine B} where
   -- a byte that is a character
   performs-whole : parser.state ≡ Text Nothing → b ≢ escape → is_well_formed (b ∷ []) ≡ true
-      → new ≡ step old (character_event b) → (place : Place) → Stands limit parser place → IsBetween place
+      → new ≡ step old (character_event b) → (place : Place) → Stands limit parser place → IsSettledPlace place
       → TakesBytes step old new limit place (b ∷ []) parser
   performs-whole e n whole performed =
       performs-begun e n
@@ -37,7 +37,7 @@ module _ {V B : Type 0} {step : V → Event → V} {old new : V} {limit : Option
   -- a byte that begins none
   performs-lone : parser.state ≡ Text Nothing → b ≢ escape
       → is_well_formed (b ∷ []) ≡ false → is_truncated (b ∷ []) ≡ false → new ≡ step old (malformed_event (b ∷ []))
-      → (place : Place) → Stands limit parser place → IsBetween place
+      → (place : Place) → Stands limit parser place → IsSettledPlace place
       → TakesBytes step old new limit place (b ∷ []) parser
   performs-lone e n whole more performed =
       performs-begun e n
@@ -51,7 +51,7 @@ module _ {V B : Type 0} {step : V → Event → V} {old new : V} {limit : Option
 
   -- a character of ASCII that is printed
   pub performs-printed : {c : ℕ} → parser.state ≡ Text Nothing → is_in (from_to 0x20 0x7f) b ≡ true → c ≡ b
-      → new ≡ step old (Print c) → (place : Place) → Stands limit parser place → IsBetween place
+      → new ≡ step old (Print c) → (place : Place) → Stands limit parser place → IsSettledPlace place
       → TakesBytes step old new limit place (b ∷ []) parser
   performs-printed e printed same told =
       let low : 0x20 ≤ b = grind (arith, nat_tests) in
@@ -63,7 +63,7 @@ module _ {V B : Type 0} {step : V → Event → V} {old new : V} {limit : Option
   pub performs-single : parser.state ≡ Text Nothing → b ≢ escape
       → is_in (from_to 0xc2 0xf4) b ≡ false → (b < 0x80 → new ≡ step old (character_event b))
       → (0x80 ≤ b → new ≡ step old (malformed_event (b ∷ []))) → (place : Place)
-      → Stands limit parser place → IsBetween place → TakesBytes step old new limit place (b ∷ []) parser
+      → Stands limit parser place → IsSettledPlace place → TakesBytes step old new limit place (b ∷ []) parser
   performs-single e n no_lead control malformed = elim (cases_lt b 0x80) [
     | inl low ↦ performs-whole e n (ascii_alone b low).is_whole (control low)
     | inr high ↦
@@ -74,7 +74,7 @@ module _ {V B : Type 0} {step : V → Event → V} {old new : V} {limit : Option
 pub performs-opened : {V B : Type 0} {step : V → Event → V} {value : V} {limit : Option ℕ} {b : ℕ} {v : Unfinished}
     {parser next : Machine B} → parser.state ≡ Text Nothing
     → b ≢ escape → Carries [] b (StillUnfinished v) → next.state ≡ Text v → (place : Place) → Stands limit parser place
-    → IsBetween place
+    → IsSettledPlace place
     → TakesBytes step value value limit place (b ∷ []) next
 performs-opened {limit} {b} {v} {next} e n carries state =
     let more : is_truncated (b ∷ []) ≡ true = rw carries.0 at carries.1 in
@@ -92,13 +92,13 @@ performs-opened {limit} {b} {v} {next} e n carries state =
 record Single (limit : Option ℕ) (b : ℕ) : Type 0 where
   told : List Event
   reads : Reads limit (InText []) (b ∷ []) told (InText [])
-  are : All IsOther told
+  are : All IsQuietEvent told
 
-malformed_other : (b : ℕ) → All IsOther (malformed_event (b ∷ []) ∷ [])
+malformed_other : (b : ℕ) → All IsQuietEvent (malformed_event (b ∷ []) ∷ [])
 unfolding malformed_event
 malformed_other b = elim (cases_Bool (is_control_character b)) [
-  | inl is ↦ rw is (All-cons IsOther (Execute b) [] tt (All-nil IsOther))
-  | inr is ↦ rw is (All-cons IsOther (Print replacement) [] refl (All-nil IsOther))
+  | inl is ↦ rw is (All-cons IsQuietEvent (Execute b) [] tt (All-nil IsQuietEvent))
+  | inr is ↦ rw is (All-cons IsQuietEvent (Print replacement) [] refl (All-nil IsQuietEvent))
 ]
 
 single : (limit : Option ℕ) (b : ℕ) → b ≢ escape → is_in (from_to 0x20 0x7f) b ≡ false
@@ -128,7 +128,7 @@ adds-single : {B : Type 0} {limit : Option ℕ} {stream bytes : List ℕ} {i b :
     → is_in (from_to 0x20 0x7f) b ≡ false → is_in (from_to 0xc2 0xf4) b ≡ false → i < length bytes
     → b ≡ slice_index bytes i
     → Stands limit parser place
-    → IsAfter limit (stream_at stream bytes i) place → AddsOthers limit stream bytes i (i + 1)
+    → IsAfter limit (stream_at stream bytes i) place → AddsQuietly limit stream bytes i (i + 1)
 adds-single {limit} {stream} {bytes} {i} {b} {place} parser e n other no_lead within is s after =
     let one = single limit b n other no_lead in
     adds-reads within is

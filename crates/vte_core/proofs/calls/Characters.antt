@@ -1,13 +1,13 @@
 -- A call inside a character, over any number of its bytes: it tells nothing while the character goes on (`GoesOn`), and
 -- then completes it (`completes-all`, `completes-whole`, `completes-broken`), a byte at a time by
 -- `calls/InsideCharacters`.
-use Rattle.vte_core.proofs.Common.{◌≡◌, ◌≢◌, ℕ, ◌+◌, ◌<◌, ◌≤◌, inl, inr, true, List, [], ◌∷◌, ◌++◌, length, refl, ap, sym, subst, ◌∙◌, arith, slice_index, Machine, Text, Nothing, One, Two, Three, Event, Print, replacement, StandsInside, bytes_of, is_open, second_range, Carries, character_event, from_to, is_in, is_truncated, is_well_formed, scalar_of, Unfinished, added, All-cons, All-nil, IsOther, append-nil, append_assoc, drop, drop_more, take, take-add, ChunkCall}
+use Rattle.vte_core.proofs.Common.{◌≡◌, ◌≢◌, ℕ, ◌+◌, ◌<◌, ◌≤◌, inl, inr, true, List, [], ◌∷◌, ◌++◌, length, refl, ap, sym, subst, ◌∙◌, arith, slice_index, Machine, Text, Nothing, One, Two, Three, Event, Print, replacement, StandsInside, bytes_of, may_continue, second_range, Carries, character_event, from_to, is_in, is_truncated, is_well_formed, scalar_of, Unfinished, added, All-cons, All-nil, IsQuietEvent, append-nil, append_assoc, drop, drop_more, take, take-add, ChunkCall}
 use Rattle.vte_core.specs.declared.utf8.Carried.TheVariants.{Unfinished as StillUnfinished, Whole, Broken}
 use Rattle.vte_core.proofs.bytes.CarriedLemmas.{second_open, third_open}
 use Rattle.vte_core.specs.machine.Completes.{Completes}
 use Rattle.vte_core.proofs.calls.InsideCharacters.{carried-broken, carried-more, carried-whole, in_text, inside-open, inside-same, some, truncated-some}
 use Rattle.vte_core.proofs.calls.Ends.{inside-all, inside-moved}
-use Rattle.vte_core.proofs.streams.Others.{longer}
+use Rattle.vte_core.proofs.streams.QuietEvents.{longer}
 use Rattle.vte_core.proofs.calls.AddedEvents.{added-inside, keeps-inside, told-at, keeping}
 use Rattle.vte_core.proofs.streams.Performing.{open_truncated}
 use Rattle.std.proofs.lemmas.List.{drop-drop}
@@ -41,10 +41,10 @@ pub record GoesOn {V B : Type 0} (call : ChunkCall V) (value : V) (i j : ℕ) (b
       → StandsInside (keeping call.limit call.bytes) [] (added call.limit stream (take i call.bytes)) stream i parser
       → StandsInside (keeping call.limit call.bytes) [] (added call.limit stream (take i call.bytes)) stream j
       (in_text next u)
-  pub more : is_open (bytes_of begun) ≡ true → is_truncated (bytes_of u) ≡ true
+  pub more : may_continue (bytes_of begun) ≡ true → is_truncated (bytes_of u) ≡ true
   pub n : ℕ
   pub far : j ≡ i + n
-  pub are : is_open (bytes_of begun) ≡ true → bytes_of u ≡ bytes_of begun ++ take n (drop i call.bytes)
+  pub are : may_continue (bytes_of begun) ≡ true → bytes_of u ≡ bytes_of begun ++ take n (drop i call.bytes)
 
 module _ {V B : Type 0} {call : ChunkCall V} {value : V} {i : ℕ} {begun : Unfinished} where
   pub goes-nowhere : (next : Machine B) → bytes_of begun ≢ [] → GoesOn call value i i begun begun next
@@ -79,12 +79,12 @@ module _ {V B : Type 0} {call : ChunkCall V} {value : V} {i : ℕ} {begun : Unfi
   completes-all goes end all = record {
     stands_at = λ old stream parser e s. inside-all (inside-moved end (goes.inside old stream parser e s)) all;
     text = λ within. absurd (omega arith);
-    others = λ old stream parser e s. record {
+    adds = λ old stream parser e s. record {
       events = [];
       parts =
           sym (told-at (inside-all (inside-moved end (goes.kept stream parser e (keeps-inside s))) all))
           ∙ sym (append-nil (added call.limit stream (take i call.bytes)));
-      are = inl (All-nil IsOther);
+      are = inl (All-nil IsQuietEvent);
     };
   }
 
@@ -97,7 +97,7 @@ module _ {V B : Type 0} {call : ChunkCall V} {value : V} {i : ℕ} {begun : Unfi
     stands_at = λ old stream parser e s. let more = goes.more (inside-open e s) in
         carried-whole refl more (carries more) state performed (goes.inside old stream parser e s) within is later;
     text = λ _. state;
-    others = λ old stream parser e s.
+    adds = λ old stream parser e s.
         let opened = inside-open e s in
         let more = goes.more opened in
         let whole = carries more in
@@ -127,7 +127,7 @@ module _ {V B : Type 0} {call : ChunkCall V} {value : V} {i : ℕ} {begun : Unfi
     stands_at = λ old stream parser e s. let more = goes.more (inside-open e s) in
         carried-broken refl more (carries more) state performed (goes.inside old stream parser e s) within is;
     text = λ _. state;
-    others = λ old stream parser e s.
+    adds = λ old stream parser e s.
         let more = goes.more (inside-open e s) in
         record {
           events = Print replacement ∷ [];
@@ -135,7 +135,7 @@ module _ {V B : Type 0} {call : ChunkCall V} {value : V} {i : ℕ} {begun : Unfi
               sym (told-at
               (carried-broken {next = next} refl more (carries more) state refl
               (goes.kept stream parser e (keeps-inside s)) within is));
-          are = inl (All-cons IsOther (Print replacement) [] refl (All-nil IsOther));
+          are = inl (All-cons IsQuietEvent (Print replacement) [] refl (All-nil IsQuietEvent));
         };
   }
 
@@ -147,9 +147,9 @@ module _ {V B : Type 0} {call : ChunkCall V} {value : V} {i : ℕ} {begun : Unfi
     stands_at =
         λ old stream begun e s. c.stands_at old stream (in_text parser u) refl (goes.inside old stream begun e s);
     text = c.text;
-    others = λ old stream begun_parser e s.
+    adds = λ old stream begun_parser e s.
         let opened = inside-open e s in
-        let told = c.others old stream (in_text parser u) refl (goes.inside old stream begun_parser e s) in
+        let told = c.adds old stream (in_text parser u) refl (goes.inside old stream begun_parser e s) in
         let silent = added-inside (goes.kept stream begun_parser e (keeps-inside s)) in
         record {
           events = told.events;

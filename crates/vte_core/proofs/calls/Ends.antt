@@ -1,22 +1,22 @@
 -- Where a call starts (`starts-*`), stops or ends (`ends-*`), and where no character is open, so that something may
 -- start (`settles`).
 use Rattle.vte_core.proofs.Common.{◌≡◌, ℕ, ◌<◌, ◌≤◌, true, Option, List, [], ◌++◌, length, refl, sym, subst, arith, Machine, State, Text, Nothing, StopsExactly, stream_at, IsSettled, ReadsUpTo, StandsAt, StandsInside, Stands, StandsBy, HasReadUnder, after, Place, InText, ChunkCall}
-use Rattle.vte_core.proofs.Common.{IsBetween, added, bytes_of, Unfinished, ComesTo}
-use Rattle.vte_core.proofs.calls.Places.{come-all, come-between, come-nowhere, come-performs, come-starts, come-to}
+use Rattle.vte_core.proofs.Common.{IsSettledPlace, added, bytes_of, Unfinished, ComesTo}
+use Rattle.vte_core.proofs.calls.Places.{come-all, come-settled, come-nowhere, come-performs, come-starts, come-to}
 use Rattle.vte_core.proofs.fields.PlaceOfState.{stands-place}
-use Rattle.vte_core.proofs.stops.Told.{stream_at-all}
+use Rattle.vte_core.proofs.shapes.Told.{stream_at-all}
 
 -- ---- between characters
 
 by_settled : {B : Type 0} (limit : Option ℕ) (state : State) (parser : Machine B) (place : Place) → IsSettled state
-    → StandsBy limit state parser place → IsBetween place
+    → StandsBy limit state parser place → IsSettledPlace place
 by_settled limit (Text Nothing) parser (InText bytes) settled s = sym s.0
 by_settled limit (Text _) parser (InText bytes) settled s = absurd settled
 by_settled limit _ parser (InText bytes) settled s = absurd s
 by_settled limit _ parser _ settled s = tt
 
 pub between-settled : {B : Type 0} {limit : Option ℕ} (parser : Machine B) → IsSettled parser.state → (place : Place)
-    → Stands limit parser place → IsBetween place
+    → Stands limit parser place → IsSettledPlace place
 between-settled {limit} parser settled place s = by_settled limit parser.state parser place settled s.by
 
 pub settled-by : (state other : State) → state ≡ other → IsSettled other → IsSettled state
@@ -36,12 +36,12 @@ module _ {V B : Type 0} {call : ChunkCall V} where
   pub settles : {old value : V} {stream : List ℕ} {i : ℕ} {parser : Machine B} → IsSettled parser.state
       → StandsInside call old value stream i parser → StandsAt call old value stream i parser
   settles {parser} settled s =
-      let between = between-settled parser settled s.place s.stands in
+      let settled = between-settled parser settled s.place s.stands in
       record {
         place = s.place;
         stands = s.stands;
-        between = λ _. between;
-        has_come = come-between (stands-place parser s.place s.stands) between s.has_come;
+        settled = λ _. between;
+        has_come = come-settled (stands-place parser s.place s.stands) between s.has_come;
       }
 
   pub inside-all : {old value : V} {stream : List ℕ} {i : ℕ} {parser : Machine B}
@@ -50,7 +50,7 @@ module _ {V B : Type 0} {call : ChunkCall V} where
       record {
         place = s.place;
         stands = s.stands;
-        between = λ within. absurd (omega arith);
+        settled = λ within. absurd (omega arith);
         has_come = come-all all s.has_come;
       }
 
@@ -71,15 +71,15 @@ module _ {V B : Type 0} {call : ChunkCall V} where
 
   pub ends-comes : {old value : V} {stream : List ℕ} {n : ℕ} {parser : Machine B} → call.may_stop ≡ true
       → n ≤ length call.bytes → StandsAt call old value stream n parser
-      → ComesTo call.step call.is_terminated old value call.limit stream call.bytes n
+      → ComesTo call.step call.is_terminated old call.limit stream call.bytes value n
   ends-comes {parser} does within s =
       come-to does within
-      (λ left. come-starts (stands-place parser s.place s.stands) (s.between left) left s.has_come) s.has_come
+      (λ left. come-starts (stands-place parser s.place s.stands) (s.settled left) left s.has_come) s.has_come
 
   pub ends-stops : {old value : V} {stream : List ℕ} {n : ℕ} {parser : Machine B} → call.may_stop ≡ true
       → n ≤ length call.bytes → (n < length call.bytes → call.is_terminated value ≡ true)
       → StandsAt call old value stream n parser
-      → StopsExactly call.step call.is_terminated old value call.limit stream call.bytes n
+      → StopsExactly call.step call.is_terminated old call.limit stream call.bytes value n
   ends-stops does within stops s =
       record { comes = ends-comes does within s; stops = stops; all = λ all. come-performs all s.has_come }
 

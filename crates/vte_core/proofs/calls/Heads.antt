@@ -1,9 +1,9 @@
 -- The bytes of a head: a function that reads several of them goes on by each. `ReadsHeadUpTo` says which, without the
 -- performer, which learns of a head only at its end; both shapes share it.
 use Rattle.vte_core.specs.machine.ToRun.{IsQuietIn}
-use Rattle.vte_core.proofs.Common.{◌≡◌, ℕ, zero, suc, ◌+◌, ◌-◌, ◌<◌, ◌≤◌, ◌⊎◌, inr, eqb, Option, List, [], ◌∷◌, ◌++◌, Bool, true, false, length, take, drop, refl, sym, subst, append_assoc, arith, nat_tests, append-nil, drop-drop, drop_more, take-add, slice_index, MatchOption, class_of, is_head, is_parameter_text, AreInClass, Collected, HeadPart, Entry, Parameters, Machine, State, ControlSequence, DeviceControl, Event, ChunkCall, Leads, CountsNumbers, KeepsIntermediates, Stands, StandsBy, StandsInHead, Place, InControlSequence, InDeviceControl, IsBetween, Advances, ProgressAt, StandsAt, IsSettled, MayGoOn, TakesBytes, TakesByte, ends_all, part_after, ReadsHead, Some, None, false≢true}
+use Rattle.vte_core.proofs.Common.{◌≡◌, ℕ, zero, suc, ◌+◌, ◌-◌, ◌<◌, ◌≤◌, ◌⊎◌, inr, eqb, Option, List, [], ◌∷◌, ◌++◌, Bool, true, false, length, take, drop, refl, sym, subst, append_assoc, arith, nat_tests, append-nil, drop-drop, drop_more, take-add, slice_index, MatchOption, class_of, is_head, is_parameter_text, AreInClass, Collected, HeadPart, Entry, Parameters, Machine, State, ControlSequence, DeviceControl, Event, ChunkCall, Leads, CountsNumbers, KeepsIntermediates, Stands, StandsBy, StandsInHead, Place, InControlSequence, InDeviceControl, IsSettledPlace, Advances, ProgressAt, StandsAt, IsSettled, MayGoOn, TakesBytes, TakesByte, ends_all, part_after, ReadsHead, Some, None, false≢true}
 use Rattle.vte_core.proofs.bytes.ClassCases.{head_ends_nothing, AreInClass-append, parameter_is_head}
-use Rattle.vte_core.proofs.calls.Places.{come-between, come-byte}
+use Rattle.vte_core.proofs.calls.Places.{come-settled, come-byte}
 use Rattle.vte_core.proofs.calls.Arms.{performs-in}
 use Rattle.vte_core.proofs.calls.Ends.{settled-by}
 use Rattle.vte_core.proofs.calls.Stretches.{advances-byte, advances-when, advances-then}
@@ -11,8 +11,8 @@ use Rattle.vte_core.proofs.fields.HeadSteps.{holds-parameter}
 use Rattle.vte_core.proofs.fields.PlaceOfState.{IsPlace, stands-in}
 use Rattle.vte_core.proofs.places.PlaceLeads.{control-head, device-head}
 use Rattle.vte_core.proofs.calls.AddedEvents.{adds-same, keeps-at, told-at}
-use Rattle.vte_core.proofs.bytes.Between.{one_byte}
-use Rattle.vte_core.proofs.streams.StreamLemmas.{no_escape, reads-byte}
+use Rattle.vte_core.proofs.bytes.EachLemmas.{one_byte}
+use Rattle.vte_core.proofs.places.StreamLemmas.{no_escape, reads-byte}
 
 -- ---- what is collected
 
@@ -133,7 +133,7 @@ is_place : (shape : Shape) (head : List ℕ) → IsPlace (in_head shape head)
 is_place ControlHead head = tt
 is_place DeviceHead head = tt
 
-is_between : (shape : Shape) (head : List ℕ) → IsBetween (in_head shape head)
+is_between : (shape : Shape) (head : List ℕ) → IsSettledPlace (in_head shape head)
 is_between ControlHead head = tt
 is_between DeviceHead head = tt
 
@@ -163,7 +163,7 @@ module _ {V : Type 0} {call : ChunkCall V} where
       reads-byte call.limit (in_head shape head) (in_head shape (head ++ b ∷ [])) b []
       (no_escape b (head_ends_nothing (class_of b) both.0)) (leads shape call.limit head b both.0) in
       let one =
-      come-between place (is_between shape (head ++ b ∷ [])) (come-byte here refl may_go_on reads refl place c) in
+      come-settled place (is_between shape (head ++ b ∷ [])) (come-byte here refl may_go_on reads refl place c) in
       let rest = come-head {i = i + 1} shape n (head ++ b ∷ []) (omega (arith, within)) both.1 may_go_on one in
       let far : i + suc n ≡ i + 1 + n = omega arith in
       rw (far, cut) (rw (append_assoc head (b ∷ []) (take n (drop (i + 1) call.bytes))) at rest)
@@ -184,7 +184,7 @@ module _ {V : Type 0} {call : ChunkCall V} where
       record {
         place = in_head shape (k.head ++ run);
         stands = stands_in shape call.limit part next (k.head ++ run) state (reads.stands k.head k.stands);
-        between = λ _. is_between shape (k.head ++ run);
+        settled = λ _. is_between shape (k.head ++ run);
         has_come = rw end at (come-head shape (j - i) k.head (omega (arith, reads.high, end)) reads.are may_go_on here);
       }
 
@@ -196,7 +196,7 @@ module _ {V : Type 0} {call : ChunkCall V} where
   advances-head {part} {next} shape begun reads may_go_on state = record {
     goes_on = λ old stream s. stands-head shape begun reads may_go_on state s;
     settled = λ _. settled-by _ _ state (settled shape part);
-    others = λ _ old stream s.
+    quietly = λ _ old stream s.
         adds-same (told-at
         (stands-head {next = next} shape begun reads (λ does. absurd (false≢true does)) state (keeps-at s)));
   }
@@ -207,7 +207,7 @@ module _ {V : Type 0} {call : ChunkCall V} where
       → ReadsHead call.bytes i j reached part parser.collected held
       → (j < length call.bytes) × (b ≡ slice_index call.bytes j) → MayGoOn call old
       → ((place : Place) → Stands {B = B} call.limit
-      (record { state = state_of shape part; collected = held; command = parser.command }) place → IsBetween place
+      (record { state = state_of shape part; collected = held; command = parser.command }) place → IsSettledPlace place
       → TakesBytes call.step old new call.limit place (b ∷ []) next) → IsSettled next.state
       → Advances quiet call old new i (j + 1) parser next
   advances-past {B} {part} {parser} {held} shape begun reads at may_go_on performs settled =
@@ -221,7 +221,8 @@ pub performs-head : {V B : Type 0} {step : V → Event → V} {old new : V} {lim
     → parser.state ≡ state_of shape part → ends_all (class_of b) ≡ false
     → ((head : List ℕ) → StandsInHead parser.collected part head
     → TakesByte step old new limit (in_head shape head) b next)
-    → (place : Place) → Stands limit parser place → IsBetween place → TakesBytes step old new limit place (b ∷ []) next
+    → (place : Place) → Stands limit parser place → IsSettledPlace place
+    → TakesBytes step old new limit place (b ∷ []) next
 performs-head {step} {old} {new} {limit} {b} {parser}
     {next} shape part e ordinary takes = performs-in e ordinary (λ place s.
     let k = place_in shape limit part parser place s in

@@ -1,19 +1,19 @@
 -- A byte inside a character, whose bytes the parser has: the character goes on with it, is whole, or is broken before
 -- it (`carried-more`, `carried-whole`, `carried-broken`). The place is a text with these bytes open, so
--- `places/PlaceLeads` and `stops/Told` say what the byte tells.
-use Rattle.vte_core.proofs.Common.{◌≡◌, ◌≢◌, ℕ, ◌+◌, ◌<◌, inl, inr, true, Option, List, [], ◌∷◌, ◌++◌, length, refl, ap, sym, subst, ◌∙◌, slice_index, Machine, Text, Nothing, Print, replacement, ProgressInside, StandsAt, StandsInside, Stands, StandsBy, Place, InText, bytes_of, is_open, Carries, character_event, is_truncated, scalar_of, Unfinished, HasReadUnder, open_at, open_end, ChunkCall}
+-- `places/PlaceLeads` and `shapes/Told` say what the byte tells.
+use Rattle.vte_core.proofs.Common.{◌≡◌, ◌≢◌, ℕ, ◌+◌, ◌<◌, inl, inr, true, Option, List, [], ◌∷◌, ◌++◌, length, refl, ap, sym, subst, ◌∙◌, slice_index, Machine, Text, Nothing, Print, replacement, ProgressInside, StandsAt, StandsInside, Stands, StandsBy, Place, InText, bytes_of, may_continue, Carries, character_event, is_truncated, scalar_of, Unfinished, HasReadUnder, open_at, open_end, ChunkCall}
 use Rattle.vte_core.specs.declared.utf8.Carried.TheVariants.{Unfinished as StillUnfinished, Whole, Broken}
-use Rattle.vte_core.proofs.fields.PlaceOfState.{is_open-truncated, stands-by, stands-in, stands-place}
+use Rattle.vte_core.proofs.fields.PlaceOfState.{may_continue-truncated, stands-by, stands-in, stands-place}
 use Rattle.vte_core.proofs.places.PlaceLeads.{text-unfinished, text-whole}
 use Rattle.vte_core.proofs.streams.Performing.{carried_is_no_escape}
-use Rattle.vte_core.proofs.stops.Told.{breaks-broken, breaks-unfinished, breaks-whole}
-use Rattle.vte_core.proofs.calls.Places.{come-between, come-broken, come-carried}
+use Rattle.vte_core.proofs.shapes.Told.{breaks-broken, breaks-unfinished, breaks-whole}
+use Rattle.vte_core.proofs.calls.Places.{come-settled, come-broken, come-carried}
 use Rattle.vte_core.proofs.streams.After.{after-open_end}
-use Rattle.vte_core.proofs.streams.StreamLemmas.{reads-byte}
+use Rattle.vte_core.proofs.places.StreamLemmas.{reads-byte}
 
 stands_in_text : {B : Type 0} {limit : Option ℕ} (parser : Machine B) (v : Unfinished) (u : List ℕ)
     → parser.state ≡ Text v → bytes_of v ≡ u
-    → is_open u ≡ true → Stands limit parser (InText u)
+    → may_continue u ≡ true → Stands limit parser (InText u)
 stands_in_text parser v u e same more = stands-by e (same, more)
 
 -- the parser, inside a character of these bytes
@@ -38,11 +38,11 @@ inside-same {call} {u} {parser} {next} e f s =
 
 record AtText (u : Unfinished) (place : Place) : Type 0 where
   same : place ≡ InText (bytes_of u)
-  begun : is_open (bytes_of u) ≡ true
+  begun : may_continue (bytes_of u) ≡ true
 
 by_text : {B : Type 0} (limit : Option ℕ) (parser : Machine B) (u : Unfinished) (place : Place)
     → StandsBy limit (Text u) parser place → AtText u place
-by_text limit parser u (InText bytes) s = record { same = ap InText (sym s.0); begun = ap is_open s.0 ∙ s.1 }
+by_text limit parser u (InText bytes) s = record { same = ap InText (sym s.0); begun = ap may_continue s.0 ∙ s.1 }
 by_text limit parser u _ s = absurd s
 
 -- an unfinished character has bytes
@@ -56,7 +56,7 @@ truncated-some (x ∷ u) more none = cc
 
 module _ {V B : Type 0} {call : ChunkCall V} {old mid : V} {stream : List ℕ} where
   pub inside-open : {i : ℕ} {u : Unfinished} {parser : Machine B} → parser.state ≡ Text u
-      → StandsInside call old mid stream i parser → is_open (bytes_of u) ≡ true
+      → StandsInside call old mid stream i parser → may_continue (bytes_of u) ≡ true
   inside-open {u} {parser} e s = (by_text call.limit parser u s.place (stands-in e s.stands)).begun
 
   -- a byte that the character goes on with
@@ -71,13 +71,13 @@ module _ {V B : Type 0} {call : ChunkCall V} {old mid : V} {stream : List ℕ} w
         place = InText (bytes_of u ++ b ∷ []);
         stands =
             stands_in_text next v (bytes_of u ++ b ∷ []) state carries.0
-            (is_open-truncated (bytes_of u ++ b ∷ []) more);
+            (may_continue-truncated (bytes_of u ++ b ∷ []) more);
         has_come =
             come-carried {these = []} t.begun within is (truncated-some (bytes_of u) opened)
             (breaks-unfinished (bytes_of u) b more)
             (reads-byte call.limit (InText (bytes_of u)) (InText (bytes_of u ++ b ∷ [])) b []
             (carried_is_no_escape (bytes_of u) b opened (inr more))
-            (text-unfinished call.limit (bytes_of u) b)) refl (is_open-truncated (bytes_of u ++ b ∷ []) more)
+            (text-unfinished call.limit (bytes_of u) b)) refl (may_continue-truncated (bytes_of u ++ b ∷ []) more)
             (subst (ProgressInside call old mid stream i) t.same s.has_come);
       }
 
@@ -102,8 +102,8 @@ module _ {V B : Type 0} {call : ChunkCall V} {old mid : V} {stream : List ℕ} w
       (record {
         place = InText [];
         stands = stands_in_text next Nothing [] state refl refl;
-        between = λ _. refl;
-        has_come = come-between refl refl c;
+        settled = λ _. refl;
+        has_come = come-settled refl refl c;
       })
 
   -- a byte that breaks it
@@ -116,7 +116,7 @@ module _ {V B : Type 0} {call : ChunkCall V} {old mid : V} {stream : List ℕ} w
       record {
         place = InText [];
         stands = stands_in_text next Nothing [] state refl refl;
-        between = λ _. refl;
+        settled = λ _. refl;
         has_come = come-broken t.begun within is (breaks-broken (bytes_of u) b opened carries.0 carries.1) performed
             (subst (ProgressInside call old mid stream i) t.same s.has_come);
       }

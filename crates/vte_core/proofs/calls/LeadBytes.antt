@@ -1,12 +1,12 @@
 -- What a character tells that a lead byte begins: a call that completes it from the second byte on (`Completes`) does
 -- from the first what any call does (`Advances`). What it tells is no printed character where no run could begin.
 use Rattle.vte_core.proofs.Common.{◌+◌, ◌<◌, ◌≤◌, ◌≡◌, ◌∷◌, ℕ, suc, refl, ap, sym, ◌∙◌, arith, inl, inr, false, drop, drop_more, take, EndsRun, Machine, Text, Nothing, One, Advances, ChunkCall}
-use Rattle.vte_core.proofs.Common.{All, IsOther, false≢true, subst}
+use Rattle.vte_core.proofs.Common.{All, IsQuietEvent, false≢true, subst}
 use Rattle.vte_core.specs.machine.Prelude.{Completes, MayReadByte}
 use Rattle.vte_core.proofs.bytes.CarriedLemmas.{first_truncated}
 use Rattle.vte_core.proofs.calls.Ends.{settled-by}
 use Rattle.vte_core.proofs.calls.Stretches.{reads-byte_at}
-use Rattle.vte_core.proofs.streams.Others.{other_control}
+use Rattle.vte_core.proofs.streams.QuietEvents.{other_control}
 use Rattle.vte_core.proofs.calls.AddedEvents.{added-inside, adds-character, keep, keeps-at, keeping}
 use Rattle.vte_core.proofs.calls.BetweenCharacters.{performs-opened}
 use Rattle.vte_core.proofs.calls.InsideCharacters.{in_text}
@@ -22,14 +22,14 @@ advances-first {call} {i} {first} {parser} r lead fits completes = record {
       (reads-byte_at r.within r.is r.may_go_on
       (performs-opened r.begun (λ e. omega (arith, e, lead)) (refl, first_truncated first lead fits) refl) s);
   settled = λ within. settled-by _ _ (completes.text within) tt;
-  others = λ given value stream s.
+  quietly = λ given value stream s.
       let inside =
       reads-byte_at r.within r.is r.may_go_on
       (performs-opened r.begun (λ e. omega (arith, e, lead)) (refl, first_truncated first lead fits) refl) s in
       let silent = reads-byte_at {call = keeping call.limit call.bytes} r.within r.is (λ does. absurd (false≢true does))
       (performs-opened {step = keep} r.begun (λ e. omega (arith, e, lead)) (refl, first_truncated first lead fits) refl)
       (keeps-at s) in
-      let told = completes.others value stream (in_text parser (One first)) refl inside in
+      let told = completes.adds value stream (in_text parser (One first)) refl inside in
       adds-character told (added-inside {parser = in_text parser (One first)} silent) (elim told.are [
         | inl others ↦ others
         | inr whole ↦
@@ -38,6 +38,6 @@ advances-first {call} {i} {first} {parser} r lead fits completes = record {
             ∙ ap (take (suc whole.n)) (drop_more call.bytes i 0 r.within)
             ∙ ap (λ x. x ∷ take whole.n (drop (i + 1) call.bytes)) (sym r.is) in
             let control = rw cut at (given.1 (whole.n + 1) (omega (arith, whole.far)) (rw cut whole.well)) in
-            subst (All IsOther) (sym whole.same) (other_control _ control)
+            subst (All IsQuietEvent) (sym whole.same) (other_control _ control)
       ]);
 }

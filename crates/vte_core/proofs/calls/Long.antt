@@ -1,9 +1,9 @@
 -- What a call without a limit ensures, refused memory or not: the facts that `drive` ensures, put into each contract.
 use Rattle.vte_core.specs.declared.scan.taken.Run.{Run}
-use Rattle.vte_core.specs.declared.scan.taken.RunPlace.{RunPlace}
-use Rattle.vte_core.specs.LongAdvance.{ReadsToRunLong, GoesOnLong, PassesLong, ReadsBytesLong, ReadsUntilTerminatedLong}
+use Rattle.vte_core.specs.declared.scan.taken.RunRange.{RunRange}
+use Rattle.vte_core.specs.LongParserCalls.{ReadsToRunLong, GoesOnLong, PassesLong, ReadsBytesLong, ReadsUntilTerminatedLong}
 use Rattle.vte_core.specs.machine.ToRun.{ComesToRun, IsTaken, bytes_at}
-use Rattle.vte_core.proofs.Common.{◌≡◌, TellsOthers, ℕ, ◌+◌, ◌*◌, ◌≤◌, Bool, List, None, length, Result, Ok, Err, IfErr, IfOk, IfErr-weaker, IfOk-weaker, refl, arith, rules, false, read_count, ReadsUpTo, Event, Machine, HasReadUnder, RefusesAt, true, Refused, chunk_call}
+use Rattle.vte_core.proofs.Common.{◌≡◌, TellsQuietly, ℕ, ◌+◌, ◌*◌, ◌≤◌, Bool, List, None, length, Result, Ok, Err, IfErr, IfOk, IfErr-weaker, IfOk-weaker, refl, arith, rules, false, read_count, ReadsUpTo, Event, Machine, HasReadUnder, ReadsUntilRefused, true, Refused, chunk_call}
 use Rattle.vte_core.proofs.calls.ToRun.{reads-run, returns-run}
 use Rattle.vte_core.specs.declared.parser.long.LongParser.{LongParser}
 use Rattle.vte_core.specs.LongParser.{HasReadLong, memory_of}
@@ -17,7 +17,7 @@ pub goes-on : {A V Answer : Type 0} (may_stop : Bool) (step : V → Event → V)
     {bytes : List ℕ} {parser next : LongParser A} (result : Result Answer Refused) {rate n : ℕ}
     {later : List ℕ → List ℕ} → ((stream : List ℕ) → HasReadLong parser stream → HasReadLong next (later stream))
     → IfErr result
-    (λ refused. RefusesAt (chunk_call may_stop step is_terminated None bytes) old new refused.read
+    (λ refused. ReadsUntilRefused (chunk_call may_stop step is_terminated None bytes) old new refused.read
     parser.machine next.machine)
     → memory_of parser ≤ memory_of next → looks_long next ≤ looks_long parser + rate * length bytes + 8
     → IfOk result (λ _. looks_long next ≤ looks_long parser + rate * n + 8) → looks_long parser + n ≤ looks_long next
@@ -38,7 +38,7 @@ goes-on may_stop step is_terminated old new result reads refuses memory count pa
 pub passes : {V B Answer : Type 0} {step : V → Event → V} {is_terminated : V → Bool} {old new : V} {bytes : List ℕ}
     {before : Machine B} (parser : Machine B) (result : Result Answer Refused)
     → IfErr result
-    (λ refused. RefusesAt (chunk_call true step is_terminated None bytes) old new refused.read before parser)
+    (λ refused. ReadsUntilRefused (chunk_call true step is_terminated None bytes) old new refused.read before parser)
     → PassesLong step is_terminated old new (HasReadUnder None before) bytes result
 passes parser result refuses = record {
   passes =
@@ -51,7 +51,8 @@ module _ {A V : Type 0} {step : V → Event → V} {is_terminated : V → Bool} 
     {parser next : LongParser A} where
   -- `advance`, if memory is refused
   pub reads_refused : (refused : Refused) {drove : Result ℕ Refused}
-      → RefusesAt (chunk_call false step is_terminated None bytes) old new refused.read parser.machine next.machine
+      → ReadsUntilRefused (chunk_call false step is_terminated None bytes) old new refused.read parser.machine
+      next.machine
       → Costs 5 bytes drove refused.read parser.machine next.machine parser.looks next.looks
       → ReadsBytesLong step old new bytes (Err refused) parser next
   reads_refused refused refuses costs = record {
@@ -81,7 +82,7 @@ module _ {A V : Type 0} {step : V → Event → V} {is_terminated : V → Bool} 
       → IfOk result
       (λ read. ReadsUpTo (chunk_call true step is_terminated None bytes) old new read parser.machine next.machine)
       → IfErr result
-      (λ refused. RefusesAt (chunk_call true step is_terminated None bytes) old new refused.read
+      (λ refused. ReadsUntilRefused (chunk_call true step is_terminated None bytes) old new refused.read
       parser.machine next.machine)
       → Costs 5 bytes result (read_count result) parser.machine next.machine parser.looks next.looks
       → ReadsUntilTerminatedLong step is_terminated old new bytes result parser next
@@ -97,31 +98,32 @@ module _ {A V : Type 0} {step : V → Event → V} {is_terminated : V → Bool} 
   }
 
   -- `advance_to_run`, if memory is refused
-  pub to_run-refused : (refused : Refused) {drove : Result RunPlace Refused}
-      → RefusesAt (chunk_call true step is_terminated None bytes) old new refused.read parser.machine next.machine
+  pub to_run-refused : (refused : Refused) {drove : Result RunRange Refused}
+      → ReadsUntilRefused (chunk_call true step is_terminated None bytes) old new refused.read parser.machine
+      next.machine
       → Costs 7 bytes drove refused.read parser.machine next.machine parser.looks next.looks
-      → ((stream : List ℕ) → HasReadLong parser stream → TellsOthers None stream bytes refused.read)
+      → ((stream : List ℕ) → HasReadLong parser stream → TellsQuietly None stream bytes refused.read)
       → ReadsToRunLong step is_terminated old new bytes (Err refused) parser next
   to_run-refused refused refuses costs others = record {
     returns = tt;
     refuses = passes next.machine (Err refused) refuses;
-    others = others;
+    quietly = others;
     goes_on =
         goes-on true step is_terminated old new (Err refused)
         (λ stream h. ends-reads (refuses.stands_at stream h)) refuses costs.memory costs.count tt costs.least;
   }
 
   -- `advance_to_run`, if no memory is refused
-  pub to_run-read : (run : Run) {place : RunPlace}
+  pub to_run-read : (run : Run) {place : RunRange}
       → ComesToRun (chunk_call true step is_terminated None bytes) old new place parser.machine next.machine
       → run.start ≡ place.start → run.end ≡ place.end → IsTaken place.kind (bytes_at bytes place) run.taken
       → Costs 7 bytes (Ok place) place.end parser.machine next.machine parser.looks next.looks
-      → ((stream : List ℕ) → HasReadLong parser stream → TellsOthers None stream bytes place.start)
+      → ((stream : List ℕ) → HasReadLong parser stream → TellsQuietly None stream bytes place.start)
       → ReadsToRunLong step is_terminated old new bytes (Ok run) parser next
   to_run-read run comes starts ends taken costs others = record {
     returns = returns-run run comes starts ends taken refl;
     refuses = passes next.machine (Ok run) tt;
-    others = λ stream h. rw starts (others stream h);
+    quietly = λ stream h. rw starts (others stream h);
     goes_on =
         goes-on true step is_terminated old new (Ok run) (reads-run run comes starts ends taken) tt
         costs.memory costs.count

@@ -4,24 +4,24 @@
 -- `come-nowhere`: the start of a call
 -- `come-byte`: past a byte before which the call may stop; `come-carried`: past one inside a character
 -- `come-further`: past any stretch of bytes; `come-items`: past data bytes of a command
--- `come-between`, `come-all`, `come-broken`: where something may start, because no character is open, no byte is left,
+-- `come-settled`, `come-all`, `come-broken`: where something may start, because no character is open, no byte is left,
 -- or the next byte breaks the open one; `come-command`: back from there
 -- `come-starts`: there something starts
 -- `come-to`, `come-performs`: the public clauses of a call that stops, and of one that reads all
 use Rattle.vte_core.proofs.Common.{◌≡◌, ℕ, zero, suc, ◌+◌, ◌-◌, ◌<◌, ◌≤◌, inl, inr, true, false, Option, List, [], ◌∷◌, ◌++◌, length, take, drop, refl, ap, sym, subst, ◌∙◌, append_assoc, arith, slice_index, cases_Bool, cases_lt, append-nil, drop_more, take-add, breaks, breaks_at, IsStart, told_before, stream_at, Event, Print, replacement, after, added, open_end, ProgressAt, ProgressInside, MayGoOn, Reads, Place, InText, ChunkCall}
-use Rattle.vte_core.proofs.Common.{InSystemCommand, IsAfter, IsBetween, open_at, ComesTo}
+use Rattle.vte_core.proofs.Common.{InSystemCommand, IsAfter, IsSettledPlace, open_at, ComesTo}
 use Rattle.vte_core.proofs.streams.After.{after-left, after-nothing, after-open_end, after-reads, added-reads, added-nothing}
 use Rattle.vte_core.proofs.calls.States.{reads-item}
-use Rattle.vte_core.proofs.fields.PlaceOfState.{IsPlace, open_at-between}
+use Rattle.vte_core.proofs.fields.PlaceOfState.{IsPlace, open_at-settled}
 use Rattle.vte_core.proofs.streams.Performing.{after-append}
-use Rattle.vte_core.proofs.stops.Told.{breaks_at-all, breaks_at-between, breaks_at-byte, no_start, starts-between, starts-broken, stream_at-between, stream_at-broken, told-all, told-between, told-broken}
-use Rattle.vte_core.proofs.bytes.Between.{one_byte}
+use Rattle.vte_core.proofs.shapes.Told.{breaks_at-all, breaks_at-settled, breaks_at-byte, no_start, starts-settled, starts-broken, stream_at-settled, stream_at-broken, told-all, told-settled, told-broken}
+use Rattle.vte_core.proofs.bytes.EachLemmas.{one_byte}
 use Rattle.vte_core.proofs.stops.Units.{added_from, after_from, breaks_there, goes_on_from}
 
 -- ---- the bytes of a call from one place to the next
 
-run-ends : (bytes : List ℕ) (i j : ℕ) → i < j → take j bytes ≡ take i bytes ++ take (j - i) (drop i bytes)
-run-ends bytes i j further =
+stretch-ends : (bytes : List ℕ) (i j : ℕ) → i < j → take j bytes ≡ take i bytes ++ take (j - i) (drop i bytes)
+stretch-ends bytes i j further =
     let place : j ≡ i + (j - i) = omega (arith, further) in ap (λ n. take n bytes) place ∙ take-add i (j - i) bytes
 
 -- of what is unread only the next byte counts
@@ -35,27 +35,28 @@ module _ (limit : Option ℕ) (stream bytes : List ℕ) (i j : ℕ) (further : i
   abbrev here : List ℕ
   here = stream ++ take i bytes
 
-  abbrev run : List ℕ
-  run = take (j - i) (drop i bytes)
+  abbrev stretch : List ℕ
+  stretch = take (j - i) (drop i bytes)
 
-  run-breaks : breaks_at stream bytes i ≡ true → breaks (open_end here) run ≡ true
-  run-breaks broken =
+  stretch-breaks : breaks_at stream bytes i ≡ true → breaks (open_end here) stretch ≡ true
+  stretch-breaks broken =
       breaks-front (open_end here) (drop i bytes) (j - i) (omega (arith, further)) (breaks_there stream bytes i broken)
 
-  run-after : (next : Place) → IsAfter limit (stream_at stream bytes i ++ run) next
+  stretch-after : (next : Place) → IsAfter limit (stream_at stream bytes i ++ stretch) next
       → IsAfter limit (stream ++ take j bytes) next
   unfolding stream_at
-  run-after next a =
-      let all : here ++ run ≡ stream ++ take j bytes =
-      append_assoc stream (take i bytes) run ∙ ap (λ x. stream ++ x) (sym (run-ends bytes i j further)) in
-      subst (λ s. IsAfter limit s next) all (after_from limit here run next (breaks_at stream bytes i) run-breaks a)
+  stretch-after next a =
+      let all : here ++ stretch ≡ stream ++ take j bytes =
+      append_assoc stream (take i bytes) stretch ∙ ap (λ x. stream ++ x) (sym (stretch-ends bytes i j further)) in
+      subst (λ s. IsAfter limit s next) all
+          (after_from limit here stretch next (breaks_at stream bytes i) stretch-breaks a)
 
-  pub run-added : added limit stream (take j bytes)
-      ≡ told_before limit stream bytes i ++ added limit (stream_at stream bytes i) run
+  pub stretch-added : added limit stream (take j bytes)
+      ≡ told_before limit stream bytes i ++ added limit (stream_at stream bytes i) stretch
   unfolding told_before stream_at
-  run-added =
-      ap (added limit stream) (run-ends bytes i j further)
-      ∙ added_from limit stream (take i bytes) run (breaks_at stream bytes i) run-breaks
+  stretch-added =
+      ap (added limit stream) (stretch-ends bytes i j further)
+      ∙ added_from limit stream (take i bytes) stretch (breaks_at stream bytes i) stretch-breaks
 
 module _ {V : Type 0} {call : ChunkCall V} {old : V} {stream : List ℕ} where
   -- ---- from inside to a place
@@ -64,14 +65,14 @@ module _ {V : Type 0} {call : ChunkCall V} {old : V} {stream : List ℕ} where
   come-whole : {value : V} {i : ℕ} {place : Place} → breaks_at stream call.bytes i ≡ false
       → ProgressInside call old value stream i place → ProgressAt call old value stream i place
   come-whole {i} whole c =
-      rw (told-between call.limit stream call.bytes i whole, stream_at-between stream call.bytes i whole) c
+      rw (told-settled call.limit stream call.bytes i whole, stream_at-settled stream call.bytes i whole) c
 
-  pub come-between : {value : V} {i : ℕ} {place : Place} → IsPlace place → IsBetween place
+  pub come-settled : {value : V} {i : ℕ} {place : Place} → IsPlace place → IsSettledPlace place
       → ProgressInside call old value stream i place → ProgressAt call old value stream i place
-  come-between {i} {place} is between c =
+  come-settled {i} {place} is between c =
       come-whole
-      (breaks_at-between stream call.bytes i
-      (after-open_end call.limit (stream ++ take i call.bytes) place c.is_after is ∙ open_at-between place between)) c
+      (breaks_at-settled stream call.bytes i
+      (after-open_end call.limit (stream ++ take i call.bytes) place c.is_after is ∙ open_at-settled place between)) c
 
   pub come-all : {value : V} {i : ℕ} {place : Place} → length call.bytes ≤ i
       → ProgressInside call old value stream i place → ProgressAt call old value stream i place
@@ -112,12 +113,12 @@ module _ {V : Type 0} {call : ChunkCall V} {old : V} {stream : List ℕ} where
         performed =
             performed ∙ ap (λ v. after call.step v these) c.performed
             ∙ sym (after-append call.step old (told_before call.limit stream call.bytes i) these)
-            ∙ ap (after call.step old) (sym (run-added call.limit stream call.bytes i j in_order
+            ∙ ap (after call.step old) (sym (stretch-added call.limit stream call.bytes i j in_order
             ∙ ap (λ (es : List Event). told_before call.limit stream call.bytes i ++ es)
             (added-reads call.limit (stream_at stream call.bytes i)
             (take (j - i) (drop i call.bytes)) place next these c.is_after r is_place)));
         is_after =
-            run-after call.limit stream call.bytes i j in_order next
+            stretch-after call.limit stream call.bytes i j in_order next
             (after-reads call.limit (stream_at stream call.bytes i)
             (take (j - i) (drop i call.bytes)) place next these c.is_after r is_place);
         earlier = λ does k below start. elim (cases_lt k i) [
@@ -176,7 +177,7 @@ module _ {V : Type 0} {call : ChunkCall V} {old : V} {stream : List ℕ} where
       let here : i < length call.bytes = omega (arith, within) in
       let b : ℕ = slice_index call.bytes i in
       let is_item : 0x20 ≤ b = low i (omega arith) (omega arith) in
-      let one = come-between tt tt (come-byte here refl may_go_on (reads-item call.limit items b is_item) refl tt c) in
+      let one = come-settled tt tt (come-byte here refl may_go_on (reads-item call.limit items b is_item) refl tt c) in
       let rest =
       come-items {i = i + 1} n (items ++ b ∷ []) (omega (arith, within))
       (λ k from to. low k (omega (arith, from)) (omega (arith, to))) may_go_on one in
@@ -196,7 +197,7 @@ module _ {V : Type 0} {call : ChunkCall V} {old : V} {stream : List ℕ} where
   come-back : {value : V} {i : ℕ} {place : Place} → breaks_at stream call.bytes i ≡ false
       → ProgressAt call old value stream i place → ProgressInside call old value stream i place
   come-back {i} whole c =
-      rw (told-between call.limit stream call.bytes i whole, stream_at-between stream call.bytes i whole) at c
+      rw (told-settled call.limit stream call.bytes i whole, stream_at-settled stream call.bytes i whole) at c
 
   -- in a command no character was broken
   pub come-command : {value : V} {i : ℕ} {items : List ℕ} → ProgressAt call old value stream i (InSystemCommand items)
@@ -215,13 +216,13 @@ module _ {V : Type 0} {call : ChunkCall V} {old : V} {stream : List ℕ} where
 
   -- ---- where something starts
 
-  pub come-starts : {value : V} {i : ℕ} {place : Place} → IsPlace place → IsBetween place → i < length call.bytes
+  pub come-starts : {value : V} {i : ℕ} {place : Place} → IsPlace place → IsSettledPlace place → i < length call.bytes
       → ProgressAt call old value stream i place → IsStart stream call.bytes i
   come-starts {i} {place} is between within c = elim (cases_Bool (breaks_at stream call.bytes i)) [
     | inl broken ↦ starts-broken stream call.bytes i within broken
-    | inr whole ↦ starts-between stream call.bytes i within
-        (ap open_end (sym (stream_at-between stream call.bytes i whole))
-        ∙ after-open_end call.limit (stream_at stream call.bytes i) place c.is_after is ∙ open_at-between place between)
+    | inr whole ↦ starts-settled stream call.bytes i within
+        (ap open_end (sym (stream_at-settled stream call.bytes i whole))
+        ∙ after-open_end call.limit (stream_at stream call.bytes i) place c.is_after is ∙ open_at-settled place between)
   ]
 
   -- ---- the end of a call
@@ -229,7 +230,7 @@ module _ {V : Type 0} {call : ChunkCall V} {old : V} {stream : List ℕ} where
   -- the public clauses of a call that may stop: `starts` comes from the loop's exit
   pub come-to : {value : V} {n : ℕ} {place : Place} → call.may_stop ≡ true → n ≤ length call.bytes
       → (n < length call.bytes → IsStart stream call.bytes n) → ProgressAt call old value stream n place
-      → ComesTo call.step call.is_terminated old value call.limit stream call.bytes n
+      → ComesTo call.step call.is_terminated old call.limit stream call.bytes value n
   come-to {n} does within starts c =
       let unread : List ℕ = drop n call.bytes in
       record {

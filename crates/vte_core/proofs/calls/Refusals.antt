@@ -1,7 +1,7 @@
 -- What a call without a limit stores, and where it stops for lack of memory. What is stored of an open command is said
 -- of its place, so it holds of every parser that is at one.
-use Rattle.vte_core.proofs.Common.{◌≡◌, ℕ, ◌+◌, ◌≤◌, Bool, None, List, [], ◌∷◌, ◌++◌, length, take, Result, Ok, Err, IfErr, IfOk, IsOk, refl, ap, sym, subst, ◌∙◌, length-take, IsAfter, arith, concat, slice_index, Machine, MeetsData, data_left, open_size, read_count, State, SystemCommand, ProgressAt, IsRefusedAt, RefusesAt, StandsInside, HasReadUnder, Stands, StandsBy, Place, InSystemCommand, InText, ChunkCall}
-use Rattle.vte_core.proofs.Common.{left_at, Stored, Keeps, Open, OpenCommand, drops_data, outcome, pieces_of, Refused}
+use Rattle.vte_core.proofs.Common.{◌≡◌, ℕ, ◌+◌, ◌≤◌, Bool, None, List, [], ◌∷◌, ◌++◌, length, take, Result, Ok, Err, IfErr, IfOk, IsOk, refl, ap, sym, subst, ◌∙◌, length-take, IsAfter, arith, concat, slice_index, Machine, MeetsData, data_left, open_size, read_count, State, SystemCommand, ProgressAt, IsRefusedInCommand, ReadsUntilRefused, StandsInside, HasReadUnder, Stands, StandsBy, Place, InSystemCommand, InText, ChunkCall}
+use Rattle.vte_core.proofs.Common.{left_at, Stored, HoldsItems, ToClose, CommandToClose, drops_data, outcome, pieces_of, Refused}
 use Rattle.vte_core.proofs.calls.States.{reads-item}
 use Rattle.vte_core.proofs.calls.Places.{come-command}
 use Rattle.vte_core.proofs.fields.OpenPieces.{open_for}
@@ -21,7 +21,7 @@ left_here parser stream h = after-left None stream h.place h.is_after (stands-pl
 
 -- a byte that is refused is a data byte of an open command
 pub meets_data : {B : Type 0} {parser : Machine B} {stream bytes : List ℕ} {from : ℕ}
-    → IsRefusedAt None parser.state parser.command bytes from
+    → IsRefusedInCommand None parser.state parser.command bytes from
     → HasReadUnder None parser stream → MeetsData stream (slice_index bytes from)
 meets_data {parser} {stream} {bytes} {from} refused h =
     let byte : ℕ = slice_index bytes from in
@@ -38,11 +38,11 @@ meets_data {parser} {stream} {bytes} {from} refused h =
       few = o.few;
       is_open =
           left_here parser stream h ∙ ap (left_at None) k.same
-          ∙ ap (λ those. OpenCommand those (drops_data None k.items)) o.before;
+          ∙ ap (λ those. CommandToClose those (drops_data None k.items)) o.before;
       is_data = refused.is_data;
       joins = after-left None (stream ++ byte ∷ []) last joined tt
-          ∙ ap (λ those. OpenCommand those (drops_data None (k.items ++ byte ∷ []))) o.later
-          ∙ ap (λ d. OpenCommand (o.pieces ++ (o.last ++ byte ∷ []) ∷ []) d) o.dropped;
+          ∙ ap (λ those. CommandToClose those (drops_data None (k.items ++ byte ∷ []))) o.later
+          ∙ ap (λ d. CommandToClose (o.pieces ++ (o.last ++ byte ∷ []) ∷ []) d) o.dropped;
     }
 
 -- ---- where a call ends
@@ -62,7 +62,7 @@ ok_only (Err refused) err never = absurd (never refused err)
 
 -- in a command no character is open
 pub refuses-inside : {V B : Type 0} {call : ChunkCall V} {old new : V} {n : ℕ} {before parser : Machine B}
-    → RefusesAt call old new n before parser → (stream : List ℕ) → HasReadUnder call.limit before stream
+    → ReadsUntilRefused call old new n before parser → (stream : List ℕ) → HasReadUnder call.limit before stream
     → StandsInside call old new stream n parser
 refuses-inside {call} {old} {new} {n} {parser} r stream h =
     let s = r.stands_at stream h in
@@ -90,7 +90,7 @@ is_command SystemCommand parser items s = refl
 is_command _ parser items s = absurd s
 
 by_place : {B : Type 0} (parser : Machine B) (place : Place) (pieces : List (List ℕ)) (dropped : Bool)
-    → Stands None parser place → left_at None place ≡ OpenCommand pieces dropped
+    → Stands None parser place → left_at None place ≡ CommandToClose pieces dropped
     → parser.state ≡ SystemCommand
 by_place parser (InText []) pieces dropped s e = cc
 by_place parser (InText (a ∷ u)) pieces dropped s e = cc
@@ -99,7 +99,7 @@ by_place parser _ pieces dropped s e = cc
 
 -- a command is open in that state alone
 in_state : {B : Type 0} (parser : Machine B) (stream : List ℕ) → HasReadUnder None parser stream
-    → (pieces : List (List ℕ)) (dropped : Bool) → (outcome None stream).left ≡ OpenCommand pieces dropped
+    → (pieces : List (List ℕ)) (dropped : Bool) → (outcome None stream).left ≡ CommandToClose pieces dropped
     → parser.state ≡ SystemCommand
 in_state parser stream h pieces dropped open_command =
     by_place parser h.place pieces dropped h.stands (sym (left_here parser stream h) ∙ open_command)
@@ -107,14 +107,14 @@ in_state parser stream h pieces dropped open_command =
 -- of an open command the bytes of its pieces
 pub stores_pieces : {B : Type 0} (parser : Machine B) (stream : List ℕ) → HasReadUnder None parser stream
     → (pieces : List (List ℕ)) (dropped : Bool)
-    → (outcome None stream).left ≡ OpenCommand pieces dropped → length parser.command.bytes ≡ length (concat pieces)
+    → (outcome None stream).left ≡ CommandToClose pieces dropped → length parser.command.bytes ≡ length (concat pieces)
 stores_pieces parser stream h pieces dropped open_command =
     stored_is_open parser stream (in_state parser stream h pieces dropped open_command) h ∙ ap data_left open_command
 
-by_left : (left : Open) (n : ℕ)
-    → ((pieces : List (List ℕ)) (dropped : Bool) → left ≡ OpenCommand pieces dropped → n ≡ length (concat pieces))
+by_left : (left : ToClose) (n : ℕ)
+    → ((pieces : List (List ℕ)) (dropped : Bool) → left ≡ CommandToClose pieces dropped → n ≡ length (concat pieces))
     → data_left left ≤ n
-by_left (OpenCommand pieces dropped) n stored = omega (arith, stored pieces dropped refl)
+by_left (CommandToClose pieces dropped) n stored = omega (arith, stored pieces dropped refl)
 by_left _ n stored = omega arith
 
 -- no more are open
@@ -134,13 +134,13 @@ none_is_open parser stream other h =
     )
 
 -- a store that was cleared has no data bytes
-pub nothing_stored : {held : Stored} → Keeps None held [] → length held.bytes ≡ 0
+pub nothing_stored : {held : Stored} → HoldsItems None held [] → length held.bytes ≡ 0
 unfolding pieces_of Rattle.vte_core.specs.SystemCommand.kept_items
 nothing_stored {held} keeps = pieces_stored None held [] keeps
 
 -- where there was memory for all bytes of the call, none is refused
 pub never_refused : {V B : Type 0} {call : ChunkCall V} {old new : V} {n : ℕ} {before parser : Machine B}
-    → RefusesAt call old new n before parser → (stream : List ℕ) → HasReadUnder call.limit before stream
+    → ReadsUntilRefused call old new n before parser → (stream : List ℕ) → HasReadUnder call.limit before stream
     → open_size stream + length call.bytes ≤ before.command.capacity
     → before.command.capacity ≤ parser.command.capacity → ⊥
 never_refused {call} {n} {parser} r stream h enough kept =

@@ -2,7 +2,7 @@
 use Rattle.vte_core.proofs.Common.{◌≡◌, ℕ, ◌<◌, ◌≤◌, inl, inr, true, false, not, eqb, Option, List, [], ◌∷◌, ◌++◌, ap, sym, arith, cases_lt, false≢true, nat_tests, Machine, Text, Nothing, Stands, StandsBy, Place, InText, InSystemCommand, escape, Reads}
 use Rattle.vte_core.proofs.fields.PlaceOfState.{stands-in}
 use Rattle.vte_core.proofs.places.PlaceLeads.{command-item}
-use Rattle.vte_core.proofs.streams.StreamLemmas.{reads-byte}
+use Rattle.vte_core.proofs.places.StreamLemmas.{reads-byte}
 
 -- ---- between characters
 

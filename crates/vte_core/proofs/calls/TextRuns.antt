@@ -1,15 +1,15 @@
 -- What a run of text does to a call's progress: its characters one by one do the same. By induction over the
 -- characters, and for the performer by its contract over the whole run.
-use Rattle.vte_core.proofs.Common.{cases_Bool, inl, inr, Bool, List, Option, [], ap, arith, drop, false, length, map, refl, subst, sym, take, true, ℕ, ◌++◌, ◌+◌, ◌-◌, ◌<◌, ◌∙◌, ◌∷◌, ◌≡◌, ◌≢◌, ◌≤◌, encode, false≢true, append-nil, take-append-drop, All-append, All-head, All-nil, All-tail, All, slice_index, breaks_at, stream_at, told_before, Event, Print, replacement, after, added, cut_at_escape, escape, with_bodies, events, ChunkCall, run_event, character_event, is_control_character, malformed_event, text_outcome, Text, Machine, Nothing, Reads, Stands, InText, encodes, nat_tests, outcome_from, Advances, ProgressAt, MayGoOn, StandsAt, StandsInside, chars, IsUtf8, NoCharacterStops, AreRun, IsPrinted, PrintsRun, StaysInRun, ends_run}
+use Rattle.vte_core.proofs.Common.{cases_Bool, inl, inr, Bool, List, Option, [], ap, arith, drop, false, length, map, refl, subst, sym, take, true, ℕ, ◌++◌, ◌+◌, ◌-◌, ◌<◌, ◌∙◌, ◌∷◌, ◌≡◌, ◌≢◌, ◌≤◌, encode, false≢true, append-nil, take-append-drop, All-append, All-head, All-nil, All-tail, All, slice_index, breaks_at, stream_at, told_before, Event, Print, replacement, after, added, cut_at_escape, escape, with_bodies, events, ChunkCall, run_event, character_event, is_control_character, malformed_event, text_outcome, Text, Machine, Nothing, Reads, Stands, InText, encodes, nat_tests, outcome_from, Advances, ProgressAt, MayGoOn, StandsAt, StandsInside, chars, IsUtf8, NoCharacterStops, IsUtf8Run, IsPrinted, PrintsRun, StaysInRun, ends_run}
 use Rattle.std.proofs.lemmas.List.{take-take}
 use Rattle.std.proofs.lemmas.List.Elements.{All-from_get_or}
 use Rattle.std.proofs.lemmas.Str.{inside_one, encodes-chars, scalars-chars}
-use Rattle.vte_core.proofs.bytes.Between.{each-one}
+use Rattle.vte_core.proofs.bytes.EachLemmas.{each-one}
 use Rattle.vte_core.proofs.bytes.Printable.{chars-one, layout-is_control, no_control_event, printed-event, run-ascii}
 use Rattle.vte_core.proofs.dividing.Utf8Agrees.{cut-text, text_outcome-encodes}
-use Rattle.vte_core.proofs.calls.Places.{come-further, run-added}
+use Rattle.vte_core.proofs.calls.Places.{come-further, stretch-added}
 use Rattle.vte_core.proofs.streams.After.{added-reads}
-use Rattle.vte_core.proofs.stops.Told.{told-between, told-broken}
+use Rattle.vte_core.proofs.shapes.Told.{told-settled, told-broken}
 use Rattle.vte_core.proofs.stops.Units.{added_both}
 use Rattle.vte_core.proofs.calls.States.{between_characters}
 use Rattle.vte_core.proofs.calls.Ends.{settled-by, settles}
@@ -67,11 +67,11 @@ no_escape-encodes keeps (c ∷ cs) plain =
     (no_escape-encode keeps c (All-head (StaysInRun keeps) c cs plain))
     (no_escape-encodes keeps cs (All-tail (StaysInRun keeps) c cs plain))
 
-no_escape : (keeps : Bool) (run : List ℕ) → AreRun keeps run → All (λ b. b ≢ escape) run
+no_escape : (keeps : Bool) (run : List ℕ) → IsUtf8Run keeps run → All (λ b. b ≢ escape) run
 no_escape keeps run are =
     subst (All (λ b. b ≢ escape)) (encodes-chars run are.utf8) (no_escape-encodes keeps (chars run) are.plain)
 
-pub reads-text : (limit : Option ℕ) (keeps : Bool) (run : List ℕ) → AreRun keeps run
+pub reads-text : (limit : Option ℕ) (keeps : Bool) (run : List ℕ) → IsUtf8Run keeps run
     → Reads limit (InText []) run (map (run_event keeps) (chars run)) (InText [])
 reads-text limit keeps run are =
     subst (λ es. Reads limit (InText []) run es (InText [])) (plain-events keeps (chars run) are.plain)
@@ -117,7 +117,7 @@ module _ {V : Type 0} (keeps : Bool) (call : ChunkCall V)
         )
         (rw (replacement-event keeps) at
         (never (after call.step value (added call.limit stream (take k call.bytes))) replacement goes))
-    | inr whole ↦ rw (told-between call.limit stream call.bytes k whole) goes
+    | inr whole ↦ rw (told-settled call.limit stream call.bytes k whole) goes
   ]
 
 pub may_go_on-text : {V : Type 0} {keeps : Bool} (call : ChunkCall V) {old new : V} {i j : ℕ}
@@ -149,7 +149,7 @@ advances-text {V} {call} {keeps} {old} {new} {i} {j} {parser}
     never may_go_on e in_order high prints = record {
       goes_on = λ value stream s. settles (settled-by parser.state (Text Nothing) e tt) (inside-next value stream s);
       settled = λ _. settled-by parser.state (Text Nothing) e tt;
-      others = λ no. absurd no;
+      quietly = λ no. absurd no;
     }
   where
     run : List ℕ
@@ -172,7 +172,7 @@ advances-text {V} {call} {keeps} {old} {new} {i} {j} {parser}
         ∙ added-reads call.limit from run (InText []) (InText []) _ c.is_after
         (reads-text call.limit keeps run prints.run) refl in
         not_stopped-told keeps call (never does) value stream k
-        (ap (λ es. call.is_terminated (after call.step value es)) (run-added call.limit stream call.bytes i k past)
+        (ap (λ es. call.is_terminated (after call.step value es)) (stretch-added call.limit stream call.bytes i k past)
         ∙ ap call.is_terminated
         (after-append call.step value (told_before call.limit stream call.bytes i) (added call.limit from front)
         ∙ ap (λ v. after call.step v (added call.limit from front)) (sym c.performed))

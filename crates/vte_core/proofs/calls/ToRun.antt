@@ -8,7 +8,7 @@ use Rattle.vte_core.specs.AdvanceToRun.{IsRunIn, IsWhole, ReturnsRun, run_bytes,
 use Rattle.vte_core.specs.declared.scan.taken.Run.{Run}
 use Rattle.vte_core.specs.declared.scan.taken.RunKind.{RunKind}
 use Rattle.vte_core.specs.declared.scan.taken.RunKind.TheVariants.{OfText, OfData, Empty}
-use Rattle.vte_core.specs.declared.scan.taken.RunPlace.{RunPlace}
+use Rattle.vte_core.specs.declared.scan.taken.RunRange.{RunRange}
 use Rattle.vte_core.specs.declared.scan.taken.Taken.{Taken}
 use Rattle.vte_core.specs.declared.scan.taken.Taken.TheVariants.{Text as TakenText, Data, Nothing as TakenNothing}
 use Rattle.vte_core.specs.Text.{IsRunText}
@@ -19,11 +19,11 @@ use Rattle.vte_core.proofs.calls.TextRuns.{reads-text}
 use Rattle.vte_core.proofs.fields.PlaceOfState.{IsPlace, stands-in}
 use Rattle.vte_core.proofs.places.PlaceLeads.{data-put}
 use Rattle.vte_core.proofs.streams.After.{added-nothing, added-reads, after-nothing, after-reads}
-use Rattle.vte_core.proofs.streams.StreamLemmas.{no_escape, reads-append, reads-byte, reads-nothing}
+use Rattle.vte_core.proofs.places.StreamLemmas.{no_escape, reads-append, reads-byte, reads-nothing}
 
 -- ---- no run
 
-has-nowhere : {B : Type 0} {limit : Option ℕ} {bytes : List ℕ} {from : ℕ} {place : RunPlace} {parser : Machine B}
+has-nowhere : {B : Type 0} {limit : Option ℕ} {bytes : List ℕ} {from : ℕ} {place : RunRange} {parser : Machine B}
     → from ≤ length bytes → place.start ≡ from → place.end ≡ from
     → place.kind ≡ Empty → HasRun limit bytes place parser
 has-nowhere {limit} {bytes} {from} {place} {parser} within starts ends kind =
@@ -56,7 +56,7 @@ pub settled-text : {state : State} (unfinished : Unfinished) → state ≡ Text 
 settled-text unfinished e settled = e ∙ by_unfinished unfinished (subst IsSettled e settled)
 
 -- bytes that lead from the parser's place to the same
-has-run : {B : Type 0} {limit : Option ℕ} {bytes : List ℕ} {place : RunPlace} {parser : Machine B} (here : Place)
+has-run : {B : Type 0} {limit : Option ℕ} {bytes : List ℕ} {place : RunRange} {parser : Machine B} (here : Place)
     → IsPlace here
     → ((at : Place) → Stands limit parser at → at ≡ here)
     → Reads limit here (bytes_at bytes place) (kind_events place.kind (bytes_at bytes place)) here
@@ -136,7 +136,7 @@ anew {limit} parser begun h = record {
 
 -- ---- where a call comes
 
-module _ {V B : Type 0} {call : ChunkCall V} {old new : V} {place : RunPlace} {before parser : Machine B} where
+module _ {V B : Type 0} {call : ChunkCall V} {old new : V} {place : RunRange} {before parser : Machine B} where
   -- the call comes to a run
   pub comes-to_run : HasRun call.limit call.bytes place parser → place.start < place.end
       → call.is_terminated new ≡ false
@@ -170,7 +170,7 @@ record TakesRun (bytes : List ℕ) (end : ℕ) (these : List ℕ) (kind : RunKin
   events : taken_events taken ≡ kind_events kind these
   whole : IsWhole bytes end taken
 
-takes : (bytes : List ℕ) (place : RunPlace) (kind : RunKind) (taken : Taken) → IsTaken kind (bytes_at bytes place) taken
+takes : (bytes : List ℕ) (place : RunRange) (kind : RunKind) (taken : Taken) → IsTaken kind (bytes_at bytes place) taken
     → AreOfKind kind (bytes_at bytes place)
     → length (bytes_at bytes place) ≡ place.end - place.start → IsWholeAt bytes place kind
     → TakesRun bytes place.end (bytes_at bytes place) kind taken
@@ -190,7 +190,7 @@ takes bytes place Empty TakenNothing same are size whole =
     record { are = sym none; events = refl; whole = tt }
 takes bytes place _ _ same are size whole = absurd same
 
-size_at : (bytes : List ℕ) (place : RunPlace) → IsRange bytes place.start place.end
+size_at : (bytes : List ℕ) (place : RunRange) → IsRange bytes place.start place.end
     → length (bytes_at bytes place) ≡ place.end - place.start
 size_at bytes place range =
     omega (
@@ -202,13 +202,13 @@ size_at bytes place range =
       range.within,
     )
 
-takes-run : {B : Type 0} {limit : Option ℕ} {bytes : List ℕ} {place : RunPlace} {parser : Machine B} (taken : Taken)
+takes-run : {B : Type 0} {limit : Option ℕ} {bytes : List ℕ} {place : RunRange} {parser : Machine B} (taken : Taken)
     → HasRun limit bytes place parser
     → IsTaken place.kind (bytes_at bytes place) taken → TakesRun bytes place.end (bytes_at bytes place) place.kind taken
 takes-run {bytes} {place} taken h is =
     takes bytes place place.kind taken is h.kind (size_at bytes place h.range) h.whole
 
-stands-run : {B : Type 0} {limit : Option ℕ} {bytes : List ℕ} {run : Run} {place : RunPlace} {parser : Machine B}
+stands-run : {B : Type 0} {limit : Option ℕ} {bytes : List ℕ} {run : Run} {place : RunRange} {parser : Machine B}
     → HasRun limit bytes place parser → run.start ≡ place.start
     → run.end ≡ place.end → IsTaken place.kind (bytes_at bytes place) run.taken → IsRunIn bytes run
 stands-run {bytes} {run} {place} h starts ends taken =
@@ -222,7 +222,7 @@ stands-run {bytes} {run} {place} h starts ends taken =
     }
 
 -- a call that comes to a run, as its callers see it
-module _ {V B : Type 0} {call : ChunkCall V} {old new : V} (run : Run) {place : RunPlace} {before parser : Machine B}
+module _ {V B : Type 0} {call : ChunkCall V} {old new : V} (run : Run) {place : RunRange} {before parser : Machine B}
     (c : ComesToRun call old new place before parser) (starts : run.start ≡ place.start) (ends : run.end ≡ place.end)
     (taken : IsTaken place.kind (bytes_at call.bytes place) run.taken) where
   pub returns-run : call.may_stop ≡ true

@@ -1,6 +1,6 @@
 -- A character of two to four bytes, at the front of some bytes or in a call's input, that is no control: so it is a
 -- run.
-use Rattle.vte_core.proofs.Common.{◌≡◌, ℕ, suc, ◌+◌, ◌-◌, ◌<◌, ◌≤◌, Bool, true, false, List, [], ◌∷◌, length, take, drop, get_or, inl, inr, refl, sym, ap, subst, ◌∙◌, arith, and_from, scalar, encode, encodes, cases_eq, nat_tests, append-nil, drop_more, All-nil, All-cons, All, slice_index, second_range, is_control_character, StaysInRun, from_to, is_in, is_well_formed, scalar_of, IsUtf8, chars, AreRun, IsRun}
+use Rattle.vte_core.proofs.Common.{◌≡◌, ℕ, suc, ◌+◌, ◌-◌, ◌<◌, ◌≤◌, Bool, true, false, List, [], ◌∷◌, length, take, drop, get_or, inl, inr, refl, sym, ap, subst, ◌∙◌, arith, and_from, scalar, encode, encodes, cases_eq, nat_tests, append-nil, drop_more, All-nil, All-cons, All, slice_index, second_range, is_control_character, StaysInRun, from_to, is_in, is_well_formed, scalar_of, IsUtf8, chars, IsUtf8Run, IsRun}
 use Rattle.std.proofs.lemmas.Str.{IsUtf8-encode, chars-encodes}
 use Rattle.vte_core.proofs.bytes.FirstBytes.{second_plain, tests_two, tests_three, tests_four}
 use Rattle.vte_core.proofs.bytes.Printable.{no_control-stays}
@@ -8,7 +8,7 @@ use Rattle.vte_core.proofs.bytes.Scalars.{sequence, whole_one, whole_two, whole_
 use Rattle.vte_core.proofs.dividing.Utf8Agrees.{four_from, three_from, well_formed_is_encoded}
 
 printable-whole : {keeps : Bool} (p : List ℕ) → is_well_formed p ≡ true → is_control_character (scalar_of p) ≡ false
-    → AreRun keeps p
+    → IsUtf8Run keeps p
 printable-whole {keeps} p whole plain =
     let c : ℕ = scalar_of p in
     let same : encodes (c ∷ []) ≡ p = append-nil (encode c) ∙ well_formed_is_encoded p whole in
@@ -43,7 +43,7 @@ no_control : (c : ℕ) → 0xa0 ≤ c → is_control_character c ≡ false
 no_control c low = grind (arith, nat_tests)
 
 pub printable : {keeps : Bool} (b : ℕ) (u : List ℕ) → 0xc2 ≤ b → (b ≡ 0xc2 → 0xa0 ≤ get_or u 0 0)
-    → is_well_formed (b ∷ u) ≡ true → AreRun keeps (b ∷ u)
+    → is_well_formed (b ∷ u) ≡ true → IsUtf8Run keeps (b ∷ u)
 printable b u low plain whole =
     printable-whole (b ∷ u) whole (no_control (scalar_of (b ∷ u)) (past_controls b u low plain whole))
 
@@ -72,9 +72,9 @@ run-of {keeps} bytes from b u within is at low plain whole =
     let same : take (suc (length u)) (drop from bytes) ≡ b ∷ u =
     ap (take (suc (length u))) (drop_more bytes from 0 within)
     ∙ ap (λ c. c ∷ take (length u) (drop (from + 1) bytes)) (sym is) ∙ ap (λ x. b ∷ x) (stand-take bytes from 1 u at) in
-    subst (λ n. AreRun keeps (take n (drop from bytes)))
+    subst (λ n. IsUtf8Run keeps (take n (drop from bytes)))
     (let e : suc (length u) ≡ from + suc (length u) - from = omega arith in e)
-    (subst (AreRun keeps) (sym same) (printable b u low plain whole))
+    (subst (IsUtf8Run keeps) (sym same) (printable b u low plain whole))
 
 pub run-two : {keeps : Bool} (bytes : List ℕ) (from first second : ℕ) → from + 2 ≤ length bytes
     → first ≡ slice_index bytes from → second ≡ slice_index bytes (from + 1)

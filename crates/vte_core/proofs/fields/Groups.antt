@@ -3,7 +3,7 @@ use Rattle.vte_core.proofs.Common.{◌≡◌, ℕ, suc, ◌+◌, ◌<◌, ◌≤
 use Rattle.vte_core.proofs.Common.{sum_by-take-le, Number, with_number, count_of, greatest_number, most_numbers, AreGroups}
 use Rattle.std.proofs.lemmas.List.{length-take-le, append_assoc}
 use Rattle.std.specs.Option.{unwrap_or}
-use Rattle.vte_core.specs.machine.Groups.{cut_by_lengths, AreLengths, AreStored, IsTakenOff}
+use Rattle.vte_core.specs.machine.Groups.{cut_by_lengths, AreLengths, AreFlatGroups, IsTakenOff}
 
 abbrev pub IsFilled : List ℕ → Type 0
 IsFilled group = 0 < length group
@@ -74,7 +74,8 @@ small-cut_by_lengths (n ∷ lengths) numbers small =
     (All-take IsSmallNumber n numbers small)
     (small-cut_by_lengths lengths (drop n numbers) (All-drop IsSmallNumber n numbers small))
 
-pub AreGroups-cut_by_lengths : (lengths numbers : List ℕ) → AreStored lengths numbers → length numbers ≤ most_numbers
+pub AreGroups-cut_by_lengths : (lengths numbers : List ℕ) → AreFlatGroups lengths numbers
+    → length numbers ≤ most_numbers
     → AreGroups (cut_by_lengths lengths numbers)
 AreGroups-cut_by_lengths lengths numbers ok few = record {
   few = omega (arith, count_of-cut_by_lengths lengths numbers ok.lengths_fit);

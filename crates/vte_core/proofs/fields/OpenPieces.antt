@@ -1,6 +1,6 @@
 -- The pieces of an open command, before and after one more data byte: with fewer than 16 `;` the byte joins the last
 -- piece, and the others stay.
-use Rattle.vte_core.proofs.Common.{◌≡◌, ◌≢◌, ℕ, ◌<◌, suc, zero, None, List, [], ◌∷◌, ◌++◌, length, take, drop, refl, ap, ◌∙◌, arith, length-append, slice_range, ◌+◌, All-cons, All-nil, append-nil, concat, drop-append-le, drops_data, nat_tests, take_all, Stored, Keeps, PiecesEnd, cut_data, semicolon, most_pieces, pieces_of}
+use Rattle.vte_core.proofs.Common.{◌≡◌, ◌≢◌, ℕ, ◌<◌, suc, zero, None, List, [], ◌∷◌, ◌++◌, length, take, drop, refl, ap, ◌∙◌, arith, length-append, slice_range, ◌+◌, All-cons, All-nil, append-nil, concat, drop-append-le, drops_data, nat_tests, take_all, Stored, HoldsItems, PiecesEnd, cut_data, semicolon, most_pieces, pieces_of}
 use Rattle.std.proofs.lemmas.List.Folds.{concat-append}
 use Rattle.vte_core.proofs.fields.StoreLemmas.{IsDataItem, after_byte, after_nothing, count-run, ends-within, pieces_held, slice_within}
 
@@ -71,7 +71,7 @@ same_drops items byte pieces last before later other =
       more,
     ) (grind (arith, nat_tests))
 
-pub open_for : (held : Stored) (items : List ℕ) (byte : ℕ) → Keeps None held items → length held.ends < most_pieces
+pub open_for : (held : Stored) (items : List ℕ) (byte : ℕ) → HoldsItems None held items → length held.ends < most_pieces
     → byte ≢ semicolon → IsOpenFor items byte
 open_for held items byte keeps few other =
     let g = goes_on most_pieces 0 held.bytes held.ends byte keeps.end in

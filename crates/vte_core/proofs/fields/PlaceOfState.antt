@@ -1,6 +1,6 @@
 -- What is known of a parser that is at a place: by cases of its state, to each of which belongs one kind of place.
-use Rattle.vte_core.proofs.Common.{◌≡◌, ℕ, true, Option, List, [], ◌∷◌, ◌++◌, refl, ap, sym, subst, ◌∙◌, append-nil, Machine, State, Text, Escape, SystemCommand, body_outcome, data_outcome, executed_events, leaves, unfinished, HoldsIntermediates, StandsBy, Stands, Place, InText, AtEscape, InSystemCommand, open_at, left_at, rest_outcome, outcome_from, events_from, IsBetween, Stored, Keeps, SameItems, text_outcome, is_truncated, Nothing}
-use Rattle.vte_core.proofs.Common.{is_open}
+use Rattle.vte_core.proofs.Common.{◌≡◌, ℕ, true, Option, List, [], ◌∷◌, ◌++◌, refl, ap, sym, subst, ◌∙◌, append-nil, Machine, State, Text, Escape, SystemCommand, body_outcome, data_outcome, executed_events, leaves, open_bytes, HoldsIntermediates, StandsBy, Stands, Place, InText, AtEscape, InSystemCommand, open_at, left_at, rest_outcome, outcome_from, events_from, IsSettledPlace, Stored, HoldsItems, SameItems, text_outcome, is_truncated, Nothing}
+use Rattle.vte_core.proofs.Common.{may_continue}
 use Rattle.vte_core.specs.IgnoredString.{ignored_string_outcome}
 use Rattle.vte_core.specs.machine.Place.{control_sequence_from, device_control_from, escape_from, system_command_from}
 use Rattle.vte_core.proofs.shapes.TextLemmas.{text_end, text_nothing}
@@ -32,7 +32,7 @@ stands-escape {limit} parser s = by_escape limit parser.state parser s.by
 pub record InCommandAt {B : Type 0} (limit : Option ℕ) (parser : Machine B) (place : Place) : Type 0 where
   pub items : List ℕ
   pub same : place ≡ InSystemCommand items
-  pub keeps : Keeps limit parser.command items
+  pub keeps : HoldsItems limit parser.command items
 
 by_items : {B : Type 0} (limit : Option ℕ) (parser : Machine B) (place : Place)
     → StandsBy limit SystemCommand parser place → InCommandAt limit parser place
@@ -45,7 +45,7 @@ in_command {limit} parser place e s = by_items limit parser place (stands-in e s
 
 -- what is true of a place where some parser stands
 abbrev pub IsPlace : Place → Type 0
-IsPlace (InText u) = is_open u ≡ true
+IsPlace (InText u) = may_continue u ≡ true
 IsPlace _ = Unit {0}
 
 by_place : {B : Type 0} (limit : Option ℕ) (state : State) (parser : Machine B) (place : Place)
@@ -58,11 +58,11 @@ pub stands-place : {B : Type 0} {limit : Option ℕ} (parser : Machine B) (place
     → IsPlace place
 stands-place {limit} parser place s = by_place limit parser.state parser place s.by
 
-pub is_open-truncated : (u : List ℕ) → is_truncated u ≡ true → is_open u ≡ true
-is_open-truncated [] more = refl
-is_open-truncated (a ∷ u) more = more
+pub may_continue-truncated : (u : List ℕ) → is_truncated u ≡ true → may_continue u ≡ true
+may_continue-truncated [] more = refl
+may_continue-truncated (a ∷ u) more = more
 
-text_open : (limit : Option ℕ) (u : List ℕ) → is_open u ≡ true
+text_open : (limit : Option ℕ) (u : List ℕ) → may_continue u ≡ true
     → text_outcome (u ++ []) ≡ leaves (left_at limit (InText u))
 text_open limit [] o = text_nothing
 text_open limit (a ∷ u) o = rw append-nil (text_end (a ∷ u) o)
@@ -84,22 +84,22 @@ outcome_from-nothing limit place is = rest_outcome-nothing limit place is
 pub events_from-nothing : (limit : Option ℕ) (place : Place) → IsPlace place → events_from limit place [] ≡ []
 events_from-nothing limit place is = ap (λ outcome. outcome.told) (outcome_from-nothing limit place is)
 
-pub unfinished-at : (limit : Option ℕ) (place : Place) → unfinished (left_at limit place) ≡ open_at place
-unfinished-at limit (InText []) = refl
-unfinished-at limit (InText (a ∷ u)) = refl
-unfinished-at limit _ = refl
+pub open_bytes-at : (limit : Option ℕ) (place : Place) → open_bytes (left_at limit place) ≡ open_at place
+open_bytes-at limit (InText []) = refl
+open_bytes-at limit (InText (a ∷ u)) = refl
+open_bytes-at limit _ = refl
 
-pub open_at-between : (place : Place) → IsBetween place → open_at place ≡ []
-open_at-between (InText u) none = none
-open_at-between _ none = refl
+pub open_at-settled : (place : Place) → IsSettledPlace place → open_at place ≡ []
+open_at-settled (InText u) none = none
+open_at-settled _ none = refl
 
 -- between characters
 pub stands-text_begun : {B : Type 0} {limit : Option ℕ} (parser : Machine B) → parser.state ≡ Text Nothing
     → Stands limit parser (InText [])
 stands-text_begun parser e = stands-by e (refl, refl)
 
-pub keeps-same : (limit : Option ℕ) (old new : Stored) (items : List ℕ) → SameItems old new → Keeps limit old items
-    → Keeps limit new items
+pub keeps-same : (limit : Option ℕ) (old new : Stored) (items : List ℕ) → SameItems old new → HoldsItems limit old items
+    → HoldsItems limit new items
 keeps-same limit old new items same keeps = record {
   goes_on = rw (same.bytes, same.ends) keeps.goes_on;
   end = rw (same.bytes, same.ends) keeps.end;

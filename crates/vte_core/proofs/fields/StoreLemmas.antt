@@ -1,8 +1,8 @@
--- What a store holds: how many bytes, and which pieces. The invariant `Keeps` says what more items give, and each byte
--- either joins the last piece, ends it, or is dropped.
+-- What a store holds: how many bytes, and which pieces. The invariant `HoldsItems` says what more items give, and each
+-- byte either joins the last piece, ends it, or is dropped.
 --
--- `after_X`: the pieces if X follows; `ends-X`: where pieces end; `keeps-X`: what is kept after X (`Keeps`).
-use Rattle.vte_core.proofs.Common.{◌≡◌, ◌≢◌, ℕ, ◌+◌, ◌-◌, ◌≤◌, ◌<◌, zero, suc, true, false, List, [], ◌∷◌, ◌++◌, length, take, drop, Option, Some, None, refl, sym, ap, ◌∙◌, arith, append_assoc, length-append, length-drop, length-take, inl, inr, All, concat, filter, slice_range, drop-append-le, take-append-le, All-head, All-tail, take-nil, cases_Bool, ltb-false, ltb-true, ne_eqb, semicolon, Stored, Keeps, PiecesEnd}
+-- `after_X`: the pieces if X follows; `ends-X`: where pieces end; `keeps-X`: what is kept after X (`HoldsItems`).
+use Rattle.vte_core.proofs.Common.{◌≡◌, ◌≢◌, ℕ, ◌+◌, ◌-◌, ◌≤◌, ◌<◌, zero, suc, true, false, List, [], ◌∷◌, ◌++◌, length, take, drop, Option, Some, None, refl, sym, ap, ◌∙◌, arith, append_assoc, length-append, length-drop, length-take, inl, inr, All, concat, filter, slice_range, drop-append-le, take-append-le, All-head, All-tail, take-nil, cases_Bool, ltb-false, ltb-true, ne_eqb, semicolon, Stored, HoldsItems, PiecesEnd}
 use Rattle.vte_core.proofs.Common.{cut_data, cut_pieces, ends_after, fitting, pieces_from, Bool, drops_data, has_room, is_data_item, nat_tests, kept_after, kept_items, most_pieces, pieces_of}
 use Rattle.std.proofs.Common.{append-nil}
 use Rattle.std.specs.Prelude.{◌||◌, nat_lt}
@@ -153,7 +153,7 @@ length-fitting (Some limit) count run = omega (arith, length-take (limit - count
 -- ---- a store
 
 pub keeps-nothing : (limit : Option ℕ) (held : Stored) → held.bytes ≡ [] → held.ends ≡ [] → held.dropped ≡ false
-    → Keeps limit held []
+    → HoldsItems limit held []
 unfolding pieces_of kept_items
 keeps-nothing limit held no_bytes no_ends none_dropped = record {
   goes_on = λ more. rw (no_bytes, no_ends) (ap (take most_pieces) (cut_at_ends (kept_after limit 0 more)));
@@ -168,13 +168,13 @@ IsDone limit held = (more : List ℕ) → pieces_from limit held.bytes held.ends
 
 -- after 16 ends
 pub done-complete : (limit : Option ℕ) (held : Stored) (items : List ℕ) → length held.ends ≡ most_pieces
-    → Keeps limit held items → IsDone limit held
+    → HoldsItems limit held items → IsDone limit held
 done-complete limit held items complete keeps more =
     let kept = kept_after limit (length held.bytes) more in
     rw complete at (ends-complete 0 held.bytes held.ends (filter is_data_item kept)
     (ends_after (length held.bytes) kept) (rw complete keeps.end))
 
-none-counts : (limit : Option ℕ) (held : Stored) (items more : List ℕ) → IsDone limit held → Keeps limit held items
+none-counts : (limit : Option ℕ) (held : Stored) (items more : List ℕ) → IsDone limit held → HoldsItems limit held items
     → (later : List ℕ) → pieces_of limit ((items ++ more) ++ later) ≡ pieces_from limit held.bytes held.ends later
 none-counts limit held items more done keeps later =
     rw (append_assoc items more later) (keeps.goes_on (more ++ later) ∙ done (more ++ later) ∙ sym (done later))
@@ -184,7 +184,7 @@ pub keeps-later : (limit : Option ℕ) (old new : Stored) (items run : List ℕ)
     → All IsDataItem run
     → new.bytes ≡ old.bytes → new.ends ≡ old.ends
     → new.dropped ≡ (old.dropped || nat_lt (length new.bytes - length old.bytes) (length run))
-    → Keeps limit old items → Keeps limit new (items ++ run)
+    → HoldsItems limit old items → HoldsItems limit new (items ++ run)
 keeps-later limit old new items run complete none bytes ends dropped keeps = record {
   goes_on =
       λ more.
@@ -198,8 +198,8 @@ keeps-later limit old new items run complete none bytes ends dropped keeps = rec
 }
 
 -- if no more items count, a `;` changes nothing
-pub keeps-done : (limit : Option ℕ) (held : Stored) (items : List ℕ) → IsDone limit held → Keeps limit held items
-    → Keeps limit held (items ++ semicolon ∷ [])
+pub keeps-done : (limit : Option ℕ) (held : Stored) (items : List ℕ) → IsDone limit held → HoldsItems limit held items
+    → HoldsItems limit held (items ++ semicolon ∷ [])
 keeps-done limit held items done keeps = record {
   goes_on = none-counts limit held items (semicolon ∷ []) done keeps;
   end = keeps.end;
@@ -211,8 +211,9 @@ keeps-done limit held items done keeps = record {
 pub keeps-run : (limit : Option ℕ) (old new : Stored) (items run : List ℕ) → length old.ends < most_pieces
     → All IsDataItem run
     → new.bytes ≡ old.bytes ++ fitting limit (length old.bytes) run → new.ends ≡ old.ends
-    → new.dropped ≡ (old.dropped || nat_lt (length new.bytes - length old.bytes) (length run)) → Keeps limit old items
-    → Keeps limit new (items ++ run)
+    → new.dropped ≡ (old.dropped || nat_lt (length new.bytes - length old.bytes) (length run))
+    → HoldsItems limit old items
+    → HoldsItems limit new (items ++ run)
 keeps-run limit old new items run few none bytes ends dropped keeps =
     let kept : List ℕ = fitting limit (length old.bytes) run in
     let end = ends-more most_pieces 0 old.ends (length old.bytes) (length kept) few keeps.end in
@@ -235,8 +236,8 @@ keeps-run limit old new items run few none bytes ends dropped keeps =
 pub keeps-end : (limit : Option ℕ) (old new : Stored) (items : List ℕ) → length old.ends < most_pieces
     → has_room limit (length old.bytes) ≡ true
     → new.bytes ≡ old.bytes → new.ends ≡ old.ends ++ length old.bytes ∷ [] → new.dropped ≡ old.dropped
-    → Keeps limit old items
-    → Keeps limit new (items ++ semicolon ∷ [])
+    → HoldsItems limit old items
+    → HoldsItems limit new (items ++ semicolon ∷ [])
 keeps-end limit old new items few room bytes ends dropped keeps = record {
   goes_on =
       λ more.
@@ -248,18 +249,18 @@ keeps-end limit old new items few room bytes ends dropped keeps = record {
 }
 
 -- the pieces, by what a store holds
-pub pieces_held : (limit : Option ℕ) (held : Stored) (items : List ℕ) → Keeps limit held items
+pub pieces_held : (limit : Option ℕ) (held : Stored) (items : List ℕ) → HoldsItems limit held items
     → pieces_of limit items ≡ cut_pieces held.bytes held.ends
 pieces_held limit held items keeps = rw append-nil at (keeps.goes_on [] ∙ after_nothing limit held.bytes held.ends)
 
 -- all bytes are in them
-pub pieces_stored : (limit : Option ℕ) (held : Stored) (items : List ℕ) → Keeps limit held items
+pub pieces_stored : (limit : Option ℕ) (held : Stored) (items : List ℕ) → HoldsItems limit held items
     → length held.bytes ≡ length (concat (pieces_of limit items))
 pieces_stored limit held items keeps =
     rw (pieces_held limit held items keeps) (omega (arith, ends-stored most_pieces 0 held.bytes held.ends keeps.end))
 
 -- a store knows whether data bytes were dropped
-pub drops_held : (limit : Option ℕ) (held : Stored) (items : List ℕ) → Keeps limit held items
+pub drops_held : (limit : Option ℕ) (held : Stored) (items : List ℕ) → HoldsItems limit held items
     → drops_data limit items ≡ held.dropped
 unfolding drops_data
 drops_held limit held items keeps = rw (pieces_stored limit held items keeps) at (sym keeps.dropped)

@@ -10,7 +10,7 @@ use Rattle.vte_core.specs.Key.{ControlSequence, DeviceControl, SystemCommand, Ig
 use Rattle.vte_core.specs.machine.Place.{control_sequence_from, device_control_from, escape_from, system_command_from}
 use Rattle.vte_core.proofs.bytes.ClassLemmas.{spans}
 use Rattle.vte_core.proofs.bytes.ClassCases.{head_is_no_control, head_is_no_end}
-use Rattle.vte_core.proofs.shapes.PlainKeys.{is_dropped, is_dropped_in_head, below_finals}
+use Rattle.vte_core.proofs.bytes.PlainKeys.{is_dropped, is_dropped_in_head, below_finals}
 use Rattle.vte_core.proofs.shapes.TextLemmas.{text_lone, text_outcome-well_formed}
 
 -- ---- DEL and 80..FF

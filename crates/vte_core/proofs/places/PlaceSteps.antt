@@ -3,18 +3,18 @@
 use Rattle.vte_core.proofs.Common.{◌≡◌, ℕ, inl, inr, false, eqb, Option, List, refl, arith, cases_Bool, nat_tests, Class, Control, Cancel, Intermediate, Final, Delete, High, class_of, ends_all, Key, Dispatch, key_of, IsBrief, Event, head_of, is_well_shaped, sequence_event, Leads, Place, InText, AtEscape, InEscape, InControlSequence, InDeviceControl, InData, InSystemCommand, InIgnoredString, closing_events_at, escape, bell, pieces_of}
 use Rattle.vte_core.proofs.Common.{kept_items, data_left, left_at, breaks, open_at, sym, false≢true, ◌∙◌, [], ◌∷◌, ◌++◌, Execute}
 use Rattle.vte_core.proofs.bytes.FirstBytes.{Tests, ascii_breaks}
-use Rattle.vte_core.proofs.stops.Told.{breaks-broken}
+use Rattle.vte_core.proofs.shapes.Told.{breaks-broken}
 use Rattle.vte_core.specs.Class.{Escape}
 use Rattle.vte_core.proofs.places.BriefLemmas.{bounded-head, executed_low, two_at_most}
-use Rattle.vte_core.proofs.shapes.CancelLemmas.{cancel, closing_brief, closing_alone_brief}
+use Rattle.vte_core.proofs.places.CancelLemmas.{cancel, closing_brief, closing_alone_brief}
 use Rattle.vte_core.proofs.bytes.ClassCases.{ends_not_cancel}
 use Rattle.vte_core.proofs.bytes.ClassLemmas.{Spans, spans}
-use Rattle.vte_core.proofs.shapes.PlainKeys.{below_finals}
+use Rattle.vte_core.proofs.bytes.PlainKeys.{below_finals}
 use Rattle.vte_core.proofs.places.PlaceLeads.{escape-key, escape-intermediate, escape-end, intermediate-more, intermediate-end, byte-dropped, byte-executed, control-head, control-dispatched, control-silent, device-dropped, device-head, device-well_shaped, device-malformed, data-put, data-dropped}
 use Rattle.vte_core.proofs.places.PlaceLeads.{data-terminator, command-item, command-control, command-bell, ignored-more}
 use Rattle.vte_core.proofs.fields.PlaceOfState.{IsPlace}
 use Rattle.vte_core.proofs.fields.KeptItems.{few_pieces, pieces_push, some_pieces}
-use Rattle.vte_core.proofs.streams.StreamLemmas.{reads-escape, no_escape, cancel_is_no_escape}
+use Rattle.vte_core.proofs.places.StreamLemmas.{reads-escape, no_escape, cancel_is_no_escape}
 use Rattle.vte_core.proofs.places.TextSteps.{AreOthers, FitsLeft, IsLittle, IsQuiet, IsText, Steps, leads_on, steps-text}
 
 abbrev IsOutside : Place → Type 0
@@ -242,7 +242,7 @@ by_class limit place b Escape placed is =
       grows = λ _. omega arith;
       leaves = inl refl;
       little = escape_little limit place placed;
-      others = closing_others limit place _;
+      quietly = closing_others limit place _;
     })
 by_class limit (InText u) b Cancel placed is = steps-text limit u b (cancel_is_no_escape b is) placed
 by_class limit place b Cancel placed is =

@@ -1,11 +1,11 @@
 -- What one byte reports in a text, whatever it is: by whether it ends, continues or breaks the open character.
-use Rattle.vte_core.proofs.Common.{◌≡◌, ℕ, ◌⊎◌, inl, inr, true, false, eqb, Option, List, [], ◌∷◌, ◌++◌, refl, ap, sym, subst, ◌∙◌, cases_Bool, false≢true, IsBrief, IsTiny, IsOther, class_of, is_device_data, Event, Print, ◌≤◌, ◌+◌, None, arith, FitsStore, Open, OpenCommand, data_left, left_at, replacement, tell, Place, InData, InText, breaks, open_at, escape, Leads, Reads, is_open, is_truncated, is_well_formed}
+use Rattle.vte_core.proofs.Common.{◌≡◌, ℕ, ◌⊎◌, inl, inr, true, false, eqb, Option, List, [], ◌∷◌, ◌++◌, refl, ap, sym, subst, ◌∙◌, cases_Bool, false≢true, IsBrief, IsTiny, IsQuietEvent, class_of, is_device_data, Event, Print, ◌≤◌, ◌+◌, None, arith, FitsStore, ToClose, CommandToClose, data_left, left_at, replacement, tell, Place, InData, InText, breaks, open_at, escape, Leads, Reads, may_continue, is_truncated, is_well_formed}
 use Rattle.vte_core.proofs.places.PlaceLeads.{text-unfinished, text-whole, text-lone}
 use Rattle.vte_core.proofs.shapes.TextLemmas.{text_broken}
 use Rattle.vte_core.proofs.places.BriefLemmas.{short-character, short-malformed, tiny_brief, tiny-both}
-use Rattle.vte_core.proofs.fields.PlaceOfState.{IsPlace, is_open-truncated}
-use Rattle.vte_core.proofs.stops.Told.{breaks-broken}
-use Rattle.vte_core.proofs.streams.StreamLemmas.{reads-byte, waits-byte}
+use Rattle.vte_core.proofs.fields.PlaceOfState.{IsPlace, may_continue-truncated}
+use Rattle.vte_core.proofs.shapes.Told.{breaks-broken}
+use Rattle.vte_core.proofs.places.StreamLemmas.{reads-byte, waits-byte}
 
 -- where a character is open at the place, at most U+FFFD was told
 abbrev pub LeavesOpen : Place → List Event → Type 0
@@ -24,8 +24,8 @@ text_at (InText u) some = tt
 text_at _ some = absurd (some refl)
 
 -- the pieces of the open command, if any, fit into a buffer of this size
-abbrev pub FitsLeft : Option ℕ → Open → Type 0
-FitsLeft size (OpenCommand pieces dropped) = FitsStore size pieces
+abbrev pub FitsLeft : Option ℕ → ToClose → Type 0
+FitsLeft size (CommandToClose pieces dropped) = FitsStore size pieces
 FitsLeft size _ = Unit {0}
 
 pub text_left : (limit : Option ℕ) (u : List ℕ) → data_left (left_at limit (InText u)) ≡ 0
@@ -40,8 +40,8 @@ IsQuiet _ b = Unit {0}
 
 abbrev pub AreOthers : List Event → Type 0
 AreOthers [] = Unit {0}
-AreOthers (event ∷ []) = IsOther event
-AreOthers (event ∷ events) = IsOther event × AreOthers events
+AreOthers (event ∷ []) = IsQuietEvent event
+AreOthers (event ∷ events) = IsQuietEvent event × AreOthers events
 
 -- what the byte tells after the place, and where it leads
 pub record Steps (limit : Option ℕ) (place : Place) (b : ℕ) : Type 0 where
@@ -53,7 +53,7 @@ pub record Steps (limit : Option ℕ) (place : Place) (b : ℕ) : Type 0 where
   pub grows : limit ≡ None → data_left (left_at limit next) ≤ data_left (left_at limit place) + 1
   pub leaves : LeavesOpen next told
   pub little : IsText place → breaks (open_at place) (b ∷ []) ≡ false → IsLittle next told
-  pub others : IsQuiet place b → AreOthers told
+  pub quietly : IsQuiet place b → AreOthers told
 
 -- a step of a byte that is not ESC
 pub leads_on : {limit : Option ℕ} {place next : Place} {b : ℕ} {told : List Event} → (IsText place → IsLittle next told)
@@ -71,7 +71,7 @@ leads_on {limit} {place} {next} {b} {told} little leaves grows e l is brief othe
   grows = grows;
   leaves = leaves;
   little = λ text _. little text;
-  others = others;
+  quietly = others;
 }
 
 tiny_of : (next : Place) (told : List Event) → IsLittle next told → IsTiny told
@@ -92,7 +92,7 @@ by_tests : (limit : Option ℕ) (u : List ℕ) (b : ℕ) → eqb b escape ≡ fa
 by_tests limit u b e neither = elim (cases_Bool (is_well_formed (u ++ b ∷ []))) [
   | inl whole ↦ leads_little (inr (refl, short-character (u ++ b ∷ []) whole)) e (text-whole limit u b whole) refl
   | inr part ↦ elim (cases_Bool (is_truncated (u ++ b ∷ []))) [
-    | inl still ↦ leads_little (inl refl) e (text-unfinished limit u b) (is_open-truncated (u ++ b ∷ []) still)
+    | inl still ↦ leads_little (inl refl) e (text-unfinished limit u b) (may_continue-truncated (u ++ b ∷ []) still)
     | inr none ↦ neither part none
   ]
 ]
@@ -125,10 +125,10 @@ broken limit u b e more part none =
             | inr closed ↦ inl closed.0
           ];
       little = λ _ unbroken. absurd (false≢true (sym unbroken ∙ breaks-broken u b more part none));
-      others = λ quiet. absurd quiet;
+      quietly = λ quiet. absurd quiet;
     }
 
-pub steps-text : (limit : Option ℕ) (u : List ℕ) (b : ℕ) → eqb b escape ≡ false → is_open u ≡ true
+pub steps-text : (limit : Option ℕ) (u : List ℕ) (b : ℕ) → eqb b escape ≡ false → may_continue u ≡ true
     → Steps limit (InText u) b
 steps-text limit [] b e begun = between limit b e
 steps-text limit (a ∷ u) b e more = by_tests limit (a ∷ u) b e (λ part none. broken limit (a ∷ u) b e more part none)

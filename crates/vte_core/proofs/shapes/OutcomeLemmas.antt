@@ -1,5 +1,5 @@
 -- Events told before an outcome stay before it: they pass through what follows unchanged.
-use Rattle.vte_core.proofs.Common.{◌≡◌, ℕ, Option, List, [], ◌∷◌, ◌++◌, refl, ap, ◌∙◌, append_assoc, body_outcome, Event, Outcome, closing_events, tell, closed_events, with_bodies}
+use Rattle.vte_core.proofs.Common.{◌≡◌, ℕ, Option, List, [], ◌∷◌, ◌++◌, refl, ap, ◌∙◌, append_assoc, body_outcome, Event, Outcome, closing_events, tell, events_before_escape, with_bodies}
 
 pub tell-append : (es fs : List Event) (outcome : Outcome) → tell (es ++ fs) outcome ≡ tell es (tell fs outcome)
 tell-append es fs outcome =
@@ -11,4 +11,4 @@ with_bodies-tell limit es part [] = refl
 with_bodies-tell limit es part (body ∷ bodies) =
     let rest = with_bodies limit (body_outcome limit body) bodies in
     ap (λ (told : List Event). tell told rest) (append_assoc es part.told (closing_events part.left))
-    ∙ tell-append es (closed_events part) rest
+    ∙ tell-append es (events_before_escape part) rest

@@ -1,6 +1,6 @@
 -- The division of a text, and what it gives, from the front: a well-formed sequence, a maximal subpart or a byte comes
 -- off, and the rest is divided as a text of its own.
-use Rattle.vte_core.proofs.Common.{◌≡◌, ℕ, ◌≤◌, true, false, List, [], ◌∷◌, ◌++◌, length, refl, sym, ap, subst, ◌∙◌, arith, take-append_seam, false≢true, nat_tests, Event, Print, replacement, NothingOpen, OpenCharacter, leaves, tell, utf8_rows, rows_after_byte, rows_after_bytes, is_well_formed, is_truncated, trailing_count, segments_after, segments, scalar_of, is_control_character, character_event, malformed_event, segment_event}
+use Rattle.vte_core.proofs.Common.{◌≡◌, ℕ, ◌≤◌, true, false, List, [], ◌∷◌, ◌++◌, length, refl, sym, ap, subst, ◌∙◌, arith, take-append_seam, false≢true, nat_tests, Event, Print, replacement, NothingToClose, CharacterToClose, leaves, tell, utf8_rows, rows_after_byte, rows_after_bytes, is_well_formed, is_truncated, trailing_count, segments_after, segments, scalar_of, is_control_character, character_event, malformed_event, segment_event}
 use Rattle.vte_core.proofs.Common.{segments_outcome, text_outcome}
 use Rattle.std.proofs.Common.{append-nil}
 use Rattle.vte_core.proofs.bytes.Utf8Lemmas.{AtMostOne-first, AtMostOne-rows_after_bytes, rows_after_bytes-append, whole_not_open, open_not_whole, neither_whole_nor_open, allowed_length_none, allowed_length_whole, allowed_length_broken, allowed_length_end}
@@ -115,7 +115,7 @@ text_lone x b whole more = text_outcome-first b [] x (trailing_count_lone b x wh
 
 -- open bytes alone wait
 pub text_end : (u : List ℕ) → is_truncated u ≡ true
-    → text_outcome u ≡ leaves (OpenCharacter u)
+    → text_outcome u ≡ leaves (CharacterToClose u)
 unfolding text_outcome is_truncated
 text_end [] more = cc
 text_end (a ∷ u) more =
@@ -127,6 +127,6 @@ text_end (a ∷ u) more =
         subst (λ (v : List ℕ). segments (a ∷ v) ≡ (a ∷ u) ∷ []) same
         (segments_first a u [] (ap (trailing_count a) same ∙ trailing_count_end a u more))
 
-pub text_nothing : text_outcome [] ≡ leaves NothingOpen
+pub text_nothing : text_outcome [] ≡ leaves NothingToClose
 unfolding text_outcome
 text_nothing = refl

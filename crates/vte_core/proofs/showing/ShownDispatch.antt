@@ -5,7 +5,7 @@ use Rattle.vte_core.proofs.bytes.ClassCases.{head_ends_nothing, parameter_is_hea
 use Rattle.vte_core.proofs.places.PlaceLeads.{control-dispatched, control-head, escape-key}
 use Rattle.vte_core.proofs.shapes.HeadLemmas.{held-parts, held-well_shaped}
 use Rattle.vte_core.proofs.showing.ShownGroups.{groups_of-shown, has_too_many_numbers-shown, parameters-shown}
-use Rattle.vte_core.proofs.streams.StreamLemmas.{no_escape, reads-append, reads-byte, reads-escape, reads-nothing}
+use Rattle.vte_core.proofs.places.StreamLemmas.{no_escape, reads-append, reads-byte, reads-escape, reads-nothing}
 use Rattle.vte_core.proofs.streams.StreamSteps.{told_by_stream}
 
 reads-head : (limit : Option ℕ) (head bytes : List ℕ) → AreInClass is_parameter_text bytes

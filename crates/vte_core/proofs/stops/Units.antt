@@ -2,12 +2,12 @@
 -- position to the next at most one unit is told. By what a byte does to an open character.
 use Rattle.vte_core.proofs.Common.{◌≡◌, ℕ, zero, suc, add-one, ◌+◌, ◌<◌, ◌≤◌, ◌⊎◌, inl, inr, Bool, true, false, if◌then◌else◌, Option, None, List, [], ◌∷◌, ◌++◌, length, take, drop, get_or, refl, ap, sym, subst, ◌∙◌, append_assoc, arith, drop-append_seam, cases_Bool, false≢true, append-nil, take_more, take-append-drop, IsBrief, IsTiny, breaks, breaks_at, told_before, stream_at, Event, Print, replacement, added, events}
 use Rattle.vte_core.proofs.Common.{open_end, open_at, Place, IsAfter, IsStart}
-use Rattle.vte_core.specs.Stops.{GoesOnFromPlaces, AreToldAtStart, TellsUnits}
+use Rattle.vte_core.specs.Stops.{GoesOnFromPositions, AreToldAtStart, TellsUnits}
 use Rattle.vte_core.proofs.streams.After.{added-nothing, after-open_end}
 use Rattle.vte_core.proofs.places.BriefLemmas.{tiny-both}
 use Rattle.vte_core.proofs.places.TextSteps.{text_at}
 use Rattle.vte_core.proofs.streams.Resuming.{added-broken, resumes-after}
-use Rattle.vte_core.proofs.stops.Told.{breaks_at-byte, breaks_at-between, starts-between, starts-broken}
+use Rattle.vte_core.proofs.shapes.Told.{breaks_at-byte, breaks_at-settled, starts-settled, starts-broken}
 use Rattle.vte_core.proofs.streams.StreamSteps.{adds, LeadsTo, leads_to, events_grow, bytes_are_brief, opens_silently}
 
 -- ---- a byte that belongs to an open character
@@ -165,7 +165,7 @@ module _ (limit : Option ℕ) (stream bytes : List ℕ) (i : ℕ) (within : i < 
 
   added_further : Added limit stream bytes i → Added limit stream bytes (i + 1)
   added_further a = elim (none_or_some (open_end here)) [
-    | inl none ↦ from_start (starts-between stream bytes i within none)
+    | inl none ↦ from_start (starts-settled stream bytes i within none)
     | inr some ↦ elim (cases_Bool (breaks (open_end here) (b ∷ []))) [
       | inl broken ↦ from_start (starts-broken stream bytes i within (breaks_here ∙ broken))
       | inr unbroken ↦ from_carried a some unbroken
@@ -205,7 +205,7 @@ tells_units limit stream bytes i within = record {
         → IsBrief limit (a.unit ++ (if t then Print replacement ∷ [] else []))
     by_break true e =
         tiny-both limit a.unit (Print replacement ∷ [])
-        (a.tiny (λ none. false≢true (sym (breaks_at-between stream bytes i none) ∙ e))) replacement_tiny
+        (a.tiny (λ none. false≢true (sym (breaks_at-settled stream bytes i none) ∙ e))) replacement_tiny
     by_break false e = rw append-nil a.brief
 
 -- ---- what the rest adds
@@ -221,7 +221,7 @@ breaks-more [] unread more is = is
 breaks-more (a ∷ u) [] more is = cc
 breaks-more (a ∷ u) (b ∷ unread) more is = is
 
-pub goes_on_from : (limit : Option ℕ) → GoesOnFromPlaces limit
+pub goes_on_from : (limit : Option ℕ) → GoesOnFromPositions limit
 unfolding told_before stream_at
 goes_on_from limit stream bytes more n =
     ap (λ (v : List ℕ). added limit stream (v ++ more)) (sym (take-append-drop n bytes))

@@ -2,12 +2,12 @@
 -- do after the bytes that lead from the place to another, whose events are added.
 --
 -- `added-X` says what `added` is in the case X, and `after-X` what `IsAfter` says of X.
-use Rattle.vte_core.proofs.Common.{◌≡◌, ℕ, Option, List, [], ◌++◌, length, drop, refl, ap, sym, ◌∙◌, append_assoc, append-nil, arith, drop_all, drop-append_seam, Machine, Stands, HasReadUnder, Event, tell, unfinished, added, events, outcome, open_end, Place, InText, IsAfter, open_at, left_at, outcome_from, events_from, Reads}
-use Rattle.vte_core.proofs.fields.PlaceOfState.{IsPlace, outcome_from-nothing, events_from-nothing, unfinished-at}
+use Rattle.vte_core.proofs.Common.{◌≡◌, ℕ, Option, List, [], ◌++◌, length, drop, refl, ap, sym, ◌∙◌, append_assoc, append-nil, arith, drop_all, drop-append_seam, Machine, Stands, HasReadUnder, Event, tell, open_bytes, added, events, outcome, open_end, Place, InText, IsAfter, open_at, left_at, outcome_from, events_from, Reads}
+use Rattle.vte_core.proofs.fields.PlaceOfState.{IsPlace, outcome_from-nothing, events_from-nothing, open_bytes-at}
 use Rattle.vte_core.proofs.streams.Performing.{events-empty}
 use Rattle.vte_core.proofs.shapes.OutcomeLemmas.{tell-append}
-use Rattle.vte_core.proofs.streams.OpenEnds.{unfinished-any}
-use Rattle.vte_core.proofs.streams.StreamLemmas.{outcome-after_nothing}
+use Rattle.vte_core.proofs.streams.OpenEnds.{open_bytes-any}
+use Rattle.vte_core.proofs.places.StreamLemmas.{outcome-after_nothing}
 
 pub added-nothing : (limit : Option ℕ) (stream : List ℕ) → added limit stream [] ≡ []
 added-nothing limit stream =
@@ -39,7 +39,7 @@ after-left limit stream place a is =
 pub after-open_end : (limit : Option ℕ) (stream : List ℕ) (place : Place) → IsAfter limit stream place → IsPlace place
     → open_end stream ≡ open_at place
 after-open_end limit stream place a is =
-    sym (unfinished-any limit stream) ∙ ap unfinished (after-left limit stream place a is) ∙ unfinished-at limit place
+    sym (open_bytes-any limit stream) ∙ ap open_bytes (after-left limit stream place a is) ∙ open_bytes-at limit place
 
 -- the bytes lead from one place to another
 pub after-reads : (limit : Option ℕ) (stream bytes : List ℕ) (place next : Place) (these : List Event)

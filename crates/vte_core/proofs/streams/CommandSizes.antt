@@ -1,11 +1,11 @@
 -- How much data a command has that bytes dispatch or leave open, without a limit.
-use Rattle.vte_core.proofs.Common.{ℕ, ◌+◌, ◌≤◌, Some, None, List, ◌++◌, length, refl, ap, arith, CountsData, data_left, Open, OpenCommand, left_at}
+use Rattle.vte_core.proofs.Common.{ℕ, ◌+◌, ◌≤◌, Some, None, List, ◌++◌, length, refl, ap, arith, CountsData, data_left, ToClose, CommandToClose, left_at}
 use Rattle.vte_core.proofs.places.TextSteps.{FitsLeft}
 use Rattle.vte_core.proofs.streams.After.{added-reads, after-left, after-reads}
 use Rattle.vte_core.proofs.streams.StreamSteps.{arrives, leads_to, size_at}
 
-fits_by : (n : ℕ) (left : Open) → data_left left ≤ n → FitsLeft (Some n) left
-fits_by n (OpenCommand pieces dropped) within = within
+fits_by : (n : ℕ) (left : ToClose) → data_left left ≤ n → FitsLeft (Some n) left
+fits_by n (CommandToClose pieces dropped) within = within
 fits_by n _ within = tt
 
 pub counts_data : (stream bytes : List ℕ) → CountsData stream bytes

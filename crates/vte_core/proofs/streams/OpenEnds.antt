@@ -1,22 +1,22 @@
 -- The size of the store has no say in what is unfinished at the end: by the definitions, part by part, only what is
 -- kept of a command depends on it.
-use Rattle.vte_core.proofs.Common.{◌≡◌, ℕ, Bool, cases_Bool, inl, inr, Option, None, List, [], ◌∷◌, refl, Key, key_of, body_rest, body_outcome, shape_outcome, class_of, is_cancel, is_key, Outcome, unfinished, from_first, cut_at_escape, with_bodies, outcome, open_end, ends_command, system_command_outcome, system_command_rest, text_outcome}
+use Rattle.vte_core.proofs.Common.{◌≡◌, ℕ, Bool, cases_Bool, inl, inr, Option, None, List, [], ◌∷◌, refl, Key, key_of, body_rest, body_outcome, shape_outcome, class_of, is_cancel, is_key, Outcome, open_bytes, from_first, cut_at_escape, with_bodies, outcome, open_end, ends_command, system_command_outcome, system_command_rest, text_outcome}
 use Rattle.vte_core.specs.Key.{SystemCommand}
 
 by_pieces : (pieces others : List (List ℕ)) (dropped other : Bool) (rest : List ℕ)
-    → unfinished (system_command_rest pieces dropped rest).left
-    ≡ unfinished (system_command_rest others other rest).left
+    → open_bytes (system_command_rest pieces dropped rest).left
+    ≡ open_bytes (system_command_rest others other rest).left
 by_pieces pieces others dropped other [] = refl
 by_pieces pieces others dropped other (end ∷ text) = refl
 
 by_shape : (limit : Option ℕ) (k : Key) (key : ℕ) (bytes : List ℕ)
-    → unfinished (shape_outcome limit k key bytes).left ≡ unfinished (shape_outcome None k key bytes).left
+    → open_bytes (shape_outcome limit k key bytes).left ≡ open_bytes (shape_outcome None k key bytes).left
 unfolding system_command_outcome
 by_shape limit SystemCommand key bytes = by_pieces _ _ _ _ (from_first ends_command bytes)
 by_shape limit _ key bytes = refl
 
 by_rest : (limit : Option ℕ) (rest : List ℕ)
-    → unfinished (body_rest limit rest).left ≡ unfinished (body_rest None rest).left
+    → open_bytes (body_rest limit rest).left ≡ open_bytes (body_rest None rest).left
 by_rest limit [] = refl
 by_rest limit (key ∷ bytes) =
     elim (cases_Bool (is_cancel (class_of key))) [
@@ -25,19 +25,19 @@ by_rest limit (key ∷ bytes) =
     ]
 
 by_body : (limit : Option ℕ) (body : List ℕ)
-    → unfinished (body_outcome limit body).left ≡ unfinished (body_outcome None body).left
+    → open_bytes (body_outcome limit body).left ≡ open_bytes (body_outcome None body).left
 unfolding body_outcome
 by_body limit body = by_rest limit (from_first (λ b. is_key (class_of b)) body)
 
 by_bodies : (limit : Option ℕ) (part other : Outcome) (bodies : List (List ℕ))
-    → unfinished part.left ≡ unfinished other.left
-    → unfinished (with_bodies limit part bodies).left ≡ unfinished (with_bodies None other bodies).left
+    → open_bytes part.left ≡ open_bytes other.left
+    → open_bytes (with_bodies limit part bodies).left ≡ open_bytes (with_bodies None other bodies).left
 by_bodies limit part other [] e = e
 by_bodies limit part other (body ∷ bodies) e =
     by_bodies limit (body_outcome limit body) (body_outcome None body) bodies (by_body limit body)
 
-pub unfinished-any : (limit : Option ℕ) (stream : List ℕ) → unfinished (outcome limit stream).left ≡ open_end stream
+pub open_bytes-any : (limit : Option ℕ) (stream : List ℕ) → open_bytes (outcome limit stream).left ≡ open_end stream
 unfolding outcome open_end
-unfinished-any limit stream =
+open_bytes-any limit stream =
     let cut = cut_at_escape stream in
     by_bodies limit (text_outcome cut.text) (text_outcome cut.text) cut.bodies refl

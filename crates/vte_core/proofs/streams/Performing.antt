@@ -1,10 +1,10 @@
 -- From a byte to bytes, and from a place to what a parser has read: `TakesByte` of a byte is `TakesBytes` of one.
-use Rattle.vte_core.proofs.Common.{◌≡◌, ℕ, ◌⊎◌, inl, inr, cases_Bool, true, false, eqb, Option, List, [], ◌∷◌, ◌++◌, refl, ap, sym, ◌∙◌, arith, Machine, Event, Print, replacement, tell, after, Place, InText, AtEscape, closing_events_at, outcome_from, events, escape, TakesByte, TakesBytes, is_open, is_truncated, is_well_formed}
+use Rattle.vte_core.proofs.Common.{◌≡◌, ℕ, ◌⊎◌, inl, inr, cases_Bool, true, false, eqb, Option, List, [], ◌∷◌, ◌++◌, refl, ap, sym, ◌∙◌, arith, Machine, Event, Print, replacement, tell, after, Place, InText, AtEscape, closing_events_at, outcome_from, events, escape, TakesByte, TakesBytes, may_continue, is_truncated, is_well_formed}
 use Rattle.std.proofs.Common.{eqb-true}
 use Rattle.vte_core.proofs.bytes.FirstBytes.{Tests, ascii_breaks}
 use Rattle.vte_core.proofs.shapes.TextLemmas.{text_broken}
-use Rattle.vte_core.proofs.fields.PlaceOfState.{is_open-truncated, events_from-nothing}
-use Rattle.vte_core.proofs.streams.StreamLemmas.{events-after_nothing, reads-byte, waits-byte, outcome_from-escape}
+use Rattle.vte_core.proofs.fields.PlaceOfState.{may_continue-truncated, events_from-nothing}
+use Rattle.vte_core.proofs.places.StreamLemmas.{events-after_nothing, reads-byte, waits-byte, outcome_from-escape}
 
 pub after-append : {V : Type 0} (step : V → Event → V) (value : V) (xs ys : List Event)
     → after step value (xs ++ ys) ≡ after step (after step value xs) ys
@@ -36,7 +36,7 @@ carried_is_no_escape u b more carried = elim (cases_Bool (eqb b escape)) [
   | inr other ↦ other
 ]
 
-pub open_truncated : (u : List ℕ) → is_open u ≡ true → (u ≡ [] → ⊥) → is_truncated u ≡ true
+pub open_truncated : (u : List ℕ) → may_continue u ≡ true → (u ≡ [] → ⊥) → is_truncated u ≡ true
 open_truncated [] o n = absurd (n refl)
 open_truncated (a ∷ u) o n = o
 
@@ -59,7 +59,7 @@ waits-broken limit u b more begun whole next = elim (cases_Bool (eqb b escape)) 
       let there : outcome_from limit (InText []) (escape ∷ more) ≡ outcome_from limit AtEscape more =
       outcome_from-escape limit (InText []) more refl in
       rw is (
-      outcome_from-escape limit (InText u) more (is_open-truncated u begun)
+      outcome_from-escape limit (InText u) more (may_continue-truncated u begun)
       ∙ ap (λ es. tell es (outcome_from limit AtEscape more)) (closing-unfinished limit u begun)
       ∙ ap (tell (Print replacement ∷ [])) (sym there)
       )

@@ -2,9 +2,9 @@
 use Rattle.vte_core.proofs.Common.{◌≡◌, ℕ, true, Option, List, [], ◌∷◌, ◌++◌, length, drop, ap, sym, ◌∙◌, append_assoc, and_parts, false≢true, not-true, drop-append_seam, append-nil, breaks, Event, Print, replacement, tell, added, events, outcome, open_end, Place, InText, IsAfter, open_at, outcome_from}
 use Rattle.vte_core.proofs.fields.PlaceOfState.{IsPlace}
 use Rattle.vte_core.proofs.streams.Performing.{events-empty, waits-broken}
-use Rattle.vte_core.proofs.stops.Told.{breaks-no_byte}
+use Rattle.vte_core.proofs.shapes.Told.{breaks-no_byte}
 use Rattle.vte_core.proofs.shapes.OutcomeLemmas.{tell-append}
-use Rattle.vte_core.proofs.streams.StreamLemmas.{outcome-after_nothing}
+use Rattle.vte_core.proofs.places.StreamLemmas.{outcome-after_nothing}
 use Rattle.vte_core.proofs.streams.StreamSteps.{leads_to}
 use Rattle.vte_core.proofs.streams.After.{after-open_end, events-told}
 

@@ -3,12 +3,12 @@
 use Rattle.vte_core.specs.Laws.{Resyncs, ResyncsAfter, Grows, OpensSilently}
 use Rattle.vte_core.proofs.Common.{◌≡◌, ℕ, ◌+◌, ◌≤◌, inl, inr, Option, None, List, [], ◌∷◌, ◌++◌, arith, data_left, drop, length, refl, ap, sym, ◌∙◌, append_assoc, All, All-append, All-cons, All-nil, Cancel, class_of, IsBounded, IsBrief, Event, Place, InText, AtEscape, open_at, events_from, IsAfter, added, events, open_end, escape, Reads, InSystemCommand, left_at}
 use Rattle.vte_core.proofs.places.BriefLemmas.{short_bounded}
-use Rattle.vte_core.proofs.shapes.CancelLemmas.{cancel}
+use Rattle.vte_core.proofs.places.CancelLemmas.{cancel}
 use Rattle.vte_core.proofs.streams.After.{added-after, added-reads, after-events, after-nothing, after-open_end, after-reads}
 use Rattle.vte_core.proofs.places.PlaceSteps.{steps}
 use Rattle.vte_core.proofs.fields.PlaceOfState.{IsPlace}
 use Rattle.vte_core.proofs.streams.Performing.{events-empty}
-use Rattle.vte_core.proofs.streams.StreamLemmas.{events-after_nothing, outcome_from-escape, reads-byte, reads-escape, reads-nothing, reads-append, cancel_is_no_escape}
+use Rattle.vte_core.proofs.places.StreamLemmas.{events-after_nothing, outcome_from-escape, reads-byte, reads-escape, reads-nothing, reads-append, cancel_is_no_escape}
 use Rattle.vte_core.proofs.places.TextSteps.{FitsLeft, Steps}
 use Rattle.vte_core.proofs.fields.KeptItems.{pieces_fit}
 

@@ -1,6 +1,6 @@
 -- The automaton that reads text which may hold HT, LF and CR, byte by byte.
 use Rattle.std.specs.Prelude.{◌≡◌, ◌≢◌, ℕ, ◌+◌, ◌≤◌, true, List, [], ◌∷◌, length, take, ◌==◌, if◌then◌else◌}
-use Rattle.vte_core.specs.machine.TextRun.{AreRun}
+use Rattle.vte_core.specs.machine.TextRun.{IsUtf8Run}
 use Rattle.vte_core.specs.Text.{is_layout}
 use Rattle.vte_core.specs.Utf8.{Range, from_to, is_in}
 
@@ -74,4 +74,4 @@ pub record HasScanned (text : List ℕ) (at state : ℕ) : Type 0 where
 pub record LastEnd (text : List ℕ) (at end : ℕ) : Type 0 where
   pub before : end ≤ at
   pub near : at ≤ end + 3
-  pub run : AreRun true (take end text)
+  pub run : IsUtf8Run true (take end text)

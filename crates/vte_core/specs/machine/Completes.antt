@@ -10,7 +10,7 @@ use Rattle.vte_core.specs.Stream.{added}
 use Rattle.vte_core.specs.Event.{Event}
 use Rattle.vte_core.specs.machine.Progress.{ChunkCall, StandsAt, StandsInside}
 use Rattle.vte_core.specs.machine.Unfinished.{bytes_of}
-use Rattle.vte_core.specs.Others.{IsOther}
+use Rattle.vte_core.specs.Quiet.{IsQuietEvent}
 use Rattle.vte_core.specs.Text.{character_event}
 use Rattle.vte_core.specs.Utf8.{is_well_formed, scalar_of}
 
@@ -27,7 +27,7 @@ pub record AreWhole (begun bytes : List ℕ) (i : ℕ) (events : List Event) : T
 pub record AddsCharacter (limit : Option ℕ) (stream begun bytes : List ℕ) (i j : ℕ) : Type 0 where
   pub events : List Event
   pub parts : told_before limit stream bytes j ≡ added limit stream (take i bytes) ++ events
-  pub are : All IsOther events ⊎ AreWhole begun bytes i events
+  pub are : All IsQuietEvent events ⊎ AreWhole begun bytes i events
 
 -- The call goes on to position j, in a text if bytes are left, and tells a character or none. At
 -- place i a parser would stand inside the character that `begun` begins.
@@ -36,6 +36,6 @@ pub record Completes {V B : Type 0} (call : ChunkCall V) (old new : V) (i j : �
   pub stands_at : (value : V) (stream : List ℕ) (parser : Machine B) → parser.state ≡ Text begun
       → StandsInside call value old stream i parser → StandsAt call value new stream j next
   pub text : j < length call.bytes → next.state ≡ Text Nothing
-  pub others : (value : V) (stream : List ℕ) (parser : Machine B) → parser.state ≡ Text begun
+  pub adds : (value : V) (stream : List ℕ) (parser : Machine B) → parser.state ≡ Text begun
       → StandsInside call value old stream i parser
       → AddsCharacter call.limit stream (bytes_of begun) call.bytes i j

@@ -1,7 +1,7 @@
 -- What strings hold: the data of a device control string, and the bytes of an ignored string.
 use Rattle.std.specs.Prelude.{◌≡◌, ℕ, false, List}
 use Rattle.vte_core.specs.Class.{IsPut, class_of, ends_all}
-use Rattle.vte_core.specs.machine.Between.{Each}
+use Rattle.vte_core.specs.machine.Each.{Each}
 
 -- From `from` up to `to` each byte is put.
 abbrev pub ArePut : List ℕ → ℕ → ℕ → Type 0

@@ -19,13 +19,13 @@ pub record IsTakenOff (joined : Bool) (lengths rest : List ℕ) (last : Option �
   pub alone : joined ≡ false → last ≡ None
 
 -- The lengths and numbers of a `Params`: each number is up to 65,535.
-pub record AreStored (lengths numbers : List ℕ) : Type 0 where
+pub record AreFlatGroups (lengths numbers : List ℕ) : Type 0 where
   pub lengths_fit : AreLengths lengths numbers
   pub small : All (λ number. number ≤ greatest_number) numbers
 
 -- The groups are stored as these lengths and numbers, at most 32 of each.
 pub record AreParts (lengths numbers : List ℕ) (groups : List (List ℕ)) : Type 0 where
-  pub stored : AreStored lengths numbers
+  pub stored : AreFlatGroups lengths numbers
   pub cut : groups ≡ cut_by_lengths lengths numbers
   pub few_groups : length lengths ≤ most_numbers
   pub few_numbers : length numbers ≤ most_numbers

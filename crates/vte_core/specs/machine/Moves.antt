@@ -1,10 +1,16 @@
 -- How far a state's function reads, and what it costs.
+--
+-- Where the looks go: by characters a byte of text takes at most 3, and 1 more where ESC is
+-- searched; a byte of a sequence takes 3. In runs the search for the end of a run takes at most 4
+-- per byte, and its events 1: 5, the rate of a call. Where a call returns runs, such a search may
+-- find none, and then takes 4; the byte is read with the 3 that are left of 7. A search takes 11/3
+-- per byte, so 48 bytes leave 16 for the block of the automaton in which a long run ends.
 use Rattle.std.specs.Prelude.{ℕ, ◌≡◌, ◌+◌, ◌*◌, ◌<◌, ◌≤◌, List, length, Result, IfOk}
 use Rattle.vte_core.specs.declared.scan.Looks.{Looks}
 use Rattle.vte_core.specs.declared.parser.machine.Machine.{Machine}
 use Rattle.vte_core.specs.declared.parser.refused.Refused.{Refused}
 use Rattle.vte_core.specs.Looks.{looked}
-use Rattle.vte_core.specs.machine.Progress.{ChunkCall, IsRefusedAt, IsSettled, MayGoOn}
+use Rattle.vte_core.specs.machine.Progress.{ChunkCall, IsRefusedInCommand, IsSettled, MayGoOn}
 
 -- The bounds of each state's function, which reads from position i to position j, and gives back no
 -- memory. It takes at least one look per byte and at most `rate`. The caller has taken `seen` of
@@ -52,7 +58,7 @@ pub record Costs (rate : ℕ) {Answer B : Type 0} (bytes : List ℕ) (result : R
 pub record Refuses {V B : Type 0} (call : ChunkCall V) (value : V) (i read : ℕ)
     (parser next : Machine B) (before after : Looks B) : Type 0 where
   pub stays : read ≡ i
-  pub refused : IsRefusedAt call.limit next.state next.command call.bytes read
+  pub refused : IsRefusedInCommand call.limit next.state next.command call.bytes read
   pub may_go_on : MayGoOn call value
   pub searched : looked before < looked after
   pub within : looked after + i ≤ looked before + length call.bytes

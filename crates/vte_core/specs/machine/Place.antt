@@ -9,7 +9,7 @@ use Rattle.vte_core.specs.Escape.{escape_rest}
 use Rattle.vte_core.specs.Event.{Event}
 use Rattle.vte_core.specs.Head.{head_bytes}
 use Rattle.vte_core.specs.IgnoredString.{ignored_string_outcome}
-use Rattle.vte_core.specs.Outcome.{Open, NothingOpen, OpenCharacter, OpenData, OpenCommand, Outcome, closing_events, tell}
+use Rattle.vte_core.specs.Outcome.{ToClose, NothingToClose, CharacterToClose, DataToClose, CommandToClose, Outcome, closing_events, tell}
 use Rattle.vte_core.specs.FirstMatch.{cut_before}
 use Rattle.vte_core.specs.Stream.{cut_at_escape, events, outcome, with_bodies}
 use Rattle.vte_core.specs.SystemCommand.{drops_data, ends_command, items_of, pieces_of, system_command_rest}
@@ -34,9 +34,9 @@ pub data Place : Type 0 where
   InIgnoredString : Place
 
 -- No character is open.
-abbrev pub IsBetween : Place → Type 0
-IsBetween (InText bytes) = bytes ≡ []
-IsBetween _ = ⊤
+abbrev pub IsSettledPlace : Place → Type 0
+IsSettledPlace (InText bytes) = bytes ≡ []
+IsSettledPlace _ = ⊤
 
 -- The outcome of bytes after the intermediates of an escape sequence.
 unfoldable pub escape_from : List ℕ → List ℕ → Outcome
@@ -77,11 +77,12 @@ rest_outcome limit (InSystemCommand items) rest = system_command_from limit item
 rest_outcome limit InIgnoredString rest = ignored_string_outcome rest
 
 -- What is open at the place.
-abbrev pub left_at : Option ℕ → Place → Open
-left_at limit (InText (a ∷ bytes)) = OpenCharacter (a ∷ bytes)
-left_at limit InData = OpenData
-left_at limit (InSystemCommand items) = OpenCommand (pieces_of limit items) (drops_data limit items)
-left_at limit _ = NothingOpen
+abbrev pub left_at : Option ℕ → Place → ToClose
+left_at limit (InText (a ∷ bytes)) = CharacterToClose (a ∷ bytes)
+left_at limit InData = DataToClose
+left_at limit (InSystemCommand items) = CommandToClose (pieces_of limit items)
+    (drops_data limit items)
+left_at limit _ = NothingToClose
 
 -- The events of an ESC at the place.
 abbrev pub closing_events_at : Option ℕ → Place → List Event

@@ -5,10 +5,10 @@ pub use Rattle.vte_core.specs.Event.{CsiDispatch, EscDispatch, Event, Execute, H
 pub use Rattle.vte_core.specs.Key.{begins_ignored_string}
 pub use Rattle.vte_core.specs.LongParser.{read_count}
 pub use Rattle.vte_core.specs.Looks.{looked}
-pub use Rattle.vte_core.specs.Others.{TellsOthers}
+pub use Rattle.vte_core.specs.Quiet.{TellsQuietly}
 pub use Rattle.vte_core.specs.Parameters.{is_separator}
 pub use Rattle.vte_core.specs.Perform.{after}
-pub use Rattle.vte_core.specs.Outcome.{IsLoss}
+pub use Rattle.vte_core.specs.Outcome.{SaysLoss}
 pub use Rattle.vte_core.specs.Stream.{IsFinished, IsUnfinished}
 unfoldable pub use Rattle.vte_core.specs.Stream.{outcome}
 unfoldable pub use Rattle.vte_core.specs.SystemCommand.{drops_data}
@@ -18,20 +18,20 @@ pub use Rattle.vte_core.specs.Utf8.{is_in, is_truncated, scalar_of, from_to}
 pub use Rattle.vte_core.specs.declared.scan.taken.RunKind.TheVariants.{Empty}
 pub use Rattle.vte_core.specs.declared.parser.State.TheVariants.{DeviceData, Escape, EscapeIntermediate, IgnoredString, SystemCommand, Text}
 pub use Rattle.vte_core.specs.declared.utf8.Unfinished.TheVariants.{Nothing, One}
-pub use Rattle.vte_core.specs.machine.Between.{Each}
+pub use Rattle.vte_core.specs.machine.Each.{Each}
 pub use Rattle.vte_core.specs.machine.Completes.{Completes}
 pub use Rattle.vte_core.specs.machine.Data.{AreIgnored, ArePut}
 pub use Rattle.vte_core.specs.machine.MayRead.{MayRead, MayReadAt, MayReadByte}
 pub use Rattle.vte_core.specs.machine.Moves.{Costs, HandlesByte, Moves, Refuses, Spends}
 pub use Rattle.vte_core.specs.machine.Standing.{CountsNumbers, HoldsIntermediates, HoldsHead, HasReadUnder, KeepsIntermediates, KeepsNumbers, HoldsNumbers, Stands, StandsInHead}
-pub use Rattle.vte_core.specs.machine.Place.{AtEscape, InControlSequence, InDeviceControl, IsBetween, Place, closing_events_at}
-pub use Rattle.vte_core.specs.machine.Progress.{Advances, IsSettled, ReadsUpTo, RefusesAt, StandsAt, chunk_call}
+pub use Rattle.vte_core.specs.machine.Place.{AtEscape, InControlSequence, InDeviceControl, IsSettledPlace, Place, closing_events_at}
+pub use Rattle.vte_core.specs.machine.Progress.{Advances, IsSettled, ReadsUpTo, ReadsUntilRefused, StandsAt, chunk_call}
 pub use Rattle.vte_core.specs.machine.Reading.{ReadsHeadUpTo, with_open_number}
 pub use Rattle.vte_core.specs.machine.Ready.{IsReady}
-pub use Rattle.vte_core.specs.machine.TextRun.{ArePrinted, IsPrinted, IsRun, IsTextRun, PrintsRun}
+pub use Rattle.vte_core.specs.machine.TextRun.{ArePrinted, IsPrinted, IsRun, IsNonEmptyRun, PrintsRun}
 pub use Rattle.vte_core.specs.machine.Scans.{FindsEnd, IsRange, Scans, TakesFew}
-pub use Rattle.vte_core.specs.machine.Store.{ArePieceEnds, HasCapacity, Stored, Keeps, ReservesCapacity, SameItems, cut_pieces, fitting}
+pub use Rattle.vte_core.specs.machine.Store.{ArePieceEnds, HasCapacity, Stored, HoldsItems, ReservesCapacity, SameItems, cut_pieces, fitting}
 pub use Rattle.vte_core.specs.machine.Takes.{Dispatches, TakesBytes, TakesByte}
 pub use Rattle.vte_core.specs.machine.Tells.{Tells, TellsAll}
-pub use Rattle.vte_core.specs.machine.ToRun.{AreOfKind, ComesToRun, IsOutside, IsQuietIn, IsTaken, place_count, start_count}
+pub use Rattle.vte_core.specs.machine.ToRun.{AreOfKind, ComesToRun, IsOutside, IsQuietIn, IsTaken, read_up_to, performed_up_to}
 pub use Rattle.vte_core.specs.machine.Unfinished.{BeginsFour, BeginsThree, BeginsTwo, Carries, bytes_of, second_range}

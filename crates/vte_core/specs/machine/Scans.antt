@@ -2,7 +2,7 @@
 use Rattle.std.specs.Prelude.{◌≡◌, ℕ, ◌+◌, ◌<◌, ◌≤◌, List, length, min, slice_index}
 use Rattle.vte_core.specs.declared.scan.Looks.{Looks}
 use Rattle.vte_core.specs.Looks.{looked}
-use Rattle.vte_core.specs.machine.Between.{Each}
+use Rattle.vte_core.specs.machine.Each.{Each}
 
 -- The places stand in order, and within the bytes.
 pub record IsRange (bytes : List ℕ) (from to : ℕ) : Type 0 where

@@ -11,8 +11,8 @@ use Rattle.vte_core.specs.Intermediates.{first_two, are_too_many}
 use Rattle.vte_core.specs.Head.{head_of, is_well_shaped}
 use Rattle.vte_core.specs.Parameters.{Number, is_colon, is_separator, number_of, numbers, grouped, groups_of, has_too_many_numbers, most_numbers}
 use Rattle.vte_core.specs.machine.Place.{Place, InText, AtEscape, InEscape, InControlSequence, InDeviceControl, InData, InSystemCommand, InIgnoredString, IsAfter}
-use Rattle.vte_core.specs.machine.Store.{Keeps}
-use Rattle.vte_core.specs.machine.Unfinished.{bytes_of, is_open}
+use Rattle.vte_core.specs.machine.Store.{HoldsItems}
+use Rattle.vte_core.specs.machine.Unfinished.{bytes_of, may_continue}
 
 -- The first two intermediates are held, and whether there are more.
 pub record HoldsIntermediates (collected : Collected) (intermediates : List ℕ) : Type 0 where
@@ -92,7 +92,7 @@ StandsInHead collected part head = HoldsHead collected part head
 -- What the state says of the place.
 abbrev pub StandsBy : {B : Type 0} → Option ℕ → State → Machine B → Place → Type 0
 StandsBy limit (Text unfinished) parser (InText bytes) =
-    (bytes_of unfinished ≡ bytes) × (is_open bytes ≡ true)
+    (bytes_of unfinished ≡ bytes) × (may_continue bytes ≡ true)
 StandsBy limit Escape parser AtEscape = HoldsIntermediates parser.collected []
 StandsBy limit EscapeIntermediate parser (InEscape intermediates) =
     HoldsIntermediates parser.collected intermediates
@@ -101,7 +101,7 @@ StandsBy limit (ControlSequence part) parser (InControlSequence head) =
 StandsBy limit (DeviceControl part) parser (InDeviceControl head) =
     StandsInHead parser.collected part head
 StandsBy limit DeviceData parser InData = ⊤
-StandsBy limit SystemCommand parser (InSystemCommand items) = Keeps limit parser.command items
+StandsBy limit SystemCommand parser (InSystemCommand items) = HoldsItems limit parser.command items
 StandsBy limit IgnoredString parser InIgnoredString = ⊤
 StandsBy limit _ parser _ = ⊥
 

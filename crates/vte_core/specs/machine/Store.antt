@@ -64,7 +64,7 @@ PiecesEnd (suc left) start (end ∷ ends) count = (start ≤ end) × PiecesEnd l
 
 -- The store continues as one that has taken the items: whatever follows, the pieces are the same.
 -- Each byte is in one of the first 16.
-pub record Keeps (limit : Option ℕ) (held : Stored) (items : List ℕ) : Type 0 where
+pub record HoldsItems (limit : Option ℕ) (held : Stored) (items : List ℕ) : Type 0 where
   pub goes_on : (more : List ℕ)
       → pieces_of limit (items ++ more) ≡ pieces_from limit held.bytes held.ends more
   pub end : PiecesEnd most_pieces 0 held.ends (length held.bytes)

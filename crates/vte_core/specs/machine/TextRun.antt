@@ -2,7 +2,7 @@
 use Rattle.std.specs.Prelude.{◌≡◌, ℕ, ◌-◌, ◌<◌, ◌≤◌, Bool, List, length, map, take, drop}
 use Rattle.std.specs.Str.{IsUtf8, chars}
 use Rattle.vte_core.specs.Event.{Event}
-use Rattle.vte_core.specs.machine.Between.{Each}
+use Rattle.vte_core.specs.machine.Each.{Each}
 use Rattle.vte_core.specs.Perform.{after}
 use Rattle.vte_core.specs.Text.{IsRunText, run_event}
 
@@ -16,18 +16,18 @@ ArePrinted = Each IsPrinted
 
 -- The bytes are characters, and none of these is a control, but for HT, LF and CR if it `keeps`
 -- these.
-pub record AreRun (keeps : Bool) (bytes : List ℕ) : Type 0 where
+pub record IsUtf8Run (keeps : Bool) (bytes : List ℕ) : Type 0 where
   pub utf8 : IsUtf8 bytes
   pub plain : IsRunText keeps bytes
 
 -- The text of one run, which isn't empty.
-pub record IsTextRun (keeps : Bool) (text : List ℕ) : Type 0 where
+pub record IsNonEmptyRun (keeps : Bool) (text : List ℕ) : Type 0 where
   pub some : 0 < length text
   pub plain : IsRunText keeps text
 
 -- The bytes from `from` up to `to` are a run.
 abbrev pub IsRun : Bool → List ℕ → ℕ → ℕ → Type 0
-IsRun keeps bytes from to = AreRun keeps (take (to - from) (drop from bytes))
+IsRun keeps bytes from to = IsUtf8Run keeps (take (to - from) (drop from bytes))
 
 -- The performer has received the characters from `from` up to `to`, which are a run.
 pub record PrintsRun {V : Type 0} (keeps : Bool) (step : V → Event → V) (old new : V)

@@ -3,7 +3,7 @@ use Rattle.std.specs.Prelude.{◌≡◌, ℕ, ◌-◌, ◌<◌, true, false, Lis
 use Rattle.std.specs.Str.{chars}
 use Rattle.vte_core.specs.declared.scan.taken.RunKind.{RunKind}
 use Rattle.vte_core.specs.declared.scan.taken.RunKind.TheVariants.{OfText, OfData, Empty}
-use Rattle.vte_core.specs.declared.scan.taken.RunPlace.{RunPlace}
+use Rattle.vte_core.specs.declared.scan.taken.RunRange.{RunRange}
 use Rattle.vte_core.specs.declared.scan.taken.Taken.{Taken}
 use Rattle.vte_core.specs.declared.scan.taken.Taken.TheVariants.{Text as TakenText, Data, Nothing}
 use Rattle.vte_core.specs.declared.parser.machine.Machine.{Machine}
@@ -14,7 +14,7 @@ use Rattle.vte_core.specs.Class.{IsPut, class_of, is_device_data}
 use Rattle.vte_core.specs.Event.{Event, Print, Put}
 use Rattle.vte_core.specs.machine.Standing.{HasReadUnder}
 use Rattle.vte_core.specs.machine.Progress.{ChunkCall, StandsAt}
-use Rattle.vte_core.specs.machine.TextRun.{AreRun}
+use Rattle.vte_core.specs.machine.TextRun.{IsUtf8Run}
 use Rattle.vte_core.specs.machine.Scans.{IsRange}
 use Rattle.vte_core.specs.Stream.{added}
 use Rattle.vte_core.specs.Text.{EndsRun}
@@ -32,12 +32,12 @@ IsQuietIn DeviceData b = is_device_data (class_of b) ≡ false
 IsQuietIn _ b = ⊤
 
 -- The bytes that stand at the place.
-abbrev pub bytes_at : List ℕ → RunPlace → List ℕ
+abbrev pub bytes_at : List ℕ → RunRange → List ℕ
 bytes_at bytes place = take (place.end - place.start) (drop place.start bytes)
 
 -- Text consists of characters, none of which is a control.
 abbrev pub AreOfKind : RunKind → List ℕ → Type 0
-AreOfKind OfText bytes = AreRun false bytes
+AreOfKind OfText bytes = IsUtf8Run false bytes
 AreOfKind _ bytes = ⊤
 
 -- What was taken is a run of this kind, with these bytes.
@@ -54,14 +54,14 @@ kind_events OfData bytes = map Put bytes
 kind_events Empty bytes = []
 
 -- Nothing of the kind stands where the run ends. A run isn't empty.
-abbrev pub IsWholeAt : List ℕ → RunPlace → RunKind → Type 0
+abbrev pub IsWholeAt : List ℕ → RunRange → RunKind → Type 0
 IsWholeAt bytes place OfText = (place.start < place.end) × EndsRun false bytes place.end
 IsWholeAt bytes place OfData =
     (place.start < place.end) × (place.end < length bytes → IsPut (slice_index bytes place.end) → ⊥)
 IsWholeAt bytes place Empty = place.start ≡ place.end
 
 -- A run stands there, adds its events to what the parser has read, and leaves the parser as it is.
-pub record HasRun {B : Type 0} (limit : Option ℕ) (bytes : List ℕ) (place : RunPlace)
+pub record HasRun {B : Type 0} (limit : Option ℕ) (bytes : List ℕ) (place : RunRange)
     (parser : Machine B) : Type 0 where
   pub range : IsRange bytes place.start place.end
   pub kind : AreOfKind place.kind (bytes_at bytes place)
@@ -72,21 +72,21 @@ pub record HasRun {B : Type 0} (limit : Option ℕ) (bytes : List ℕ) (place : 
       → HasReadUnder limit parser (stream ++ bytes_at bytes place)
 
 -- The call came to a run, to its end or to a stop.
-pub record ComesToRun {V B : Type 0} (call : ChunkCall V) (old new : V) (place : RunPlace)
-    (before parser : Machine B) : Type 0 where
-  pub has : HasRun call.limit call.bytes place parser
-  pub stands_at : (stream : List ℕ) → HasReadUnder call.limit before stream
-      → StandsAt call old new stream place.start parser
+pub record ComesToRun {V B : Type 0} (call : ChunkCall V) (old new : V) (place : RunRange)
+    (parser next : Machine B) : Type 0 where
+  pub has : HasRun call.limit call.bytes place next
+  pub stands_at : (stream : List ℕ) → HasReadUnder call.limit parser stream
+      → StandsAt call old new stream place.start next
   pub may_go_on : place.start < place.end → call.is_terminated new ≡ false
   pub stops : place.end ≡ place.start → place.start < length call.bytes
       → call.is_terminated new ≡ true
 
 -- How many bytes a call with this result performed.
-abbrev pub start_count : Result RunPlace Refused → ℕ
-start_count (Ok place) = place.start
-start_count (Err refused) = refused.read
+abbrev pub performed_up_to : Result RunRange Refused → ℕ
+performed_up_to (Ok place) = place.start
+performed_up_to (Err refused) = refused.read
 
 -- How many bytes a call with this result read.
-abbrev pub place_count : Result RunPlace Refused → ℕ
-place_count (Ok place) = place.end
-place_count (Err refused) = refused.read
+abbrev pub read_up_to : Result RunRange Refused → ℕ
+read_up_to (Ok place) = place.end
+read_up_to (Err refused) = refused.read

@@ -13,9 +13,9 @@ bytes_of (Two a b) = a ∷ b ∷ []
 bytes_of (Three a b c) = a ∷ b ∷ c ∷ []
 
 -- More bytes can complete a character.
-abbrev pub is_open : List ℕ → Bool
-is_open [] = true
-is_open (b ∷ bytes) = is_truncated (b ∷ bytes)
+abbrev pub may_continue : List ℕ → Bool
+may_continue [] = true
+may_continue (b ∷ bytes) = is_truncated (b ∷ bytes)
 
 -- What one more byte makes of the open bytes.
 abbrev pub Carries : List ℕ → ℕ → Carried → Type 0

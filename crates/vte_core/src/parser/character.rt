@@ -36,7 +36,7 @@ impl<B: Buffer> Machine<B> {
         ensures text { result < length input.entry.bytes.now → self.new.state ≡ Text Nothing }
         ensures moves { Moves 5 1 input.entry.bytes.now from result self.old self.new
             looks.old looks.new }
-        ensures saves { looked looks.new + 5 * from + 3 ≤ looked looks.old + 5 * result }
+        ensures spare { looked looks.new + 5 * from + 3 ≤ looked looks.old + 5 * result }
         ensures few { G.IN_RUNS ≡ false
             → looked looks.new + 3 * from + 1 ≤ looked looks.old + 3 * result }
     {
@@ -125,7 +125,7 @@ impl<B: Buffer> Machine<B> {
         ensures text { result < length input.entry.bytes.now → self.new.state ≡ Text Nothing }
         ensures moves { Moves 5 2 input.entry.bytes.now from result self.old self.new
             looks.old looks.new }
-        ensures saves { looked looks.new + 5 * from + 4 ≤ looked looks.old + 5 * result }
+        ensures spare { looked looks.new + 5 * from + 4 ≤ looked looks.old + 5 * result }
         ensures few { G.IN_RUNS ≡ false
             → looked looks.new + 3 * from + 2 ≤ looked looks.old + 3 * result }
     {

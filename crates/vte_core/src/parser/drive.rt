@@ -1,6 +1,6 @@
 //! The loop over the bytes of a call.
 ghost use Rattle.std.specs.Prelude.{◌≡◌, ◌<◌, true, List, ℕ, length, IfErr, IfOk};
-ghost use Rattle.vte_core.specs.machine.Prelude.{Advances, Costs, HasReadUnder, IsOutside, IsSettled, MayReadAt, Moves, NoCharacterStops, ReadsUpTo, Refuses, RefusesAt, Spends, StandsAt, TellsOthers, chunk_call};
+ghost use Rattle.vte_core.specs.machine.Prelude.{Advances, Costs, HasReadUnder, IsOutside, IsSettled, MayReadAt, Moves, NoCharacterStops, ReadsUpTo, Refuses, ReadsUntilRefused, Spends, StandsAt, TellsQuietly, chunk_call};
 ghost use Rattle.vte_core.specs.machine.Prelude.{chunk_call, read_count};
 
 use crate::buffer::Buffer;
@@ -23,7 +23,7 @@ impl<B: Buffer> Machine<B> {
             (chunk_call MAY_STOP P.step P.is_terminated B.limit input.entry.bytes.now)
             (P.value_of performer.old) (P.value_of performer.new) read self.old self.new) }
         ensures refuses { IfErr result
-            (λ refused. RefusesAt
+            (λ refused. ReadsUntilRefused
             (chunk_call MAY_STOP P.step P.is_terminated B.limit input.entry.bytes.now)
             (P.value_of performer.old) (P.value_of performer.new) refused.read self.old self.new) }
         ensures costs { Costs 5 input.entry.bytes.now result
@@ -52,8 +52,8 @@ impl<B: Buffer> Machine<B> {
         ensures settled { result < length input.entry.bytes.now → IsSettled self.new.state }
         ensures spends { Spends 2 0 2 input.entry.bytes.now 0 result self.old self.new
             looks.old looks.new }
-        ensures others { (stream : List ℕ) → HasReadUnder B.limit self.old stream
-            → TellsOthers B.limit stream input.entry.bytes.now result }
+        ensures quietly { (stream : List ℕ) → HasReadUnder B.limit self.old stream
+            → TellsQuietly B.limit stream input.entry.bytes.now result }
     {
         match self.state {
             State::Text(begun) => {

@@ -1,6 +1,6 @@
 //! ESC, CAN and SUB, which end whatever is open, in every state.
 ghost use Rattle.std.specs.Prelude.{◌≡◌, true, [], ◌∷◌, ⊤};
-ghost use Rattle.vte_core.specs.machine.Prelude.{Advances, Escape, HandlesByte, IsBetween, IsQuietIn, MayReadByte, Moves, TakesBytes, Place, Stands, TakesFew, after, chunk_call, class_of, closing_events_at, ends_all};
+ghost use Rattle.vte_core.specs.machine.Prelude.{Advances, Escape, HandlesByte, IsSettledPlace, IsQuietIn, MayReadByte, Moves, TakesBytes, Place, Stands, TakesFew, after, chunk_call, class_of, closing_events_at, ends_all};
 
 use crate::buffer::Buffer;
 use crate::class::ESCAPE;
@@ -17,7 +17,7 @@ impl<B: Buffer> Machine<B> {
         byte: u8,
     )
         requires { ends_all (class_of byte) ≡ true }
-        ensures performs { (place : Place) → Stands B.limit self.old place → IsBetween place
+        ensures performs { (place : Place) → Stands B.limit self.old place → IsSettledPlace place
             → TakesBytes P.step (P.value_of performer.old)
             (P.value_of performer.new) B.limit place (byte ∷ []) self.new }
         ensures escape { byte ≡ 0x1b → self.new.state ≡ Escape }
@@ -62,7 +62,7 @@ impl<B: Buffer> Machine<B> {
 
     /// Reports the end of a string: `unhook`, or the operating system command.
     fn report_end<P: CountedPerform<B, G>, G: Grain>(&self, looks: &mut Looks<B>, performer: &mut P)
-        ensures told { (place : Place) → Stands B.limit self.now place → IsBetween place
+        ensures told { (place : Place) → Stands B.limit self.now place → IsSettledPlace place
             → P.value_of performer.new
             ≡ after P.step (P.value_of performer.old) (closing_events_at B.limit place) }
         ensures few { TakesFew 1 looks.old looks.new }

@@ -1,6 +1,6 @@
 //! Escape sequences, and what ESC begins.
 ghost use Rattle.std.specs.Prelude.{◌≡◌, ◌≢◌, ◌+◌, ◌*◌, ◌<◌, ◌≤◌, true, [], ◌∷◌, slice_index, ⊤};
-ghost use Rattle.vte_core.specs.machine.Prelude.{Advances, AtEscape, Dispatches, EscDispatch, Escape, EscapeIntermediate, HandlesByte, IsBetween, MayRead, MayReadAt, Moves, Nothing, TakesBytes, Place, chunk_call};
+ghost use Rattle.vte_core.specs.machine.Prelude.{Advances, AtEscape, Dispatches, EscDispatch, Escape, EscapeIntermediate, HandlesByte, IsSettledPlace, MayRead, MayReadAt, Moves, Nothing, TakesBytes, Place, chunk_call};
 ghost use Rattle.vte_core.specs.machine.Prelude.{Stands, TakesByte, Text, chunk_call, class_of, is_final, looked};
 
 use crate::buffer::Buffer;
@@ -105,7 +105,7 @@ impl<B: Buffer> Machine<B> {
     )
         requires begun { self.old.state ≡ Escape }
         requires other { byte ≢ 0x5b }
-        ensures performs { (place : Place) → Stands B.limit self.old place → IsBetween place
+        ensures performs { (place : Place) → Stands B.limit self.old place → IsSettledPlace place
             → TakesBytes P.step
             (P.value_of performer.old) (P.value_of performer.new) B.limit place
             (byte ∷ []) self.new }

@@ -1,10 +1,10 @@
 //! The parser that keeps operating system commands of any length.
 ghost use Rattle.std.specs.Prelude.{◌≡◌, ◌+◌, ◌<◌, ◌≤◌, ℕ, true, false, List, [], None, length};
-ghost use Rattle.vte_core.specs.LongAdvance.{ReadsBytesLong, ReadsToRunLong, ReadsUntilTerminatedLong};
+ghost use Rattle.vte_core.specs.LongParserCalls.{ReadsBytesLong, ReadsToRunLong, ReadsUntilTerminatedLong};
 ghost use Rattle.vte_core.specs.LongParser.{HasReadLong, IsCopyOfLong, LacksMemoryForMore, lost_data_long, memory_of};
 ghost use Rattle.vte_core.specs.LongParser.{open_size};
 ghost use Rattle.vte_core.specs.Looks.{looks_long};
-ghost use Rattle.vte_core.specs.Outcome.{IsLoss};
+ghost use Rattle.vte_core.specs.Outcome.{SaysLoss};
 ghost use Rattle.vte_core.specs.Stream.{IsFinished, IsUnfinished, outcome};
 
 use crate::parser::{Machine, Refused, State};
@@ -85,7 +85,7 @@ impl<A: Allocator> LongParser<A> {
     pub fn command_lost_data(&self) -> bool
         ensures lost { result ≡ lost_data_long self.now }
         ensures open { (stream : List ℕ) → HasReadLong self.now stream
-            → IsLoss (outcome None stream).left result }
+            → SaysLoss (outcome None stream).left result }
     {
         self.machine.command_lost_data()
     }

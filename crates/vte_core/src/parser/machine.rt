@@ -1,6 +1,6 @@
 //! The state of a parser, and what it has collected.
 ghost use Rattle.std.specs.Prelude.{◌≡◌, true, false, ℕ, List, []};
-ghost use Rattle.vte_core.specs.machine.Prelude.{HasReadUnder, IsFinished, IsLoss, IsUnfinished, outcome};
+ghost use Rattle.vte_core.specs.machine.Prelude.{HasReadUnder, IsFinished, SaysLoss, IsUnfinished, outcome};
 
 use crate::buffer::Buffer;
 use crate::head::Collected;
@@ -35,7 +35,7 @@ impl<B: Buffer> Machine<B> {
     pub(crate) fn command_lost_data(&self) -> bool
         ensures lost { result ≡ self.now.command.dropped }
         ensures open { (stream : List ℕ) → HasReadUnder B.limit self.now stream
-            → IsLoss (outcome B.limit stream).left result }
+            → SaysLoss (outcome B.limit stream).left result }
     {
         self.command.has_dropped()
     }

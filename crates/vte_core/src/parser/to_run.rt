@@ -1,13 +1,13 @@
 //! Runs of text and data in the input, for callers that take them from there.
 ghost use Rattle.std.specs.Prelude.{◌≡◌, ◌+◌, ◌*◌, ◌≤◌, true, false, ℕ, List, IfErr, IfOk, ⊤};
 ghost use Rattle.vte_core.specs.AdvanceToRun.{ReadsToRun};
-ghost use Rattle.vte_core.specs.machine.Prelude.{Advances, ComesToRun, Costs, EndsRun, HasReadUnder, MayReadAt, Moves, Nothing, RefusesAt, TellsOthers, Text, chunk_call, looked, place_count, start_count};
+ghost use Rattle.vte_core.specs.machine.Prelude.{Advances, ComesToRun, Costs, EndsRun, HasReadUnder, MayReadAt, Moves, Nothing, ReadsUntilRefused, TellsQuietly, Text, chunk_call, looked, read_up_to, performed_up_to};
 
 use crate::buffer::Buffer;
 use crate::class::ESCAPE;
 use crate::parser::{Machine, Parser, Refused, State};
 use crate::perform::Perform;
-use crate::scan::{CountedPerform, Input, Looks, Run, RunKind, RunPlace, Singly};
+use crate::scan::{CountedPerform, Input, Looks, Run, RunKind, RunRange, Singly};
 use crate::utf8::{is_lead, is_printed_ascii};
 
 impl<const OSC_RAW_BUF_SIZE: usize> Parser<OSC_RAW_BUF_SIZE> {
@@ -37,7 +37,7 @@ impl<const OSC_RAW_BUF_SIZE: usize> Parser<OSC_RAW_BUF_SIZE> {
         match self.machine.drive_to_run(&mut self.looks, performer, input) {
             Ok(place) => input.take_run(place),
             // Never: with a limit no memory is refused.
-            Err(refused) => input.take_run(RunPlace::empty(refused.read)),
+            Err(refused) => input.take_run(RunRange::empty(refused.read)),
         }
     }
 }
@@ -50,19 +50,19 @@ impl<B: Buffer> Machine<B> {
         looks: &mut Looks<B>,
         performer: &mut P,
         input: Input<'_, B>,
-    ) -> Result<RunPlace, Refused>
+    ) -> Result<RunRange, Refused>
         ensures comes { IfOk result
             (λ place. ComesToRun
             (chunk_call true P.step P.is_terminated B.limit input.entry.bytes.now)
             (P.value_of performer.old) (P.value_of performer.new) place self.old self.new) }
         ensures refuses { IfErr result
-            (λ refused. RefusesAt
+            (λ refused. ReadsUntilRefused
             (chunk_call true P.step P.is_terminated B.limit input.entry.bytes.now)
             (P.value_of performer.old) (P.value_of performer.new) refused.read self.old self.new) }
         ensures costs { Costs 7 input.entry.bytes.now result
-            (place_count result) self.old self.new looks.old looks.new }
-        ensures others { (stream : List ℕ) → HasReadUnder B.limit self.old stream
-            → TellsOthers B.limit stream input.entry.bytes.now (start_count result) }
+            (read_up_to result) self.old self.new looks.old looks.new }
+        ensures quietly { (stream : List ℕ) → HasReadUnder B.limit self.old stream
+            → TellsQuietly B.limit stream input.entry.bytes.now (performed_up_to result) }
     {
         let mut position = self.finish_character::<P, Singly, true>(looks, performer, input);
         while position < input.len() && !performer.terminated() {
@@ -70,7 +70,7 @@ impl<B: Buffer> Machine<B> {
                 State::Text(_) => {
                     let end = looks.find_run_end(input, position, false);
                     if end > position {
-                        return Ok(RunPlace {
+                        return Ok(RunRange {
                             start: position,
                             end,
                             kind: RunKind::OfText,
@@ -81,7 +81,7 @@ impl<B: Buffer> Machine<B> {
                 State::DeviceData => {
                     let end = looks.find_device_data_end(input, position);
                     if end > position {
-                        return Ok(RunPlace {
+                        return Ok(RunRange {
                             start: position,
                             end,
                             kind: RunKind::OfData,
@@ -93,7 +93,7 @@ impl<B: Buffer> Machine<B> {
                 _ => self.read_by_state::<P, Singly, true>(looks, performer, input, position)?,
             };
         }
-        Ok(RunPlace::empty(position))
+        Ok(RunRange::empty(position))
     }
 
     /// Reads a character that isn't printed or a malformed sequence, or controls and what is
@@ -114,7 +114,7 @@ impl<B: Buffer> Machine<B> {
             (P.value_of performer.old) (P.value_of performer.new) from result self.old self.new }
         ensures moves { Moves 7 0 input.entry.bytes.now from result self.old self.new
             looks.old looks.new }
-        ensures saves { looked looks.new + 7 * from + 4 ≤ looked looks.old + 7 * result }
+        ensures spare { looked looks.new + 7 * from + 4 ≤ looked looks.old + 7 * result }
     {
         let mut position = from;
         let mut byte = looks.at(input, from);

@@ -1,6 +1,6 @@
 //! Performers that count each event as it is reported.
 ghost use Rattle.std.specs.Prelude.{◌≡◌, ◌<◌, Bool, false, length, map, chars};
-ghost use Rattle.vte_core.specs.machine.Prelude.{CsiDispatch, EscDispatch, Event, Execute, Hook, IsTextRun, OscDispatch, Print, Put, Tells, TellsAll, Unhook, is_control_character, run_event};
+ghost use Rattle.vte_core.specs.machine.Prelude.{CsiDispatch, EscDispatch, Event, Execute, Hook, IsNonEmptyRun, OscDispatch, Print, Put, Tells, TellsAll, Unhook, is_control_character, run_event};
 
 use crate::head::Collected;
 use crate::perform::Perform;
@@ -30,7 +30,7 @@ pub(crate) trait CountedPerform<B, G> {
 
     /// Counts a text's bytes, which are no fewer than its characters.
     fn print_text(&mut self, looks: &mut Looks<B>, text: &str)
-        requires { IsTextRun keeps text.now }
+        requires { IsNonEmptyRun keeps text.now }
         ensures { TellsAll step (value_of self.old) (value_of self.new)
             (map (run_event keeps) (chars text.now)) (length text.now) looks.old looks.new };
 

@@ -1,8 +1,8 @@
 //! How performers take text.
 ghost use Rattle.std.specs.Prelude.{◌≡◌, ◌<◌, Bool, true, false, length, map, chars};
-ghost use Rattle.vte_core.specs.machine.Prelude.{Execute, IsTextRun, Print, Put, after, is_control_character, run_event};
+ghost use Rattle.vte_core.specs.machine.Prelude.{Execute, IsNonEmptyRun, Print, Put, after, is_control_character, run_event};
 
-use crate::automaton::is_layout;
+use crate::class::is_layout;
 use crate::perform::{Perform, PerformText};
 
 /// How a performer takes what is printed.
@@ -54,7 +54,7 @@ pub(crate) trait PerformAs<G>: Perform {
 
     /// Receives characters to print, at least one.
     fn print_text(&mut self, text: &str)
-        requires { IsTextRun keeps text.now }
+        requires { IsNonEmptyRun keeps text.now }
         ensures { Self.value_of self.new
             ≡ after Self.step (Self.value_of self.old) (map (run_event keeps) (chars text.now)) };
 

@@ -35,20 +35,20 @@ pub(crate) enum RunKind {
 
 /// The position of a run in the bytes of a call.
 #[derive(Clone, Copy)]
-pub(crate) struct RunPlace {
+pub(crate) struct RunRange {
     pub(crate) start: usize,
     pub(crate) end: usize,
     pub(crate) kind: RunKind,
 }
 
-impl RunPlace {
+impl RunRange {
     /// Creates the position of no run, where a call ends.
     pub(crate) fn empty(end: usize) -> Self
         ensures start { result.start ≡ end }
         ensures end { result.end ≡ end }
         ensures kind { result.kind ≡ Empty }
     {
-        RunPlace {
+        RunRange {
             start: end,
             end,
             kind: RunKind::Empty,

@@ -18,7 +18,7 @@ stays_all (event ∷ events) = ap (λ rung. after rung_after rung events) (stays
 
 -- If the call stopped early, the bell has rung, and the bytes that follow can't change that. Otherwise all was read.
 as_all : (rung : Bool) (n : ℕ) (bytes : List ℕ)
-    → StopsExactly rung_after (λ has_rung. has_rung) false rung usual_limit [] bytes n
+    → StopsExactly rung_after (λ has_rung. has_rung) false usual_limit [] bytes rung n
     → rung ≡ after rung_after false (added usual_limit [] bytes)
 as_all true n bytes s = sym (stays_all (added usual_limit (stream_at [] bytes n) (drop n bytes))) ∙ s.comes.goes_on
 as_all false n bytes s = s.all (grind (arith, s.comes.within, s.stops))

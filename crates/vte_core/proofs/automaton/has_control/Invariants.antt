@@ -1,6 +1,6 @@
 -- No byte before this one is a control, unless one was found.
 use Rattle.std.proofs.Common.{◌≡◌, ◌≤◌, false}
-use Rattle.vte_core.specs.machine.Between.{Each}
+use Rattle.vte_core.specs.machine.Each.{Each}
 use Rattle.vte_core.proofs.automaton.has_control.Given as goal
 
 abbrev pub invariant-loop-byte : goal.invariant-loop-byte

@@ -1,7 +1,7 @@
 -- Each byte before this one stands between characters, unless one was found that does not.
 use Rattle.std.proofs.Common.{◌≡◌, IsTrue}
 use Rattle.vte_core.specs.machine.Automaton.{Between, next_between}
-use Rattle.vte_core.specs.machine.Between.{Each}
+use Rattle.vte_core.specs.machine.Each.{Each}
 use Rattle.vte_core.proofs.automaton.is_ascii_block.Given as goal
 
 abbrev pub invariant-loop-byte : goal.invariant-loop-byte

@@ -6,6 +6,7 @@
 //! without a branch. But the block in which a run ends is read in vain, so only long runs come
 //! here.
 
+use crate::proved::vte_core::class::is_layout;
 use crate::proved::vte_core::scan::get_block;
 use crate::proved::vte_core::utf8::is_printed_ascii;
 
@@ -182,10 +183,4 @@ fn has_control(block: &[u8; 16]) -> bool {
         any |= *byte < 0x20;
     }
     any
-}
-
-/// Returns whether a byte is HT, LF or CR. Compilers make no vector instructions of `||`.
-#[inline(always)]
-pub(crate) fn is_layout(byte: u8) -> bool {
-    (byte == b'\t') | (byte == b'\n') | (byte == b'\r')
 }

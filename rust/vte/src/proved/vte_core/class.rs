@@ -8,6 +8,12 @@ pub(crate) fn is_control(byte: u8) -> bool {
     byte < 0x20 && byte != 0x18 && byte != 0x1a && byte != ESCAPE
 }
 
+/// Returns whether a byte is HT, LF or CR. Compilers make no vector instructions of `||`.
+#[inline(always)]
+pub(crate) fn is_layout(byte: u8) -> bool {
+    (byte == b'\t') | (byte == b'\n') | (byte == b'\r')
+}
+
 /// Returns whether a byte is CAN, SUB or ESC, which end whatever is open.
 pub(crate) fn ends_all(byte: u8) -> bool {
     byte == 0x18 || byte == 0x1a || byte == ESCAPE

@@ -1,10 +1,11 @@
 // Written by tools/erase from crates/vte_core/src/run.rt: edit that one.
-//! Where a run of printed text ends.
+//! Where a run of printed text ends. `scan/taken.rt` has the runs that callers take.
 //!
 //! A word is eight bytes. None is tried before a run has begun with single bytes, so that no byte
 //! is read often.
 
-use crate::proved::vte_core::automaton::{is_layout, skip_run_blocks};
+use crate::proved::vte_core::automaton::skip_run_blocks;
+use crate::proved::vte_core::class::is_layout;
 use crate::proved::vte_core::scan::grain::PerformAs;
 use crate::proved::vte_core::scan::{get, get_block, Grain};
 use crate::proved::vte_core::utf8::{

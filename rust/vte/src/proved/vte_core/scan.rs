@@ -11,7 +11,7 @@ use core::str;
 pub(crate) use grain::Grain;
 pub use grain::{InRuns, Singly};
 pub use taken::{Run, Taken};
-pub(crate) use taken::{RunKind, RunPlace};
+pub(crate) use taken::{RunKind, RunRange};
 
 /// Returns the bytes up to a position.
 #[inline(always)]
@@ -39,7 +39,7 @@ pub(crate) fn data(input: &[u8], from: usize, to: usize) -> &[u8] {
 }
 
 /// Returns the run that stands at a position, whose bytes were looked at.
-pub(crate) fn take_run(input: &[u8], place: RunPlace) -> Run<'_> {
+pub(crate) fn take_run(input: &[u8], place: RunRange) -> Run<'_> {
     let taken = match place.kind {
         RunKind::OfText => Taken::Text(text(input, place.start, place.end)),
         RunKind::OfData => Taken::Data(data(input, place.start, place.end)),

@@ -1,9 +1,9 @@
--- An early stop reads the front up to the begin of an update (`turns/Fronts`), and what was lent comes back with its
+-- An early stop reads the front up to the begin of an update (`updates/Fronts`), and what was lent comes back with its
 -- calls.
 use Rattle.vte.proofs.Common.{drop, length, refl, meaning, begin_front}
 use Rattle.vte.proofs.performing.Parsed.{given_back, stops_at_front, stop_performs, stop_stream, stop_terminated}
 use Rattle.vte.proofs.performing.Rooms.{front_fits}
-use Rattle.vte.proofs.replays.EachOnce.{front_rest}
+use Rattle.vte.proofs.turns.EachOnce.{front_rest}
 use Rattle.vte.proofs.ansi.parsing.parse_until_begin.Goals as goal
 
 pub returns-clause-stops : goal.returns-clause-stops

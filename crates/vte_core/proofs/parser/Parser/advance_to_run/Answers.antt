@@ -10,7 +10,7 @@ returns-in-Ok g c =
     rw (← c.new-input.ensures) (record {
       returns = returns-run _ d t.start t.end t.taken refl;
       reads = reads-run c.take_run.result d t.start t.end t.taken;
-      others = λ stream h. rw t.start (c.in-Ok.ensures.others stream h);
+      quietly = λ stream h. rw t.start (c.in-Ok.ensures.quietly stream h);
       count = search rules;
       least = search rules;
     })

@@ -1,6 +1,6 @@
 -- The first byte, the ASCII after it and what follows are one run (`run-append`).
 use Rattle.vte_core.proofs.Common.{arith, IsPrinted}
-use Rattle.vte_core.proofs.bytes.Between.{each-both}
+use Rattle.vte_core.proofs.bytes.EachLemmas.{each-both}
 use Rattle.vte_core.proofs.bytes.Printable.{run-ascii, run-append}
 use Rattle.vte_core.proofs.scan.Looks.find_ascii_run_end.Goals as goal
 

@@ -1,8 +1,8 @@
 -- Each round adds ASCII, or one character that is longer or a kept control, to the run (`scans-run`).
 use Rattle.vte_core.proofs.Common.{arith, subst, sym, ◌∙◌, slice_index, IsPrinted}
-use Rattle.vte_core.proofs.bytes.Between.{each-one, each-both}
+use Rattle.vte_core.proofs.bytes.EachLemmas.{each-one, each-both}
 use Rattle.vte_core.proofs.bytes.Printable.{printed-is, run-none, run-ascii}
-use Rattle.vte_core.proofs.bytes.Scanning.{scans-run}
+use Rattle.vte_core.proofs.bytes.SearchLemmas.{scans-run}
 use Rattle.vte_core.proofs.scan.Looks.find_end_before.Goals as goal
 
 pub loop-end-init : goal.loop-end-init

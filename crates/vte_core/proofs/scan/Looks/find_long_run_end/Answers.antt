@@ -1,7 +1,7 @@
 -- Whole blocks first, then the bytes after them: together they are one run.
 use Rattle.vte_core.proofs.Common.{arith, inl, inr, cases_lt, length}
 use Rattle.vte_core.proofs.bytes.Ends.{ends-all}
-use Rattle.vte_core.proofs.bytes.Scanning.{scans-run}
+use Rattle.vte_core.proofs.bytes.SearchLemmas.{scans-run}
 use Rattle.vte_core.proofs.scan.Looks.find_long_run_end.Goals as goal
 
 pub returns-clause-scans : goal.returns-clause-scans

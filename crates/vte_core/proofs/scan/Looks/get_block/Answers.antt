@@ -1,5 +1,5 @@
 -- The block is the front of the bytes from a place on.
-use Rattle.vte_core.proofs.bytes.Between.{front-block}
+use Rattle.vte_core.proofs.bytes.EachLemmas.{front-block}
 use Rattle.vte_core.proofs.scan.Looks.get_block.Goals as goal
 
 pub returns : goal.returns

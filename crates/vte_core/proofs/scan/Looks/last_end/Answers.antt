@@ -2,8 +2,8 @@
 -- continue a character, to the byte that began the last one: the text ends before it.
 use Rattle.vte_core.proofs.Common.{◌≡◌, ◌≢◌, ℕ, ◌+◌, ◌≤◌, ◌<◌, List, take, drop, ap, sym, inl, inr, ◌∙◌, arith, cases_lt, slice_index}
 use Rattle.vte_core.specs.machine.Automaton.{Between, HasScanned, state_after}
-use Rattle.vte_core.proofs.scanning.Scanned.{Standing, standing}
-use Rattle.vte_core.proofs.scanning.Readings.{is_between, byte_from, last_end-here, unended, last_end-first}
+use Rattle.vte_core.proofs.automaton_states.Scanned.{ReadSoFar, standing}
+use Rattle.vte_core.proofs.automaton_states.Readings.{is_between, byte_from, last_end-here, unended, last_end-first}
 use Rattle.vte_core.proofs.scan.Looks.last_end.Goals as goal
 
 -- Between characters: the text ends here.
@@ -17,7 +17,7 @@ returns-then-state-eq-BETWEEN g c = record {
 
 -- a first byte is not the last one of its character
 not_yet : (bytes : List ℕ) (from at state end b : ℕ) → HasScanned (drop from bytes) at state → state ≢ 0
-    → (s : Standing (drop from bytes) at (state_after Between (take at (drop from bytes)))) → s.end ≤ end
+    → (s : ReadSoFar (drop from bytes) at (state_after Between (take at (drop from bytes)))) → s.end ≤ end
     → b ≡ slice_index bytes (from + end) → b < 0xc0 → s.end < end
 not_yet bytes from at state end b read inside s low is short = elim (cases_lt s.end end) [
   | inl past ↦ past

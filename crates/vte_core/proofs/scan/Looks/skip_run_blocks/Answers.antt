@@ -1,8 +1,8 @@
 -- A block after which the automaton has not failed is read; the run ends with the last whole character (`last_end`).
-use Rattle.vte_core.proofs.Common.{drop-drop, false≢true, ◌≡◌, ◌≤◌, ◌+◌, ◌-◌, false, take, drop, ap, sym, subst, ◌∙◌, arith, inl, inr, cases_lt, length-drop, looked, rules, AreRun}
-use Rattle.vte_core.specs.machine.Between.{Each}
-use Rattle.vte_core.proofs.bytes.Between.{each-both, each-block}
-use Rattle.vte_core.proofs.scanning.Readings.{has_read-more, run-kept}
+use Rattle.vte_core.proofs.Common.{drop-drop, false≢true, ◌≡◌, ◌≤◌, ◌+◌, ◌-◌, false, take, drop, ap, sym, subst, ◌∙◌, arith, inl, inr, cases_lt, length-drop, looked, rules, IsUtf8Run}
+use Rattle.vte_core.specs.machine.Each.{Each}
+use Rattle.vte_core.proofs.bytes.EachLemmas.{each-both, each-block}
+use Rattle.vte_core.proofs.automaton_states.Readings.{has_read-more, run-kept}
 use Rattle.vte_core.proofs.scan.Looks.skip_run_blocks.Goals.{else-not-keeps-via-then-not-keeps+else-has_control, else-not-keeps-via-else-not-keeps}
 use Rattle.vte_core.proofs.scan.Looks.skip_run_blocks.Goals as goal
 
@@ -44,7 +44,7 @@ returns g c =
         low = omega arith;
         high = omega (arith, c.requires, last.before, v.read.within, length-drop c.args.from c.args.input.bytes.now);
         are =
-            subst (λ n. AreRun c.args.keeps (take n text))
+            subst (λ n. IsUtf8Run c.args.keeps (take n text))
             (let e : end ≡ c.args.from + end - c.args.from = omega arith in e)
             (run-kept c.args.keeps text c.loop-block.at end v.kept last.before last.run);
         least = omega (arith, v.count, least, c.last_end.ensures.count, last.before);

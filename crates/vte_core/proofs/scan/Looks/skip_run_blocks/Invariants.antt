@@ -1,7 +1,7 @@
 -- The automaton has read the blocks so far, and they have no control that is left out.
 use Rattle.vte_core.proofs.Common.{drop, false, length, ◌+◌, ◌-◌, ◌<◌, ◌≡◌, ◌≤◌, looked}
 use Rattle.vte_core.specs.machine.Automaton.{HasScanned}
-use Rattle.vte_core.specs.machine.Between.{Each}
+use Rattle.vte_core.specs.machine.Each.{Each}
 use Rattle.vte_core.proofs.scan.Looks.skip_run_blocks.Given as goal
 
 abbrev pub invariant-loop-block : goal.invariant-loop-block

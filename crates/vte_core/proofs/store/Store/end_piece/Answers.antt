@@ -1,13 +1,13 @@
 -- An end is kept if there is room for it; otherwise the item changes nothing that is kept.
 use Rattle.std.proofs.lemmas.Bool.{not-false}
-use Rattle.vte_core.proofs.Common.{◌∷◌, [], ◌++◌, refl, sym, subst, ◌∙◌, arith, eqb-true, eqb-false, not-true, Keeps}
+use Rattle.vte_core.proofs.Common.{◌∷◌, [], ◌++◌, refl, sym, subst, ◌∙◌, arith, eqb-true, eqb-false, not-true, HoldsItems}
 use Rattle.vte_core.proofs.fields.StoreLemmas.{after_full, done-complete, keeps-done, keeps-end}
 use Rattle.vte_core.proofs.store.Store.end_piece.Goals as goal
 use Rattle.vte_core.proofs.store.Store.end_piece.Goals.{else-not-is_full-via-then-not-is_full+else-not-is_full-2, else-not-is_full-via-else-not-is_full}
 
 pub returns-then-not-is_full-2-clause-keeps : goal.returns-then-not-is_full-2-clause-keeps
 returns-then-not-is_full-2-clause-keeps g c = λ items keeps.
-    let before = subst (λ held. Keeps g.B.Buffer.limit held items) (sym c.self.view_is) keeps in
+    let before = subst (λ held. HoldsItems g.B.Buffer.limit held items) (sym c.self.view_is) keeps in
     let some = eqb-false _ _ (sym c.is_full.ensures.value ∙ c.if-not-is_full.true) in
     let room = not-false _ (sym c.is_full-then-not-is_full.ensures ∙ c.if-not-is_full-2.true) in
     keeps-end _ _ _ items (omega (arith, c.is_full.ensures.fits, some)) room refl
@@ -15,8 +15,8 @@ returns-then-not-is_full-2-clause-keeps g c = λ items keeps.
 
 pub returns-else-not-is_full-clause-keeps : goal.returns-else-not-is_full-clause-keeps
 returns-else-not-is_full-clause-keeps g c = λ items keeps.
-    let before = subst (λ held. Keeps g.B.Buffer.limit held items) (sym c.self.view_is) keeps in
-    subst (λ held. Keeps g.B.Buffer.limit held (items ++ 59 ∷ [])) c.self.view_is (elim c.else-not-is_full.branch [
+    let before = subst (λ held. HoldsItems g.B.Buffer.limit held items) (sym c.self.view_is) keeps in
+    subst (λ held. HoldsItems g.B.Buffer.limit held (items ++ 59 ∷ [])) c.self.view_is (elim c.else-not-is_full.branch [
       | else-not-is_full-via-then-not-is_full+else-not-is_full-2 w ↦
           keeps-done _ _ items
           (after_full _ _ _ (not-true _ (sym w.is_full-then-not-is_full.ensures ∙ w.if-not-is_full-2.false))) before

@@ -1,5 +1,5 @@
 -- Data are kept as far as there is room. Once there are 16 ends they only count as dropped.
-use Rattle.vte_core.proofs.Common.{◌≡◌, ℕ, ◌-◌, length, take, drop, length-take, length-drop, refl, sym, subst, ◌∙◌, arith, eqb-true, eqb-false, Keeps}
+use Rattle.vte_core.proofs.Common.{◌≡◌, ℕ, ◌-◌, length, take, drop, length-take, length-drop, refl, sym, subst, ◌∙◌, arith, eqb-true, eqb-false, HoldsItems}
 use Rattle.vte_core.proofs.fields.StoreLemmas.{keeps-later, keeps-run}
 use Rattle.vte_core.proofs.store.Store.push_data.Goals as goal
 use Rattle.vte_core.proofs.store.Store.push_data.Goals.{then-not-is_full, else-not-is_full}
@@ -8,7 +8,7 @@ pub returns-clause-keeps : goal.returns-clause-keeps
 returns-clause-keeps g c = λ items keeps.
     let a = c.args in
     let run = take (a.to - a.from) (drop a.from a.input.bytes.now) in
-    let before = subst (λ held. Keeps g.B.Buffer.limit held items) (sym c.self.view_is) keeps in
+    let before = subst (λ held. HoldsItems g.B.Buffer.limit held items) (sym c.self.view_is) keeps in
     let size : length run ≡ a.to - a.from =
     omega (arith, length-take {A = ℕ}, length-drop {A = ℕ}, c.requires.range.within, c.requires.range.in_order) in
     elim c.if-not-is_full.branch [

@@ -5,7 +5,7 @@ use crate::proved::vte::ansi::input::InputAs;
 use crate::proved::vte::ansi::numbers::{first_number, NumberIterator};
 use crate::proved::vte::ansi::rendition::perform_attributes;
 use crate::proved::vte::ansi::values::{
-    character_path, keyboard_behavior, keyboard_modes, scrolling_bottom, update_mode,
+    character_path, keyboard_behavior, keyboard_modes, scp_update_mode, scrolling_bottom,
 };
 use crate::proved::vte_core::Params;
 use crate::proved::vte_handler::Handler;
@@ -43,7 +43,7 @@ pub(crate) fn perform_control<H: InputAs<G>, G>(
         ([b' '], 'q') => set_cursor_style(handler, numbers.next_or(0)),
         ([b' '], 'k') => {
             let path = character_path(numbers.next_or(0));
-            let update = update_mode(numbers.next_or(0));
+            let update = scp_update_mode(numbers.next_or(0));
             if let (Some(path), Some(update)) = (path, update) {
                 handler.set_scp(path, update);
             }

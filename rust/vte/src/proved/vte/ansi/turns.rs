@@ -3,7 +3,7 @@
 
 use crate::proved::vte::ansi::hold::{Hold, MOST_HELD};
 use crate::proved::vte::ansi::parsing::{parse_all, parse_until_begin, EventParser, ParseAs};
-use crate::proved::vte::ansi::performer::{ProcessorState, UPDATE_TIMEOUT_MILLIS};
+use crate::proved::vte::ansi::performer::{PerformerState, UPDATE_TIMEOUT_MILLIS};
 use crate::proved::vte::ansi::text_buffer::TextBuffer;
 use crate::proved::vte_core::Refused;
 use crate::proved::vte_handler::{Handler, Timeout};
@@ -19,7 +19,7 @@ const SLICE: usize = 65_536;
 pub(crate) struct Turns<P, B, T> {
     pub(crate) parser: P,
     pub(crate) hold: Hold,
-    pub(crate) state: ProcessorState<T, B>,
+    pub(crate) state: PerformerState<T, B>,
 }
 
 impl<P: EventParser, B: TextBuffer, T: Timeout> Turns<P, B, T> {
@@ -30,7 +30,7 @@ impl<P: EventParser, B: TextBuffer, T: Timeout> Turns<P, B, T> {
             Ok(hold) => Ok(Turns {
                 parser,
                 hold,
-                state: ProcessorState {
+                state: PerformerState {
                     preceding_char: None,
                     text,
                     timeout,

@@ -8,7 +8,7 @@ use crate::proved::vte_core::perform::Perform;
 use crate::proved::vte_core::run::find_run_end;
 use crate::proved::vte_core::scan::grain::PerformAs;
 use crate::proved::vte_core::scan::search::find_device_data_end;
-use crate::proved::vte_core::scan::{take_run, tell_single, Run, RunKind, RunPlace, Singly};
+use crate::proved::vte_core::scan::{take_run, tell_single, Run, RunKind, RunRange, Singly};
 use crate::proved::vte_core::utf8::{is_lead, is_printed_ascii};
 
 impl<const OSC_RAW_BUF_SIZE: usize> Parser<OSC_RAW_BUF_SIZE> {
@@ -44,7 +44,7 @@ impl<const OSC_RAW_BUF_SIZE: usize> Parser<OSC_RAW_BUF_SIZE> {
         match self.machine.drive_to_run(performer, input) {
             Ok(place) => take_run(input, place),
             // Never: with a limit no memory is refused.
-            Err(refused) => take_run(input, RunPlace::empty(refused.read)),
+            Err(refused) => take_run(input, RunRange::empty(refused.read)),
         }
     }
 }
@@ -56,14 +56,14 @@ impl<B: Buffer> Machine<B> {
         &mut self,
         performer: &mut P,
         input: &[u8],
-    ) -> Result<RunPlace, Refused> {
+    ) -> Result<RunRange, Refused> {
         let mut position = self.finish_character::<P, Singly>(performer, input);
         while position < input.len() && !performer.terminated() {
             position = match self.state {
                 State::Text(_) => {
                     let end = find_run_end(input, position, false);
                     if end > position {
-                        return Ok(RunPlace {
+                        return Ok(RunRange {
                             start: position,
                             end,
                             kind: RunKind::OfText,
@@ -74,7 +74,7 @@ impl<B: Buffer> Machine<B> {
                 State::DeviceData => {
                     let end = find_device_data_end(input, position);
                     if end > position {
-                        return Ok(RunPlace {
+                        return Ok(RunRange {
                             start: position,
                             end,
                             kind: RunKind::OfData,
@@ -86,7 +86,7 @@ impl<B: Buffer> Machine<B> {
                 _ => self.read_by_state::<P, Singly, true>(performer, input, position)?,
             };
         }
-        Ok(RunPlace::empty(position))
+        Ok(RunRange::empty(position))
     }
 
     /// Reads a character that isn't printed or a malformed sequence, or controls and what is

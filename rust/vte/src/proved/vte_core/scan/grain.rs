@@ -1,7 +1,7 @@
 // Written by tools/erase from crates/vte_core/src/scan/grain.rt: edit that one.
 //! How performers take text.
 
-use crate::proved::vte_core::automaton::is_layout;
+use crate::proved::vte_core::class::is_layout;
 use crate::proved::vte_core::perform::{Perform, PerformText};
 
 /// How a performer takes what is printed.

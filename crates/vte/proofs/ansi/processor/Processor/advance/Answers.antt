@@ -1,5 +1,5 @@
 -- With a limit nothing is refused, so all bytes are read (`never_refused`).
-use Rattle.vte.proofs.turns.Standings.{never_refused}
+use Rattle.vte.proofs.replays.Standings.{never_refused}
 use Rattle.vte.proofs.ansi.processor.Processor.advance.Goals as goal
 
 pub returns : goal.returns

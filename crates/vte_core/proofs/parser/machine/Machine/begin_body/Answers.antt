@@ -7,7 +7,7 @@ use Rattle.vte_core.proofs.calls.Arms.{taken}
 use Rattle.vte_core.proofs.calls.Ends.{settled-by}
 use Rattle.vte_core.proofs.fields.PlaceOfState.{stands-escape, stands-text_begun}
 use Rattle.vte_core.proofs.places.PlaceLeads.{escape-key, escape-end}
-use Rattle.vte_core.proofs.shapes.PlainKeys.{other_key}
+use Rattle.vte_core.proofs.bytes.PlainKeys.{other_key}
 use Rattle.vte_core.proofs.parser.machine.Machine.begin_body.Goals as goal
 
 -- `P`: a device control string.

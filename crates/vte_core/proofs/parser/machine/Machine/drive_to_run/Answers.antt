@@ -10,14 +10,14 @@ use Rattle.vte_core.proofs.parser.machine.Machine.drive_to_run.Goals as goal
 pub loop-position-init : goal.loop-position-init
 loop-position-init g c =
     let f = c.finish_character-position.ensures in
-    record { stands_at = f.stands_at; settled = f.settled; others = f.others; spends = search rules }
+    record { stands_at = f.stands_at; settled = f.settled; quietly = f.quietly; spends = search rules }
 
 -- In a text: what the search has found is a run of text, and the machine is between characters.
 pub returns-then-end-position-clause-comes : goal.returns-then-end-position-clause-comes
 returns-then-end-position-clause-comes g c =
     let v = c.loop-position.invariant in
     let found = c.find_run_end-end.ensures in
-    let between = settled-text c.in-Text.field-0 c.in-Text.is (v.settled (omega arith)) in
+    let settled = settled-text c.in-Text.field-0 c.in-Text.is (v.settled (omega arith)) in
     comes-to_run (has-text between (omega arith) found.scans.high found.scans.are found.ended) (omega arith)
     (sym c.terminated.ensures ∙ c.if-not-terminated.true) v.stands_at
 
@@ -37,7 +37,7 @@ loop-position-preserved-else-end-position g c =
     record {
       stands_at = λ stream h. read.goes_on _ stream (v.stands_at stream h);
       settled = read.settled;
-      others = λ stream h. tells-more (v.others stream h) (read.others tt _ stream (v.stands_at stream h));
+      quietly = λ stream h. tells-more (v.quietly stream h) (read.quietly tt _ stream (v.stands_at stream h));
       spends = search rules;
     }
 
@@ -49,7 +49,7 @@ loop-position-preserved-else-end-position-2 g c =
     record {
       stands_at = λ stream h. read.goes_on _ stream (v.stands_at stream h);
       settled = read.settled;
-      others = λ stream h. tells-more (v.others stream h) (read.others tt _ stream (v.stands_at stream h));
+      quietly = λ stream h. tells-more (v.quietly stream h) (read.quietly tt _ stream (v.stands_at stream h));
       spends = search rules;
     }
 
@@ -61,10 +61,10 @@ loop-position-preserved g c =
     record {
       stands_at = λ stream h. read.goes_on _ stream (v.stands_at stream h);
       settled = read.settled;
-      others =
+      quietly =
           λ stream h.
-          tells-more (v.others stream h)
-          (read.others (outside _ c.in_default.not-Text c.in_default.not-DeviceData) _ stream (v.stands_at stream h));
+          tells-more (v.quietly stream h)
+          (read.quietly (outside _ c.in_default.not-Text c.in_default.not-DeviceData) _ stream (v.stands_at stream h));
       spends = search rules;
     }
 
@@ -83,11 +83,11 @@ returns-in_err-position-in_default g c =
         refused = r.refuses.refused;
       });
       costs = search rules;
-      others =
+      quietly =
           λ stream h.
           rw (e.1 ∙ ap Err e.2)
-          (tells-more (v.others stream h)
-          (r.advances.others (outside _ c.in_default.not-Text c.in_default.not-DeviceData) _ stream
+          (tells-more (v.quietly stream h)
+          (r.advances.quietly (outside _ c.in_default.not-Text c.in_default.not-DeviceData) _ stream
           (v.stands_at stream h)));
     }
 
@@ -101,5 +101,5 @@ returns-clause-comes g c =
       | else-loop-position-test w ↦ absurd (omega (arith, left, w.loop-position-test.false, c.len.ensures))
     ])
 
-pub returns-clause-others : goal.returns-clause-others
-returns-clause-others g c stream h = rw c.empty.ensures.start (c.loop-position.invariant.others stream h)
+pub returns-clause-quietly : goal.returns-clause-quietly
+returns-clause-quietly g c stream h = rw c.empty.ensures.start (c.loop-position.invariant.quietly stream h)

@@ -4,8 +4,8 @@ use Rattle.vte_core.proofs.bytes.ClassCases.{ends_by_cancel}
 use Rattle.vte_core.proofs.calls.Arms.{performs-escape, taken}
 use Rattle.vte_core.proofs.fields.PlaceOfState.{stands-place}
 use Rattle.vte_core.proofs.streams.Performing.{after-append, takes-performs}
-use Rattle.vte_core.proofs.shapes.CancelLemmas.{cancel}
-use Rattle.vte_core.proofs.streams.StreamLemmas.{cancel_is_no_escape}
+use Rattle.vte_core.proofs.places.CancelLemmas.{cancel}
+use Rattle.vte_core.proofs.places.StreamLemmas.{cancel_is_no_escape}
 use Rattle.vte_core.proofs.parser.machine.Machine.end_body.Goals as goal
 
 pub returns-then-byte-eq-ESCAPE-clause-performs : goal.returns-then-byte-eq-ESCAPE-clause-performs

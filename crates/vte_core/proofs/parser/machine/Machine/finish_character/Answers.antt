@@ -21,17 +21,17 @@ pub returns-in_default-clause-stands_at : goal.returns-in_default-clause-stands_
 returns-in_default-clause-stands_at g c = λ stream h. starts-at (settled-outside _ c.in_default.not-Text) h
 
 -- The same three, of what is told by no run.
-pub returns-then-is_nothing-clause-others : goal.returns-then-is_nothing-clause-others
-returns-then-is_nothing-clause-others g c stream h =
+pub returns-then-is_nothing-clause-quietly : goal.returns-then-is_nothing-clause-quietly
+returns-then-is_nothing-clause-quietly g c stream h =
     tells-nothing
     (settled-by _ _ c.in-Text.is (settled-nothing c.in-Text.begun (c.is_nothing.ensures.0 c.if-is_nothing.true))) h
 
-pub returns-in_default-clause-others : goal.returns-in_default-clause-others
-returns-in_default-clause-others g c stream h = tells-nothing (settled-outside _ c.in_default.not-Text) h
+pub returns-in_default-clause-quietly : goal.returns-in_default-clause-quietly
+returns-in_default-clause-quietly g c stream h = tells-nothing (settled-outside _ c.in_default.not-Text) h
 
-pub returns-else-is_nothing-clause-others : goal.returns-else-is_nothing-clause-others
-returns-else-is_nothing-clause-others g c stream h =
-    let told = c.continue_character.ensures.completes.others _ stream c.args.self.now c.in-Text.is (starts-inside h) in
+pub returns-else-is_nothing-clause-quietly : goal.returns-else-is_nothing-clause-quietly
+returns-else-is_nothing-clause-quietly g c stream h =
+    let told = c.continue_character.ensures.completes.adds _ stream c.args.self.now c.in-Text.is (starts-inside h) in
     tells-open told
     (λ none.
     opens-text c.args.self.now c.in-Text.is

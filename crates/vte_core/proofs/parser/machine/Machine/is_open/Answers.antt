@@ -2,7 +2,7 @@
 -- unfinished (`unfinished`).
 use Rattle.vte_core.proofs.Common.{◌≡◌, [], cases_Bool, inl, inr, false≢true, not, ap, subst, sym, ◌∙◌, IsAfter, Text, bytes_of}
 use Rattle.vte_core.proofs.calls.Ends.{settled-by, settled-nothing}
-use Rattle.vte_core.proofs.calls.Open.{finished, same-begun, unfinished}
+use Rattle.vte_core.proofs.calls.IsOpen.{finished, same-begun, unfinished}
 use Rattle.vte_core.proofs.calls.States.{between_characters}
 use Rattle.vte_core.proofs.calls.ToRun.{anew, settled-text}
 use Rattle.vte_core.proofs.parser.machine.Machine.is_open.Goals as goal

@@ -8,7 +8,7 @@ use Rattle.vte_core.proofs.calls.Ends.{settled-by}
 use Rattle.vte_core.proofs.calls.Sequences.{performs-dropped}
 use Rattle.vte_core.proofs.fields.PlaceOfState.{stands-by, stands-text_begun}
 use Rattle.vte_core.proofs.places.PlaceLeads.{byte-executed, escape-intermediate, escape-end}
-use Rattle.vte_core.proofs.shapes.PlainKeys.{below_finals}
+use Rattle.vte_core.proofs.bytes.PlainKeys.{below_finals}
 use Rattle.vte_core.proofs.parser.machine.Machine.read_after_escape.Goals as goal
 
 -- A final byte is a key: what it begins is `begin_body`'s.

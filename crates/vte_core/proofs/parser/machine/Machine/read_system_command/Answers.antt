@@ -1,6 +1,6 @@
 -- Data join the open piece. The byte after them ends the command, or is `;`, BEL or a control: by its class, since data
 -- would have been read.
-use Rattle.vte_core.proofs.Common.{◌≡◌, ◌<◌, length, true, [], ◌∷◌, ◌++◌, refl, sym, subst, ◌∙◌, arith, ne_eqb, Machine, OscDispatch, InText, InSystemCommand, Keeps, IsCommandData, pieces_of}
+use Rattle.vte_core.proofs.Common.{◌≡◌, ◌<◌, length, true, [], ◌∷◌, ◌++◌, refl, sym, subst, ◌∙◌, arith, ne_eqb, Machine, OscDispatch, InText, InSystemCommand, HoldsItems, IsCommandData, pieces_of}
 use Rattle.vte_core.proofs.bytes.ClassCases.{left_is_control}
 use Rattle.vte_core.proofs.calls.Arms.{advances-in, in_system_command, taken}
 use Rattle.vte_core.proofs.fields.PlaceOfState.{keeps-same, stands-by}
@@ -57,7 +57,7 @@ returns-clause-advances g c =
           (advances-when tt (advances-in begun within here.1 r.may_go_on ordinary
           (in_system_command after_data (λ items keeps. taken [] (InSystemCommand (items ++ byte ∷ [])) refl
           (stands-by begun
-          (subst (λ b. Keeps limit w.end_piece.new.self (items ++ b ∷ [])) (sym is)
+          (subst (λ b. HoldsItems limit w.end_piece.new.self (items ++ b ∷ [])) (sym is)
           (w.end_piece.ensures.keeps items keeps)))
           (command-item limit items byte (omega (arith, is))))) (settled-by _ _ begun tt)))
       -- BEL: the command is told.

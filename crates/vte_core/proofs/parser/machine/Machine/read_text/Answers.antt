@@ -28,7 +28,7 @@ reached g c =
           rw (w.performer-is, w.position-is) (advances-then v.advances
           (advances-text
           (c.requires.no_stop (sym c.IN_RUNS-in-loop-position-2.ensures ∙ w.if-IN_RUNS-2.true)) v.may_go_on
-          (v.between within) run.progress run.high run.prints))
+          (v.settled within) run.progress run.high run.prints))
       -- None did.
       | else-IN_RUNS-2 w ↦ rw (w.performer-is, w.position-is) v.advances
     ]
@@ -46,7 +46,7 @@ at g c =
           let run = w.print_ascii-run.ensures in
           let next = rw w.in-Some.is at run.next in
           rw (w.performer-is, w.position-is, w.byte-is) (record {
-            begun = v.between within;
+            begun = v.settled within;
             may_go_on =
                 may_go_on-text (this g c.args.input.bytes.now)
                 (c.requires.no_stop (sym c.IN_RUNS-in-loop-position-2.ensures ∙ w.if-IN_RUNS-2.true))
@@ -55,7 +55,7 @@ at g c =
             is = next.1;
           })
       | else-IN_RUNS-2 w ↦ rw (w.performer-is, w.position-is, w.byte-is) (record {
-        begun = v.between within;
+        begun = v.settled within;
         may_go_on = v.may_go_on;
         within = within;
         is = c.at-byte.ensures.value ∙ c.loop-position.invariant.same _ (omega (arith, c.loop-position-2-test.true));
@@ -73,9 +73,9 @@ loop-position-2-preserved-in-None g c =
     record {
       advances =
           advances-then v.advances
-          (advances-text (c.requires.no_stop runs) v.may_go_on (v.between within) run.progress run.high run.prints);
+          (advances-text (c.requires.no_stop runs) v.may_go_on (v.settled within) run.progress run.high run.prints);
       may_go_on = may_go_on-text (this g c.args.input.bytes.now) (c.requires.no_stop runs) v.may_go_on run.prints;
-      between = λ _. v.between within;
+      settled = λ _. v.settled within;
       low = search rules;
       high = search rules;
       moves = search rules;
@@ -159,7 +159,7 @@ loop-position-2-preserved-then-this-ne0-2 g c =
     record {
       advances = advances-then (reached g places.Joined-IN_RUNS-2) (advances-part read.advances);
       may_go_on = search rules;
-      between = λ inside. read.text inside;
+      settled = λ inside. read.text inside;
       low = search rules;
       high = search rules;
       moves = search rules;
@@ -196,7 +196,7 @@ loop-position-2-preserved-then-byte-ge160 g c =
             (c.requires.no_stop runs) here.may_go_on c.if-byte-ge160.true
             (w.tell_single.ensures.malformed (omega (arith, c.if-byte-ge160.true))))
       ];
-      between = elim c.if-is_lead.branch [
+      settled = elim c.if-is_lead.branch [
         | then-is_lead+else-this-ne0 w ↦ rw (w.self-is, w.position-is) w.read_at_lead-position.ensures.text
         | else-is_lead w ↦ rw w.self-is (λ _. here.begun)
       ];
@@ -219,7 +219,7 @@ loop-position-2-preserved g c =
     record {
       advances = advances-then (reached g places.Joined-IN_RUNS-2) (read g places.Joined-is_printed_ascii-2 here);
       may_go_on = search rules;
-      between = elim c.if-is_printed_ascii-2.branch [
+      settled = elim c.if-is_printed_ascii-2.branch [
         | then-is_printed_ascii-2 w ↦ rw w.self-is (λ _. here.begun)
         | else-is_printed_ascii-2+else-IN_RUNS-3+then-is_lead-2+else-this-ne0-2 w ↦
             rw (w.self-is, w.position-is)

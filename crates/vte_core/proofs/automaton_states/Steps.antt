@@ -1,21 +1,21 @@
 -- The automaton over bytes one after another: a state is the list of ranges that the open character still wants
--- (`still`), and a byte in the first of them takes it off.
+-- (`wanted_ranges`), and a byte in the first of them takes it off.
 use Rattle.vte_core.proofs.Common.{List, [], ap, arith, get_or, length, refl, suc, ℕ, ◌++◌, ◌<◌, ◌∙◌, ◌∷◌, ◌≡◌, ◌≢◌, ◌≤◌, Range, from_to}
 use Rattle.vte_core.proofs.bytes.FirstBytes.{continuation}
 use Rattle.vte_core.specs.machine.Automaton.{AutomatonState, Between, One, Two, Three, AfterE0, AfterED, AfterF0, AfterF4, AfterC2, Failed, next_if_in, next_between, next_state, state_after}
 
 -- The ranges of the bytes that end the character.
-abbrev pub still : AutomatonState → List Range
-still Between = []
-still One = continuation ∷ []
-still Two = continuation ∷ continuation ∷ []
-still Three = continuation ∷ continuation ∷ continuation ∷ []
-still AfterE0 = from_to 0xa0 0xbf ∷ continuation ∷ []
-still AfterED = from_to 0x80 0x9f ∷ continuation ∷ []
-still AfterF0 = from_to 0x90 0xbf ∷ continuation ∷ continuation ∷ []
-still AfterF4 = from_to 0x80 0x8f ∷ continuation ∷ continuation ∷ []
-still AfterC2 = from_to 0xa0 0xbf ∷ []
-still Failed = []
+abbrev pub wanted_ranges : AutomatonState → List Range
+wanted_ranges Between = []
+wanted_ranges One = continuation ∷ []
+wanted_ranges Two = continuation ∷ continuation ∷ []
+wanted_ranges Three = continuation ∷ continuation ∷ continuation ∷ []
+wanted_ranges AfterE0 = from_to 0xa0 0xbf ∷ continuation ∷ []
+wanted_ranges AfterED = from_to 0x80 0x9f ∷ continuation ∷ []
+wanted_ranges AfterF0 = from_to 0x90 0xbf ∷ continuation ∷ continuation ∷ []
+wanted_ranges AfterF4 = from_to 0x80 0x8f ∷ continuation ∷ continuation ∷ []
+wanted_ranges AfterC2 = from_to 0xa0 0xbf ∷ []
+wanted_ranges Failed = []
 
 pub state_after-append : (s : AutomatonState) (xs ys : List ℕ)
     → state_after s (xs ++ ys) ≡ state_after (state_after s xs) ys
@@ -40,7 +40,8 @@ stays_between (b ∷ bytes) all =
 pub data Turn (s : AutomatonState) : Type 0 where
   between : s ≡ Between → Turn s
   gone : s ≡ Failed → Turn s
-  waiting : (t : AutomatonState) (range : Range) → s ≢ Between → range.last ≤ 0xbf → still s ≡ range ∷ still t
+  waiting : (t : AutomatonState) (range : Range) → s ≢ Between → range.last ≤ 0xbf
+      → wanted_ranges s ≡ range ∷ wanted_ranges t
       → ((b : ℕ) → next_state s b ≡ next_if_in range t b) → Turn s
 
 pub turn : (s : AutomatonState) → Turn s

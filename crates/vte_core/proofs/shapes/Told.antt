@@ -37,10 +37,10 @@ unfolding breaks_at
 breaks_at-byte stream bytes u i b within is ends =
     rw (ends, drop_more bytes i 0 within, is) (breaks-next u (get_or bytes i 0) (drop (i + 1) bytes))
 
-pub breaks_at-between : (stream bytes : List ℕ) (i : ℕ) → open_end (stream ++ take i bytes) ≡ []
+pub breaks_at-settled : (stream bytes : List ℕ) (i : ℕ) → open_end (stream ++ take i bytes) ≡ []
     → breaks_at stream bytes i ≡ false
 unfolding breaks_at
-breaks_at-between stream bytes i ends = rw ends refl
+breaks_at-settled stream bytes i ends = rw ends refl
 
 pub breaks_at-all : (stream bytes : List ℕ) (n : ℕ) → length bytes ≤ n → breaks_at stream bytes n ≡ false
 unfolding breaks_at
@@ -50,9 +50,9 @@ breaks_at-all stream bytes n all =
 
 -- ---- starts
 
-pub starts-between : (stream bytes : List ℕ) (i : ℕ) → i < length bytes → open_end (stream ++ take i bytes) ≡ []
+pub starts-settled : (stream bytes : List ℕ) (i : ℕ) → i < length bytes → open_end (stream ++ take i bytes) ≡ []
     → IsStart stream bytes i
-starts-between stream bytes i within ends = record { within = within; starts = inl ends }
+starts-settled stream bytes i within ends = record { within = within; starts = inl ends }
 
 pub starts-broken : (stream bytes : List ℕ) (i : ℕ) → i < length bytes → breaks_at stream bytes i ≡ true
     → IsStart stream bytes i
@@ -70,10 +70,10 @@ no_start stream bytes u i b within is ends some whole start = elim start.starts 
 
 -- ---- what is told
 
-pub told-between : (limit : Option ℕ) (stream bytes : List ℕ) (i : ℕ) → breaks_at stream bytes i ≡ false
+pub told-settled : (limit : Option ℕ) (stream bytes : List ℕ) (i : ℕ) → breaks_at stream bytes i ≡ false
     → told_before limit stream bytes i ≡ added limit stream (take i bytes)
 unfolding told_before
-told-between limit stream bytes i whole = rw whole (append-nil (added limit stream (take i bytes)))
+told-settled limit stream bytes i whole = rw whole (append-nil (added limit stream (take i bytes)))
 
 pub told-broken : (limit : Option ℕ) (stream bytes : List ℕ) (i : ℕ) → breaks_at stream bytes i ≡ true
     → told_before limit stream bytes i ≡ added limit stream (take i bytes) ++ Print replacement ∷ []
@@ -83,13 +83,13 @@ told-broken limit stream bytes i broken = rw broken refl
 pub told-all : (limit : Option ℕ) (stream bytes : List ℕ) (n : ℕ) → n ≡ length bytes
     → told_before limit stream bytes n ≡ added limit stream bytes
 told-all limit stream bytes n all =
-    told-between limit stream bytes n (breaks_at-all stream bytes n (omega arith))
+    told-settled limit stream bytes n (breaks_at-all stream bytes n (omega arith))
     ∙ ap (added limit stream) (take_all n bytes (omega arith))
 
-pub stream_at-between : (stream bytes : List ℕ) (n : ℕ) → breaks_at stream bytes n ≡ false
+pub stream_at-settled : (stream bytes : List ℕ) (n : ℕ) → breaks_at stream bytes n ≡ false
     → stream_at stream bytes n ≡ stream ++ take n bytes
 unfolding stream_at
-stream_at-between stream bytes n whole = rw whole refl
+stream_at-settled stream bytes n whole = rw whole refl
 
 pub stream_at-broken : (stream bytes : List ℕ) (n : ℕ) → breaks_at stream bytes n ≡ true → stream_at stream bytes n ≡ []
 unfolding stream_at
@@ -97,5 +97,5 @@ stream_at-broken stream bytes n broken = rw broken refl
 
 pub stream_at-all : (stream bytes : List ℕ) (n : ℕ) → n ≡ length bytes → stream_at stream bytes n ≡ stream ++ bytes
 stream_at-all stream bytes n all =
-    stream_at-between stream bytes n (breaks_at-all stream bytes n (omega arith))
+    stream_at-settled stream bytes n (breaks_at-all stream bytes n (omega arith))
     ∙ ap (λ x. stream ++ x) (take_all n bytes (omega arith))

@@ -6,10 +6,10 @@ use Rattle.vte_core.specs.Event.{Event, Print, Put, replacement}
 use Rattle.vte_core.specs.Stream.{open_end}
 
 -- Neither a printed character nor data. U+FFFD is allowed: it stands for what is malformed.
-abbrev pub IsOther : Event → Type 0
-IsOther (Print c) = c ≡ replacement
-IsOther (Put byte) = ⊥
-IsOther _ = ⊤
+abbrev pub IsQuietEvent : Event → Type 0
+IsQuietEvent (Print c) = c ≡ replacement
+IsQuietEvent (Put byte) = ⊥
+IsQuietEvent _ = ⊤
 
 -- Neither a printed character of ASCII nor data.
 abbrev pub IsBeyondAscii : Event → Type 0
@@ -19,13 +19,13 @@ IsBeyondAscii _ = ⊤
 
 -- Before position n of a call nothing is told that belongs into a run: only the character that an
 -- earlier call began, if one was open.
-pub record TellsOthers (limit : Option ℕ) (stream bytes : List ℕ) (n : ℕ) : Type 0 where
-  pub others : open_end stream ≡ [] → All IsOther (told_before limit stream bytes n)
+pub record TellsQuietly (limit : Option ℕ) (stream bytes : List ℕ) (n : ℕ) : Type 0 where
+  pub quietly : open_end stream ≡ [] → All IsQuietEvent (told_before limit stream bytes n)
   -- The character that an earlier call began isn't ASCII.
   pub opened : All IsBeyondAscii (told_before limit stream bytes n)
 
 -- What is told between two positions of a call belongs into no run.
-pub record AddsOthers (limit : Option ℕ) (stream bytes : List ℕ) (i j : ℕ) : Type 0 where
+pub record AddsQuietly (limit : Option ℕ) (stream bytes : List ℕ) (i j : ℕ) : Type 0 where
   pub events : List Event
-  pub are : All IsOther events
+  pub are : All IsQuietEvent events
   pub parts : told_before limit stream bytes j ≡ told_before limit stream bytes i ++ events

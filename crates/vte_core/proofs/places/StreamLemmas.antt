@@ -1,5 +1,5 @@
 -- From a text or a body to the whole stream: what a byte does in its part, it does in the stream, since only ESC cuts.
-use Rattle.vte_core.proofs.Common.{◌≡◌, ℕ, false, eqb, Option, List, [], ◌∷◌, ◌++◌, refl, ap, sym, ◌∙◌, append_assoc, arith, nat_tests, Cancel, class_of, ends_all, Event, Leads, Reads, tell, closed_events, Place, InText, AtEscape, closing_events_at, rest_outcome, outcome_from, events_from, cut_at_escape, with_bodies, outcome, events, escape}
+use Rattle.vte_core.proofs.Common.{◌≡◌, ℕ, false, eqb, Option, List, [], ◌∷◌, ◌++◌, refl, ap, sym, ◌∙◌, append_assoc, arith, nat_tests, Cancel, class_of, ends_all, Event, Leads, Reads, tell, events_before_escape, Place, InText, AtEscape, closing_events_at, rest_outcome, outcome_from, events_from, cut_at_escape, with_bodies, outcome, events, escape}
 use Rattle.vte_core.proofs.shapes.OutcomeLemmas.{tell-append, with_bodies-tell}
 use Rattle.vte_core.proofs.fields.PlaceOfState.{IsPlace, rest_outcome-nothing}
 
@@ -49,7 +49,8 @@ pub outcome_from-escape : (limit : Option ℕ) (place : Place) (more : List ℕ)
     → outcome_from limit place (escape ∷ more) ≡ tell (closing_events_at limit place) (outcome_from limit AtEscape more)
 unfolding outcome_from
 outcome_from-escape limit place more is =
-    ap (λ part. tell (closed_events part) (outcome_from limit AtEscape more)) (rest_outcome-nothing limit place is)
+    ap (λ part. tell (events_before_escape part) (outcome_from limit AtEscape more))
+        (rest_outcome-nothing limit place is)
 
 pub reads-escape : (limit : Option ℕ) (place : Place) → IsPlace place
     → Reads limit place (escape ∷ []) (closing_events_at limit place) AtEscape

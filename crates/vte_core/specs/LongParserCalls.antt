@@ -4,11 +4,11 @@ use Rattle.vte_core.specs.AdvanceToRun.{ReturnsRun, run_bytes}
 use Rattle.vte_core.specs.declared.parser.long.LongParser.{LongParser}
 use Rattle.vte_core.specs.declared.parser.refused.Refused.{Refused}
 use Rattle.vte_core.specs.declared.scan.taken.Run.{Run}
-use Rattle.vte_core.specs.EarlyStop.{HasPassed, StopsExactly, stream_at}
+use Rattle.vte_core.specs.EarlyStop.{HasPassedBytes, StopsExactly, stream_at}
 use Rattle.vte_core.specs.Event.{Event}
 use Rattle.vte_core.specs.LongParser.{HasReadLong, LacksMemory, MeetsData, StoresPieces, bytes_read, memory_of, open_size, read_count}
 use Rattle.vte_core.specs.Looks.{looks_long}
-use Rattle.vte_core.specs.Others.{TellsOthers}
+use Rattle.vte_core.specs.Quiet.{TellsQuietly}
 use Rattle.vte_core.specs.Perform.{after}
 use Rattle.vte_core.specs.Stream.{added}
 
@@ -44,7 +44,7 @@ pub record PassesLong {V Answer : Type 0} (step : V → Event → V) (is_termina
     (old new : V) (HasReadBefore : List ℕ → Type 0)
     (bytes : List ℕ) (result : Result Answer Refused) : Type 0 where
   pub passes : IfErr result (λ refused. (stream : List ℕ) → HasReadBefore stream
-      → HasPassed step is_terminated old new None stream bytes refused.read)
+      → HasPassedBytes step is_terminated old None stream bytes new refused.read)
   pub not_stopped : IfErr result (λ refused. is_terminated new ≡ false)
 
 -- `advance` and `advance_text` of a `LongParser`
@@ -66,7 +66,7 @@ pub record ReadsUntilTerminatedLong {V A : Type 0} (step : V → Event → V) (i
   pub within : read_count result ≤ length bytes
   -- The call ends at the first start where the performer is terminated, or else after all bytes.
   pub stops : IfOk result (λ read. (stream : List ℕ) → HasReadLong parser stream
-      → StopsExactly step is_terminated old new None stream bytes read)
+      → StopsExactly step is_terminated old None stream bytes new read)
   -- If memory is refused, it ends before that.
   pub refuses : PassesLong step is_terminated old new (HasReadLong parser) bytes result
   -- The parser goes on after the bytes read.
@@ -95,8 +95,8 @@ pub record ReadsToRunLong {V A : Type 0} (step : V → Event → V) (is_terminat
   pub returns : IfOk result (ReturnsRun step is_terminated old new None (HasReadLong parser) bytes)
   pub refuses : PassesLong step is_terminated old new (HasReadLong parser) bytes result
   -- Characters and data are left to the run.
-  pub others : (stream : List ℕ) → HasReadLong parser stream
-      → TellsOthers None stream bytes (performed_count result)
+  pub quietly : (stream : List ℕ) → HasReadLong parser stream
+      → TellsQuietly None stream bytes (performed_count result)
   -- The parser goes on after what was read.
   pub goes_on : GoesOnLong 7 bytes result (run_count result)
       (λ stream. read_to_run result stream bytes) parser next

@@ -1,19 +1,19 @@
 -- What a first byte begins: nothing, or a character with these ranges to come, as the rows of UTF-8 say.
-use Rattle.vte_core.proofs.Common.{List, [], arith, inl, inr, refl, subst, sym, true, ℕ, ◌∙◌, ◌∷◌, ◌≡◌, ◌≢◌, ◌≤◌, and_parts, cases_Bool, cases_eq, cases_lt, false≢true, nat_tests, Range, is_in, from_to, rows_after_byte, utf8_rows, second_range, IsPrinted, AreRun, is_layout}
-use Rattle.vte_core.proofs.bytes.Between.{each-one}
+use Rattle.vte_core.proofs.Common.{List, [], arith, inl, inr, refl, subst, sym, true, ℕ, ◌∙◌, ◌∷◌, ◌≡◌, ◌≢◌, ◌≤◌, and_parts, cases_Bool, cases_eq, cases_lt, false≢true, nat_tests, Range, is_in, from_to, rows_after_byte, utf8_rows, second_range, IsPrinted, IsUtf8Run, is_layout}
+use Rattle.vte_core.proofs.bytes.EachLemmas.{each-one}
 use Rattle.vte_core.proofs.bytes.FirstBytes.{fits, tests_row, tests_two}
 use Rattle.vte_core.proofs.bytes.Scalars.{in_range-bounds}
 use Rattle.vte_core.proofs.bytes.Printable.{run-ascii, run-layout}
 use Rattle.vte_core.proofs.dividing.PrintableCharacters.{printable}
 use Rattle.vte_core.specs.machine.Automaton.{AutomatonState, Between, One, Two, Three, AfterE0, AfterED, AfterF0, AfterF4, AfterC2, Failed, next_between}
-use Rattle.vte_core.proofs.scanning.Steps.{still}
+use Rattle.vte_core.proofs.automaton_states.Steps.{wanted_ranges}
 
 -- Bytes in these ranges end the character.
-abbrev pub Completes : ℕ → List Range → Type 0
-Completes b ranges = (u : List ℕ) → fits ranges u ≡ true → AreRun true (b ∷ u)
+abbrev pub EndsCharacter : ℕ → List Range → Type 0
+EndsCharacter b ranges = (u : List ℕ) → fits ranges u ≡ true → IsUtf8Run true (b ∷ u)
 
 -- the row of Unicode's table that the byte has
-row : (b : ℕ) (ranges : List Range) → 0xc3 ≤ b → rows_after_byte b utf8_rows ≡ ranges ∷ [] → Completes b ranges
+row : (b : ℕ) (ranges : List Range) → 0xc3 ≤ b → rows_after_byte b utf8_rows ≡ ranges ∷ [] → EndsCharacter b ranges
 row b ranges low same u fit =
     printable b u (omega (arith, low)) (λ e. absurd (omega (arith, e, low)))
     ((tests_row b ranges same u).is_whole ∙ fit)
@@ -21,17 +21,18 @@ row b ranges low same u fit =
 -- ---- the first bytes
 
 pub data Begins (b : ℕ) : Type 0 where
-  prints : AreRun true (b ∷ []) → next_between b ≡ Between → Begins b
+  prints : IsUtf8Run true (b ∷ []) → next_between b ≡ Between → Begins b
   fails : next_between b ≡ Failed → Begins b
-  opens : (t : AutomatonState) → next_between b ≡ t → t ≢ Between → t ≢ Failed → 0xc0 ≤ b → Completes b (still t)
+  opens : (t : AutomatonState) → next_between b ≡ t → t ≢ Between → t ≢ Failed → 0xc0 ≤ b
+      → EndsCharacter b (wanted_ranges t)
       → Begins b
 
 opened : (b : ℕ) (t : AutomatonState) → next_between b ≡ t → t ≢ Between → t ≢ Failed → 0xc3 ≤ b
-    → rows_after_byte b utf8_rows ≡ still t ∷ [] → Begins b
-opened b t is not fine low same = opens t is not fine (omega (arith, low)) (row b (still t) low same)
+    → rows_after_byte b utf8_rows ≡ wanted_ranges t ∷ [] → Begins b
+opened b t is not fine low same = opens t is not fine (omega (arith, low)) (row b (wanted_ranges t) low same)
 
 -- after C2 the table also has controls
-after_c2 : Completes 0xc2 (from_to 0xa0 0xbf ∷ [])
+after_c2 : EndsCharacter 0xc2 (from_to 0xa0 0xbf ∷ [])
 unfolding second_range
 after_c2 [] fit = absurd (false≢true fit)
 after_c2 (c ∷ u) fit =

@@ -1,14 +1,14 @@
 -- What the automaton's state says of the text that it has read: characters that are printed, and then the bytes of one
 -- that has begun. Each step of the automaton keeps that.
-use Rattle.vte_core.proofs.Common.{List, [], add-one, ap, append_assoc, arith, cond, drop, inl, inr, length, length-drop, refl, subst, suc, sym, take, true, zero, ℕ, ◌&&◌, ◌++◌, ◌+◌, ◌-◌, ◌<◌, ◌∙◌, ◌∷◌, ◌≡◌, ◌≢◌, ◌≤◌, take-add, cases_Bool, false≢true, append-nil, get_or-drop, take_more, slice_index, Range, is_in, AreRun}
-use Rattle.vte_core.specs.machine.Between.{Each}
-use Rattle.vte_core.proofs.bytes.Between.{each-next}
+use Rattle.vte_core.proofs.Common.{List, [], add-one, ap, append_assoc, arith, cond, drop, inl, inr, length, length-drop, refl, subst, suc, sym, take, true, zero, ℕ, ◌&&◌, ◌++◌, ◌+◌, ◌-◌, ◌<◌, ◌∙◌, ◌∷◌, ◌≡◌, ◌≢◌, ◌≤◌, take-add, cases_Bool, false≢true, append-nil, get_or-drop, take_more, slice_index, Range, is_in, IsUtf8Run}
+use Rattle.vte_core.specs.machine.Each.{Each}
+use Rattle.vte_core.proofs.bytes.EachLemmas.{each-next}
 use Rattle.vte_core.proofs.bytes.FirstBytes.{fits}
 use Rattle.vte_core.proofs.bytes.Printable.{printable-nil, printable-append}
 use Rattle.vte_core.proofs.bytes.Scalars.{in_range-bounds}
 use Rattle.vte_core.specs.machine.Automaton.{AutomatonState, Between, Failed, next_between, next_if_in, next_state, state_after}
-use Rattle.vte_core.proofs.scanning.Steps.{still, state_after-append, failed, between, gone, waiting, turn}
-use Rattle.vte_core.proofs.scanning.Begins.{prints, fails, opens, begins}
+use Rattle.vte_core.proofs.automaton_states.Steps.{wanted_ranges, state_after-append, failed, between, gone, waiting, turn}
+use Rattle.vte_core.proofs.automaton_states.Begins.{prints, fails, opens, begins}
 
 -- From `end` up to `at` stand a first byte and bytes that are none.
 pub record IsBegun (text : List ℕ) (end at : ℕ) : Type 0 where
@@ -17,18 +17,18 @@ pub record IsBegun (text : List ℕ) (end at : ℕ) : Type 0 where
   pub later : Each (λ b. b < 0xc0) text (end + 1) at
 
 -- Up to `end` stand characters; the bytes from there up to `at` are those of one that has begun.
-pub record Standing (text : List ℕ) (at : ℕ) (s : AutomatonState) : Type 0 where
+pub record ReadSoFar (text : List ℕ) (at : ℕ) (s : AutomatonState) : Type 0 where
   pub end : ℕ
   pub before : end ≤ at
-  pub printable : AreRun true (take end text)
-  pub completes : (u : List ℕ) → fits (still s) u ≡ true → AreRun true (take (at - end) (drop end text) ++ u)
+  pub printable : IsUtf8Run true (take end text)
+  pub completes : (u : List ℕ) → fits (wanted_ranges s) u ≡ true → IsUtf8Run true (take (at - end) (drop end text) ++ u)
   pub settled : s ≡ Between → end ≡ at
   pub begun : s ≢ Between → IsBegun text end at
-  pub short : at + length (still s) ≤ end + 4
+  pub short : at + length (wanted_ranges s) ≤ end + 4
 
-still-short : (s : AutomatonState) → length (still s) ≤ 3
-still-short Between = omega arith
-still-short _ = omega arith
+wanted_ranges-short : (s : AutomatonState) → length (wanted_ranges s) ≤ 3
+wanted_ranges-short Between = omega arith
+wanted_ranges-short _ = omega arith
 
 below_c0 : (range : Range) (b : ℕ) → range.last ≤ 0xbf → is_in range b ≡ true → b < 0xc0
 below_c0 range b last fit = omega (arith, last, (in_range-bounds range b fit).1)
@@ -37,7 +37,7 @@ none-taken : (text : List ℕ) (at end : ℕ) → end ≡ at → take (at - end)
 none-taken text at end same = let none : at - end ≡ 0 = omega (arith, same) in rw none refl
 
 -- Between two characters all of the text is printed.
-all_printed : (text : List ℕ) (at : ℕ) → AreRun true (take at text) → Standing text at Between
+all_printed : (text : List ℕ) (at : ℕ) → IsUtf8Run true (take at text) → ReadSoFar text at Between
 all_printed text at printed = record {
   end = at;
   before = omega arith;
@@ -45,7 +45,7 @@ all_printed text at printed = record {
   completes =
       λ u fit.
       rw (none-taken text at at refl)
-      (elim u as (λ v. fits [] v ≡ true → AreRun true v) [
+      (elim u as (λ v. fits [] v ≡ true → IsUtf8Run true v) [
         | [] ↦ λ _. printable-nil true
         | c ∷ v ↦ λ f. absurd (false≢true f)
       ] fit);
@@ -54,7 +54,7 @@ all_printed text at printed = record {
   short = omega arith;
 }
 
-module _ (text : List ℕ) (at : ℕ) (within : at < length text) (s : AutomatonState) (old : Standing text at s) where
+module _ (text : List ℕ) (at : ℕ) (within : at < length text) (s : AutomatonState) (old : ReadSoFar text at s) where
   abbrev b : ℕ
   b = slice_index text at
 
@@ -70,31 +70,33 @@ module _ (text : List ℕ) (at : ℕ) (within : at < length text) (s : Automaton
       ∙ ap (λ x. taken ++ x ∷ []) (get_or-drop old.end text (at - old.end) 0 ∙ ap (slice_index text) place)
 
   -- A character ends.
-  settles : AreRun true (taken ++ b ∷ []) → Standing text (at + 1) Between
+  settles : IsUtf8Run true (taken ++ b ∷ []) → ReadSoFar text (at + 1) Between
   settles whole =
       let place : at + 1 ≡ old.end + (at + 1 - old.end) = omega (arith, old.before) in
       let joined : take (at + 1) text ≡ take old.end text ++ (taken ++ b ∷ []) =
       ap (λ n. take n text) place ∙ take-add old.end (at + 1 - old.end) text
       ∙ ap (λ x. take old.end text ++ x) taken-more in
       all_printed text (at + 1)
-      (subst (AreRun true) (sym joined)
+      (subst (IsUtf8Run true) (sym joined)
       (printable-append true (take old.end text) (taken ++ b ∷ []) old.printable whole))
 
   -- A character begins or goes on.
-  goes_on : (t : AutomatonState) → t ≢ Between → IsBegun text old.end (at + 1) → at + 1 + length (still t) ≤ old.end + 4
-      → ((u : List ℕ) → fits (still t) u ≡ true → AreRun true ((taken ++ b ∷ []) ++ u)) → Standing text (at + 1) t
+  goes_on : (t : AutomatonState) → t ≢ Between → IsBegun text old.end (at + 1)
+      → at + 1 + length (wanted_ranges t) ≤ old.end + 4
+      → ((u : List ℕ) → fits (wanted_ranges t) u ≡ true → IsUtf8Run true ((taken ++ b ∷ []) ++ u))
+      → ReadSoFar text (at + 1) t
   goes_on t not shape short completes = record {
     end = old.end;
     before = omega (arith, old.before);
     printable = old.printable;
-    completes = λ u fit. subst (λ x. AreRun true (x ++ u)) (sym taken-more) (completes u fit);
+    completes = λ u fit. subst (λ x. IsUtf8Run true (x ++ u)) (sym taken-more) (completes u fit);
     settled = λ same. absurd (not same);
     begun = λ _. shape;
     short = short;
   }
 
   -- the first byte of a character
-  first : s ≡ Between → next_state s b ≢ Failed → Standing text (at + 1) (next_state s b)
+  first : s ≡ Between → next_state s b ≢ Failed → ReadSoFar text (at + 1) (next_state s b)
   unfolding next_state
   first same ok =
       let e : next_state s b ≡ next_between b = ap (λ v. next_state v b) same in
@@ -102,36 +104,38 @@ module _ (text : List ℕ) (at : ℕ) (within : at < length text) (s : Automaton
       let none : taken ≡ [] = none-taken text at old.end here in
       elim (begins b) [
         | prints printed is ↦
-            subst (Standing text (at + 1)) (sym (e ∙ is))
-            (settles (subst (λ x. AreRun true (x ++ b ∷ [])) (sym none) printed))
+            subst (ReadSoFar text (at + 1)) (sym (e ∙ is))
+            (settles (subst (λ x. IsUtf8Run true (x ++ b ∷ [])) (sym none) printed))
         | fails is ↦ absurd (ok (e ∙ is))
-        | opens t is not fine low completes ↦ subst (Standing text (at + 1)) (sym (e ∙ is))
+        | opens t is not fine low completes ↦ subst (ReadSoFar text (at + 1)) (sym (e ∙ is))
             (goes_on t not
             (record {
               some = omega (arith, here);
               first = subst (λ n. 0xc0 ≤ slice_index text n) (sym here) low;
               later = λ k past below. absurd (omega (arith, here, past, below));
             })
-            (omega (arith, here, still-short t))
-            (λ u fit. subst (λ x. AreRun true ((x ++ b ∷ []) ++ u)) (sym none) (completes u fit)))
+            (omega (arith, here, wanted_ranges-short t))
+            (λ u fit. subst (λ x. IsUtf8Run true ((x ++ b ∷ []) ++ u)) (sym none) (completes u fit)))
       ]
 
   -- a further one
-  later : (t : AutomatonState) (range : Range) → s ≢ Between → range.last ≤ 0xbf → still s ≡ range ∷ still t
-      → next_state s b ≡ next_if_in range t b → next_state s b ≢ Failed → Standing text (at + 1) (next_state s b)
+  later : (t : AutomatonState) (range : Range) → s ≢ Between → range.last ≤ 0xbf
+      → wanted_ranges s ≡ range ∷ wanted_ranges t
+      → next_state s b ≡ next_if_in range t b → next_state s b ≢ Failed → ReadSoFar text (at + 1) (next_state s b)
   later t range not last is steps ok = elim (cases_Bool (is_in range b)) [
     | inr misfits ↦ absurd (ok (steps ∙ ap (λ v. cond v t Failed) misfits))
     | inl fit ↦
         let e : next_state s b ≡ t = steps ∙ ap (λ v. cond v t Failed) fit in
         let k = old.begun not in
-        let completes : (u : List ℕ) → fits (still t) u ≡ true → AreRun true ((taken ++ b ∷ []) ++ u) =
-        λ u more. subst (AreRun true) (sym (append_assoc taken (b ∷ []) u)) (old.completes (b ∷ u)
-        (ap (λ ranges. fits ranges (b ∷ u)) is ∙ ap (λ v. v && fits (still t) u) fit ∙ more)) in
-        subst (Standing text (at + 1)) (sym e) (elim (turn t) [
+        let completes : (u : List ℕ) → fits (wanted_ranges t) u ≡ true → IsUtf8Run true ((taken ++ b ∷ []) ++ u) =
+        λ u more. subst (IsUtf8Run true) (sym (append_assoc taken (b ∷ []) u)) (old.completes (b ∷ u)
+        (ap (λ ranges. fits ranges (b ∷ u)) is ∙ ap (λ v. v && fits (wanted_ranges t) u) fit ∙ more)) in
+        subst (ReadSoFar text (at + 1)) (sym e) (elim (turn t) [
           | between same ↦
-              let whole : AreRun true (taken ++ b ∷ []) =
-              subst (AreRun true) (append-nil (taken ++ b ∷ [])) (completes [] (ap (λ v. fits (still v) []) same)) in
-              subst (Standing text (at + 1)) (sym same) (settles whole)
+              let whole : IsUtf8Run true (taken ++ b ∷ []) =
+              subst (IsUtf8Run true) (append-nil (taken
+                  ++ b ∷ [])) (completes [] (ap (λ v. fits (wanted_ranges v) []) same)) in
+              subst (ReadSoFar text (at + 1)) (sym same) (settles whole)
           | gone same ↦ absurd (ok (e ∙ same))
           | waiting v r other _ _ _ ↦
               goes_on t other
@@ -144,7 +148,7 @@ module _ (text : List ℕ) (at : ℕ) (within : at < length text) (s : Automaton
         ])
   ]
 
-  one_more : next_state s b ≢ Failed → Standing text (at + 1) (next_state s b)
+  one_more : next_state s b ≢ Failed → ReadSoFar text (at + 1) (next_state s b)
   unfolding next_state
   one_more ok = elim (turn s) [
     | between same ↦ first same ok
@@ -158,15 +162,15 @@ stepped text at within =
     ap (state_after Between) (take_more text at 0 within)
     ∙ state_after-append Between (take at text) (slice_index text at ∷ [])
 
-further : (text : List ℕ) (at : ℕ) (within : at < length text) → Standing text at (state_after Between (take at text))
+further : (text : List ℕ) (at : ℕ) (within : at < length text) → ReadSoFar text at (state_after Between (take at text))
     → state_after Between (take (at + 1) text) ≢ Failed
-    → Standing text (at + 1) (state_after Between (take (at + 1) text))
+    → ReadSoFar text (at + 1) (state_after Between (take (at + 1) text))
 further text at within old ok =
-    subst (Standing text (at + 1)) (sym (stepped text at within))
+    subst (ReadSoFar text (at + 1)) (sym (stepped text at within))
     (one_more text at within _ old (λ e. ok (stepped text at within ∙ e)))
 
 pub standing : (text : List ℕ) (at : ℕ) → at ≤ length text → state_after Between (take at text) ≢ Failed
-    → Standing text at (state_after Between (take at text))
+    → ReadSoFar text at (state_after Between (take at text))
 standing text zero within ok = all_printed text 0 (printable-nil true)
 standing text (suc at) within ok =
     let fine : state_after Between (take (at + 1) text) ≢ Failed = rw add-one ok in

@@ -1,8 +1,8 @@
 -- A search goes on where another ended: runs join (`run-append`), and a block adds its first bytes.
 use Rattle.vte_core.proofs.Common.{◌≡◌, ℕ, ◌+◌, ◌≤◌, Bool, List, length, take, drop, arith, looked, IsRun, Scans}
 use Rattle.vte_core.specs.declared.scan.Looks.{Looks}
-use Rattle.vte_core.specs.machine.Between.{Each}
-use Rattle.vte_core.proofs.bytes.Between.{each-both, each-block}
+use Rattle.vte_core.specs.machine.Each.{Each}
+use Rattle.vte_core.proofs.bytes.EachLemmas.{each-both, each-block}
 use Rattle.vte_core.proofs.bytes.Printable.{run-append}
 
 pub scans-run : {B : Type 0} {keeps : Bool} {bytes : List ℕ} {i j k : ℕ} {s t u : Looks B}

@@ -4,7 +4,7 @@ use Rattle.vte.proofs.Common.{◌≡◌, ℕ, ◌-◌, suc, inl, inr, Bool, Opti
 use Rattle.vte.proofs.Common.{take-append-drop, Step, Advance, StopSync, Meaning, TakesSteps, given_bytes, after_last_end, from_begin, State, TakesTurns, all_bytes, begin_front, extend, hold_turn, release}
 use Rattle.vte.proofs.Common.{cases_Bool, nat_tests, append-nil, parse, stop, turn, done, turns}
 use Rattle.std.proofs.lemmas.List.{nil_from_length}
-use Rattle.vte.proofs.turns.Fronts.{is_front}
+use Rattle.vte.proofs.updates.Fronts.{is_front}
 use Rattle.vte.proofs.turns.Kinds.{holds_all, holds_rest, is_held, is_stopped, stop_if_due, turn_holds, turn_parses}
 use Rattle.vte.proofs.updates.Sequences.{cases_Option, stays-is}
 

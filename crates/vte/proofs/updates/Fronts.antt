@@ -1,9 +1,9 @@
 -- An early stop reads exactly the front up to the byte that begins an update. Such a byte ends a control sequence, so
 -- no character is open or broken there, and the front is the shortest that adds a begin.
-use Rattle.vte_core.proofs.stops.Told.{breaks_at-all, breaks_at-between, told-broken}
+use Rattle.vte_core.proofs.shapes.Told.{breaks_at-all, breaks_at-settled, told-broken}
 use Rattle.vte.proofs.Common.{◌≡◌, ℕ, zero, suc, ◌+◌, ◌<◌, ◌≤◌, inl, inr, false, nat_lt, Option, List, [], ◌∷◌, ◌++◌, length, take, refl, ap, subst, ◌∙◌}
 use Rattle.vte.proofs.Common.{append_assoc, arith, cases_Bool, cases_lt, nat_tests, append-nil, take_all, breaks_at, told_before, Event, Print, replacement, added, open_end}
-use Rattle.vte.proofs.Common.{told-between, added_both, added-nothing, opens_silently, begin_count, EndsInBegin, begin_front}
+use Rattle.vte.proofs.Common.{told-settled, added_both, added-nothing, opens_silently, begin_count, EndsInBegin, begin_front}
 
 -- ---- how often bytes begin an update
 
@@ -29,7 +29,7 @@ told_count limit p r i = elim (cases_Bool (breaks_at p r i)) [
         begin_count-append (added limit p (take i r))
             (Print replacement ∷ []),
       ) (omega arith)
-  | inr whole ↦ rw (told-between limit p r i whole)
+  | inr whole ↦ rw (told-settled limit p r i whole)
 ]
 
 -- ---- the front by its length
@@ -99,7 +99,7 @@ closed_at limit p r k f more = closed limit (p ++ take k r) (f.ends (f.begins mo
 -- no character is broken after the front
 pub whole_at : (limit : Option ℕ) (p r : List ℕ) (k : ℕ) → IsFront limit p r k → breaks_at p r k ≡ false
 whole_at limit p r k f = elim (cases_lt k (length r)) [
-  | inl more ↦ breaks_at-between p r k (closed_at limit p r k f more)
+  | inl more ↦ breaks_at-settled p r k (closed_at limit p r k f more)
   | inr all ↦ breaks_at-all p r k all
 ]
 

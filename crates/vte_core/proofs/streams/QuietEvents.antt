@@ -1,6 +1,6 @@
 -- Events that no run tells: a control, and a character of two bytes or more only where its event is no printed one.
 -- Such a character is never ASCII.
-use Rattle.vte_core.proofs.Common.{◌≡◌, ◌≢◌, ℕ, ◌<◌, ◌≤◌, true, inl, inr, List, [], ◌∷◌, ◌++◌, length, length-append, refl, ap, sym, ◌∙◌, arith, cases_Bool, cases_lt, nat_tests, Event, Print, Execute, Put, character_event, is_control_character, is_well_formed, scalar_of, IsOther, IsBeyondAscii, All, All-cons, All-nil, All-weaker}
+use Rattle.vte_core.proofs.Common.{◌≡◌, ◌≢◌, ℕ, ◌<◌, ◌≤◌, true, inl, inr, List, [], ◌∷◌, ◌++◌, length, length-append, refl, ap, sym, ◌∙◌, arith, cases_Bool, cases_lt, nat_tests, Event, Print, Execute, Put, character_event, is_control_character, is_well_formed, scalar_of, IsQuietEvent, IsBeyondAscii, All, All-cons, All-nil, All-weaker}
 use Rattle.std.proofs.lemmas.Str.{length-encode}
 use Rattle.vte_core.proofs.dividing.Utf8Agrees.{well_formed_is_encoded}
 
@@ -24,15 +24,15 @@ beyond_ascii-character c high = elim (cases_Bool (is_control_character c)) [
   | inr is ↦ rw is (All-cons IsBeyondAscii (Print c) [] high (All-nil IsBeyondAscii))
 ]
 
-pub other_control : (c : ℕ) → is_control_character c ≡ true → All IsOther (character_event c ∷ [])
+pub other_control : (c : ℕ) → is_control_character c ≡ true → All IsQuietEvent (character_event c ∷ [])
 unfolding character_event
-other_control c is = rw is (All-cons IsOther (Execute c) [] tt (All-nil IsOther))
+other_control c is = rw is (All-cons IsQuietEvent (Execute c) [] tt (All-nil IsQuietEvent))
 
 -- U+FFFD isn't ASCII
-beyond_ascii-event : (event : Event) → IsOther event → IsBeyondAscii event
+beyond_ascii-event : (event : Event) → IsQuietEvent event → IsBeyondAscii event
 beyond_ascii-event (Print c) is = omega (arith, is)
 beyond_ascii-event (Put byte) is = absurd is
 beyond_ascii-event _ is = tt
 
-pub beyond_ascii-all : (events : List Event) → All IsOther events → All IsBeyondAscii events
-beyond_ascii-all events are = All-weaker IsOther IsBeyondAscii beyond_ascii-event events are
+pub beyond_ascii-all : (events : List Event) → All IsQuietEvent events → All IsBeyondAscii events
+beyond_ascii-all events are = All-weaker IsQuietEvent IsBeyondAscii beyond_ascii-event events are

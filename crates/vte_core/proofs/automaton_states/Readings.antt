@@ -1,11 +1,11 @@
 -- What the automaton's readings of a text say: a block more, and where the last character ended.
-use Rattle.vte_core.proofs.Common.{Bool, List, [], ap, arith, drop, false, get_or, inl, inr, length, length-append, length-take, refl, subst, sym, take, true, ℕ, ◌++◌, ◌+◌, ◌<◌, ◌∙◌, ◌∷◌, ◌≡◌, ◌≢◌, ◌≤◌, take-add, encodes, encode, cases_lt, nat_tests, get_or-drop, All-cons, All-head, All-nil, All-tail, All, slice_index, StaysInRun, chars, AreRun}
+use Rattle.vte_core.proofs.Common.{Bool, List, [], ap, arith, drop, false, get_or, inl, inr, length, length-append, length-take, refl, subst, sym, take, true, ℕ, ◌++◌, ◌+◌, ◌<◌, ◌∙◌, ◌∷◌, ◌≡◌, ◌≢◌, ◌≤◌, take-add, encodes, encode, cases_lt, nat_tests, get_or-drop, All-cons, All-head, All-nil, All-tail, All, slice_index, StaysInRun, chars, IsUtf8Run}
 use Rattle.std.proofs.lemmas.List.{get_or-take, get_or-append-add}
 use Rattle.std.proofs.lemmas.Str.{encode_ascii, encodes-chars}
-use Rattle.vte_core.specs.machine.Between.{Each}
+use Rattle.vte_core.specs.machine.Each.{Each}
 use Rattle.vte_core.specs.machine.Automaton.{AutomatonState, Between, Failed, state_code, state_after, HasScanned, LastEnd}
-use Rattle.vte_core.proofs.scanning.Scanned.{IsBegun, Standing, standing}
-use Rattle.vte_core.proofs.scanning.Steps.{still, state_after-append, between, gone, waiting, turn}
+use Rattle.vte_core.proofs.automaton_states.Scanned.{IsBegun, ReadSoFar, standing}
+use Rattle.vte_core.proofs.automaton_states.Steps.{wanted_ranges, state_after-append, between, gone, waiting, turn}
 
 -- ---- codes
 
@@ -38,11 +38,11 @@ last_end-here text at within is =
     record {
       before = omega arith;
       near = omega arith;
-      run = subst (λ n. AreRun true (take n text)) (s.settled is) s.printable;
+      run = subst (λ n. IsUtf8Run true (take n text)) (s.settled is) s.printable;
     }
 
-still-some : (s : AutomatonState) → s ≢ Between → s ≢ Failed → 1 ≤ length (still s)
-still-some s not going = elim (turn s) [
+wanted_ranges-some : (s : AutomatonState) → s ≢ Between → s ≢ Failed → 1 ≤ length (wanted_ranges s)
+wanted_ranges-some s not going = elim (turn s) [
   | between same ↦ absurd (not same)
   | gone same ↦ absurd (going same)
   | waiting t range _ _ is _ ↦ omega (arith, ap length is)
@@ -50,12 +50,12 @@ still-some s not going = elim (turn s) [
 
 -- a character that has not ended
 pub unended : (text : List ℕ) (at state : ℕ) → HasScanned text at state → state ≢ 0
-    → (s : Standing text at (state_after Between (take at text))) → IsBegun text s.end at
+    → (s : ReadSoFar text at (state_after Between (take at text))) → IsBegun text s.end at
 unended text at state read inside s = s.begun (λ e. inside (read.is ∙ ap state_code e))
 
 -- the place of its first byte is the last end
 pub last_end-first : (text : List ℕ) (at state end : ℕ) → HasScanned text at state → state ≢ 0
-    → (s : Standing text at (state_after Between (take at text)))
+    → (s : ReadSoFar text at (state_after Between (take at text)))
     → s.end ≤ end → end < at → 0xc0 ≤ slice_index text end → LastEnd text at end
 last_end-first text at state end read inside s from before high =
     let u = unended text at state read inside s in
@@ -65,8 +65,8 @@ last_end-first text at state end read inside s from before high =
     ] in
     record {
       before = omega (arith, before);
-      near = omega (arith, s.short, still-some _ (λ e. inside (read.is ∙ ap state_code e)) read.going, same);
-      run = subst (λ n. AreRun true (take n text)) same s.printable;
+      near = omega (arith, s.short, wanted_ranges-some _ (λ e. inside (read.is ∙ ap state_code e)) read.going, same);
+      run = subst (λ n. IsUtf8Run true (take n text)) same s.printable;
     }
 
 -- ---- a place among other bytes
@@ -102,7 +102,7 @@ all_above (c ∷ cs) are all =
 
 -- a run without bytes below 20 has none
 pub run-kept : (keeps : Bool) (text : List ℕ) (at end : ℕ) → (keeps ≡ false → Each (λ b. 0x20 ≤ b) text 0 at) → end ≤ at
-    → AreRun true (take end text) → AreRun keeps (take end text)
+    → IsUtf8Run true (take end text) → IsUtf8Run keeps (take end text)
 run-kept true text at end low within run = run
 run-kept false text at end low within run =
     let are : AreAbove (take end text) = λ k l.

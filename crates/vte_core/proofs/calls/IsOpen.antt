@@ -8,7 +8,7 @@ use Rattle.vte_core.proofs.places.PlaceLeads.{escape-end, intermediate-end, cont
 use Rattle.vte_core.proofs.shapes.TextLemmas.{text_broken}
 use Rattle.vte_core.proofs.streams.After.{added-after, added-reads, after-events, after-nothing}
 use Rattle.vte_core.proofs.streams.Performing.{events-empty}
-use Rattle.vte_core.proofs.streams.StreamLemmas.{reads-byte, waits-byte}
+use Rattle.vte_core.proofs.places.StreamLemmas.{reads-byte, waits-byte}
 use Rattle.vte_core.specs.Stream.{IsFinished, IsUnfinished}
 
 -- the byte is a digit

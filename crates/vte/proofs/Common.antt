@@ -46,7 +46,7 @@ pub use Rattle.vte.specs.machine.Hold.{Adds, IsAdded, IsEnd, released_of, still_
 pub use Rattle.vte.specs.ProcessorCalls.{Advanced, HasParsedAll, HasParsedAndHolds, IsAt, ReadsInTurns, Replayed, Replays, Standing, held_of}
 pub use Rattle.vte.specs.machine.Performing.{PerformsAll, PerformsUntilStop, performer_value, with_private_mode, with_private_modes}
 pub use Rattle.vte.specs.LongProcessor.{AdvancesLong, HasParsedAndHoldsLong, ReadsSome, ReservesRoom, StopsUpdate, TurnsStandAt}
-pub use Rattle.vte.specs.Memory.{HasMemory, HasRoom, KeepsMemory, LacksMemoryOnTheWay, LacksSome, ParserMeaning, TurnsMeaning, long_meaning, of_turns, unlimited}
+pub use Rattle.vte.specs.Memory.{HasMemory, HasRoom, KeepsMemory, LacksMemoryForSome, ParserMeaning, TurnsMeaning, long_meaning, of_turns, unlimited}
 pub use Rattle.vte.specs.Numbers.{decimal_number, first_number, first_numbers, number_from}
 pub use Rattle.vte.specs.Parts.{first_after, parts_of}
 pub use Rattle.vte.specs.machine.Performer.{FitsText, PerformerValue, with_event}

@@ -4,7 +4,7 @@ use Rattle.std.specs.Prelude.{◌≡◌, ℕ, ◌+◌, ◌-◌, ◌<◌, Bool, t
 use Rattle.vte_core.specs.Stream.{events}
 use Rattle.vte_core.specs.declared.parser.refused.Refused.{Refused}
 use Rattle.vte.specs.Calls.{last_printed}
-use Rattle.vte.specs.Memory.{HasMemory, KeepsMemory, LacksMemoryFor, LacksSome, TurnsMeaning, unlimited}
+use Rattle.vte.specs.Memory.{HasMemory, KeepsMemory, LacksMemoryForSome, TurnsMeaning, unlimited}
 use Rattle.vte.specs.Processor.{Meaning, State}
 use Rattle.vte.specs.ProcessorCalls.{IsAt, ReadsInTurns, Standing, StopsSync, held_of}
 use Rattle.vte.specs.Refusal.{HasTaken}
@@ -58,7 +58,7 @@ pub record ReservesRoom {P B T A W : Type 0} (parts : TurnsMeaning P B T W)
       → TurnsStandAt parts new parsed held timeout → HasMemory parts new parsed (length held + more)
   pub memory : KeepsMemory (HasMemory parts old) (HasMemory parts new)
   pub lacks : result ≡ false → (stream : List ℕ) → parts.reading.has_read new.parser stream
-      → LacksMemoryFor parts new stream (length (held_of new.hold) + more)
+      → ¬ HasMemory parts new stream (length (held_of new.hold) + more)
 
 abbrev pub Reserves : {T A W : Type 0} → (T → W) → (old new : LongProcessor T A) → (more : ℕ)
     → (result : Bool) → Type 0
@@ -89,7 +89,7 @@ pub record ReadsSome {P B T A V W : Type 0} (parts : TurnsMeaning P B T W) (m : 
   pub takes : (s : State V W) → IsAt (TurnsStandAt parts turns) old s
       → HasTaken m s bytes (read_of result bytes) (IsAt (TurnsStandAt parts next) new)
   pub within : IfErr result (λ refused. refused.read < length bytes)
-  pub lacks : IfErr result (λ refused. LacksSome parts next (length bytes - refused.read))
+  pub lacks : IfErr result (λ refused. LacksMemoryForSome parts next (length bytes - refused.read))
   pub memory : (s : State V W) → IsAt (TurnsStandAt parts turns) old s
       → KeepsMemory (HasMemory parts turns) (HasMemory parts next)
 

@@ -1,7 +1,7 @@
 -- A call adds to what is parsed, and is refused no memory that was there for all its bytes: room for the held and the
 -- given bytes at the start leaves room for what is left, turn by turn.
 use Rattle.vte.proofs.Common.{◌≡◌, ℕ, ◌+◌, ◌-◌, ◌<◌, inl, inr, List, ◌++◌, length, Result, Ok, Err, refl, ap, arith, length-append, Refused, LongParser, counts_data}
-use Rattle.vte.proofs.Common.{AdvancesLong, Bor, Turns, Meaning, AreAt, HasTaken, LacksSome, ReadsSome, HasRoom, State, drop, length-drop, unlimited}
+use Rattle.vte.proofs.Common.{AdvancesLong, Bor, Turns, Meaning, AreAt, HasTaken, LacksMemoryForSome, ReadsSome, HasRoom, State, drop, length-drop, unlimited}
 use Rattle.vte.proofs.turns.Standings.{reads_in_turns}
 use Rattle.vte.specs.declared.ansi.growing_text.GrowingText.{GrowingText}
 use Rattle.vte.specs.declared.ansi.long_processor.LongProcessor.{LongProcessor}
@@ -10,11 +10,10 @@ use Rattle.vte.proofs.turns.Slices.{some_grow}
 module _ {T A V W : Type 0} {timeout_of : T → W} {m : Meaning V W} {new : Turns (LongParser A) (GrowingText A) T A}
     {value : V} {s : State V W} {bytes : List ℕ} where
   had_memory : (read : ℕ) → read < length bytes → HasTaken m s bytes read (AreAt (unlimited timeout_of) new value)
-      → LacksSome (unlimited timeout_of) new (length bytes - read)
+      → LacksMemoryForSome (unlimited timeout_of) new (length bytes - read)
       → HasRoom new.parser new.state.text.size s.parsed (length s.held + length bytes) → ⊥
   had_memory read less taken lacks room =
       let t = taken.next in
-      let l = lacks t.parsed taken.is_at.stands.has_parsed.has_read in
       let g = some_grow m s t bytes _ taken.takes in
       let counts = counts_data s.parsed g.more in
       let left = rw (← g.parsed_is) at counts.left in
@@ -30,13 +29,11 @@ module _ {T A V W : Type 0} {timeout_of : T → W} {m : Meaning V W} {new : Turn
         length-drop read bytes,
       ) in
       let held = ap length taken.is_at.stands.holds in
-      elim l.is_lacking [
-        | inl kept ↦ omega (arith, left, kept, room.kept, l.within, less, sum, held)
-        | inr other ↦ elim other [
-          | inl joined ↦ omega (arith, left, joined, room.joined, l.within, less, sum, held)
-          | inr counted ↦ omega (arith, left, counted, room.counted, l.within, less, sum, held)
-        ]
-      ]
+      lacks.lacks t.parsed taken.is_at.stands.has_parsed.has_read (record {
+        kept = omega (arith, left, room.kept, lacks.within, less, sum, held);
+        joined = omega (arith, left, room.joined, lacks.within, less, sum, held);
+        counted = omega (arith, left, room.counted, lacks.within, less, sum, held);
+      })
 
 pub advances_long : {T A V W : Type 0} {timeout_of : T → W} {m : Meaning V W} {old new : LongProcessor T A}
     {before value : V} (bytes : Bor (List ℕ)) (result : Result (Unit {0}) Refused)

@@ -54,6 +54,4 @@ never_refused bytes (Ok all) r = reads_in_turns bytes (λ s at. taken-to is_at (
 never_refused bytes (Err refused) r =
     reads_in_turns bytes {read = length bytes.now} (λ s at. absurd (
     let t = r.takes s (turns_at s at) in
-    let lacking : TEXT_ROOM < TEXT_ROOM =
-    (r.lacks t.next.parsed t.is_at.stands.has_parsed.has_read).is_lacking in
-    omega (arith, lacking))) refl
+    r.lacks.lacks t.next.parsed t.is_at.stands.has_parsed.has_read (omega arith))) refl

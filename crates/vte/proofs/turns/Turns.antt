@@ -4,7 +4,7 @@ use Rattle.vte.proofs.Common.{◌≡◌, ℕ, ◌+◌, ◌-◌, ◌<◌, ◌≤�
 use Rattle.vte.proofs.Common.{append_assoc, Result, Ok, Err, append_cancel_right, drop_all, drop-drop, take_all, take-append-drop, Refused, ProcessorState, Turns, Meaning}
 use Rattle.vte.proofs.Common.{held_of, false, MatchResult, EndsTurn, within}
 use Rattle.vte.proofs.Common.{Advanced, AreAt, HasTaken, TurnsMeaning, HasMemory, KeepsMemory, ReadsSome, StopsUpdate, AreNextAt, EndsOpen, Halted, IsAtBegin, IsOpenAt, IsParsed, IsParsedOn}
-use Rattle.vte.proofs.Common.{IsParsedWithRoom, Turned, State, TakesSome, TakesTurns, all_bytes, turn, hold_turn, parse, stop, between, done, LacksSome, ReservesRoom}
+use Rattle.vte.proofs.Common.{IsParsedWithRoom, Turned, State, TakesSome, TakesTurns, all_bytes, turn, hold_turn, parse, stop, between, done, LacksMemoryForSome, ReservesRoom}
 use Rattle.vte.proofs.replays.EachOnce.{grown_bytes}
 use Rattle.vte.proofs.turns.Kinds.{halts_open, is_held, stop_if_due, turn_holds, turn_parses}
 use Rattle.vte.proofs.turns.Slices.{all_taken, halts, one_taken, some_grow, some_on, some_well, taken_on}
@@ -244,7 +244,7 @@ module _ {P B T A V W : Type 0} {w : TurnsMeaning P B T W} {m : Meaning V W} {ol
 
   pub read_until : {refused : Refused}
       → ((s : State V W) → AreAt w old before s → HasTaken m s bytes refused.read (AreNextAt w old new value))
-      → refused.read < length bytes → LacksSome w new (length bytes - refused.read)
+      → refused.read < length bytes → LacksMemoryForSome w new (length bytes - refused.read)
       → ReadsSome w m old new before value bytes (Err refused)
   read_until taken less lacks =
       record {

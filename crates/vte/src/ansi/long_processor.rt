@@ -4,7 +4,7 @@ ghost use Rattle.vte_core.specs.LongParser.{open_size};
 ghost use Rattle.vte_handler.specs.Timeout.{AllowsOnly, IsSteady, timeout_meaning};
 ghost use Rattle.vte.specs.Processor.{HoldsWell, meaning};
 ghost use Rattle.vte.specs.LongProcessor.{AdvancesLong, HasParsedAndHoldsLong, IsCopyOfLong, Reserves, StopsSyncLong, held_long, timeout_long};
-ghost use Rattle.vte.specs.Memory.{HasNoMemory};
+ghost use Rattle.vte.specs.Memory.{HasFreedMemory};
 ghost use Rattle.vte.specs.ProcessorCalls.{CountsHeld, HasParsedAll};
 
 use crate::ansi::growing_text::GrowingText;
@@ -97,7 +97,7 @@ impl<T: Timeout + Drop, A: Allocator> LongProcessor<T, A> {
         // No memory is kept if no command is open.
         ensures frees { (parsed : List ℕ) (timeout : T.Value)
             → HasParsedAndHoldsLong T.value_of self.old parsed [] timeout → open_size parsed ≡ 0
-            → HasNoMemory self.new }
+            → HasFreedMemory self.new }
     {
         if self.turns.hold.len() == 0 {
             self.turns.parser.shrink();

@@ -42,7 +42,7 @@ pub(crate) trait EventParser {
         ensures memory { KeepsMemory (reading.has_memory self.old (B.room text.old))
             (reading.has_memory self.new (B.room text.new)) }
         ensures lacks { result ≡ false → (stream : List ℕ) → reading.has_read self.new stream
-            → reading.lacks_memory self.new (B.room text.new) stream (held + more) };
+            → ¬ reading.has_memory self.new (B.room text.new) stream (held + more) };
 }
 
 impl EventParser for ProcessorParser {

@@ -1,7 +1,7 @@
 //! Turns: each parses bytes of a call, or holds them back.
 ghost use Rattle.std.specs.Prelude.{◌≡◌, ℕ, ◌+◌, ◌≤◌, [], length, IfErr, IfOk, MatchResult, ◌-◌, ◌<◌, ◌++◌, nat_le};
 ghost use Rattle.vte.specs.LongProcessor.{ReadsSome, ReservesRoom, StopsUpdate, TurnsStandAt};
-ghost use Rattle.vte.specs.Memory.{LacksSome, of_turns};
+ghost use Rattle.vte.specs.Memory.{LacksMemoryForSome, of_turns};
 ghost use Rattle.vte.specs.ProcessorCalls.{held_of};
 ghost use Rattle.vte.specs.machine.Hold.{released_of};
 ghost use Rattle.vte.specs.Processor.{State, hold_turn, meaning, most_held, parse, set_times, stop};
@@ -160,7 +160,7 @@ impl<P: EventParser + Drop, B: TextBuffer + Drop, T: Timeout + Drop, A: Allocato
             (H.value_of handler.old) (H.value_of handler.new)
             (λ s. EndsTurn (meaning P.limit H.step T.set T.clear T.allows) s bytes.now result) }
         ensures lacks { IfErr result
-            (λ refused. LacksSome (of_turns P.limit P.reading B.room T.value_of) self.new
+            (λ refused. LacksMemoryForSome (of_turns P.limit P.reading B.room T.value_of) self.new
             (length bytes.now - refused.read)) }
     {
         let pending = self.state.timeout.pending_timeout();
@@ -199,7 +199,7 @@ impl<P: EventParser + Drop, B: TextBuffer + Drop, T: Timeout + Drop, A: Allocato
             (H.value_of handler.old) (H.value_of handler.new)
             (λ s. EndsOpen (meaning P.limit H.step T.set T.clear T.allows) s bytes.now result) }
         ensures lacks { IfErr result
-            (λ refused. LacksSome (of_turns P.limit P.reading B.room T.value_of) self.new
+            (λ refused. LacksMemoryForSome (of_turns P.limit P.reading B.room T.value_of) self.new
             (length bytes.now - refused.read)) }
     {
         let mut read = 0;

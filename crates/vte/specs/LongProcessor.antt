@@ -65,16 +65,16 @@ abbrev pub Reserves : {T A W : Type 0} → (T → W) → (old new : LongProcesso
 Reserves timeout_of old new = ReservesRoom (unlimited timeout_of) old.turns new.turns
 
 -- `stop_sync` and `stop_sync_text`
-pub record StopsUpdate {P B T A V W : Type 0} (parts : TurnsMeaning P B T W) (m : Meaning V W)
+pub record StopsUpdate {P B T A V W : Type 0} (parts : TurnsMeaning P B T W) (meaning : Meaning V W)
     (turns next : Turns P B T A) (old new : V) : Type 0 where
-  pub stops : StopsSync m (TurnsStandAt parts turns) (TurnsStandAt parts next) old new
-  pub memory : (s : State V W) → IsAt (TurnsStandAt parts turns) old s
+  pub stops : StopsSync meaning (TurnsStandAt parts turns) (TurnsStandAt parts next) old new
+  pub memory : (state : State V W) → IsAt (TurnsStandAt parts turns) old state
       → KeepsMemory (HasMemory parts turns) (HasMemory parts next)
 
 abbrev pub StopsSyncLong : {T A V W : Type 0} → (T → W) → Meaning V W
     → (processor next : LongProcessor T A) → (old new : V) → Type 0
-StopsSyncLong timeout_of m processor next =
-    StopsUpdate (unlimited timeout_of) m processor.turns next.turns
+StopsSyncLong timeout_of meaning processor next =
+    StopsUpdate (unlimited timeout_of) meaning processor.turns next.turns
 
 -- How many bytes a call read.
 abbrev pub read_of : Result (Unit {0}) Refused → List ℕ → ℕ
@@ -83,26 +83,28 @@ read_of (Err refused) bytes = refused.read
 
 -- A call reads bytes: all, or those that the first turns of such a call read before memory is
 -- refused.
-pub record ReadsSome {P B T A V W : Type 0} (parts : TurnsMeaning P B T W) (m : Meaning V W)
+pub record ReadsSome {P B T A V W : Type 0} (parts : TurnsMeaning P B T W) (meaning : Meaning V W)
     (turns next : Turns P B T A) (old new : V) (bytes : List ℕ)
     (result : Result (Unit {0}) Refused) : Type 0 where
-  pub takes : (s : State V W) → IsAt (TurnsStandAt parts turns) old s
-      → HasTaken m s bytes (read_of result bytes) (IsAt (TurnsStandAt parts next) new)
+  pub takes : (state : State V W) → IsAt (TurnsStandAt parts turns) old state
+      → HasTaken meaning state bytes (read_of result bytes) (IsAt (TurnsStandAt parts next) new)
   pub within : IfErr result (λ refused. refused.read < length bytes)
   pub lacks : IfErr result (λ refused. LacksMemoryForSome parts next (length bytes - refused.read))
-  pub memory : (s : State V W) → IsAt (TurnsStandAt parts turns) old s
+  pub memory : (state : State V W) → IsAt (TurnsStandAt parts turns) old state
       → KeepsMemory (HasMemory parts turns) (HasMemory parts next)
 
 -- `advance` and `advance_text`
-pub record AdvancesLong {T A V W : Type 0} (timeout_of : T → W) (m : Meaning V W)
+pub record AdvancesLong {T A V W : Type 0} (timeout_of : T → W) (meaning : Meaning V W)
     (processor next : LongProcessor T A) (old new : V) (bytes : List ℕ)
     (result : Result (Unit {0}) Refused) : Type 0 where
   -- The bytes read are those that the first turns of the call read.
-  pub reads : ReadsSome (unlimited timeout_of) m processor.turns next.turns old new bytes result
+  pub reads : ReadsSome (unlimited timeout_of) meaning processor.turns next.turns old new bytes
+      result
   -- If no memory is refused, all bytes are read.
-  pub all : IfOk result (λ all. ReadsInTurns m (HasParsedAndHoldsLong timeout_of processor)
+  pub all : IfOk result (λ all. ReadsInTurns meaning (HasParsedAndHoldsLong timeout_of processor)
       (HasParsedAndHoldsLong timeout_of next) old new bytes)
   -- If there was memory for all bytes, none is refused.
-  pub enough : (s : State V W) → IsAt (HasParsedAndHoldsLong timeout_of processor) old s
-      → HasMemory (unlimited timeout_of) processor.turns s.parsed (length s.held + length bytes)
+  pub enough : (state : State V W) → IsAt (HasParsedAndHoldsLong timeout_of processor) old state
+      → HasMemory (unlimited timeout_of) processor.turns state.parsed
+      (length state.held + length bytes)
       → IsOk result

@@ -64,9 +64,9 @@ pub fn replay_long<H: Handler, T: Timeout + Drop, A: Allocator>(
         (HasParsedAndHoldsLong T.value_of processor.old)
         (HasParsedAndHoldsLong T.value_of processor.new)
         (H.value_of handler.old) (H.value_of handler.new) steps.now) }
-    ensures refuses { IfErr result (λ refused. (s : State H.Value T.Value)
-        → IsAt (HasParsedAndHoldsLong T.value_of processor.old) (H.value_of handler.old) s →
-        ReplayedUntil (meaning None H.step T.set T.clear T.allows) s steps.now refused
+    ensures refuses { IfErr result (λ refused. (state : State H.Value T.Value)
+        → IsAt (HasParsedAndHoldsLong T.value_of processor.old) (H.value_of handler.old) state →
+        ReplayedUntil (meaning None H.step T.set T.clear T.allows) state steps.now refused
         (IsAt (HasParsedAndHoldsLong T.value_of processor.new) (H.value_of handler.new))) }
     ensures lacks { IfErr result
         (λ refused. LacksMemoryForSome (unlimited T.value_of) processor.new.turns

@@ -1,8 +1,8 @@
--- Memory of a processor without a limit: for how many bytes it has taken some, and for which it is
+-- The memory of a processor without a limit: for how many bytes it has some, and for which it was
 -- refused some. `Processor` takes the same turns with another parser, so what turns ensure is said
 -- of turns with any parser. Their parts mean what `parts` says: of a `LongProcessor`, `unlimited`.
--- Of the types, `P` is the parser's, `B` that of the buffer for texts, `T` the timeout's, `W` that
--- of the timeout's value, and `A` the allocator's.
+-- In all files, types are named by letters: `P` is the parser, `B` its buffer for texts, `T` the
+-- timeout, `W` the timeout's value, and `A` the allocator.
 use Rattle.std.specs.Prelude.{◌≡◌, ◌⊎◌, ℕ, ◌+◌, ◌<◌, ◌≤◌, ◌^◌, None, Option, List, length, string_capacity}
 use Rattle.vte_core.specs.LongParser.{HasReadLong, memory_of, open_size}
 use Rattle.vte_core.specs.declared.parser.long.LongParser.{LongParser}
@@ -14,8 +14,8 @@ use Rattle.vte.specs.declared.ansi.titles.TheConstants.{SEPARATORS}
 use Rattle.vte.specs.declared.ansi.turns.TheConstants.{SLICE}
 use Rattle.vte.specs.declared.ansi.turns.Turns.{Turns}
 
--- After the stream the parser has memory for `count` bytes besides those of an open command, and a
--- text of `size` bytes, which can be counted, holds what is joined from all.
+-- After the stream, the parser has memory for `count` bytes besides those of an open command. A
+-- text that is joined from all of them fits into `size` bytes, and its size into 64 bits.
 pub record HasRoom {A : Type 0} (parser : LongParser A) (size : ℕ) (stream : List ℕ)
     (count : ℕ) : Type 0 where
   pub kept : open_size stream + count ≤ memory_of parser

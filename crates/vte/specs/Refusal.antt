@@ -1,4 +1,4 @@
--- What turns, a call and a list of calls have led to if memory is refused. Only for
+-- What turns, a call and a list of calls have led to if memory is refused, which happens only to a
 -- `LongProcessor`.
 use Rattle.std.specs.Prelude.{◌≡◌, ℕ, ◌-◌, ◌<◌, ◌++◌, Bool, List, [], ◌∷◌, length, take, drop}
 use Rattle.vte_core.specs.Stream.{added}

@@ -1,4 +1,5 @@
--- The value of a performer, and what a parser that reads bytes for it has performed.
+-- The value of a performer, and what a parser that reads bytes for it has performed. Of the types,
+-- `H` is the performer's handler, and `G` the grain in which it receives text.
 use Rattle.std.specs.Prelude.{◌≡◌, ℕ, ◌+◌, ◌≤◌, ◌||◌, ◌==◌, if◌then◌else◌, Option, List, ◌++◌}
 use Rattle.std.specs.Prelude.{length, nat_lt}
 use Rattle.std.specs.List.{All}

@@ -1,4 +1,4 @@
--- What is true of a processor between the parts of a turn. Only proofs use it.
+-- What is true of a processor between the parts of a turn.
 use Rattle.std.specs.Prelude.{◌≡◌, ℕ, ◌<◌, Bool, List, length, nat_lt, take, drop, Result, IfErr, IfOk}
 use Rattle.vte_core.specs.declared.parser.refused.Refused.{Refused}
 use Rattle.vte_core.specs.Stream.{added}

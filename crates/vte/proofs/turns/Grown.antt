@@ -1,6 +1,6 @@
 -- A call adds to what is parsed, and is refused no memory that was there for all its bytes: room for the held and the
 -- given bytes at the start leaves room for what is left, turn by turn.
-use Rattle.vte.proofs.Common.{◌≡◌, ℕ, ◌+◌, ◌-◌, ◌<◌, inl, inr, List, ◌++◌, length, Result, Ok, Err, refl, ap, arith, length-append, Refused, LongParser, counts_data}
+use Rattle.vte.proofs.Common.{◌≡◌, ℕ, ◌+◌, ◌-◌, ◌<◌, List, ◌++◌, length, Result, Ok, Err, refl, ap, arith, length-append, Refused, LongParser, counts_data}
 use Rattle.vte.proofs.Common.{AdvancesLong, Bor, Turns, Meaning, AreAt, HasTaken, LacksMemoryForSome, ReadsSome, HasRoom, State, drop, length-drop, unlimited}
 use Rattle.vte.proofs.turns.Standings.{reads_in_turns}
 use Rattle.vte.specs.declared.ansi.growing_text.GrowingText.{GrowingText}

@@ -2,7 +2,7 @@
 -- releases is parsed.
 use Rattle.vte.proofs.Common.{◌≡◌, ℕ, ◌+◌, ◌-◌, ◌<◌, List, [], ◌∷◌, ◌++◌, length, length-append, length-take, take, refl, sym, ◌∙◌, arith, take_all, Turns, IsAdded}
 use Rattle.vte.proofs.Common.{held_of, released_of, still_held, Meaning, set_times, AreAt, TurnsMeaning, AreNextAt, IsParsed, IsParsedOn, IsParsedWithRoom, State, after_last_end, extend, from_begin, hold_turn, release}
-use Rattle.vte.proofs.Common.{None, Some, ap, inl, inr, parse, stop, with_held}
+use Rattle.vte.proofs.Common.{ap, inl, inr, parse, stop, with_held}
 use Rattle.std.proofs.lemmas.List.{nil_from_length}
 use Rattle.vte.proofs.turns.Kinds.{holds_all, holds_rest}
 use Rattle.vte.proofs.turns.Slices.{parse-nothing}

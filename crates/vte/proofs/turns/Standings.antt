@@ -1,5 +1,5 @@
 -- A processor with a limit stands where its turns do: there is always memory. So what the turns ensure is true of it.
-use Rattle.vte.proofs.Common.{◌<◌, ◌≤◌, ℕ, List, length, Result, Ok, Err, arith, Bor, Refused, TurnsMeaning, Meaning, State, usual_limit}
+use Rattle.vte.proofs.Common.{◌≤◌, ℕ, List, length, Result, Ok, Err, arith, Bor, Refused, TurnsMeaning, Meaning, State, usual_limit}
 use Rattle.vte.proofs.Common.{Advanced, HasParsedAndHolds, HasTaken, IsAt, ReadsInTurns, ReadsSome, Standing, TurnsStandAt}
 use Rattle.vte.proofs.Common.{◌≡◌, refl, short_meaning, of_turns}
 use Rattle.vte_core.specs.declared.parser.Parser.{Parser}

@@ -25,8 +25,9 @@ is_private _ = false
 -- ignored.
 abbrev pub begins_in_event : Event → ℕ
 begins_in_event (CsiDispatch groups intermediates ignore final) =
-    if ignore then 0 else if final == 0x68 && is_private intermediates
-    then update_group_count groups else 0
+    if ignore then 0
+    else if final == 0x68 && is_private intermediates then update_group_count groups
+    else 0
 begins_in_event _ = 0
 
 abbrev pub begin_count : List Event → ℕ

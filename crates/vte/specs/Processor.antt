@@ -193,7 +193,7 @@ pub record HoldsWell {W : Type 0} (limit : Option ℕ) (meaning : TimeoutMeaning
   pub steady : IsSteady meaning → IsOutsideUpdate meaning held timeout
       ⊎ IsInsideUpdate limit meaning parsed held timeout
 
--- The facts about the hold at a state.
+-- `HoldsWell` at a state.
 abbrev pub HoldsWellAt : {V W : Type 0} → Meaning V W → State V W → Type 0
 HoldsWellAt meaning state =
     HoldsWell meaning.limit meaning.timeout state.parsed state.held state.timeout

@@ -42,8 +42,8 @@ pub record IsAt {V W : Type 0} (Stands : Standing W) (value : V) (state : State 
   pub handler_is : value ≡ state.handler
 
 -- A call led to a state by turns, and is there: `IsThere` says so of the processor and the
--- handler's value. Each given byte is parsed or held, once and in order. The facts about the hold
--- stay true.
+-- handler's value, as `IsAt` does. Each given byte is parsed or held, once and in order. `HoldsWell`
+-- stays true.
 pub record Advanced {V W : Type 0} (meaning : Meaning V W) (state : State V W) (bytes : List ℕ)
     (IsThere : State V W → Type 0) : Type 0 where
   pub next : State V W
@@ -54,7 +54,7 @@ pub record Advanced {V W : Type 0} (meaning : Meaning V W) (state : State V W) (
 
 -- Calls led to a state, and are there. The bytes held before and those given are those parsed since
 -- and held now, each once and in order. The handler has received the calls of the bytes parsed
--- since, and one more at each stop on that way. The facts about the hold stay true. If the timeout
+-- since, and one more at each stop on that way. `HoldsWell` stays true. If the timeout
 -- is steady, the calls lead to no other state.
 pub record Replayed {V W : Type 0} (meaning : Meaning V W) (state : State V W) (steps : List Step)
     (IsThere : State V W → Type 0) : Type 0 where
@@ -96,8 +96,8 @@ AreAdvances (StopSync ∷ steps) = ⊥
 -- the processor and the handler stood before, `Stands` and `new` where they stand now.
 pub record ParsesAll {V W : Type 0} (meaning : Meaning V W) (Stood Stands : Standing W)
     (old new : V) (bytes : List ℕ) : Type 0 where
-  -- If the handler was as after the calls of the stream, which every handler is if the stream is
-  -- empty, it is as after those of both.
+  -- If the handler was as after the calls of the stream, from the value with which it started, it is
+  -- as after those of both. Of an empty stream that is so with its value before the call.
   pub follows : (start : V) (stream : List ℕ) → HasParsedAll Stood stream
       → old ≡ after meaning.step start (calls (events meaning.limit stream))
       → new ≡ after meaning.step start (calls (events meaning.limit (stream ++ bytes)))

@@ -42,7 +42,7 @@ module _ {V W : Type 0} (meaning : Meaning V W) where
 
   -- A call has read `read` of its bytes, by turns, of which the last may have been refused memory
   -- on the way, and is at the state to which they led. Each byte that was read is parsed or held,
-  -- once and in order. The facts about the hold stay true.
+  -- once and in order. `HoldsWell` stays true.
   pub record HasTaken (state : State V W) (bytes : List ℕ) (read : ℕ)
       (IsThere : State V W → Type 0) : Type 0 where
     pub next : State V W

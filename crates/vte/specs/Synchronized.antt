@@ -20,7 +20,7 @@ end_update = 0x1b ∷ 0x5b ∷ 0x3f ∷ 0x32 ∷ 0x30 ∷ 0x32 ∷ 0x36 ∷ 0x6c
 abbrev pub begins_with : List ℕ → List ℕ → Bool
 begins_with sequence text = is_some (after_word sequence text)
 
--- What follows the last end-update of a text.
+-- What follows the last end-update of a text: of `a ESC [?2026l b`, the `b`.
 abbrev pub after_last_end : List ℕ → Option (List ℕ)
 after_last_end [] = None
 after_last_end (byte ∷ text) = option_or (after_last_end text) (after_word end_update (byte ∷ text))
@@ -31,7 +31,8 @@ from_begin [] = []
 from_begin (byte ∷ text) =
     if begins_with begin_update (byte ∷ text) then byte ∷ text else from_begin text
 
--- How many begin-updates have their last byte among the last n bytes of the text.
+-- How many begin-updates have their last byte among the last n bytes of the text: of
+-- `ESC [?2026h b`, one among the last two, and none in the last one.
 abbrev pub held_begin_count : ℕ → List ℕ → ℕ
 held_begin_count count [] = 0
 held_begin_count count (byte ∷ text) =

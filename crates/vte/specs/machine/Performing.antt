@@ -5,7 +5,8 @@ use Rattle.std.specs.Prelude.{length, nat_lt}
 use Rattle.std.specs.List.{All}
 use Rattle.vte.specs.BeginUpdate.{update_group_count, update_mode}
 use Rattle.vte.specs.Change.{change_call, change_calls}
-use Rattle.vte.specs.Memory.{KeepsMemory, ParserMeaning}
+use Rattle.vte.specs.Memory.{KeepsMemory}
+use Rattle.vte.specs.machine.Meanings.{ParserMeaning}
 use Rattle.vte.specs.Processor.{set_times}
 use Rattle.vte.specs.Numbers.{first_numbers}
 use Rattle.vte.specs.machine.Performer.{FitsText, PerformerValue}

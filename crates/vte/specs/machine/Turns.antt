@@ -1,20 +1,76 @@
 -- What is true of a processor between the parts of a turn.
-use Rattle.std.specs.Prelude.{◌≡◌, ℕ, ◌<◌, Bool, List, length, nat_lt, take, drop, Result, IfErr, IfOk}
+use Rattle.std.specs.Prelude.{◌≡◌, ◌⊎◌, ℕ, ◌+◌, ◌-◌, ◌<◌, ◌≤◌, Bool, true, false, List, length, nat_lt, take, drop, Result, IfErr, IfOk}
 use Rattle.vte_core.specs.declared.parser.refused.Refused.{Refused}
-use Rattle.vte_core.specs.Stream.{added}
+use Rattle.vte_core.specs.Stream.{added, events}
 use Rattle.vte.specs.BeginUpdate.{begin_count}
-use Rattle.vte.specs.LongProcessor.{HasParsed, TurnsStandAt}
-use Rattle.vte.specs.Memory.{HasMemory, KeepsMemory, TurnsMeaning}
-use Rattle.vte.specs.Processor.{Meaning, State, begin_front, open_turn, parse, turn}
-use Rattle.vte.specs.ProcessorCalls.{IsAt}
-use Rattle.vte.specs.Refusal.{TakesSome}
+use Rattle.vte.specs.Calls.{last_printed}
+use Rattle.vte.specs.LongProcessor.{read_of}
+use Rattle.vte.specs.Memory.{KeepsMemory}
+use Rattle.vte.specs.Processor.{Meaning, State, begin_front, most_held, open_turn, parse, turn}
+use Rattle.vte.specs.ProcessorCalls.{IsAt, StopsSync, held_of}
+use Rattle.vte.specs.Refusal.{HasTaken, TakesSome}
+use Rattle.vte.specs.machine.Meanings.{TurnsMeaning}
 use Rattle.vte.specs.declared.ansi.performer.ProcessorState.{ProcessorState}
+use Rattle.vte.specs.declared.ansi.turns.TheConstants.{SLICE}
 use Rattle.vte.specs.declared.ansi.turns.Turns.{Turns}
+
+-- After a stream, turns have memory for `count` more bytes.
+abbrev pub TurnsHaveMemory : {P B T A W : Type 0} → TurnsMeaning P B T W → Turns P B T A
+    → (stream : List ℕ) → (count : ℕ) → Type 0
+TurnsHaveMemory parts turns =
+    parts.reading.has_memory turns.parser (parts.room_of turns.state.text)
+
+-- What calls of a processor ensure, said of its turns, whatever its limit: where they stand (as in
+-- `HasParsedAndHoldsLong`), and what `LongProcessor` says of each call.
+pub record TurnsStandAt {P B T A W : Type 0} (parts : TurnsMeaning P B T W) (turns : Turns P B T A)
+    (parsed held : List ℕ) (timeout : W) : Type 0 where
+  pub has_read : parts.reading.has_read turns.parser parsed
+  pub last : turns.state.preceding_char ≡ last_printed (events parts.limit parsed)
+  pub timeout_is : parts.timeout_of turns.state.timeout ≡ timeout
+  pub holds : held_of turns.hold ≡ held
+  pub has_memory : 0 < length held → TurnsHaveMemory parts turns parsed (length held)
+
+pub record TurnsReserve {P B T A W : Type 0} (parts : TurnsMeaning P B T W)
+    (old new : Turns P B T A) (more : ℕ) (result : Bool) : Type 0 where
+  pub same : (parsed held : List ℕ) (timeout : W) → TurnsStandAt parts old parsed held timeout
+      → TurnsStandAt parts new parsed held timeout
+  pub room : result ≡ true → (parsed held : List ℕ) (timeout : W)
+      → TurnsStandAt parts new parsed held timeout
+      → TurnsHaveMemory parts new parsed (length held + more)
+  pub memory : KeepsMemory (TurnsHaveMemory parts old) (TurnsHaveMemory parts new)
+  pub lacks : result ≡ false → (stream : List ℕ) → parts.reading.has_read new.parser stream
+      → ¬ TurnsHaveMemory parts new stream (length (held_of new.hold) + more)
+
+pub record TurnsStop {P B T A V W : Type 0} (parts : TurnsMeaning P B T W)
+    (meaning : Meaning V W) (turns next : Turns P B T A) (old new : V) : Type 0 where
+  pub stops : StopsSync meaning (TurnsStandAt parts turns) (TurnsStandAt parts next) old new
+  pub memory : (state : State V W) → IsAt (TurnsStandAt parts turns) old state
+      → KeepsMemory (TurnsHaveMemory parts turns) (TurnsHaveMemory parts next)
+
+pub record TurnsLackMemory {P B T A W : Type 0} (parts : TurnsMeaning P B T W)
+    (turns : Turns P B T A) (left : ℕ) : Type 0 where
+  pub more : ℕ
+  pub within : more ≤ left
+  pub few : (more ≤ SLICE) ⊎ (length (held_of turns.hold) + more ≤ most_held)
+  pub lacks : (stream : List ℕ) → parts.reading.has_read turns.parser stream
+      → ¬ TurnsHaveMemory parts turns stream (length (held_of turns.hold) + more)
+
+pub record TurnsRead {P B T A V W : Type 0} (parts : TurnsMeaning P B T W)
+    (meaning : Meaning V W) (turns next : Turns P B T A) (old new : V) (bytes : List ℕ)
+    (result : Result (Unit {0}) Refused) : Type 0 where
+  pub takes : (state : State V W) → IsAt (TurnsStandAt parts turns) old state
+      → HasTaken meaning state bytes (read_of result bytes) (IsAt (TurnsStandAt parts next) new)
+  pub within : IfErr result (λ refused. refused.read < length bytes)
+  pub lacks : IfErr result (λ refused. TurnsLackMemory parts next (length bytes - refused.read))
+  pub memory : (state : State V W) → IsAt (TurnsStandAt parts turns) old state
+      → KeepsMemory (TurnsHaveMemory parts turns) (TurnsHaveMemory parts next)
 
 -- The parser, the state lent to it and the handler's value are as the state says, whatever is held.
 pub record IsParsed {P B T V W : Type 0} (parts : TurnsMeaning P B T W) (parser : P)
     (lent : ProcessorState T B) (value : V) (state : State V W) : Type 0 where
-  pub has_parsed : HasParsed parts parser lent state.parsed state.timeout
+  pub has_read : parts.reading.has_read parser state.parsed
+  pub last : lent.preceding_char ≡ last_printed (events parts.limit state.parsed)
+  pub timeout_is : parts.timeout_of lent.timeout ≡ state.timeout
   pub handler_is : value ≡ state.handler
 
 -- `IsParsed`, and there is memory for `count` bytes.
@@ -41,7 +97,7 @@ pub record AreNextAt {P B T A V W : Type 0} (parts : TurnsMeaning P B T W)
     (turns next : Turns P B T A)
     (value : V) (state : State V W) : Type 0 where
   pub are_at : AreAt parts next value state
-  pub memory : KeepsMemory (HasMemory parts turns) (HasMemory parts next)
+  pub memory : KeepsMemory (TurnsHaveMemory parts turns) (TurnsHaveMemory parts next)
 
 -- From each state that the turns are at, they lead on as `ends` says.
 abbrev pub LeadOn : {P B T A V W : Type 0} → TurnsMeaning P B T W → Turns P B T A → Turns P B T A

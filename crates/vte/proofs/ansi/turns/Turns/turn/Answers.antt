@@ -44,7 +44,7 @@ returns-clause-turned g c = λ s at.
           rw (w.self-is, w.handler-is, free) (next-at at)
     ] in
     ends_turn pending
-    (rw at.stands.has_parsed.timeout_is at c.pending_timeout-pending.ensures) parses here.memory _ c.open.ensures.within
+    (rw at.stands.timeout_is at c.pending_timeout-pending.ensures) parses here.memory _ c.open.ensures.within
     (c.open.ensures.opened _ here.are_at)
 
 -- A hold turn: an update is pending, and there is room for all bytes and memory for them.
@@ -55,7 +55,7 @@ returns-then-has_room-clause-turned g c = λ s at.
     rw (← at.stands.holds) (sym c.has_room.ensures ∙ c.if-has_room.true) in
     let held : is_held c.pending_timeout-pending.result s c.args.bytes.now ≡ true = rw (c.if-pending.true, room) refl in
     record {
-      turned = turned_hold _ (rw at.stands.has_parsed.timeout_is at c.pending_timeout-pending.ensures) held refl
+      turned = turned_hold _ (rw at.stands.timeout_is at c.pending_timeout-pending.ensures) held refl
           (after-next here.memory
           (c.hold_bytes.ensures s here.are_at (c.if-not-reserve.ensures.reserved.room refl _ _ _ here.are_at.stands)));
       halted = tt;

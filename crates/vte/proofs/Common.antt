@@ -45,13 +45,13 @@ pub use Rattle.vte.specs.machine.ColorReader.{component_at_front}
 pub use Rattle.vte.specs.machine.Hold.{Adds, IsAdded, IsEnd, released_of, still_held}
 pub use Rattle.vte.specs.ProcessorCalls.{Advanced, HasParsedAll, HasParsedAndHolds, IsAt, ReadsInTurns, Replayed, Replays, Standing, held_of}
 pub use Rattle.vte.specs.machine.Performing.{PerformsAll, PerformsUntilStop, performer_value, with_private_mode, with_private_modes}
-pub use Rattle.vte.specs.LongProcessor.{AdvancesLong, HasParsedAndHoldsLong, ReadsSome, ReservesRoom, StopsUpdate, TurnsStandAt}
-pub use Rattle.vte.specs.Memory.{HasMemory, HasRoom, KeepsMemory, LacksMemoryOnTheWay, LacksSome, ParserMeaning, TurnsMeaning, long_meaning, of_turns, unlimited}
+pub use Rattle.vte.specs.LongProcessor.{AdvancesLong, HasParsedAndHoldsLong, Reserves, StopsSyncLong}
+pub use Rattle.vte.specs.Memory.{HasMemory, HasRoom, KeepsMemory, LacksMemoryForSome}
 pub use Rattle.vte.specs.Numbers.{decimal_number, first_number, first_numbers, number_from}
 pub use Rattle.vte.specs.Parts.{first_after, parts_of}
 pub use Rattle.vte.specs.machine.Performer.{FitsText, PerformerValue, with_event}
-pub use Rattle.vte.specs.machine.Turns.{AreAt, AreNextAt, EndsOpen, EndsTurn, Halted, IsAtBegin, IsOpenAt, IsParsed, IsParsedOn, IsParsedWithRoom, Opened, Turned}
-pub use Rattle.vte.specs.machine.ShortMeaning.{short_meaning}
+pub use Rattle.vte.specs.machine.Turns.{AreAt, AreNextAt, EndsOpen, EndsTurn, Halted, IsAtBegin, IsOpenAt, IsParsed, IsParsedOn, IsParsedWithRoom, Opened, Turned, TurnsHaveMemory, TurnsLackMemory, TurnsRead, TurnsReserve, TurnsStandAt, TurnsStop}
+pub use Rattle.vte.specs.machine.Meanings.{ParserMeaning, TurnsMeaning, long_meaning, of_turns, short_meaning, unlimited}
 pub use Rattle.vte.specs.Rendition.{attribute_calls, attributes_from}
 pub use Rattle.vte.specs.Synchronized.{begin_update, held_begin_count, begins_with, after_last_end, end_update, from_begin, last_part}
 pub use Rattle.vte.specs.machine.Texts.{FitsRoom, fits_room, joined_size, parts_left, after_separator}

@@ -1,4 +1,6 @@
--- Lists of calls: from what each call ensures to what the handler receives in all of them.
+-- From what turns ensure to what a processor does, and from there to lists of calls: what the handler receives in all
+-- of them.
+pub mod LongStandings
 pub mod PlainReplays
 pub mod Replays
 pub mod Standings

@@ -1,5 +1,5 @@
--- Which events begin a synchronized update, and how often, where bytes are parsed. In a hold, which
--- isn't parsed yet, `Synchronized` finds its begin by the bytes alone.
+-- Which events begin a synchronized update, and how often, when bytes are parsed. In a hold, whose
+-- bytes aren't parsed yet, `Synchronized` finds the begin of an update by its bytes alone.
 use Rattle.std.specs.Prelude.{ℕ, ◌+◌, Bool, false, ◌&&◌, ◌==◌, List, [], ◌∷◌, if◌then◌else◌}
 use Rattle.vte.specs.Numbers.{first_number}
 use Rattle.vte_core.specs.Event.{Event, CsiDispatch}
@@ -25,8 +25,9 @@ is_private _ = false
 -- ignored.
 abbrev pub begins_in_event : Event → ℕ
 begins_in_event (CsiDispatch groups intermediates ignore final) =
-    if ignore then 0 else if final == 0x68 && is_private intermediates
-    then update_group_count groups else 0
+    if ignore then 0
+    else if final == 0x68 && is_private intermediates then update_group_count groups
+    else 0
 begins_in_event _ = 0
 
 abbrev pub begin_count : List Event → ℕ

@@ -44,6 +44,7 @@ last_printed events = last_printed_from None events
 abbrev pub calls : List Event → List Call
 calls events = calls_from None events
 
--- The calls that more events add.
+-- The calls that events add to those before them: `all` begins with `before`, as the events of a
+-- stream do with those of its front (`laws::events_grow`).
 abbrev pub calls_beyond : List Event → List Event → List Call
 calls_beyond before all = drop (length (calls before)) (calls all)

@@ -1,4 +1,4 @@
--- Changes of modes.
+-- Changes of modes: SM, RM, DECSET and DECRST.
 use Rattle.std.specs.Prelude.{ℕ, List, map}
 use Rattle.vte.specs.declared.ansi.control_calls.Change.{Change}
 use Rattle.vte.specs.declared.ansi.control_calls.Change.TheVariants as change

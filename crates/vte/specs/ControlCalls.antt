@@ -14,7 +14,7 @@ use Rattle.vte_types.specs.Mode.{mode_of, private_mode_of}
 -- The last printed character, this many times, or nothing if no character was printed (REP).
 abbrev pub repeat_calls : Option ℕ → ℕ → List Call
 repeat_calls None count = []
-repeat_calls (Some c) count = replicate count (call.Input c)
+repeat_calls (Some character) count = replicate count (call.Input character)
 
 abbrev pub set_tabs_rows : List (Row (List Call))
 set_tabs_rows = (5, call.SetTabs 8 ∷ []) ∷ []
@@ -55,42 +55,42 @@ module _ (last : Option ℕ) (groups : List (List ℕ)) where
   ps2 = first_or 0 (first_numbers (drop 1 groups))
 
   -- Without intermediates.
-  abbrev pub rows_without_intermediates : List (Row (List Call))
+  unfoldable pub rows_without_intermediates : List (Row (List Call))
   rows_without_intermediates =
       (0x40, call.InsertBlank pn ∷ []) ∷  -- @: ICH
       (0x41, call.MoveUp pn ∷ []) ∷  -- A: CUU
       (0x42, call.MoveDown pn ∷ []) ∷  -- B: CUD
-      (0x65, call.MoveDown pn ∷ []) ∷  -- e: VPR
-      (0x62, repeat_calls last pn) ∷  -- b: REP
       (0x43, call.MoveForward pn ∷ []) ∷  -- C: CUF
-      (0x61, call.MoveForward pn ∷ []) ∷  -- a: HPR
       (0x44, call.MoveBackward pn ∷ []) ∷  -- D: CUB
-      (0x64, call.GotoLine (pos (pn - 1)) ∷ []) ∷  -- d: VPA
       (0x45, call.MoveDownAndCr pn ∷ []) ∷  -- E: CNL
       (0x46, call.MoveUpAndCr pn ∷ []) ∷  -- F: CPL
       (0x47, call.GotoCol (pn - 1) ∷ []) ∷  -- G: CHA
-      (0x60, call.GotoCol (pn - 1) ∷ []) ∷  -- `: HPA
-      (0x67, for_some (λ which. call.ClearTabs which) (entry_of tab_rows ps)) ∷  -- g: TBC
       (0x48, call.Goto (pos (pn - 1)) (pn2 - 1) ∷ []) ∷  -- H: CUP
-      (0x66, call.Goto (pos (pn - 1)) (pn2 - 1) ∷ []) ∷  -- f: HVP
-      (0x68, change_calls change.Set (first_numbers groups)) ∷  -- h: SM
-      (0x6d, attribute_calls groups) ∷  -- m: SGR
       (0x49, call.MoveForwardTabs pn ∷ []) ∷  -- I: CHT
       (0x4a, for_some (λ part. call.ClearScreen part) (entry_of screen_rows ps)) ∷  -- J: ED
       (0x4b, for_some (λ part. call.ClearLine part) (entry_of line_rows ps)) ∷  -- K: EL
       (0x4c, call.InsertBlankLines pn ∷ []) ∷  -- L: IL
-      (0x6c, change_calls change.Reset (first_numbers groups)) ∷  -- l: RM
       (0x4d, call.DeleteLines pn ∷ []) ∷  -- M: DL
-      (0x6e, call.DeviceStatus ps ∷ []) ∷  -- n: DSR
       (0x50, call.DeleteChars pn ∷ []) ∷  -- P: DCH
-      (0x72, call.SetScrollingRegion pn (bottom_of ps2) ∷ []) ∷  -- r: DECSTBM
       (0x53, call.ScrollUp pn ∷ []) ∷  -- S: SU
-      (0x73, call.SaveCursorPosition ∷ []) ∷  -- s: SCOSC
       (0x54, call.ScrollDown pn ∷ []) ∷  -- T: SD
-      (0x74, unwrap_or (entry_of window_rows pn) []) ∷  -- t: XTWINOPS
-      (0x75, call.RestoreCursorPosition ∷ []) ∷  -- u: SCORC
       (0x58, call.EraseChars pn ∷ []) ∷  -- X: ECH
       (0x5a, call.MoveBackwardTabs pn ∷ []) ∷  -- Z: CBT
+      (0x60, call.GotoCol (pn - 1) ∷ []) ∷  -- `: HPA
+      (0x61, call.MoveForward pn ∷ []) ∷  -- a: HPR
+      (0x62, repeat_calls last pn) ∷  -- b: REP
+      (0x64, call.GotoLine (pos (pn - 1)) ∷ []) ∷  -- d: VPA
+      (0x65, call.MoveDown pn ∷ []) ∷  -- e: VPR
+      (0x66, call.Goto (pos (pn - 1)) (pn2 - 1) ∷ []) ∷  -- f: HVP
+      (0x67, for_some (λ which. call.ClearTabs which) (entry_of tab_rows ps)) ∷  -- g: TBC
+      (0x68, change_calls change.Set (first_numbers groups)) ∷  -- h: SM
+      (0x6c, change_calls change.Reset (first_numbers groups)) ∷  -- l: RM
+      (0x6d, attribute_calls groups) ∷  -- m: SGR
+      (0x6e, call.DeviceStatus ps ∷ []) ∷  -- n: DSR
+      (0x72, call.SetScrollingRegion pn (bottom_of ps2) ∷ []) ∷  -- r: DECSTBM
+      (0x73, call.SaveCursorPosition ∷ []) ∷  -- s: SCOSC
+      (0x74, unwrap_or (entry_of window_rows pn) []) ∷  -- t: XTWINOPS
+      (0x75, call.RestoreCursorPosition ∷ []) ∷  -- u: SCORC
       []
 
   abbrev pub question_rows : List (Row (List Call))
@@ -141,15 +141,15 @@ module _ (last : Option ℕ) (groups : List (List ℕ)) where
   -- With exactly these intermediates. A private marker counts as one.
   abbrev pub rows_of : List ℕ → List (Row (List Call))
   rows_of [] = rows_without_intermediates
-  rows_of (i ∷ []) =
-      if i == 0x3f then question_rows
-      else if i == 0x3e then greater_rows
-      else if i == 0x3d then equals_rows
-      else if i == 0x3c then less_rows
-      else if i == 0x20 then blank_rows
-      else if i == 0x24 then dollar_rows
+  rows_of (byte ∷ []) =
+      if byte == 0x3f then question_rows
+      else if byte == 0x3e then greater_rows
+      else if byte == 0x3d then equals_rows
+      else if byte == 0x3c then less_rows
+      else if byte == 0x20 then blank_rows
+      else if byte == 0x24 then dollar_rows
       else []
-  rows_of (i ∷ j ∷ []) = if i == 0x3f && j == 0x24 then question_dollar_rows else []
+  rows_of (byte ∷ next ∷ []) = if byte == 0x3f && next == 0x24 then question_dollar_rows else []
   rows_of _ = []
 
   -- Device attributes (DA) may have any intermediates. A sequence without a row makes no call.

@@ -11,16 +11,16 @@ use Rattle.vte_types.specs.declared.charset.StandardCharset.TheVariants.{Ascii, 
 -- The C0 controls that a terminal acts on.
 abbrev pub execute_rows : List (Row (List Call))
 execute_rows =
-    (0x07, call.Bell ∷ []) ∷
-    (0x08, call.Backspace ∷ []) ∷
-    (0x09, call.PutTab 1 ∷ []) ∷
-    (0x0a, call.Linefeed ∷ []) ∷
-    (0x0b, call.Linefeed ∷ []) ∷
-    (0x0c, call.Linefeed ∷ []) ∷
-    (0x0d, call.CarriageReturn ∷ []) ∷
-    (0x0e, call.SetActiveCharset G1 ∷ []) ∷
-    (0x0f, call.SetActiveCharset G0 ∷ []) ∷
-    (0x1a, call.Substitute ∷ []) ∷
+    (0x07, call.Bell ∷ []) ∷  -- BEL
+    (0x08, call.Backspace ∷ []) ∷  -- BS
+    (0x09, call.PutTab 1 ∷ []) ∷  -- HT
+    (0x0a, call.Linefeed ∷ []) ∷  -- LF
+    (0x0b, call.Linefeed ∷ []) ∷  -- VT
+    (0x0c, call.Linefeed ∷ []) ∷  -- FF
+    (0x0d, call.CarriageReturn ∷ []) ∷  -- CR
+    (0x0e, call.SetActiveCharset G1 ∷ []) ∷  -- SO
+    (0x0f, call.SetActiveCharset G0 ∷ []) ∷  -- SI
+    (0x1a, call.Substitute ∷ []) ∷  -- SUB
     []
 
 abbrev pub execute_calls : ℕ → List Call
@@ -29,16 +29,16 @@ execute_calls byte = unwrap_or (entry_of execute_rows byte) []
 -- Without intermediates.
 abbrev pub escape_rows : List (Row (List Call))
 escape_rows =
-    (0x44, call.Linefeed ∷ []) ∷  -- D
-    (0x45, call.Linefeed ∷ call.CarriageReturn ∷ []) ∷  -- E
-    (0x48, call.SetHorizontalTabstop ∷ []) ∷  -- H
-    (0x4d, call.ReverseIndex ∷ []) ∷  -- M
-    (0x5a, call.IdentifyTerminal None ∷ []) ∷  -- Z
-    (0x63, call.ResetState ∷ []) ∷  -- c
-    (0x37, call.SaveCursorPosition ∷ []) ∷  -- 7
-    (0x38, call.RestoreCursorPosition ∷ []) ∷  -- 8
-    (0x3d, call.SetKeypadApplicationMode ∷ []) ∷  -- =
-    (0x3e, call.UnsetKeypadApplicationMode ∷ []) ∷  -- >
+    (0x37, call.SaveCursorPosition ∷ []) ∷  -- 7: DECSC
+    (0x38, call.RestoreCursorPosition ∷ []) ∷  -- 8: DECRC
+    (0x3d, call.SetKeypadApplicationMode ∷ []) ∷  -- =: DECKPAM
+    (0x3e, call.UnsetKeypadApplicationMode ∷ []) ∷  -- >: DECKPNM
+    (0x44, call.Linefeed ∷ []) ∷  -- D: IND
+    (0x45, call.Linefeed ∷ call.CarriageReturn ∷ []) ∷  -- E: NEL
+    (0x48, call.SetHorizontalTabstop ∷ []) ∷  -- H: HTS
+    (0x4d, call.ReverseIndex ∷ []) ∷  -- M: RI
+    (0x5a, call.IdentifyTerminal None ∷ []) ∷  -- Z: DECID
+    (0x63, call.ResetState ∷ []) ∷  -- c: RIS
     []
 
 -- The character set that an intermediate designates (ECMA-35).
@@ -46,7 +46,7 @@ abbrev pub charset_rows : List (Row CharsetIndex)
 charset_rows = (0x28, G0) ∷ (0x29, G1) ∷ (0x2a, G2) ∷ (0x2b, G3) ∷ []
 
 abbrev pub standard_charsets : List (Row StandardCharset)
-standard_charsets = (0x42, Ascii) ∷ (0x30, SpecialCharacterAndLineDrawing) ∷ []
+standard_charsets = (0x30, SpecialCharacterAndLineDrawing) ∷ (0x42, Ascii) ∷ []
 
 abbrev pub charset_calls : Option CharsetIndex → Option StandardCharset → List Call
 charset_calls (Some index) (Some charset) = call.ConfigureCharset index charset ∷ []
@@ -54,7 +54,7 @@ charset_calls _ _ = []
 
 abbrev pub escape_calls : List ℕ → ℕ → List Call
 escape_calls [] byte = unwrap_or (entry_of escape_rows byte) []
-escape_calls (i ∷ []) byte =
-    if i == 0x23 then (if byte == 0x38 then call.Decaln ∷ [] else [])
-    else charset_calls (entry_of charset_rows i) (entry_of standard_charsets byte)
+escape_calls (intermediate ∷ []) byte =
+    if intermediate == 0x23 then (if byte == 0x38 then call.Decaln ∷ [] else [])
+    else charset_calls (entry_of charset_rows intermediate) (entry_of standard_charsets byte)
 escape_calls _ byte = []

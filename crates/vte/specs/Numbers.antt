@@ -2,7 +2,7 @@
 use Rattle.std.specs.Prelude.{ℕ, Bool, false, List, [], ◌∷◌, ◌+◌, ◌*◌, ◌==◌, ◌&&◌, Option, Some, None, map, nat_lt, if◌then◌else◌}
 use Rattle.std.specs.Char.{digit_value}
 
-abbrev pub first_of : {A : Type 0} → List A → Option A
+abbrev pub first_of : {X : Type 0} → List X → Option X
 first_of [] = None
 first_of (x ∷ xs) = Some x
 

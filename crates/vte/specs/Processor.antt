@@ -1,7 +1,8 @@
 -- What a processor does, from top to bottom: what its parts mean; how it parses bytes, holds them
 -- back and stops updates; the turns of a call; what is true of held bytes; calls one after another,
--- and what the handler has received of them.
-use Rattle.std.specs.Prelude.{ℕ, zero, suc, Bool, Option, ◌++◌, List, ◌≡◌, ◌+◌, ◌-◌, ◌<◌, false, [], ◌∷◌, length, take, drop, if◌then◌else◌, nat_lt, nat_le, ◌⊎◌, ◌≤◌, true, Some, None}
+-- and what the handler has received of them. In all files, `V` is the type of the handler's value,
+-- and `W` that of the timeout's value.
+use Rattle.std.specs.Prelude.{ℕ, zero, suc, Bool, Option, ◌++◌, List, ◌≡◌, ◌+◌, ◌-◌, ◌^◌, ◌<◌, false, [], ◌∷◌, length, take, drop, if◌then◌else◌, nat_lt, nat_le, ◌⊎◌, ◌≤◌, true, Some, None}
 use Rattle.vte_core.specs.Stream.{events, added}
 use Rattle.vte_handler.specs.Call.{Call}
 use Rattle.vte_handler.specs.Handler.{after}
@@ -30,8 +31,8 @@ update_nanos = 150_000_000
 
 -- The value after the timeout is set this many times.
 abbrev pub set_times : {W : Type 0} → TimeoutMeaning W → ℕ → W → W
-set_times m zero value = value
-set_times m (suc n) value = set_times m n (m.set value update_nanos)
+set_times meaning zero value = value
+set_times meaning (suc count) value = set_times meaning count (meaning.set value update_nanos)
 
 -- The calls that more bytes add to those of a stream.
 abbrev pub added_calls : Option ℕ → List ℕ → List ℕ → List Call
@@ -47,33 +48,15 @@ pub record State (V W : Type 0) : Type 0 where
   pub handler : V
 
 abbrev pub all_bytes : {V W : Type 0} → State V W → List ℕ
-all_bytes s = s.parsed ++ s.held
+all_bytes state = state.parsed ++ state.held
 
--- The maximum number of held bytes.
+-- The maximum number of held bytes. `vte` has a buffer of 2 MiB, and stops the update when fewer
+-- than two bytes of it would be free.
 abbrev pub most_held : ℕ
-most_held = 2097150
-
--- Bytes are parsed: the handler receives the calls that they add, and each update that they begin
--- sets the timeout.
-abbrev pub parse : {V W : Type 0} → Meaning V W → State V W → List ℕ → State V W
-parse m s bytes = record s {
-  parsed = s.parsed ++ bytes;
-  timeout = set_times m.timeout (begin_count (added m.limit s.parsed bytes)) s.timeout;
-  handler = after m.step s.handler (added_calls m.limit s.parsed bytes);
-}
+most_held = 2 ^ 21 - 2
 
 abbrev pub with_held : {V W : Type 0} → State V W → List ℕ → State V W
-with_held s bytes = record s { held = bytes }
-
--- A stop: the whole hold is parsed, the handler receives the call that reports the end of an
--- update, and the timeout is cleared. The stop's position is how many bytes were parsed by then.
-abbrev pub stop : {V W : Type 0} → Meaning V W → State V W → State V W
-stop m s = let p = parse m s s.held in record p {
-  stops = p.stops ++ length p.parsed ∷ [];
-  held = [];
-  timeout = m.timeout.clear p.timeout;
-  handler = m.step p.handler update_ended;
-}
+with_held state bytes = record state { held = bytes }
 
 -- The result of a turn: a state, and the unread bytes of the call.
 pub record Turn (V W : Type 0) : Type 0 where
@@ -83,40 +66,9 @@ pub record Turn (V W : Type 0) : Type 0 where
 -- The shortest prefix whose last byte begins an update, or all bytes if there is none.
 abbrev pub begin_front : Option ℕ → List ℕ → List ℕ → List ℕ
 begin_front limit parsed [] = []
-begin_front limit parsed (b ∷ rest) =
-    if nat_lt 0 (begin_count (added limit parsed (b ∷ []))) then b ∷ []
-    else b ∷ begin_front limit (parsed ++ b ∷ []) rest
-
--- An open turn: bytes are parsed up to the one that begins an update.
-abbrev pub open_turn : {V W : Type 0} → Meaning V W → State V W → List ℕ → Turn V W
-open_turn m s bytes =
-    let front = begin_front m.limit s.parsed bytes in
-    record { state = parse m s front; rest = drop (length front) bytes }
-
--- The bytes join the hold. Each begin-update that ends among them, and after the last end-update,
--- sets the timeout.
-abbrev pub extend : {V W : Type 0} → Meaning V W → State V W → List ℕ → State V W
-extend m s bytes = let all = s.held ++ bytes in record s {
-  held = all;
-  timeout = set_times m.timeout (held_begin_count (length bytes) (last_part all)) s.timeout;
-}
-
--- Bytes at the end of the hold are kept, and those before them parsed. If none are kept, the update
--- is stopped.
-abbrev pub release : {V W : Type 0} → Meaning V W → State V W → List ℕ → State V W
-release m s [] = stop m s
-release m s (b ∷ kept) =
-    with_held (parse m s (take (length s.held - length (b ∷ kept)) s.held)) (b ∷ kept)
-
--- Without an end-update everything stays held; after the last one, what the next begin-update
--- begins.
-abbrev pub release_end : {V W : Type 0} → Meaning V W → State V W → Option (List ℕ) → State V W
-release_end m s None = s
-release_end m s (Some rest) = release m s (from_begin rest)
-
--- A hold turn.
-abbrev pub hold_turn : {V W : Type 0} → Meaning V W → State V W → List ℕ → State V W
-hold_turn m s bytes = let t = extend m s bytes in release_end m t (after_last_end t.held)
+begin_front limit parsed (byte ∷ rest) =
+    if nat_lt 0 (begin_count (added limit parsed (byte ∷ []))) then byte ∷ []
+    else byte ∷ begin_front limit (parsed ++ byte ∷ []) rest
 
 -- The kinds of turns.
 pub data TurnKind : Type 0 where
@@ -131,29 +83,87 @@ kind_of false zero given = OpenTurn
 kind_of false (suc held) given = ExpiredTurn
 kind_of true held given = if nat_le (held + given) most_held then HoldTurn else FullTurn
 
-abbrev pub turn_of : {V W : Type 0} → Meaning V W → TurnKind → State V W → List ℕ → Turn V W
-turn_of m OpenTurn s bytes = open_turn m s bytes
-turn_of m ExpiredTurn s bytes = open_turn m (stop m s) bytes
-turn_of m HoldTurn s bytes = record { state = hold_turn m s bytes; rest = [] }
-turn_of m FullTurn s bytes = open_turn m (stop m s) bytes
+module _ {V W : Type 0} (meaning : Meaning V W) where
+  -- Bytes are parsed: the handler receives the calls that they add, and each update that they begin
+  -- sets the timeout.
+  abbrev pub parse : State V W → List ℕ → State V W
+  parse state bytes = let begins = begin_count (added meaning.limit state.parsed bytes) in
+      record state {
+        parsed = state.parsed ++ bytes;
+        timeout = set_times meaning.timeout begins state.timeout;
+        handler = after meaning.step state.handler (added_calls meaning.limit state.parsed bytes);
+      }
 
--- A turn, by the timeout's answer.
-abbrev pub turn : {V W : Type 0} → Meaning V W → Bool → State V W → List ℕ → Turn V W
-turn m pending s bytes = turn_of m (kind_of pending (length s.held) (length bytes)) s bytes
+  -- A stop: the whole hold is parsed, the handler receives the call that reports the end of an
+  -- update, and the timeout is cleared. The stop's position is how many bytes were parsed by then.
+  abbrev pub stop : State V W → State V W
+  stop state = let next = parse state state.held in record next {
+    stops = next.stops ++ length next.parsed ∷ [];
+    held = [];
+    timeout = meaning.timeout.clear next.timeout;
+    handler = meaning.step next.handler update_ended;
+  }
 
--- Turns of a call that led to a state and left these bytes, each with an answer that the timeout's
--- value allows.
-pub data TakesTurns {V W : Type 0} (m : Meaning V W) : State V W → List ℕ → State V W → List ℕ
-    → Type 0 where
-  done : {s : State V W} {bytes : List ℕ} → TakesTurns m s bytes s bytes
-  turns : {s t : State V W} {b : ℕ} {rest left : List ℕ} → (pending : Bool)
-      → m.timeout.allows s.timeout pending
-      → TakesTurns m (turn m pending s (b ∷ rest)).state (turn m pending s (b ∷ rest)).rest t left
-      → TakesTurns m s (b ∷ rest) t left
+  -- An open turn: bytes are parsed up to the one that begins an update.
+  abbrev pub open_turn : State V W → List ℕ → Turn V W
+  open_turn state bytes =
+      let front = begin_front meaning.limit state.parsed bytes in
+      record { state = parse state front; rest = drop (length front) bytes }
 
--- A call of `advance`: turns until all bytes are read.
-abbrev pub TakesAllTurns : {V W : Type 0} → Meaning V W → State V W → List ℕ → State V W → Type 0
-TakesAllTurns m s bytes t = TakesTurns m s bytes t []
+  -- The bytes join the hold. Each begin-update that ends among them, and after the last end-update,
+  -- sets the timeout.
+  abbrev pub extend : State V W → List ℕ → State V W
+  extend state bytes =
+      let all = state.held ++ bytes in
+      let begins = held_begin_count (length bytes) (last_part all) in
+      record state { held = all; timeout = set_times meaning.timeout begins state.timeout }
+
+  -- Bytes at the end of the hold are kept, and those before them parsed. If none are kept, the
+  -- update is stopped.
+  abbrev pub release : State V W → List ℕ → State V W
+  release state [] = stop state
+  release state (byte ∷ kept) =
+      let before = take (length state.held - length (byte ∷ kept)) state.held in
+      with_held (parse state before) (byte ∷ kept)
+
+  -- Without an end-update everything stays held; after the last one, what the next begin-update
+  -- begins.
+  abbrev pub release_end : State V W → Option (List ℕ) → State V W
+  release_end state None = state
+  release_end state (Some rest) = release state (from_begin rest)
+
+  -- A hold turn: all bytes join the hold, and what ends in it is released.
+  abbrev pub hold_turn : State V W → List ℕ → State V W
+  hold_turn state bytes =
+      let next = extend state bytes in release_end next (after_last_end next.held)
+
+  -- Outside an update, bytes are parsed. An update that has expired is stopped first. In an
+  -- update, bytes are held if there is room for all of them. If there isn't, the update is stopped,
+  -- and the bytes are parsed.
+  abbrev pub turn_of : TurnKind → State V W → List ℕ → Turn V W
+  turn_of OpenTurn state bytes = open_turn state bytes
+  turn_of ExpiredTurn state bytes = open_turn (stop state) bytes
+  turn_of HoldTurn state bytes = record { state = hold_turn state bytes; rest = [] }
+  turn_of FullTurn state bytes = open_turn (stop state) bytes
+
+  -- A turn, by the timeout's answer.
+  abbrev pub turn : Bool → State V W → List ℕ → Turn V W
+  turn pending state bytes =
+      turn_of (kind_of pending (length state.held) (length bytes)) state bytes
+
+  -- Turns of a call that led to a state and left these bytes, each with an answer that the
+  -- timeout's value allows.
+  pub data TakesTurns : State V W → List ℕ → State V W → List ℕ → Type 0 where
+    done : {state : State V W} {bytes : List ℕ} → TakesTurns state bytes state bytes
+    turns : {state next : State V W} {byte : ℕ} {rest left : List ℕ} → (pending : Bool)
+        → meaning.timeout.allows state.timeout pending
+        → TakesTurns (turn pending state (byte ∷ rest)).state
+        (turn pending state (byte ∷ rest)).rest next left
+        → TakesTurns state (byte ∷ rest) next left
+
+  -- A call of `advance`: turns until all bytes are read.
+  abbrev pub TakesAllTurns : State V W → List ℕ → State V W → Type 0
+  TakesAllTurns state bytes next = TakesTurns state bytes next []
 
 -- The last parsed byte began an update.
 pub record EndsInBegin (limit : Option ℕ) (parsed : List ℕ) : Type 0 where
@@ -163,37 +173,39 @@ pub record EndsInBegin (limit : Option ℕ) (parsed : List ℕ) : Type 0 where
   pub begins : 0 < begin_count (added limit before (byte ∷ []))
 
 -- Outside an update nothing is held.
-pub record IsOutsideUpdate {W : Type 0} (m : TimeoutMeaning W) (held : List ℕ)
+pub record IsOutsideUpdate {W : Type 0} (meaning : TimeoutMeaning W) (held : List ℕ)
     (timeout : W) : Type 0 where
-  pub not_pending : AllowsOnly m timeout false
+  pub not_pending : AllowsOnly meaning timeout false
   pub none_held : held ≡ []
 
 -- Inside an update the held bytes follow its begin, or start with it.
-pub record IsInsideUpdate {W : Type 0} (limit : Option ℕ) (m : TimeoutMeaning W)
+pub record IsInsideUpdate {W : Type 0} (limit : Option ℕ) (meaning : TimeoutMeaning W)
     (parsed held : List ℕ) (timeout : W) : Type 0 where
-  pub pending : AllowsOnly m timeout true
+  pub pending : AllowsOnly meaning timeout true
   pub begun : EndsInBegin limit parsed ⊎ (begins_with begin_update held ≡ true)
 
 -- The hold contains no end-update, and fits its room. If the timeout is steady, nothing is held
 -- outside an update.
-pub record HoldsWell {W : Type 0} (limit : Option ℕ) (m : TimeoutMeaning W) (parsed held : List ℕ)
-    (timeout : W) : Type 0 where
+pub record HoldsWell {W : Type 0} (limit : Option ℕ) (meaning : TimeoutMeaning W)
+    (parsed held : List ℕ) (timeout : W) : Type 0 where
   pub no_end : after_last_end held ≡ None
   pub fits : length held ≤ most_held
-  pub steady : IsSteady m → IsOutsideUpdate m held timeout
-      ⊎ IsInsideUpdate limit m parsed held timeout
+  pub steady : IsSteady meaning → IsOutsideUpdate meaning held timeout
+      ⊎ IsInsideUpdate limit meaning parsed held timeout
 
--- The facts about the hold at a state.
+-- `HoldsWell` at a state.
 abbrev pub HoldsWellAt : {V W : Type 0} → Meaning V W → State V W → Type 0
-HoldsWellAt m s = HoldsWell m.limit m.timeout s.parsed s.held s.timeout
+HoldsWellAt meaning state =
+    HoldsWell meaning.limit meaning.timeout state.parsed state.held state.timeout
 
 -- Calls one after another lead from a state to another. `Advance` takes turns until all bytes are
 -- read; `StopSync` is one stop.
 abbrev pub TakesSteps : {V W : Type 0} → Meaning V W → State V W → List Step → State V W → Type 0
-TakesSteps m s [] t = s ≡ t
-TakesSteps m s (Advance bytes ∷ steps) t =
-    (next : State _ _) × (TakesAllTurns m s bytes.now next × TakesSteps m next steps t)
-TakesSteps m s (StopSync ∷ steps) t = TakesSteps m (stop m s) steps t
+TakesSteps meaning state [] end = state ≡ end
+TakesSteps meaning state (Advance bytes ∷ steps) end =
+    (next : State _ _)
+    × (TakesAllTurns meaning state bytes.now next × TakesSteps meaning next steps end)
+TakesSteps meaning state (StopSync ∷ steps) end = TakesSteps meaning (stop meaning state) steps end
 
 -- The bytes that the calls pass.
 abbrev pub given_bytes : List Step → List ℕ

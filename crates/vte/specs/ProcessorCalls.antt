@@ -31,49 +31,49 @@ pub record HasParsedAndHolds {T A W : Type 0} (timeout_of : T → W) (processor 
   pub timeout_is : timeout_of (timeout_in processor) ≡ timeout
   pub holds : held_in processor ≡ held
 
--- What a processor has parsed, what it holds, and the value of its timeout, as
--- `HasParsedAndHolds` says.
+-- A predicate of what a processor has parsed and holds, and of its timeout's value, as
+-- `HasParsedAndHolds` is.
 abbrev pub Standing : Type 0 → Type 1
-Standing W = List ℕ → List ℕ → W → Type 0
+Standing W = (parsed held : List ℕ) → (timeout : W) → Type 0
 
 -- A processor of which `Stands` is true, and the handler's value, are as the state says.
-pub record IsAt {V W : Type 0} (Stands : Standing W) (value : V) (s : State V W) : Type 0 where
-  pub stands : Stands s.parsed s.held s.timeout
-  pub handler_is : value ≡ s.handler
+pub record IsAt {V W : Type 0} (Stands : Standing W) (value : V) (state : State V W) : Type 0 where
+  pub stands : Stands state.parsed state.held state.timeout
+  pub handler_is : value ≡ state.handler
 
 -- A call led to a state by turns, and is there: `IsThere` says so of the processor and the
--- handler's value. Each given byte is parsed or held, once and in order. The facts about the hold
--- stay true.
-pub record Advanced {V W : Type 0} (m : Meaning V W) (s : State V W) (bytes : List ℕ)
+-- handler's value, as `IsAt` does. Each given byte is parsed or held, once and in order. `HoldsWell`
+-- stays true.
+pub record Advanced {V W : Type 0} (meaning : Meaning V W) (state : State V W) (bytes : List ℕ)
     (IsThere : State V W → Type 0) : Type 0 where
   pub next : State V W
-  pub advances : TakesAllTurns m s bytes next
-  pub each_once : all_bytes next ≡ all_bytes s ++ bytes
-  pub holds_well : HoldsWellAt m s → HoldsWellAt m next
+  pub advances : TakesAllTurns meaning state bytes next
+  pub each_once : all_bytes next ≡ all_bytes state ++ bytes
+  pub holds_well : HoldsWellAt meaning state → HoldsWellAt meaning next
   pub is_at : IsThere next
 
 -- Calls led to a state, and are there. The bytes held before and those given are those parsed since
 -- and held now, each once and in order. The handler has received the calls of the bytes parsed
--- since, and one more at each stop on that way. The facts about the hold stay true. If the timeout
+-- since, and one more at each stop on that way. `HoldsWell` stays true. If the timeout
 -- is steady, the calls lead to no other state.
-pub record Replayed {V W : Type 0} (m : Meaning V W) (s : State V W) (steps : List Step)
+pub record Replayed {V W : Type 0} (meaning : Meaning V W) (state : State V W) (steps : List Step)
     (IsThere : State V W → Type 0) : Type 0 where
   pub next : State V W
-  pub takes : TakesSteps m s steps next
+  pub takes : TakesSteps meaning state steps next
   -- the bytes parsed since
   pub more : List ℕ
-  pub parsed_is : next.parsed ≡ s.parsed ++ more
-  pub each_once : s.held ++ given_bytes steps ≡ more ++ next.held
+  pub parsed_is : next.parsed ≡ state.parsed ++ more
+  pub each_once : state.held ++ given_bytes steps ≡ more ++ next.held
   -- the positions of these stops
   pub positions : List ℕ
-  pub stops_are : next.stops ≡ s.stops ++ positions
-  pub in_order : AreInOrder (length s.parsed) positions (length next.parsed)
+  pub stops_are : next.stops ≡ state.stops ++ positions
+  pub in_order : AreInOrder (length state.parsed) positions (length next.parsed)
   pub handler_is : next.handler
-      ≡ after m.step s.handler
-      (calls_with_stops m.limit next.parsed (length s.parsed) positions)
-  pub holds_well : HoldsWellAt m s → HoldsWellAt m next
-  pub alone : IsSteady m.timeout → HoldsWellAt m s → (other : State V W)
-      → TakesSteps m s steps other
+      ≡ after meaning.step state.handler
+      (calls_with_stops meaning.limit next.parsed (length state.parsed) positions)
+  pub holds_well : HoldsWellAt meaning state → HoldsWellAt meaning next
+  pub alone : IsSteady meaning.timeout → HoldsWellAt meaning state → (other : State V W)
+      → TakesSteps meaning state steps other
       → other ≡ next
   pub is_at : IsThere next
 
@@ -94,13 +94,13 @@ AreAdvances (StopSync ∷ steps) = ⊥
 
 -- Calls that give these bytes, while nothing is held, parse all bytes. `Stood` and `old` say where
 -- the processor and the handler stood before, `Stands` and `new` where they stand now.
-pub record ParsesAll {V W : Type 0} (m : Meaning V W) (Stood Stands : Standing W) (old new : V)
-    (bytes : List ℕ) : Type 0 where
-  -- If the handler was as after the calls of the stream, which every handler is if the stream is
-  -- empty, it is as after those of both.
+pub record ParsesAll {V W : Type 0} (meaning : Meaning V W) (Stood Stands : Standing W)
+    (old new : V) (bytes : List ℕ) : Type 0 where
+  -- If the handler was as after the calls of the stream, from the value with which it started, it is
+  -- as after those of both. Of an empty stream that is so with its value before the call.
   pub follows : (start : V) (stream : List ℕ) → HasParsedAll Stood stream
-      → old ≡ after m.step start (calls (events m.limit stream))
-      → new ≡ after m.step start (calls (events m.limit (stream ++ bytes)))
+      → old ≡ after meaning.step start (calls (events meaning.limit stream))
+      → new ≡ after meaning.step start (calls (events meaning.limit (stream ++ bytes)))
   pub parses_all : (stream : List ℕ) → HasParsedAll Stood stream
       → HasParsedAll Stands (stream ++ bytes)
 
@@ -121,19 +121,21 @@ pub record CountsHeld (held : List ℕ) (result : ℕ) : Type 0 where
 
 -- `stop_sync` and `stop_sync_text`
 abbrev pub StopsSync : {V W : Type 0} → Meaning V W → Standing W → Standing W → V → V → Type 0
-StopsSync m Stood Stands old new =
-    (s : State _ _) → IsAt Stood old s → IsAt Stands new (stop m s)
+StopsSync meaning Stood Stands old new =
+    (state : State _ _) → IsAt Stood old state → IsAt Stands new (stop meaning state)
 
 -- `advance` and `advance_text`, which read all bytes
-pub record ReadsInTurns {V W : Type 0} (m : Meaning V W) (Stood Stands : Standing W) (old new : V)
-    (bytes : List ℕ) : Type 0 where
-  pub advances : (s : State V W) → IsAt Stood old s → Advanced m s bytes (IsAt Stands new)
-  pub plain : IsNeverPending m.timeout.allows → ParsesAll m Stood Stands old new bytes
+pub record ReadsInTurns {V W : Type 0} (meaning : Meaning V W) (Stood Stands : Standing W)
+    (old new : V) (bytes : List ℕ) : Type 0 where
+  pub advances : (state : State V W) → IsAt Stood old state
+      → Advanced meaning state bytes (IsAt Stands new)
+  pub plain : IsNeverPending meaning.timeout.allows → ParsesAll meaning Stood Stands old new bytes
 
 -- `replay`
-pub record Replays {V W : Type 0} (m : Meaning V W) (Stood Stands : Standing W) (old new : V)
-    (steps : List Step) : Type 0 where
-  pub told : (s : State V W) → IsAt Stood old s → Replayed m s steps (IsAt Stands new)
+pub record Replays {V W : Type 0} (meaning : Meaning V W) (Stood Stands : Standing W)
+    (old new : V) (steps : List Step) : Type 0 where
+  pub told : (state : State V W) → IsAt Stood old state
+      → Replayed meaning state steps (IsAt Stands new)
   -- calls of `advance` alone, with all their bytes
-  pub plain : IsNeverPending m.timeout.allows → AreAdvances steps
-      → ParsesAll m Stood Stands old new (given_bytes steps)
+  pub plain : IsNeverPending meaning.timeout.allows → AreAdvances steps
+      → ParsesAll meaning Stood Stands old new (given_bytes steps)

@@ -1,4 +1,4 @@
--- What turns, a call and a list of calls have led to if memory is refused. Only for
+-- What turns, a call and a list of calls have led to if memory is refused, which happens only to a
 -- `LongProcessor`.
 use Rattle.std.specs.Prelude.{◌≡◌, ℕ, ◌-◌, ◌<◌, ◌++◌, Bool, List, [], ◌∷◌, length, take, drop}
 use Rattle.vte_core.specs.Stream.{added}
@@ -9,67 +9,63 @@ use Rattle.vte.specs.declared.ansi.laws.replays.RefusedStep.{RefusedStep}
 use Rattle.vte.specs.declared.ansi.laws.replays.Step.{Step}
 use Rattle.vte.specs.declared.ansi.laws.replays.Step.TheVariants.{Advance, StopSync}
 
--- An open turn that was refused memory: it has parsed a front of its bytes, in which no update
--- begins, and left some.
-pub record OpenTurnHalts {V W : Type 0} (m : Meaning V W) (s : State V W) (bytes : List ℕ)
-    (t : State V W)
-    (left : List ℕ) : Type 0 where
-  pub front : List ℕ
-  pub bytes_are : front ++ left ≡ bytes
-  pub some_left : 0 < length left
-  pub none_begin : begin_count (added m.limit s.parsed front) ≡ 0
-  pub state_is : t ≡ parse m s front
+module _ {V W : Type 0} (meaning : Meaning V W) where
+  -- An open turn that was refused memory: it has parsed a front of its bytes, in which no update
+  -- begins, and left some.
+  pub record OpenTurnHalts (state : State V W) (bytes : List ℕ) (next : State V W)
+      (left : List ℕ) : Type 0 where
+    pub front : List ℕ
+    pub bytes_are : front ++ left ≡ bytes
+    pub some_left : 0 < length left
+    pub none_begin : begin_count (added meaning.limit state.parsed front) ≡ 0
+    pub state_is : next ≡ parse meaning state front
 
--- A turn of this kind was refused memory: never a hold turn, which takes its memory before.
-abbrev pub KindHalts : {V W : Type 0} → Meaning V W → TurnKind → State V W → List ℕ → State V W
-    → List ℕ → Type 0
-KindHalts m OpenTurn s bytes t left = OpenTurnHalts m s bytes t left
-KindHalts m ExpiredTurn s bytes t left = OpenTurnHalts m (stop m s) bytes t left
-KindHalts m HoldTurn s bytes t left = ⊥
-KindHalts m FullTurn s bytes t left = OpenTurnHalts m (stop m s) bytes t left
+  -- A turn of this kind was refused memory: never a hold turn, which takes its memory before.
+  abbrev pub KindHalts : TurnKind → State V W → List ℕ → State V W → List ℕ → Type 0
+  KindHalts OpenTurn state bytes next left = OpenTurnHalts state bytes next left
+  KindHalts ExpiredTurn state bytes next left = OpenTurnHalts (stop meaning state) bytes next left
+  KindHalts HoldTurn state bytes next left = ⊥
+  KindHalts FullTurn state bytes next left = OpenTurnHalts (stop meaning state) bytes next left
 
--- A turn was refused memory, by the timeout's answer.
-abbrev pub TurnHalts : {V W : Type 0} → Meaning V W → Bool → State V W → List ℕ → State V W
-    → List ℕ → Type 0
-TurnHalts m pending s bytes = KindHalts m (kind_of pending (length s.held) (length bytes)) s bytes
+  -- A turn was refused memory, by the timeout's answer.
+  abbrev pub TurnHalts : Bool → State V W → List ℕ → State V W → List ℕ → Type 0
+  TurnHalts pending state bytes =
+      KindHalts (kind_of pending (length state.held) (length bytes)) state bytes
 
--- Turns of a call, after which a further one may have been refused memory on the way.
-pub data TakesSome {V W : Type 0} (m : Meaning V W) (s : State V W) (bytes : List ℕ) (t : State V W)
-    (left : List ℕ) : Type 0 where
-  between : TakesTurns m s bytes t left → TakesSome m s bytes t left
-  within : {u : State V W} {rest : List ℕ} → TakesTurns m s bytes u rest → (pending : Bool)
-      → m.timeout.allows u.timeout pending
-      → TurnHalts m pending u rest t left → TakesSome m s bytes t left
+  -- Turns of a call, after which a further one may have been refused memory on the way.
+  pub data TakesSome (state : State V W) (bytes : List ℕ) (next : State V W)
+      (left : List ℕ) : Type 0 where
+    between : TakesTurns meaning state bytes next left → TakesSome state bytes next left
+    within : {reached : State V W} {rest : List ℕ} → TakesTurns meaning state bytes reached rest
+        → (pending : Bool) → meaning.timeout.allows reached.timeout pending
+        → TurnHalts pending reached rest next left → TakesSome state bytes next left
 
--- A call has read `read` of its bytes, by turns, of which the last may have been refused memory on
--- the way, and is at the state to which they led. Each byte that was read is parsed or held, once
--- and in order. The facts about the hold stay true.
-pub record HasTaken {V W : Type 0} (m : Meaning V W) (s : State V W) (bytes : List ℕ) (read : ℕ)
-    (IsThere : State V W → Type 0) : Type 0 where
-  pub next : State V W
-  pub takes : TakesSome m s bytes next (drop read bytes)
-  pub each_once : all_bytes next ≡ all_bytes s ++ take read bytes
-  pub holds_well : HoldsWellAt m s → HoldsWellAt m next
-  pub is_at : IsThere next
+  -- A call has read `read` of its bytes, by turns, of which the last may have been refused memory
+  -- on the way, and is at the state to which they led. Each byte that was read is parsed or held,
+  -- once and in order. `HoldsWell` stays true.
+  pub record HasTaken (state : State V W) (bytes : List ℕ) (read : ℕ)
+      (IsThere : State V W → Type 0) : Type 0 where
+    pub next : State V W
+    pub takes : TakesSome state bytes next (drop read bytes)
+    pub each_once : all_bytes next ≡ all_bytes state ++ take read bytes
+    pub holds_well : HoldsWellAt meaning state → HoldsWellAt meaning next
+    pub is_at : IsThere next
 
--- A refused `Advance` has read `read` bytes, by its first turns. `StopSync` is never refused.
-abbrev pub IsRefused : {V W : Type 0} → Meaning V W → State V W → Step → ℕ
-    → (State V W → Type 0) → Type 0
-IsRefused m s (Advance bytes) read IsThere =
-    (read < length bytes.now) × HasTaken m s bytes.now read IsThere
-IsRefused m s StopSync read IsThere = ⊥
+  -- A refused `Advance` has read `read` bytes, by its first turns. `StopSync` is never refused.
+  abbrev pub IsRefused : State V W → Step → ℕ → (State V W → Type 0) → Type 0
+  IsRefused state (Advance bytes) read IsThere =
+      (read < length bytes.now) × HasTaken state bytes.now read IsThere
+  IsRefused state StopSync read IsThere = ⊥
 
-abbrev pub IsFirstRefused : {V W : Type 0} → Meaning V W → State V W → List Step → ℕ
-    → (State V W → Type 0) → Type 0
-IsFirstRefused m s [] read IsThere = ⊥
-IsFirstRefused m s (step ∷ steps) read IsThere = IsRefused m s step read IsThere
+  abbrev pub IsFirstRefused : State V W → List Step → ℕ → (State V W → Type 0) → Type 0
+  IsFirstRefused state [] read IsThere = ⊥
+  IsFirstRefused state (step ∷ steps) read IsThere = IsRefused state step read IsThere
 
--- The calls before the refused one led to a state, and there it was refused.
-abbrev pub ReplayedUntil : {V W : Type 0} → Meaning V W → State V W → List Step → RefusedStep
-    → (State V W → Type 0) → Type 0
-ReplayedUntil m s steps refused IsThere =
-    Replayed m s (take refused.index steps)
-    (λ next. IsFirstRefused m next (drop refused.index steps) refused.read IsThere)
+  -- The calls before the refused one led to a state, and there it was refused.
+  abbrev pub ReplayedUntil : State V W → List Step → RefusedStep → (State V W → Type 0) → Type 0
+  ReplayedUntil state steps refused IsThere =
+      Replayed meaning state (take refused.index steps)
+      (λ next. IsFirstRefused next (drop refused.index steps) refused.read IsThere)
 
 -- How many bytes of the refused call are left.
 abbrev pub left_of : Step → ℕ → ℕ

@@ -25,7 +25,7 @@ pending_meaning =
 
 -- The expiry is a moment that the clock tells plus this many nanoseconds, at most the greatest
 -- `Duration`.
-pub record ExpiresAfter {V : Type 0} (tells : V → ℕ → Type 0) (clock : V) (nanos : ℕ)
+pub record ExpiresAfter {Clock : Type 0} (tells : Clock → ℕ → Type 0) (clock : Clock) (nanos : ℕ)
     (expiry : Duration) : Type 0 where
   pub moment : ℕ
   pub told : tells clock moment

@@ -4,7 +4,7 @@
 use Rattle.vte_handler.specs.Call.{Call, UnsetPrivateMode}
 use Rattle.vte_types.specs.declared.mode.NamedPrivateMode.TheVariants.{SyncUpdate}
 use Rattle.vte_types.specs.declared.mode.PrivateMode.TheVariants.{Named}
-use Rattle.std.specs.Prelude.{ℕ, ◌+◌, Bool, Option, Some, None, List, [], ◌∷◌, length, if◌then◌else◌, is_some, nat_lt, unwrap_or}
+use Rattle.std.specs.Prelude.{ℕ, ◌+◌, Bool, Option, None, List, [], ◌∷◌, length, if◌then◌else◌, is_some, nat_lt, unwrap_or}
 use Rattle.std.specs.Option.{option_map_or, option_or}
 use Rattle.vte_types.specs.Words.{after_word}
 
@@ -20,23 +20,25 @@ end_update = 0x1b ∷ 0x5b ∷ 0x3f ∷ 0x32 ∷ 0x30 ∷ 0x32 ∷ 0x36 ∷ 0x6c
 abbrev pub begins_with : List ℕ → List ℕ → Bool
 begins_with sequence text = is_some (after_word sequence text)
 
--- What follows the last end-update of a text.
+-- What follows the last end-update of a text: of `a ESC [?2026l b`, the `b`.
 abbrev pub after_last_end : List ℕ → Option (List ℕ)
 after_last_end [] = None
-after_last_end (b ∷ text) = option_or (after_last_end text) (after_word end_update (b ∷ text))
+after_last_end (byte ∷ text) = option_or (after_last_end text) (after_word end_update (byte ∷ text))
 
 -- The text from its earliest begin-update on, if there is one.
 abbrev pub from_begin : List ℕ → List ℕ
 from_begin [] = []
-from_begin (b ∷ text) = if begins_with begin_update (b ∷ text) then b ∷ text else from_begin text
+from_begin (byte ∷ text) =
+    if begins_with begin_update (byte ∷ text) then byte ∷ text else from_begin text
 
--- How many begin-updates have their last byte among the last n bytes of the text.
+-- How many begin-updates have their last byte among the last n bytes of the text: of
+-- `ESC [?2026h b`, one among the last two, and none in the last one.
 abbrev pub held_begin_count : ℕ → List ℕ → ℕ
-held_begin_count n [] = 0
-held_begin_count n (b ∷ text) =
-    option_map_or (λ rest. if nat_lt (length rest) n then 1 else 0)
-    (after_word begin_update (b ∷ text)) 0
-    + held_begin_count n text
+held_begin_count count [] = 0
+held_begin_count count (byte ∷ text) =
+    option_map_or (λ rest. if nat_lt (length rest) count then 1 else 0)
+    (after_word begin_update (byte ∷ text)) 0
+    + held_begin_count count text
 
 -- The part of a text in which begin-updates count: what follows the last end-update or, without
 -- one, all of it.

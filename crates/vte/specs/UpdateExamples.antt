@@ -34,17 +34,17 @@ start = record { parsed = []; stops = []; held = []; timeout = false; handler = 
 
 -- At most this many turns, until no byte is left. The timeout answers whether it is pending.
 abbrev pub with_turns : ℕ → PlainState → List ℕ → PlainState
-with_turns zero s bytes = s
-with_turns (suc count) s [] = s
-with_turns (suc count) s (b ∷ bytes) =
-    let t = turn plain_meaning s.timeout s (b ∷ bytes) in
-    with_turns count t.state t.rest
+with_turns zero state bytes = state
+with_turns (suc count) state [] = state
+with_turns (suc count) state (byte ∷ bytes) =
+    let taken = turn plain_meaning state.timeout state (byte ∷ bytes) in
+    with_turns count taken.state taken.rest
 
 -- Calls of `advance` with these bytes, or of `stop_sync`. A turn reads at least one byte.
 abbrev pub led_by : PlainState → List (Option (List ℕ)) → PlainState
-led_by s [] = s
-led_by s (Some bytes ∷ acts) = led_by (with_turns (length bytes) s bytes) acts
-led_by s (None ∷ acts) = led_by (stop plain_meaning s) acts
+led_by state [] = state
+led_by state (Some bytes ∷ acts) = led_by (with_turns (length bytes) state bytes) acts
+led_by state (None ∷ acts) = led_by (stop plain_meaning state) acts
 
 -- What the handler has received, and what is held.
 pub record Led : Type 0 where
@@ -59,7 +59,7 @@ abbrev pub leads : List (Option (List ℕ)) → List Call → List ℕ → Updat
 leads acts told held = record { acts = acts; led = record { told = told; held = held } }
 
 abbrev pub led_of : PlainState → Led
-led_of s = record { told = s.handler; held = s.held }
+led_of state = record { told = state.handler; held = state.held }
 
 abbrev pub AreLed : List UpdateExample → Type 0
 AreLed examples =
@@ -70,7 +70,7 @@ abbrev pub update_begun : Call
 update_begun = SetPrivateMode (Named SyncUpdate)
 
 abbrev pub inputs : List ℕ → List Call
-inputs text = map (λ c. Input c) text
+inputs text = map (λ character. Input character) text
 
 abbrev pub update_examples : List UpdateExample
 update_examples =

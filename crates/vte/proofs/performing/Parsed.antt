@@ -71,16 +71,14 @@ module _ {H T B G V W : Type 0} (handler_of : H → V) (timeout_of : T → W) (r
   given_back {lent} at at_last at_timeout at_handler at_room read back_handler keeps =
       let all = all_made in
       let is_handler = back_handler (sym (ap (λ lent. lent.handler_name) all)) in
-      let last : old.last ≡ last_printed (events m.limit s.parsed) = at_last ∙ at.has_parsed.last in
-      let timeout : old.timeout ≡ s.timeout = at_timeout ∙ at.has_parsed.timeout_is in
+      let last : old.last ≡ last_printed (events m.limit s.parsed) = at_last ∙ at.last in
+      let timeout : old.timeout ≡ s.timeout = at_timeout ∙ at.timeout_is in
       let handler : old.handler ≡ s.handler = at_handler ∙ at.handler_is in
       record {
         is_parsed = record {
-          has_parsed = record {
-            has_read = read;
-            last = rw (is_state, events_grow m.limit s.parsed f, last-append, ← last) (ap (λ lent. lent.last) all);
-            timeout_is = rw (is_state, ← timeout) (ap (λ lent. lent.timeout) all);
-          };
+          has_read = read;
+          last = rw (is_state, events_grow m.limit s.parsed f, last-append, ← last) (ap (λ lent. lent.last) all);
+          timeout_is = rw (is_state, ← timeout) (ap (λ lent. lent.timeout) all);
           handler_is =
               rw (is_handler, added_calls-events m.limit s.parsed f, ← last, ← handler) (ap (λ lent. lent.handler) all);
         };

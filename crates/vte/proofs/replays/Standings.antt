@@ -1,6 +1,6 @@
 -- A processor with a limit stands where its turns do: there is always memory. So what the turns ensure is true of it.
-use Rattle.vte.proofs.Common.{◌<◌, ◌≤◌, ℕ, List, length, Result, Ok, Err, arith, Bor, Refused, TurnsMeaning, Meaning, State, usual_limit}
-use Rattle.vte.proofs.Common.{Advanced, HasParsedAndHolds, HasTaken, IsAt, ReadsInTurns, ReadsSome, Standing, TurnsStandAt}
+use Rattle.vte.proofs.Common.{◌≤◌, ℕ, List, length, Result, Ok, Err, arith, Bor, Refused, TurnsMeaning, Meaning, State, usual_limit}
+use Rattle.vte.proofs.Common.{Advanced, HasParsedAndHolds, HasTaken, IsAt, ReadsInTurns, TurnsRead, Standing, TurnsStandAt}
 use Rattle.vte.proofs.Common.{◌≡◌, refl, short_meaning, of_turns}
 use Rattle.vte_core.specs.declared.parser.Parser.{Parser}
 use Rattle.vte.proofs.replays.PlainReplays.{plain_call}
@@ -16,8 +16,9 @@ module _ {T A V W : Type 0} {timeout_of : T → W} {processor : Processor T A} {
       → IsAt (TurnsStandAt (limited timeout_of) processor.turns) value s
   turns_at at = record {
     stands = record {
-      has_parsed =
-          record { has_read = at.stands.has_read; last = at.stands.last; timeout_is = at.stands.timeout_is };
+      has_read = at.stands.has_read;
+      last = at.stands.last;
+      timeout_is = at.stands.timeout_is;
       holds = at.stands.holds;
       has_memory = λ some. (let enough : TEXT_ROOM ≤ TEXT_ROOM = omega arith in enough);
     };
@@ -28,9 +29,9 @@ module _ {T A V W : Type 0} {timeout_of : T → W} {processor : Processor T A} {
       → IsAt (HasParsedAndHolds timeout_of processor) value s
   is_at at = record {
     stands = record {
-      has_read = at.stands.has_parsed.has_read;
-      last = at.stands.has_parsed.last;
-      timeout_is = at.stands.has_parsed.timeout_is;
+      has_read = at.stands.has_read;
+      last = at.stands.last;
+      timeout_is = at.stands.timeout_is;
       holds = at.stands.holds;
     };
     handler_is = at.handler_is;
@@ -48,12 +49,10 @@ module _ {V W : Type 0} {m : Meaning V W} {Stood Stands : Standing W} {old new :
 
 pub never_refused : {T A V W : Type 0} {timeout_of : T → W} {m : Meaning V W} {processor next : Processor T A}
     {old new : V} (bytes : Bor (List ℕ)) (result : Result (Unit {0}) Refused)
-    → ReadsSome (limited timeout_of) m processor.turns next.turns old new bytes.now result
+    → TurnsRead (limited timeout_of) m processor.turns next.turns old new bytes.now result
     → ReadsInTurns m (HasParsedAndHolds timeout_of processor) (HasParsedAndHolds timeout_of next) old new bytes.now
 never_refused bytes (Ok all) r = reads_in_turns bytes (λ s at. taken-to is_at (r.takes s (turns_at s at))) refl
 never_refused bytes (Err refused) r =
     reads_in_turns bytes {read = length bytes.now} (λ s at. absurd (
     let t = r.takes s (turns_at s at) in
-    let lacking : TEXT_ROOM < TEXT_ROOM =
-    (r.lacks t.next.parsed t.is_at.stands.has_parsed.has_read).is_lacking in
-    omega (arith, lacking))) refl
+    r.lacks.lacks t.next.parsed t.is_at.stands.has_read (omega arith))) refl

@@ -2,7 +2,7 @@
 -- releases is parsed.
 use Rattle.vte.proofs.Common.{◌≡◌, ℕ, ◌+◌, ◌-◌, ◌<◌, List, [], ◌∷◌, ◌++◌, length, length-append, length-take, take, refl, sym, ◌∙◌, arith, take_all, Turns, IsAdded}
 use Rattle.vte.proofs.Common.{held_of, released_of, still_held, Meaning, set_times, AreAt, TurnsMeaning, AreNextAt, IsParsed, IsParsedOn, IsParsedWithRoom, State, after_last_end, extend, from_begin, hold_turn, release}
-use Rattle.vte.proofs.Common.{None, Some, ap, inl, inr, parse, stop, with_held}
+use Rattle.vte.proofs.Common.{ap, inl, inr, parse, stop, with_held}
 use Rattle.std.proofs.lemmas.List.{nil_from_length}
 use Rattle.vte.proofs.turns.Kinds.{holds_all, holds_rest}
 use Rattle.vte.proofs.turns.Slices.{parse-nothing}
@@ -52,11 +52,9 @@ module _ {P B T A V W : Type 0} {w : TurnsMeaning P B T W} (m : Meaning V W) {s 
 
   extended : IsParsed w set.parser set.state value (extend m s more)
   extended = record {
-    has_parsed = record {
-      has_read = at.stands.has_parsed.has_read;
-      last = at.stands.has_parsed.last;
-      timeout_is = is_set ∙ rw (at.stands.has_parsed.timeout_is, added.begins_are);
-    };
+    has_read = at.stands.has_read;
+    last = at.stands.last;
+    timeout_is = is_set ∙ rw (at.stands.timeout_is, added.begins_are);
     handler_is = at.handler_is;
   }
 
@@ -91,7 +89,9 @@ module _ {P B T A V W : Type 0} {w : TurnsMeaning P B T W} (m : Meaning V W) {s 
       rw (holds_some m s more (rw added.held_is at some)) (record {
         are_at = record {
           stands = record {
-            has_parsed = parsed.has_parsed;
+            has_read = parsed.has_read;
+            last = parsed.last;
+            timeout_is = parsed.timeout_is;
             holds = rw kept added.held_is;
             has_memory =
                 λ some.

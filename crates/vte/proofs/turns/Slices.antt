@@ -165,7 +165,7 @@ module _ {V W : Type 0} (m : Meaning V W) where
   -- where nothing is left, no turn was refused memory
   pub all_taken : (s t : State V W) (bytes : List ℕ) → TakesSome m s bytes t [] → TakesTurns m s bytes t []
   all_taken s t bytes (between taken) = taken
-  all_taken s t bytes (within {u} {rest} taken pending allowed halts) =
+  all_taken s t bytes (within {reached = u} {rest} taken pending allowed halts) =
       absurd (omega (arith, (opens_first m pending u t rest [] halts).1.some_left))
 
   -- ---- what is parsed and held then
@@ -179,7 +179,7 @@ module _ {V W : Type 0} (m : Meaning V W) where
 
   pub some_grow : (s t : State V W) (bytes left : List ℕ) → TakesSome m s bytes t left → Progresses s t bytes left
   some_grow s t bytes left (between taken) = turns_grow m s t bytes left taken
-  some_grow s t bytes left (within {u} {rest} taken pending allowed halts) =
+  some_grow s t bytes left (within {reached = u} {rest} taken pending allowed halts) =
       grows_on (turns_grow m s u bytes rest taken)
       (turn_halts_grow pending u t rest left (opens_first m pending u t rest left halts))
 
@@ -197,7 +197,7 @@ module _ {V W : Type 0} (m : Meaning V W) where
   pub some_well : (s t : State V W) (bytes left : List ℕ) → TakesSome m s bytes t left → HoldsWellAt m s
       → HoldsWellAt m t
   some_well s t bytes left (between taken) well = taken_well m s t bytes left taken well
-  some_well s t bytes left (within {u} {rest} taken pending allowed halts) well =
+  some_well s t bytes left (within {reached = u} {rest} taken pending allowed halts) well =
       let opens = opens_first m pending u t rest left halts in
       let nothing = turn_halts_held pending u t rest left opens in
       record {
@@ -233,7 +233,7 @@ module _ {V W : Type 0} (m : Meaning V W) where
   pub goes_on : (s t end : State V W) (bytes left : List ℕ) → IsSteady m.timeout → HoldsWellAt m s
       → TakesSome m s bytes t left → TakesAllTurns m t left end → TakesAllTurns m s bytes end
   goes_on s t end bytes left steady well (between taken) more = taken_on s t end bytes left [] taken more
-  goes_on s t end bytes left steady well (within {u} {rest} taken pending allowed halts) more =
+  goes_on s t end bytes left steady well (within {reached = u} {rest} taken pending allowed halts) more =
       let opens = opens_first m pending u t rest left halts in
       let out = turn_halts_outside pending u t rest left steady (taken_well m s u bytes rest taken well) allowed opens
       in

@@ -3,8 +3,8 @@
 use Rattle.vte.proofs.Common.{◌≡◌, ℕ, ◌+◌, ◌-◌, ◌<◌, ◌≤◌, Bool, true, List, [], ◌++◌, length, take, drop, refl, ap, sym, ◌∙◌, arith, length-drop}
 use Rattle.vte.proofs.Common.{append_assoc, Result, Ok, Err, append_cancel_right, drop_all, drop-drop, take_all, take-append-drop, Refused, PerformerState, Turns, Meaning}
 use Rattle.vte.proofs.Common.{held_of, false, MatchResult, EndsTurn, within}
-use Rattle.vte.proofs.Common.{Advanced, AreAt, HasTaken, TurnsMeaning, HasMemory, KeepsMemory, ReadsSome, StopsUpdate, AreNextAt, EndsOpen, Halted, IsAtBegin, IsOpenAt, IsParsed, IsParsedOn}
-use Rattle.vte.proofs.Common.{IsParsedWithRoom, Turned, State, TakesSome, TakesTurns, all_bytes, turn, hold_turn, parse, stop, between, done, LacksSome, ReservesRoom}
+use Rattle.vte.proofs.Common.{Advanced, AreAt, HasTaken, TurnsMeaning, KeepsMemory, TurnsHaveMemory, TurnsRead, TurnsStop, AreNextAt, EndsOpen, Halted, IsAtBegin, IsOpenAt, IsParsed, IsParsedOn}
+use Rattle.vte.proofs.Common.{IsParsedWithRoom, Turned, State, TakesSome, TakesTurns, all_bytes, turn, hold_turn, parse, stop, between, done, TurnsLackMemory, TurnsReserve}
 use Rattle.vte.proofs.turns.EachOnce.{grown_bytes}
 use Rattle.vte.proofs.turns.Kinds.{halts_open, is_held, stop_if_due, turn_holds, turn_parses}
 use Rattle.vte.proofs.turns.Slices.{all_taken, halts, one_taken, some_grow, some_on, some_well, taken_on}
@@ -12,7 +12,12 @@ use Rattle.vte.proofs.turns.Slices.{all_taken, halts, one_taken, some_grow, some
 -- turns stand where their parts do
 module _ {P B T A V W : Type 0} {w : TurnsMeaning P B T W} {turns : Turns P B T A} {value : V} {s : State V W} where
   pub parts-at : AreAt w turns value s → IsParsed w turns.parser turns.state value s
-  parts-at at = record { has_parsed = at.stands.has_parsed; handler_is = at.handler_is }
+  parts-at at = record {
+    has_read = at.stands.has_read;
+    last = at.stands.last;
+    timeout_is = at.stands.timeout_is;
+    handler_is = at.handler_is;
+  }
 
   -- if they hold nothing
   pub at-parts : IsParsed w turns.parser turns.state value s → held_of turns.hold ≡ s.held → s.held ≡ []
@@ -20,7 +25,9 @@ module _ {P B T A V W : Type 0} {w : TurnsMeaning P B T W} {turns : Turns P B T 
   at-parts parsed holds none = record {
     stands =
         record {
-          has_parsed = parsed.has_parsed;
+          has_read = parsed.has_read;
+          last = parsed.last;
+          timeout_is = parsed.timeout_is;
           holds = holds;
           has_memory = λ some. absurd (omega (arith, some, ap length none));
         };
@@ -32,13 +39,13 @@ module _ {P B T A V W : Type 0} {w : TurnsMeaning P B T W} {value : V} {s : Stat
   pub next-at : {turns : Turns P B T A} → AreAt w turns value s → AreNextAt w turns turns value s
   next-at at = record { are_at = at; memory = λ stream count had. had }
 
-  pub after-next : {old mid new : Turns P B T A} → KeepsMemory (HasMemory w old) (HasMemory w mid)
+  pub after-next : {old mid new : Turns P B T A} → KeepsMemory (TurnsHaveMemory w old) (TurnsHaveMemory w mid)
       → AreNextAt w mid new value s → AreNextAt w old new value s
   after-next keeps next =
       record { are_at = next.are_at; memory = λ stream count had. next.memory stream count (keeps stream count had) }
 
   -- they stand where they stood, and the handler is the same
-  pub kept-next : {old mid new : Turns P B T A} {more : ℕ} {result : Bool} → ReservesRoom w mid new more result
+  pub kept-next : {old mid new : Turns P B T A} {more : ℕ} {result : Bool} → TurnsReserve w mid new more result
       → AreNextAt w old mid value s → AreNextAt w old new value s
   kept-next r at = record {
     are_at = record { stands = r.same s.parsed s.held s.timeout at.are_at.stands; handler_is = at.are_at.handler_is };
@@ -49,7 +56,7 @@ module _ {P B T A V W : Type 0} {w : TurnsMeaning P B T W} {value : V} {s : Stat
 module _ {P B T A V W : Type 0} {w : TurnsMeaning P B T W} {m : Meaning V W} {s : State V W} {bytes slice : List ℕ}
     {read count n : ℕ} {b : Bool}
     {first old taken : Turns P B T A} {parser : P} {state : PerformerState T B} {before value : V} where
-  pub slice_parsed : IsOpenAt m s bytes read (AreNextAt w first old before) → ReservesRoom w old taken count true
+  pub slice_parsed : IsOpenAt m s bytes read (AreNextAt w first old before) → TurnsReserve w old taken count true
       → length slice ≡ count → s.held ≡ []
       → ((t : State V W) (k : ℕ) → IsParsedWithRoom w taken.parser taken.state before t (length slice + k)
       → IsAtBegin m t slice n b (IsParsedOn w taken.parser taken.state parser state value))
@@ -73,16 +80,16 @@ module _ {P B T A V W : Type 0} {w : TurnsMeaning P B T W} {m : Meaning V W} {s 
 
 -- after a stop
 pub stops_update : {P B T A V W : Type 0} {w : TurnsMeaning P B T W} {m : Meaning V W} {old mid new : Turns P B T A}
-    {before value : V} → KeepsMemory (HasMemory w old) (HasMemory w mid)
+    {before value : V} → KeepsMemory (TurnsHaveMemory w old) (TurnsHaveMemory w mid)
     → ((s : State V W) → AreAt w old before s → AreNextAt w mid new value (stop m s))
-    → StopsUpdate w m old new before value
-stops_update {m} keeps ends = record {
+    → TurnsStop w m old new before value
+stops_update {m = m} keeps ends = record {
   stops = λ s at. (ends s at).are_at;
   memory = λ s at stream count had. (ends s at).memory stream count (keeps stream count had);
 }
 
 pub stops-next : {P B T A V W : Type 0} {w : TurnsMeaning P B T W} {m : Meaning V W} {old new : Turns P B T A}
-    {before value : V} {s : State V W} → StopsUpdate w m old new before value
+    {before value : V} {s : State V W} → TurnsStop w m old new before value
     → AreAt w old before s → AreNextAt w old new value (stop m s)
 stops-next stopped at = record { are_at = stopped.stops _ at; memory = stopped.memory _ at }
 
@@ -90,11 +97,11 @@ stops-next stopped at = record { are_at = stopped.stops _ at; memory = stopped.m
 pub ends_turn : {P B T A V W : Type 0} {w : TurnsMeaning P B T W} {m : Meaning V W} {old mid new : Turns P B T A}
     {value : V} {s : State V W} {bytes : List ℕ} (pending : Bool)
     → m.timeout.allows s.timeout pending → is_held pending s bytes ≡ false
-    → KeepsMemory (HasMemory w old) (HasMemory w mid) → (result : Result ℕ Refused)
+    → KeepsMemory (TurnsHaveMemory w old) (TurnsHaveMemory w mid) → (result : Result ℕ Refused)
     → MatchResult result (λ read. read ≤ length bytes) (λ refused. refused.read < length bytes)
     → EndsOpen m (stop_if_due m pending s) bytes result (AreNextAt w mid new value)
     → EndsTurn m s bytes result (AreNextAt w old new value)
-ends_turn {m} {s} {bytes} pending allowed parses keeps (Ok read) less e = record {
+ends_turn {m = m} {s = s} {bytes = bytes} pending allowed parses keeps (Ok read) less e = record {
   turned =
       record {
         pending = pending;
@@ -105,7 +112,7 @@ ends_turn {m} {s} {bytes} pending allowed parses keeps (Ok read) less e = record
       };
   halted = tt;
 }
-ends_turn {m} {s} {bytes} pending allowed parses keeps (Err refused) less e = record {
+ends_turn {m = m} {s = s} {bytes = bytes} pending allowed parses keeps (Err refused) less e = record {
   turned = tt;
   halted = record {
     next = parse m (stop_if_due m pending s) (take refused.read bytes);
@@ -157,7 +164,7 @@ module _ {V W : Type 0} (m : Meaning V W) (s : State V W) (bytes : List ℕ) whe
       → (r : HasReached count read (AreNextAt w first mid before)) → read < length bytes
       → Turned m r.here (take (length bytes - read) (drop read bytes)) n (AreNextAt w mid new value)
       → HasReached (count + 1) (read + n) (AreNextAt w first new value)
-  reaches-more {count} {read} {n} r some u =
+  reaches-more {count = count} {read = read} {n = n} r some u =
       let slice = take (length bytes - read) (drop read bytes) in
       let is : slice ≡ drop read bytes = rest_is bytes read (omega arith) in
       let left : 0 < length slice = rw (is, length-drop read bytes) (omega arith) in
@@ -172,7 +179,7 @@ module _ {V W : Type 0} (m : Meaning V W) (s : State V W) (bytes : List ℕ) whe
 
   taken : {read : ℕ} {IsThere : State V W → Type 0} (t : State V W) → TakesSome m s bytes t (drop read bytes)
       → IsThere t → HasTaken m s bytes read IsThere
-  taken {read} t takes at = record {
+  taken {read = read} t takes at = record {
     next = t;
     takes = takes;
     each_once = append_cancel_right _ _ (drop read bytes)
@@ -193,7 +200,7 @@ module _ {V W : Type 0} (m : Meaning V W) (s : State V W) (bytes : List ℕ) whe
       → (r : HasReached count read (AreNextAt w first mid before)) → read ≤ length bytes
       → Halted m r.here (take (length bytes - read) (drop read bytes)) n (AreNextAt w mid new value)
       → HasTaken m s bytes (read + n) (AreNextAt w first new value)
-  has_halted {read} {n} r inside h =
+  has_halted {read = read} {n = n} r inside h =
       let slice = take (length bytes - read) (drop read bytes) in
       let is : slice ≡ drop read bytes = rest_is bytes read inside in
       let left : drop n slice ≡ drop (read + n) bytes = rw (is, drop-drop n read bytes) in
@@ -234,7 +241,7 @@ module _ {P B T A V W : Type 0} {w : TurnsMeaning P B T W} {m : Meaning V W} {ol
   pub all_read : {count read : ℕ}
       → ((s : State V W) → AreAt w old before s → HasReached m s bytes count read (AreNextAt w old new value))
       → ((s : State V W) → AreAt w old before s → read ≡ length bytes)
-      → ReadsSome w m old new before value bytes (Ok tt)
+      → TurnsRead w m old new before value bytes (Ok tt)
   all_read reaches is = record {
     takes = λ s at. rw (is s at) at (taken-at (has_taken m s bytes (reaches s at)));
     within = tt;
@@ -244,8 +251,8 @@ module _ {P B T A V W : Type 0} {w : TurnsMeaning P B T W} {m : Meaning V W} {ol
 
   pub read_until : {refused : Refused}
       → ((s : State V W) → AreAt w old before s → HasTaken m s bytes refused.read (AreNextAt w old new value))
-      → refused.read < length bytes → LacksSome w new (length bytes - refused.read)
-      → ReadsSome w m old new before value bytes (Err refused)
+      → refused.read < length bytes → TurnsLackMemory w new (length bytes - refused.read)
+      → TurnsRead w m old new before value bytes (Err refused)
   read_until taken less lacks =
       record {
         takes = λ s at. taken-at (taken s at);

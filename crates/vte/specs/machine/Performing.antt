@@ -1,10 +1,12 @@
--- The value of a performer, and what a parser that reads bytes for it has performed.
+-- The value of a performer, and what a parser that reads bytes for it has performed. Of the types,
+-- `H` is the performer's handler, and `G` the grain in which it receives text.
 use Rattle.std.specs.Prelude.{◌≡◌, ℕ, ◌+◌, ◌≤◌, ◌||◌, ◌==◌, if◌then◌else◌, Option, List, ◌++◌}
 use Rattle.std.specs.Prelude.{length, nat_lt}
 use Rattle.std.specs.List.{All}
 use Rattle.vte.specs.BeginUpdate.{update_group_count, update_mode}
 use Rattle.vte.specs.Change.{change_call, change_calls}
-use Rattle.vte.specs.Memory.{KeepsMemory, ParserMeaning}
+use Rattle.vte.specs.Memory.{KeepsMemory}
+use Rattle.vte.specs.machine.Meanings.{ParserMeaning}
 use Rattle.vte.specs.Processor.{set_times}
 use Rattle.vte.specs.Numbers.{first_numbers}
 use Rattle.vte.specs.machine.Performer.{FitsText, PerformerValue}
@@ -53,11 +55,11 @@ with_private_modes step timeout lent groups = record lent {
 pub record HasPerformed {P V W : Type 0} (reading : ParserMeaning P) (limit : Option ℕ)
     (step : PerformerValue V W → Event → PerformerValue V W) (next : P)
     (old new : PerformerValue V W)
-    (stream bytes : List ℕ) (n : ℕ) : Type 0 where
+    (stream bytes : List ℕ) (more : ℕ) : Type 0 where
   pub performs : new ≡ performed step old (added limit stream bytes)
   pub fits : All (FitsText old.room) (added limit stream bytes)
   pub reads : reading.has_read next (stream ++ bytes)
-  pub room : reading.has_memory next old.room (stream ++ bytes) n
+  pub room : reading.has_memory next old.room (stream ++ bytes) more
 
 -- A parser has read `read` of the bytes after a stream: up to an event that terminates the
 -- performer, or all.
@@ -75,9 +77,9 @@ pub record PerformsAll {P V W : Type 0} (reading : ParserMeaning P) (limit : Opt
     (step : PerformerValue V W → Event → PerformerValue V W) (parser next : P)
     (old new : PerformerValue V W)
     (bytes : List ℕ) : Type 0 where
-  pub parses : (stream : List ℕ) (n : ℕ) → reading.has_read parser stream
-      → reading.has_memory parser old.room stream (length bytes + n)
-      → HasPerformed reading limit step next old new stream bytes n
+  pub parses : (stream : List ℕ) (more : ℕ) → reading.has_read parser stream
+      → reading.has_memory parser old.room stream (length bytes + more)
+      → HasPerformed reading limit step next old new stream bytes more
   pub memory : (size : ℕ)
       → KeepsMemory (reading.has_memory parser size) (reading.has_memory next size)
 
@@ -86,8 +88,8 @@ pub record PerformsUntilStop {P V W : Type 0} (reading : ParserMeaning P) (limit
     (old new : PerformerValue V W)
     (bytes : List ℕ) (read : ℕ) : Type 0 where
   pub within : read ≤ length bytes
-  pub stops : (stream : List ℕ) (n : ℕ) → reading.has_read parser stream
-      → reading.has_memory parser old.room stream (length bytes + n)
+  pub stops : (stream : List ℕ) (more : ℕ) → reading.has_read parser stream
+      → reading.has_memory parser old.room stream (length bytes + more)
       → HasStopped reading limit step next old new stream bytes read
   pub memory : (size : ℕ)
       → KeepsMemory (reading.has_memory parser size) (reading.has_memory next size)

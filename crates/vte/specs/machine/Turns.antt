@@ -1,33 +1,89 @@
--- What is true of a processor between the parts of a turn. Only proofs use it.
-use Rattle.std.specs.Prelude.{◌≡◌, ℕ, ◌<◌, Bool, List, length, nat_lt, take, drop, Result, IfErr, IfOk}
+-- What is true of a processor between the parts of a turn.
+use Rattle.std.specs.Prelude.{◌≡◌, ◌⊎◌, ℕ, ◌+◌, ◌-◌, ◌<◌, ◌≤◌, Bool, true, false, List, length, nat_lt, take, drop, Result, IfErr, IfOk}
 use Rattle.vte_core.specs.declared.parser.refused.Refused.{Refused}
-use Rattle.vte_core.specs.Stream.{added}
+use Rattle.vte_core.specs.Stream.{added, events}
 use Rattle.vte.specs.BeginUpdate.{begin_count}
-use Rattle.vte.specs.LongProcessor.{HasParsed, TurnsStandAt}
-use Rattle.vte.specs.Memory.{HasMemory, KeepsMemory, TurnsMeaning}
-use Rattle.vte.specs.Processor.{Meaning, State, begin_front, open_turn, parse, turn}
-use Rattle.vte.specs.ProcessorCalls.{IsAt}
-use Rattle.vte.specs.Refusal.{TakesSome}
+use Rattle.vte.specs.Calls.{last_printed}
+use Rattle.vte.specs.LongProcessor.{read_of}
+use Rattle.vte.specs.Memory.{KeepsMemory}
+use Rattle.vte.specs.Processor.{Meaning, State, begin_front, most_held, open_turn, parse, turn}
+use Rattle.vte.specs.ProcessorCalls.{IsAt, StopsSync, held_of}
+use Rattle.vte.specs.Refusal.{HasTaken, TakesSome}
+use Rattle.vte.specs.machine.Meanings.{TurnsMeaning}
 use Rattle.vte.specs.declared.ansi.performer.PerformerState.{PerformerState}
+use Rattle.vte.specs.declared.ansi.turns.TheConstants.{SLICE}
 use Rattle.vte.specs.declared.ansi.turns.Turns.{Turns}
+
+-- After a stream, turns have memory for `count` more bytes.
+abbrev pub TurnsHaveMemory : {P B T A W : Type 0} → TurnsMeaning P B T W → Turns P B T A
+    → (stream : List ℕ) → (count : ℕ) → Type 0
+TurnsHaveMemory parts turns =
+    parts.reading.has_memory turns.parser (parts.room_of turns.state.text)
+
+-- What calls of a processor ensure, said of its turns, whatever its limit: where they stand (as in
+-- `HasParsedAndHoldsLong`), and what `LongProcessor` says of each call.
+pub record TurnsStandAt {P B T A W : Type 0} (parts : TurnsMeaning P B T W) (turns : Turns P B T A)
+    (parsed held : List ℕ) (timeout : W) : Type 0 where
+  pub has_read : parts.reading.has_read turns.parser parsed
+  pub last : turns.state.preceding_char ≡ last_printed (events parts.limit parsed)
+  pub timeout_is : parts.timeout_of turns.state.timeout ≡ timeout
+  pub holds : held_of turns.hold ≡ held
+  pub has_memory : 0 < length held → TurnsHaveMemory parts turns parsed (length held)
+
+pub record TurnsReserve {P B T A W : Type 0} (parts : TurnsMeaning P B T W)
+    (old new : Turns P B T A) (more : ℕ) (result : Bool) : Type 0 where
+  pub same : (parsed held : List ℕ) (timeout : W) → TurnsStandAt parts old parsed held timeout
+      → TurnsStandAt parts new parsed held timeout
+  pub room : result ≡ true → (parsed held : List ℕ) (timeout : W)
+      → TurnsStandAt parts new parsed held timeout
+      → TurnsHaveMemory parts new parsed (length held + more)
+  pub memory : KeepsMemory (TurnsHaveMemory parts old) (TurnsHaveMemory parts new)
+  pub lacks : result ≡ false → (stream : List ℕ) → parts.reading.has_read new.parser stream
+      → ¬ TurnsHaveMemory parts new stream (length (held_of new.hold) + more)
+
+pub record TurnsStop {P B T A V W : Type 0} (parts : TurnsMeaning P B T W)
+    (meaning : Meaning V W) (turns next : Turns P B T A) (old new : V) : Type 0 where
+  pub stops : StopsSync meaning (TurnsStandAt parts turns) (TurnsStandAt parts next) old new
+  pub memory : (state : State V W) → IsAt (TurnsStandAt parts turns) old state
+      → KeepsMemory (TurnsHaveMemory parts turns) (TurnsHaveMemory parts next)
+
+pub record TurnsLackMemory {P B T A W : Type 0} (parts : TurnsMeaning P B T W)
+    (turns : Turns P B T A) (left : ℕ) : Type 0 where
+  pub more : ℕ
+  pub within : more ≤ left
+  pub few : (more ≤ SLICE) ⊎ (length (held_of turns.hold) + more ≤ most_held)
+  pub lacks : (stream : List ℕ) → parts.reading.has_read turns.parser stream
+      → ¬ TurnsHaveMemory parts turns stream (length (held_of turns.hold) + more)
+
+pub record TurnsRead {P B T A V W : Type 0} (parts : TurnsMeaning P B T W)
+    (meaning : Meaning V W) (turns next : Turns P B T A) (old new : V) (bytes : List ℕ)
+    (result : Result (Unit {0}) Refused) : Type 0 where
+  pub takes : (state : State V W) → IsAt (TurnsStandAt parts turns) old state
+      → HasTaken meaning state bytes (read_of result bytes) (IsAt (TurnsStandAt parts next) new)
+  pub within : IfErr result (λ refused. refused.read < length bytes)
+  pub lacks : IfErr result (λ refused. TurnsLackMemory parts next (length bytes - refused.read))
+  pub memory : (state : State V W) → IsAt (TurnsStandAt parts turns) old state
+      → KeepsMemory (TurnsHaveMemory parts turns) (TurnsHaveMemory parts next)
 
 -- The parser, the state lent to it and the handler's value are as the state says, whatever is held.
 pub record IsParsed {P B T V W : Type 0} (parts : TurnsMeaning P B T W) (parser : P)
-    (lent : PerformerState T B) (value : V) (s : State V W) : Type 0 where
-  pub has_parsed : HasParsed parts parser lent s.parsed s.timeout
-  pub handler_is : value ≡ s.handler
+    (lent : PerformerState T B) (value : V) (state : State V W) : Type 0 where
+  pub has_read : parts.reading.has_read parser state.parsed
+  pub last : lent.preceding_char ≡ last_printed (events parts.limit state.parsed)
+  pub timeout_is : parts.timeout_of lent.timeout ≡ state.timeout
+  pub handler_is : value ≡ state.handler
 
 -- `IsParsed`, and there is memory for `count` bytes.
 pub record IsParsedWithRoom {P B T V W : Type 0} (parts : TurnsMeaning P B T W) (parser : P)
-    (lent : PerformerState T B) (value : V) (s : State V W) (count : ℕ) : Type 0 where
-  pub is_parsed : IsParsed parts parser lent value s
-  pub room : parts.reading.has_memory parser (parts.room_of lent.text) s.parsed count
+    (lent : PerformerState T B) (value : V) (state : State V W) (count : ℕ) : Type 0 where
+  pub is_parsed : IsParsed parts parser lent value state
+  pub room : parts.reading.has_memory parser (parts.room_of lent.text) state.parsed count
 
 -- `IsParsed`, with the memory that was there before.
 pub record IsParsedOn {P B T V W : Type 0} (parts : TurnsMeaning P B T W) (parser : P)
-    (lent : PerformerState T B) (next : P) (back : PerformerState T B) (value : V) (s : State V W)
-    : Type 0 where
-  pub is_parsed : IsParsed parts next back value s
+    (lent : PerformerState T B) (next : P) (back : PerformerState T B)
+    (value : V) (state : State V W) : Type 0 where
+  pub is_parsed : IsParsed parts next back value state
   pub memory : KeepsMemory (parts.reading.has_memory parser (parts.room_of lent.text))
       (parts.reading.has_memory next (parts.room_of back.text))
 
@@ -39,63 +95,57 @@ AreAt parts turns = IsAt (TurnsStandAt parts turns)
 -- The turns are at a state, with the memory that was there before.
 pub record AreNextAt {P B T A V W : Type 0} (parts : TurnsMeaning P B T W)
     (turns next : Turns P B T A)
-    (value : V) (s : State V W) : Type 0 where
-  pub are_at : AreAt parts next value s
-  pub memory : KeepsMemory (HasMemory parts turns) (HasMemory parts next)
+    (value : V) (state : State V W) : Type 0 where
+  pub are_at : AreAt parts next value state
+  pub memory : KeepsMemory (TurnsHaveMemory parts turns) (TurnsHaveMemory parts next)
 
 -- From each state that the turns are at, they lead on as `ends` says.
 abbrev pub LeadOn : {P B T A V W : Type 0} → TurnsMeaning P B T W → Turns P B T A → Turns P B T A
     → V → V → (State V W → (State V W → Type 0) → Type 0) → Type 0
 LeadOn parts turns next old new ends =
-    (s : State _ _) → AreAt parts turns old s → ends s (AreNextAt parts turns next new)
+    (state : State _ _) → AreAt parts turns old state → ends state (AreNextAt parts turns next new)
 
--- The first `read` bytes were parsed: those up to the one that begins an update, or all if none
--- begins.
-pub record IsAtBegin {V W : Type 0} (m : Meaning V W) (s : State V W) (bytes : List ℕ) (read : ℕ)
-    (begins : Bool) (IsThere : State V W → Type 0) : Type 0 where
-  pub count : read ≡ length (begin_front m.limit s.parsed bytes)
-  pub begins_is : begins
-      ≡ nat_lt 0 (begin_count (added m.limit s.parsed (begin_front m.limit s.parsed bytes)))
-  pub is_at : IsThere (parse m s (begin_front m.limit s.parsed bytes))
+module _ {V W : Type 0} (meaning : Meaning V W) (state : State V W) (bytes : List ℕ) where
+  -- The first `read` bytes were parsed: those up to the one that begins an update, or all if none
+  -- begins.
+  pub record IsAtBegin (read : ℕ) (begins : Bool) (IsThere : State V W → Type 0) : Type 0 where
+    pub count : read ≡ length (begin_front meaning.limit state.parsed bytes)
+    pub begins_is : let front = begin_front meaning.limit state.parsed bytes in
+        begins ≡ nat_lt 0 (begin_count (added meaning.limit state.parsed front))
+    pub is_at : IsThere (parse meaning state (begin_front meaning.limit state.parsed bytes))
 
--- One turn has read `read` bytes, and at least one if there were any. It is at the state to which
--- it leads.
-pub record Turned {V W : Type 0} (m : Meaning V W) (s : State V W) (bytes : List ℕ) (read : ℕ)
-    (IsThere : State V W → Type 0) : Type 0 where
-  pub pending : Bool
-  pub allowed : m.timeout.allows s.timeout pending
-  pub progress : 0 < length bytes → 0 < read
-  pub rest : (turn m pending s bytes).rest ≡ drop read bytes
-  pub is_at : IsThere (turn m pending s bytes).state
+  -- One turn has read `read` bytes, and at least one if there were any. It is at the state to which
+  -- it leads.
+  pub record Turned (read : ℕ) (IsThere : State V W → Type 0) : Type 0 where
+    pub pending : Bool
+    pub allowed : meaning.timeout.allows state.timeout pending
+    pub progress : 0 < length bytes → 0 < read
+    pub rest : (turn meaning pending state bytes).rest ≡ drop read bytes
+    pub is_at : IsThere (turn meaning pending state bytes).state
 
--- An open turn has read `read` bytes, and at least one if there were any.
-pub record Opened {V W : Type 0} (m : Meaning V W) (s : State V W) (bytes : List ℕ) (read : ℕ)
-    (IsThere : State V W → Type 0) : Type 0 where
-  pub progress : 0 < length bytes → 0 < read
-  pub rest : (open_turn m s bytes).rest ≡ drop read bytes
-  pub is_at : IsThere (open_turn m s bytes).state
+  -- An open turn has read `read` bytes, and at least one if there were any.
+  pub record Opened (read : ℕ) (IsThere : State V W → Type 0) : Type 0 where
+    pub progress : 0 < length bytes → 0 < read
+    pub rest : (open_turn meaning state bytes).rest ≡ drop read bytes
+    pub is_at : IsThere (open_turn meaning state bytes).state
 
--- An open turn has parsed the first `read` bytes, and no update begins in them.
-pub record IsOpenAt {V W : Type 0} (m : Meaning V W) (s : State V W) (bytes : List ℕ) (read : ℕ)
-    (IsThere : State V W → Type 0) : Type 0 where
-  pub none_begin : begin_count (added m.limit s.parsed (take read bytes)) ≡ 0
-  pub is_at : IsThere (parse m s (take read bytes))
+  -- An open turn has parsed the first `read` bytes, and no update begins in them.
+  pub record IsOpenAt (read : ℕ) (IsThere : State V W → Type 0) : Type 0 where
+    pub none_begin : begin_count (added meaning.limit state.parsed (take read bytes)) ≡ 0
+    pub is_at : IsThere (parse meaning state (take read bytes))
 
--- A turn that was refused memory has read `read` bytes.
-pub record Halted {V W : Type 0} (m : Meaning V W) (s : State V W) (bytes : List ℕ) (read : ℕ)
-    (IsThere : State V W → Type 0) : Type 0 where
-  pub next : State V W
-  pub takes : TakesSome m s bytes next (drop read bytes)
-  pub is_at : IsThere next
+  -- A turn that was refused memory has read `read` bytes.
+  pub record Halted (read : ℕ) (IsThere : State V W → Type 0) : Type 0 where
+    pub next : State V W
+    pub takes : TakesSome meaning state bytes next (drop read bytes)
+    pub is_at : IsThere next
 
--- How a turn ends, if memory for it may be refused.
-pub record EndsTurn {V W : Type 0} (m : Meaning V W) (s : State V W) (bytes : List ℕ)
-    (result : Result ℕ Refused) (IsThere : State V W → Type 0) : Type 0 where
-  pub turned : IfOk result (λ read. Turned m s bytes read IsThere)
-  pub halted : IfErr result (λ refused. Halted m s bytes refused.read IsThere)
+  -- How a turn ends, if memory for it may be refused.
+  pub record EndsTurn (result : Result ℕ Refused) (IsThere : State V W → Type 0) : Type 0 where
+    pub turned : IfOk result (λ read. Turned read IsThere)
+    pub halted : IfErr result (λ refused. Halted refused.read IsThere)
 
--- How an open turn ends, if memory for it may be refused.
-pub record EndsOpen {V W : Type 0} (m : Meaning V W) (s : State V W) (bytes : List ℕ)
-    (result : Result ℕ Refused) (IsThere : State V W → Type 0) : Type 0 where
-  pub opened : IfOk result (λ read. Opened m s bytes read IsThere)
-  pub halted : IfErr result (λ refused. IsOpenAt m s bytes refused.read IsThere)
+  -- How an open turn ends, if memory for it may be refused.
+  pub record EndsOpen (result : Result ℕ Refused) (IsThere : State V W → Type 0) : Type 0 where
+    pub opened : IfOk result (λ read. Opened read IsThere)
+    pub halted : IfErr result (λ refused. IsOpenAt refused.read IsThere)

@@ -97,6 +97,7 @@ fn set_palette_entry<H: Handler>(handler: &mut H, index: &[u8], color: &[u8], te
     }
 }
 
+/// Sets colours of the palette, or asks for them: 4. Each index is followed by its colour.
 #[tactic(auto, using(crate::proofs::Calling::entry_made))]
 fn set_colors<H: Handler>(handler: &mut H, texts: &[&[u8]], terminator: &str)
     ensures { H.value_of handler.new
@@ -145,6 +146,7 @@ fn set_link_to<H: Handler>(handler: &mut H, parameters: &[u8], uri: &str)
     }
 }
 
+/// Sets the colour of the foreground, of the background or of the cursor, or asks for it.
 #[tactic(auto, unfolding(crate::proofs::Common::digits, vte_types::specs::NamedColor::number_of_color))]
 fn set_dynamic_color<H: Handler>(handler: &mut H, code: usize, terminator: &str, text: &[u8])
     ensures { H.value_of handler.new ≡ after H.step (H.value_of handler.old)
@@ -158,6 +160,7 @@ fn set_dynamic_color<H: Handler>(handler: &mut H, code: usize, terminator: &str,
     }
 }
 
+/// Sets such colours, or asks for them: 10, 11 or 12, and those after it, one for each text.
 #[tactic(auto, using(crate::proofs::performing::CallLists::appended))]
 fn set_dynamic_colors<H: Handler>(handler: &mut H, first: usize, texts: &[&[u8]], terminator: &str)
     requires { first ≤ 12 }
@@ -172,6 +175,7 @@ fn set_dynamic_colors<H: Handler>(handler: &mut H, first: usize, texts: &[&[u8]]
     }
 }
 
+/// Sets the icon of the mouse pointer: 22.
 fn set_pointer<H: Handler>(handler: &mut H, texts: &[&[u8]])
     ensures { H.value_of handler.new
         ≡ after H.step (H.value_of handler.old)
@@ -192,6 +196,7 @@ fn icon_named(name: &[u8]) -> Option<CursorIcon>
     CursorIcon::from_str(text_in(name, false)?).ok()
 }
 
+/// Sets the shape of the cursor: 50.
 fn set_shape<H: Handler>(handler: &mut H, texts: &[&[u8]])
     ensures { H.value_of handler.new
         ≡ after H.step (H.value_of handler.old) (shape_calls (map (λ piece. piece.now) texts.now)) }
@@ -206,6 +211,7 @@ fn set_shape<H: Handler>(handler: &mut H, texts: &[&[u8]])
     }
 }
 
+/// Stores data in a clipboard, or asks for what it holds: 52.
 fn use_clipboard<H: Handler>(handler: &mut H, texts: &[&[u8]], terminator: &str)
     ensures { H.value_of handler.new
         ≡ after H.step (H.value_of handler.old)
@@ -221,6 +227,7 @@ fn use_clipboard<H: Handler>(handler: &mut H, texts: &[&[u8]], terminator: &str)
     }
 }
 
+/// Resets all colours of the palette.
 #[tactic(auto, using(crate::proofs::Calling::one_less), unfolding(crate::specs::CommandCalls::all_reset))]
 fn reset_all<H: Handler>(handler: &mut H)
     ensures { H.value_of handler.new ≡ after H.step (H.value_of handler.old) all_reset }
@@ -230,6 +237,7 @@ fn reset_all<H: Handler>(handler: &mut H)
     }
 }
 
+/// Resets colours of the palette: 104. Without an index, all are reset.
 fn reset_colors<H: Handler>(handler: &mut H, texts: &[&[u8]])
     ensures { H.value_of handler.new
         ≡ after H.step (H.value_of handler.old) (reset_calls (map (λ piece. piece.now) texts.now)) }

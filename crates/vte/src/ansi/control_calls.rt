@@ -81,6 +81,7 @@ pub(crate) fn perform_control<H: InputAs<G>, G>(
 }
 
 /// Makes the calls of a control sequence without intermediates, but for DA.
+#[tactic(auto, unfolding(crate::specs::ControlCalls::rows_without_intermediates))]
 fn perform_plain<H: InputAs<G>, G>(
     handler: &mut H,
     last: Option<char>,

@@ -5,7 +5,7 @@ ghost use Rattle.vte.specs.CallExamples.{link_examples, mode_examples, palette_e
 ghost use Rattle.vte.specs.Processor.{HoldsWellAt, State, TakesAllTurns, TakesTurns, all_bytes, meaning, stop};
 ghost use Rattle.vte.specs.Refusal.{TakesSome};
 ghost use Rattle.vte.specs.UpdateExamples.{AreLed, expired_example, update_examples};
-ghost use Rattle.vte_handler.specs.Timeout.{IsSteady, timeout_meaning};
+ghost use Rattle.vte_handler.specs.Timeout.{IsSteady};
 
 mod replays;
 
@@ -38,10 +38,10 @@ pub fn worked_examples()
 /// A stop loses no byte, and the facts about the hold are true after it.
 #[tactic(auto, using(crate::proofs::turns::HoldFacts::stop_well))]
 pub fn stops_lose_nothing<H: Handler, T: Timeout>()
-    ensures each_once { (limit : Option ℕ) (s : State H.Value T.Value)
-        → all_bytes (stop (meaning limit H.step T.set T.clear T.allows) s) ≡ all_bytes s }
-    ensures holds_well { (limit : Option ℕ) (s : State H.Value T.Value)
-        → let m = meaning limit H.step T.set T.clear T.allows in HoldsWellAt m (stop m s) }
+    ensures each_once { (limit : Option ℕ) (state : State H.Value T.Value)
+        → all_bytes (stop (meaning limit H.step T.set T.clear T.allows) state) ≡ all_bytes state }
+    ensures holds_well { (limit : Option ℕ) (state : State H.Value T.Value)
+        → let m = meaning limit H.step T.set T.clear T.allows in HoldsWellAt m (stop m state) }
 {}
 
 /// Where the rest of a refused call of a [`LongProcessor`](crate::ansi::LongProcessor) leads to,
@@ -49,14 +49,12 @@ pub fn stops_lose_nothing<H: Handler, T: Timeout>()
 /// turn too, although the timeout is asked once more.
 #[tactic(auto, using(crate::proofs::turns::Slices::taken_on))]
 pub fn refused_calls_go_on<H: Handler, T: Timeout>()
-    ensures between { (s t end : State H.Value T.Value) (bytes rest : List ℕ)
-        → TakesTurns (meaning None H.step T.set T.clear T.allows) s bytes t rest →
-        TakesAllTurns (meaning None H.step T.set T.clear T.allows) t rest end
-        → TakesAllTurns (meaning None H.step T.set T.clear T.allows) s bytes end }
-    ensures within { (s t end : State H.Value T.Value) (bytes rest : List ℕ)
-        → IsSteady (timeout_meaning T.set T.clear T.allows) →
-        HoldsWellAt (meaning None H.step T.set T.clear T.allows) s
-        → TakesSome (meaning None H.step T.set T.clear T.allows) s bytes t rest →
-        TakesAllTurns (meaning None H.step T.set T.clear T.allows) t rest end
-        → TakesAllTurns (meaning None H.step T.set T.clear T.allows) s bytes end }
+    ensures between { (state next end : State H.Value T.Value) (bytes rest : List ℕ)
+        → let m = meaning None H.step T.set T.clear T.allows in
+        TakesTurns m state bytes next rest → TakesAllTurns m next rest end
+        → TakesAllTurns m state bytes end }
+    ensures within { (state next end : State H.Value T.Value) (bytes rest : List ℕ)
+        → let m = meaning None H.step T.set T.clear T.allows in
+        IsSteady m.timeout → HoldsWellAt m state → TakesSome m state bytes next rest →
+        TakesAllTurns m next rest end → TakesAllTurns m state bytes end }
 {}

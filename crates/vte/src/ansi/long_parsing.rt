@@ -1,7 +1,7 @@
 //! The parser of a processor without a limit. It takes memory before it reads, so that none is
 //! refused on the way.
 ghost use Rattle.std.specs.Prelude.{◌≡◌, ◌+◌, ◌≤◌, ◌^◌, IfSome, None};
-ghost use Rattle.vte.specs.Memory.{long_meaning};
+ghost use Rattle.vte.specs.machine.Meanings.{long_meaning};
 ghost use Rattle.vte.specs.declared.ansi.titles.TheConstants.{SEPARATORS};
 
 use crate::ansi::parsing::{EventParser, ParseAs};

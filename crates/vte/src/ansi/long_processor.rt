@@ -3,8 +3,8 @@ ghost use Rattle.std.specs.Prelude.{◌≡◌, ℕ, ◌+◌, false, List, [], le
 ghost use Rattle.vte_core.specs.LongParser.{open_size};
 ghost use Rattle.vte_handler.specs.Timeout.{AllowsOnly, IsSteady, timeout_meaning};
 ghost use Rattle.vte.specs.Processor.{HoldsWell, meaning};
-ghost use Rattle.vte.specs.LongProcessor.{AdvancesLong, HasParsedAndHoldsLong, IsCopyOfLong, Reserves, StopsSyncLong, held_long, timeout_long};
-ghost use Rattle.vte.specs.Memory.{HasNoMemory};
+ghost use Rattle.vte.specs.LongProcessor.{AdvancesLong, HasParsedAndHoldsLong, IsCopyOfLong, Reserves, StopsSyncLong};
+ghost use Rattle.vte.specs.Memory.{HasFreedMemory, held_long, timeout_long};
 ghost use Rattle.vte.specs.ProcessorCalls.{CountsHeld, HasParsedAll};
 
 use crate::ansi::growing_text::GrowingText;
@@ -97,7 +97,7 @@ impl<T: Timeout + Drop, A: Allocator> LongProcessor<T, A> {
         // No memory is kept if no command is open.
         ensures frees { (parsed : List ℕ) (timeout : T.Value)
             → HasParsedAndHoldsLong T.value_of self.old parsed [] timeout → open_size parsed ≡ 0
-            → HasNoMemory self.new }
+            → HasFreedMemory self.new }
     {
         if self.turns.hold.len() == 0 {
             self.turns.parser.shrink();
@@ -108,6 +108,7 @@ impl<T: Timeout + Drop, A: Allocator> LongProcessor<T, A> {
     /// Stops an update: parses the bytes that are held back, tells the handler that the update has
     /// ended, and clears the timeout. Without an update too, the handler is told. It needs no
     /// memory: what is held back has taken it.
+    #[tactic(auto, using(crate::proofs::replays::LongStandings::stops_long))]
     pub fn stop_sync<H: Handler>(&mut self, handler: &mut H)
         ensures { StopsSyncLong T.value_of
             (meaning None H.step T.set T.clear T.allows) self.old self.new (H.value_of handler.old)
@@ -117,6 +118,7 @@ impl<T: Timeout + Drop, A: Allocator> LongProcessor<T, A> {
     }
 
     /// Stops an update as [`stop_sync`](Self::stop_sync) does. The handler receives text in runs.
+    #[tactic(auto, using(crate::proofs::replays::LongStandings::stops_long))]
     pub fn stop_sync_text<H: HandlerText>(&mut self, handler: &mut H)
         ensures { StopsSyncLong T.value_of
             (meaning None H.step T.set T.clear T.allows) self.old self.new (H.value_of handler.old)

@@ -5,8 +5,8 @@ ghost use Rattle.vte.specs.machine.Performing.{PerformsAll, PerformsUntilStop, p
 ghost use Rattle.vte.specs.Processor.{State, meaning, parse};
 ghost use Rattle.vte.specs.machine.Performer.{with_event};
 ghost use Rattle.vte.specs.machine.Turns.{IsAtBegin, IsParsedOn, IsParsedWithRoom};
-ghost use Rattle.vte.specs.machine.ShortMeaning.{short_meaning};
-ghost use Rattle.vte.specs.Memory.{KeepsMemory, ParserMeaning, of_turns};
+ghost use Rattle.vte.specs.machine.Meanings.{ParserMeaning, of_turns, short_meaning};
+ghost use Rattle.vte.specs.Memory.{KeepsMemory};
 ghost use Rattle.vte_handler.specs.Timeout.{timeout_meaning};
 ghost use Rattle.vte_core.specs.Stream.{usual_limit};
 
@@ -42,7 +42,7 @@ pub(crate) trait EventParser {
         ensures memory { KeepsMemory (reading.has_memory self.old (B.room text.old))
             (reading.has_memory self.new (B.room text.new)) }
         ensures lacks { result ≡ false → (stream : List ℕ) → reading.has_read self.new stream
-            → reading.lacks_memory self.new (B.room text.new) stream (held + more) };
+            → ¬ reading.has_memory self.new (B.room text.new) stream (held + more) };
 }
 
 impl EventParser for ProcessorParser {

@@ -1,11 +1,10 @@
 //! Turns: each parses bytes of a call, or holds them back.
 ghost use Rattle.std.specs.Prelude.{◌≡◌, ℕ, ◌+◌, ◌≤◌, [], length, IfErr, IfOk, MatchResult, ◌-◌, ◌<◌, ◌++◌, nat_le};
-ghost use Rattle.vte.specs.LongProcessor.{ReadsSome, ReservesRoom, StopsUpdate, TurnsStandAt};
-ghost use Rattle.vte.specs.Memory.{LacksSome, of_turns};
+ghost use Rattle.vte.specs.machine.Meanings.{of_turns};
 ghost use Rattle.vte.specs.ProcessorCalls.{held_of};
 ghost use Rattle.vte.specs.machine.Hold.{released_of};
 ghost use Rattle.vte.specs.Processor.{State, hold_turn, meaning, most_held, parse, set_times, stop};
-ghost use Rattle.vte.specs.machine.Turns.{AreNextAt, EndsOpen, EndsTurn, IsParsed, IsParsedOn, IsParsedWithRoom, LeadOn};
+ghost use Rattle.vte.specs.machine.Turns.{AreNextAt, EndsOpen, EndsTurn, IsParsed, IsParsedOn, IsParsedWithRoom, LeadOn, TurnsLackMemory, TurnsRead, TurnsReserve, TurnsStandAt, TurnsStop};
 ghost use Rattle.vte_handler.specs.Timeout.{timeout_meaning};
 
 use crate::ansi::hold::{Hold, MOST_HELD};
@@ -67,7 +66,7 @@ impl<P: EventParser + Drop, B: TextBuffer + Drop, T: Timeout + Drop, A: Allocato
         handler: &mut H,
         bytes: &[u8],
     ) -> Result<(), Refused>
-        ensures { ReadsSome (of_turns P.limit P.reading B.room T.value_of)
+        ensures { TurnsRead (of_turns P.limit P.reading B.room T.value_of)
             (meaning P.limit H.step T.set T.clear T.allows)
             self.old self.new (H.value_of handler.old) (H.value_of handler.new) bytes.now result }
     {
@@ -90,7 +89,7 @@ impl<P: EventParser + Drop, B: TextBuffer + Drop, T: Timeout + Drop, A: Allocato
 
     /// Stops the update, whatever is held: there is memory to parse it.
     pub(crate) fn stop<H: Handler, G: ParseAs<H, T, P>>(&mut self, handler: &mut H)
-        ensures stopped { StopsUpdate (of_turns P.limit P.reading B.room T.value_of)
+        ensures stopped { TurnsStop (of_turns P.limit P.reading B.room T.value_of)
             (meaning P.limit H.step T.set T.clear T.allows) self.old self.new
             (H.value_of handler.old) (H.value_of handler.new) }
         ensures none { held_of self.new.hold ≡ [] }
@@ -160,7 +159,7 @@ impl<P: EventParser + Drop, B: TextBuffer + Drop, T: Timeout + Drop, A: Allocato
             (H.value_of handler.old) (H.value_of handler.new)
             (λ s. EndsTurn (meaning P.limit H.step T.set T.clear T.allows) s bytes.now result) }
         ensures lacks { IfErr result
-            (λ refused. LacksSome (of_turns P.limit P.reading B.room T.value_of) self.new
+            (λ refused. TurnsLackMemory (of_turns P.limit P.reading B.room T.value_of) self.new
             (length bytes.now - refused.read)) }
     {
         let pending = self.state.timeout.pending_timeout();
@@ -199,7 +198,7 @@ impl<P: EventParser + Drop, B: TextBuffer + Drop, T: Timeout + Drop, A: Allocato
             (H.value_of handler.old) (H.value_of handler.new)
             (λ s. EndsOpen (meaning P.limit H.step T.set T.clear T.allows) s bytes.now result) }
         ensures lacks { IfErr result
-            (λ refused. LacksSome (of_turns P.limit P.reading B.room T.value_of) self.new
+            (λ refused. TurnsLackMemory (of_turns P.limit P.reading B.room T.value_of) self.new
             (length bytes.now - refused.read)) }
     {
         let mut read = 0;
@@ -226,7 +225,7 @@ impl<P: EventParser + Drop, B: TextBuffer + Drop, T: Timeout + Drop, A: Allocato
 
     /// Takes memory for the held bytes and for this many more, and returns whether it is there.
     pub(crate) fn reserve(&mut self, more: usize) -> bool
-        ensures reserved { ReservesRoom
+        ensures reserved { TurnsReserve
             (of_turns P.limit P.reading B.room T.value_of) self.old self.new more result }
         ensures hold { self.new.hold ≡ self.old.hold }
     {

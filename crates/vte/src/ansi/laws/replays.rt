@@ -1,7 +1,7 @@
 //! Lists of a processor's calls.
 ghost use Rattle.std.specs.Prelude.{None, IfOk, IfErr};
 ghost use Rattle.vte.specs.LongProcessor.{HasParsedAndHoldsLong};
-ghost use Rattle.vte.specs.Memory.{LacksMemoryOnTheWay};
+ghost use Rattle.vte.specs.Memory.{LacksMemoryForSome};
 ghost use Rattle.vte.specs.Processor.{State, meaning};
 ghost use Rattle.vte.specs.ProcessorCalls.{HasParsedAndHolds, IsAt, Replays};
 ghost use Rattle.vte.specs.Refusal.{ReplayedUntil, left_by};
@@ -64,12 +64,12 @@ pub fn replay_long<H: Handler, T: Timeout + Drop, A: Allocator>(
         (HasParsedAndHoldsLong T.value_of processor.old)
         (HasParsedAndHoldsLong T.value_of processor.new)
         (H.value_of handler.old) (H.value_of handler.new) steps.now) }
-    ensures refuses { IfErr result (λ refused. (s : State H.Value T.Value)
-        → IsAt (HasParsedAndHoldsLong T.value_of processor.old) (H.value_of handler.old) s →
-        ReplayedUntil (meaning None H.step T.set T.clear T.allows) s steps.now refused
+    ensures refuses { IfErr result (λ refused. (state : State H.Value T.Value)
+        → IsAt (HasParsedAndHoldsLong T.value_of processor.old) (H.value_of handler.old) state →
+        ReplayedUntil (meaning None H.step T.set T.clear T.allows) state steps.now refused
         (IsAt (HasParsedAndHoldsLong T.value_of processor.new) (H.value_of handler.new))) }
     ensures lacks { IfErr result
-        (λ refused. LacksMemoryOnTheWay processor.new (left_by steps.now refused)) }
+        (λ refused. LacksMemoryForSome processor.new (left_by steps.now refused)) }
 {
     for (index, step) in steps.iter().enumerate() {
         match step {

@@ -11,7 +11,7 @@ returns-clause-stops g c = λ s n ready.
     let m = meaning g.P.EventParser.limit g.H.Handler.step g.T.Timeout.set g.T.Timeout.clear g.T.Timeout.allows in
     let bytes = c.args.bytes.now in
     let front = begin_front g.P.EventParser.limit s.parsed bytes in
-    let p = c.advance_until_begin-read.ensures.stops s.parsed n ready.is_parsed.has_parsed.has_read ready.room in
+    let p = c.advance_until_begin-read.ensures.stops s.parsed n ready.is_parsed.has_read ready.room in
     let fit =
     front_fits (g.B.TextBuffer.room c.args.state.now.text) g.P.EventParser.limit s.parsed front
     (drop (length front) bytes)

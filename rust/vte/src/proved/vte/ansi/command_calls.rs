@@ -77,6 +77,7 @@ fn set_palette_entry<H: Handler>(handler: &mut H, index: &[u8], color: &[u8], te
     }
 }
 
+/// Sets colours of the palette, or asks for them: 4. Each index is followed by its colour.
 fn set_colors<H: Handler>(handler: &mut H, texts: &[&[u8]], terminator: &str) {
     if texts.len() % 2 != 0 {
         return;
@@ -110,6 +111,7 @@ fn set_link_to<H: Handler>(handler: &mut H, parameters: &[u8], uri: &str) {
     }
 }
 
+/// Sets the colour of the foreground, of the background or of the cursor, or asks for it.
 fn set_dynamic_color<H: Handler>(handler: &mut H, code: usize, terminator: &str, text: &[u8]) {
     match code {
         10 => set_color(handler, "10", 256, terminator, text),
@@ -119,6 +121,7 @@ fn set_dynamic_color<H: Handler>(handler: &mut H, code: usize, terminator: &str,
     }
 }
 
+/// Sets such colours, or asks for them: 10, 11 or 12, and those after it, one for each text.
 fn set_dynamic_colors<H: Handler>(
     handler: &mut H,
     first: usize,
@@ -132,6 +135,7 @@ fn set_dynamic_colors<H: Handler>(
     }
 }
 
+/// Sets the icon of the mouse pointer: 22.
 fn set_pointer<H: Handler>(handler: &mut H, texts: &[&[u8]]) {
     if let [name] = texts {
         if let Some(icon) = icon_named(name) {
@@ -145,6 +149,7 @@ fn icon_named(name: &[u8]) -> Option<CursorIcon> {
     CursorIcon::from_str(text_in(name, false)?).ok()
 }
 
+/// Sets the shape of the cursor: 50.
 fn set_shape<H: Handler>(handler: &mut H, texts: &[&[u8]]) {
     if let [text, ..] = texts {
         match strip_word(text, b"CursorShape=") {
@@ -156,6 +161,7 @@ fn set_shape<H: Handler>(handler: &mut H, texts: &[&[u8]]) {
     }
 }
 
+/// Stores data in a clipboard, or asks for what it holds: 52.
 fn use_clipboard<H: Handler>(handler: &mut H, texts: &[&[u8]], terminator: &str) {
     if let [name, data, ..] = texts {
         let clipboard = name.first().copied().unwrap_or(b'c');
@@ -167,12 +173,14 @@ fn use_clipboard<H: Handler>(handler: &mut H, texts: &[&[u8]], terminator: &str)
     }
 }
 
+/// Resets all colours of the palette.
 fn reset_all<H: Handler>(handler: &mut H) {
     for index in 0..256 {
         handler.reset_color(index);
     }
 }
 
+/// Resets colours of the palette: 104. Without an index, all are reset.
 fn reset_colors<H: Handler>(handler: &mut H, texts: &[&[u8]]) {
     match texts {
         [] | [[], ..] => reset_all(handler),

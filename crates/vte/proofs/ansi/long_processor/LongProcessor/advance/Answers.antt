@@ -1,5 +1,5 @@
--- What the turns ensure, and that no memory is refused which is there (`turns/Grown`).
-use Rattle.vte.proofs.turns.Grown.{advances_long}
+-- What the turns ensure, and that no memory is refused which is there (`replays/LongStandings`).
+use Rattle.vte.proofs.replays.LongStandings.{advances_long}
 use Rattle.vte.proofs.ansi.long_processor.LongProcessor.advance.Goals as goal
 
 pub returns : goal.returns

@@ -58,7 +58,7 @@ returns-in-Err g c =
     (let r = c.loop-turn.invariant.reaches s at in
     has_halted _ s b r c.loop-turn.invariant.within (c.in-Err.ensures.turned r.here r.is_at.are_at).halted))
     (omega (arith, c.loop-turn.invariant.within, c.in-Err.ensures.within, size))
-    (λ stream reads. rw left at (c.in-Err.ensures.lacks stream reads))
+    (rw left at c.in-Err.ensures.lacks)
 
 -- As many turns as bytes have read all of them.
 pub returns : goal.returns

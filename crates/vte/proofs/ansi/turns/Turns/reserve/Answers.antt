@@ -5,18 +5,15 @@ use Rattle.vte.proofs.ansi.turns.Turns.reserve.Goals as goal
 pub returns-clause-reserved : goal.returns-clause-reserved
 returns-clause-reserved g c = record {
   same = λ parsed held timeout had. record {
-    has_parsed =
-        record {
-          has_read = c.reserve.ensures.reads parsed had.has_parsed.has_read;
-          last = had.has_parsed.last;
-          timeout_is = had.has_parsed.timeout_is;
-        };
+    has_read = c.reserve.ensures.reads parsed had.has_read;
+    last = had.last;
+    timeout_is = had.timeout_is;
     holds = had.holds;
     has_memory = λ some. c.reserve.ensures.memory parsed (length held) (had.has_memory some);
   };
   room =
       λ yes parsed held timeout had.
-      rw (← had.holds, ← c.len.ensures.count) (c.reserve.ensures.room yes parsed had.has_parsed.has_read);
+      rw (← had.holds, ← c.len.ensures.count) (c.reserve.ensures.room yes parsed had.has_read);
   memory = c.reserve.ensures.memory;
   lacks = λ no stream reads. rw (← c.len.ensures.count) (c.reserve.ensures.lacks no stream reads);
 }

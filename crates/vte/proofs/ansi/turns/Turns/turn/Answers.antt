@@ -1,6 +1,6 @@
 -- By the timeout's answer: the bytes are held while an update is pending and there is room. Otherwise it is stopped if
 -- it is pending or bytes are held, and the turn is an open one.
-use Rattle.vte.proofs.Common.{◌≡◌, ◌<◌, length, refl, sym, ◌∙◌, arith, nat_tests, nat_le, most_held, true, false, and-false, ◌+◌}
+use Rattle.vte.proofs.Common.{◌≡◌, ◌<◌, length, refl, sym, ◌∙◌, arith, nat_tests, nat_le, most_held, held_of, inr, true, false, and-false, ◌+◌}
 use Rattle.vte.proofs.Common.{meaning, of_turns, AreNextAt}
 use Rattle.vte.proofs.turns.Kinds.{is_held, is_stopped, stop_if_due}
 use Rattle.vte.proofs.turns.Slices.{halted_nothing}
@@ -44,7 +44,7 @@ returns-clause-turned g c = λ s at.
           rw (w.self-is, w.handler-is, free) (next-at at)
     ] in
     ends_turn pending
-    (rw at.stands.has_parsed.timeout_is at c.pending_timeout-pending.ensures) parses here.memory _ c.open.ensures.within
+    (rw at.stands.timeout_is at c.pending_timeout-pending.ensures) parses here.memory _ c.open.ensures.within
     (c.open.ensures.opened _ here.are_at)
 
 -- A hold turn: an update is pending, and there is room for all bytes and memory for them.
@@ -55,7 +55,7 @@ returns-then-has_room-clause-turned g c = λ s at.
     rw (← at.stands.holds) (sym c.has_room.ensures ∙ c.if-has_room.true) in
     let held : is_held c.pending_timeout-pending.result s c.args.bytes.now ≡ true = rw (c.if-pending.true, room) refl in
     record {
-      turned = turned_hold _ (rw at.stands.has_parsed.timeout_is at c.pending_timeout-pending.ensures) held refl
+      turned = turned_hold _ (rw at.stands.timeout_is at c.pending_timeout-pending.ensures) held refl
           (after-next here.memory
           (c.hold_bytes.ensures s here.are_at (c.if-not-reserve.ensures.reserved.room refl _ _ _ here.are_at.stands)));
       halted = tt;
@@ -65,3 +65,15 @@ returns-then-has_room-clause-turned g c = λ s at.
 pub returns-then-not-reserve-clause-turned : goal.returns-then-not-reserve-clause-turned
 returns-then-not-reserve-clause-turned g c =
     λ s at. record { turned = tt; halted = halted_nothing _ (kept-next c.reserve.ensures.reserved (next-at at)) }
+
+-- Memory was refused for all bytes, which fit the hold.
+pub returns-then-not-reserve-clause-lacks : goal.returns-then-not-reserve-clause-lacks
+returns-then-not-reserve-clause-lacks g c =
+    let fits : nat_le (length (held_of c.reserve.new.self.hold) + length c.args.bytes.now) most_held ≡ true =
+    rw c.reserve.ensures.hold (sym c.has_room.ensures ∙ c.if-has_room.true) in
+    record {
+      more = length c.args.bytes.now;
+      within = omega arith;
+      few = inr (grind (arith, nat_tests));
+      lacks = c.reserve.ensures.reserved.lacks c.if-not-reserve.true;
+    }

@@ -1,0 +1,43 @@
+-- What the parts of turns mean: those of a processor with a limit, and of one without. Of the types,
+-- `P` is the parser, `B` its buffer for texts, `T` the timeout, `W` the timeout's value, and `A` the
+-- allocator.
+use Rattle.std.specs.Prelude.{ℕ, ◌≤◌, List, None, Option}
+use Rattle.vte_core.specs.LongParser.{HasReadLong}
+use Rattle.vte_core.specs.Parser.{HasRead}
+use Rattle.vte_core.specs.declared.parser.Parser.{Parser}
+use Rattle.vte_core.specs.declared.parser.long.LongParser.{LongParser}
+use Rattle.vte.specs.Memory.{HasRoom}
+use Rattle.vte.specs.declared.ansi.growing_text.GrowingText.{GrowingText}
+use Rattle.vte.specs.declared.ansi.titles.TheConstants.{TEXT_ROOM}
+
+-- A parser: the streams that it has read, and for how many more bytes it has memory after each, with
+-- a text of `size` bytes.
+pub record ParserMeaning (P : Type 0) : Type 1 where
+  pub has_read : P → List ℕ → Type 0
+  pub has_memory : P → (size : ℕ) → List ℕ → ℕ → Type 0
+
+-- With a limit it needs memory only for a text of a fixed size, which holds what is joined.
+abbrev pub short_meaning : {N : ℕ} → ParserMeaning (Parser N)
+short_meaning = record {
+  has_read = HasRead;
+  has_memory = λ parser size stream count. TEXT_ROOM ≤ size;
+}
+
+abbrev pub long_meaning : {A : Type 0} → ParserMeaning (LongParser A)
+long_meaning = record { has_read = HasReadLong; has_memory = HasRoom }
+
+-- The parser, with its limit, the buffer for texts and the timeout.
+pub record TurnsMeaning (P B T W : Type 0) : Type 1 where
+  pub limit : Option ℕ
+  pub reading : ParserMeaning P
+  pub room_of : B → ℕ
+  pub timeout_of : T → W
+
+abbrev pub of_turns : {P B T W : Type 0} → Option ℕ → ParserMeaning P → (B → ℕ) → (T → W)
+    → TurnsMeaning P B T W
+of_turns limit reading room_of timeout_of =
+    record { limit = limit; reading = reading; room_of = room_of; timeout_of = timeout_of }
+
+-- The parts of a processor without a limit.
+abbrev pub unlimited : {T A W : Type 0} → (T → W) → TurnsMeaning (LongParser A) (GrowingText A) T W
+unlimited timeout_of = of_turns None long_meaning (λ text. text.size) timeout_of

@@ -50,8 +50,8 @@ pub use Rattle.vte.specs.Memory.{HasMemory, HasRoom, KeepsMemory, LacksMemoryFor
 pub use Rattle.vte.specs.Numbers.{decimal_number, first_number, first_numbers, number_from}
 pub use Rattle.vte.specs.Parts.{first_after, parts_of}
 pub use Rattle.vte.specs.machine.Performer.{FitsText, PerformerValue, with_event}
-pub use Rattle.vte.specs.machine.Turns.{AreAt, AreNextAt, EndsOpen, EndsTurn, Halted, IsAtBegin, IsOpenAt, IsParsed, IsParsedOn, IsParsedWithRoom, Opened, Turned, TurnsHaveMemory, TurnsLackMemory, TurnsRead, TurnsReserve, TurnsStandAt, TurnsStop}
-pub use Rattle.vte.specs.machine.Meanings.{ParserMeaning, TurnsMeaning, long_meaning, of_turns, short_meaning, unlimited}
+pub use Rattle.vte.specs.machine.Engine.{EngineIsAt, EngineIsAtKeeping, EndsOpen, EndsTurn, Halted, IsAtBegin, IsOpenAt, IsParsed, IsParsedKeeping, IsParsedWithRoom, Opened, Turned, EngineHasMemory, EngineLacksMemory, EngineReads, EngineReserves, EngineStandsAt, EngineStops}
+pub use Rattle.vte.specs.machine.Meanings.{ParserMeaning, EngineMeaning, long_meaning, of_engine, short_meaning, unlimited}
 pub use Rattle.vte.specs.Rendition.{attribute_calls, attributes_from}
 pub use Rattle.vte.specs.Synchronized.{begin_update, held_begin_count, begins_with, after_last_end, end_update, from_begin, last_part}
 pub use Rattle.vte.specs.machine.Texts.{FitsRoom, fits_room, joined_size, parts_left, after_separator}
@@ -60,4 +60,4 @@ pub use Rattle.vte.specs.Titles.{joined_texts, text_in}
 pub use Rattle.vte.specs.declared.ansi.laws.replays.Step.{Step}
 pub use Rattle.vte.specs.declared.ansi.laws.replays.Step.TheVariants.{Advance, StopSync}
 pub use Rattle.vte.specs.declared.ansi.performer.PerformerState.{PerformerState}
-pub use Rattle.vte.specs.declared.ansi.turns.Turns.{Turns}
+pub use Rattle.vte.specs.declared.ansi.engine.Engine.{Engine}

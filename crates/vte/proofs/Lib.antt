@@ -1,10 +1,15 @@
--- From events to calls (`performing`), held bytes (`updates`), turns (`turns`) and lists of calls (`replays`). `Common`
--- passes on words. docs/PROOFS.md leads from the headline down.
+-- Each folder uses only those above it. docs/PROOFS.md leads from the headline down.
+
+-- Words from std and specs/.
 pub mod Common
-pub mod performing
-pub mod replays
-pub mod turns
+-- The two sequences of updates: in held bytes, and where bytes are parsed.
 pub mod updates
+-- From events to calls.
+pub mod performing
+-- From slices of bytes and holds to the turns of a call.
+pub mod turns
+-- From turns to processors, and from calls to lists of them.
+pub mod replays
 -- Lemmas of single functions, most of them cited by attributes in the code.
 pub mod Calling
 pub mod ColorReadings

@@ -1,4 +1,4 @@
--- From what turns ensure to what a processor does, and from there to lists of calls: what the handler receives in all
+-- From what an engine ensures to what a processor does, and from there to lists of calls: what the handler receives in all
 -- of them.
 pub mod LongStandings
 pub mod PlainReplays

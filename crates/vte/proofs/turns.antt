@@ -4,4 +4,4 @@ pub mod HoldFacts
 pub mod HoldTurns
 pub mod Kinds
 pub mod Slices
-pub mod Turns
+pub mod ToCalls

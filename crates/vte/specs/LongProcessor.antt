@@ -14,8 +14,8 @@ use Rattle.vte.specs.declared.ansi.long_processor.LongProcessor.{LongProcessor}
 -- `HasParsedAndHolds`, with memory to parse the held bytes.
 pub record HasParsedAndHoldsLong {T A W : Type 0} (timeout_of : T → W)
     (processor : LongProcessor T A) (parsed held : List ℕ) (timeout : W) : Type 0 where
-  pub has_read : HasReadLong processor.turns.parser parsed
-  pub last : processor.turns.state.preceding_char ≡ last_printed (events None parsed)
+  pub has_read : HasReadLong processor.engine.parser parsed
+  pub last : processor.engine.state.preceding_char ≡ last_printed (events None parsed)
   pub timeout_is : timeout_of (timeout_long processor) ≡ timeout
   pub holds : held_long processor ≡ held
   pub has_memory : 0 < length held → HasMemory processor parsed (length held)
@@ -40,7 +40,7 @@ pub record Reserves {T A W : Type 0} (timeout_of : T → W) (old new : LongProce
       → HasParsedAndHoldsLong timeout_of new parsed held timeout
       → HasMemory new parsed (length held + more)
   pub memory : KeepsMemory (HasMemory old) (HasMemory new)
-  pub lacks : result ≡ false → (stream : List ℕ) → HasReadLong new.turns.parser stream
+  pub lacks : result ≡ false → (stream : List ℕ) → HasReadLong new.engine.parser stream
       → ¬ HasMemory new stream (length (held_long new) + more)
 
 -- How many bytes a call read.

@@ -7,7 +7,7 @@ use Rattle.vte.specs.Processor.{most_held}
 use Rattle.vte.specs.ProcessorCalls.{held_of}
 use Rattle.vte.specs.declared.ansi.long_processor.LongProcessor.{LongProcessor}
 use Rattle.vte.specs.declared.ansi.titles.TheConstants.{SEPARATORS}
-use Rattle.vte.specs.declared.ansi.turns.TheConstants.{SLICE}
+use Rattle.vte.specs.declared.ansi.engine.TheConstants.{SLICE}
 
 -- After the stream, the parser has memory for `count` bytes besides those of an open command. A
 -- text that is joined from all of them fits into `size` bytes, and its size into 64 bits.
@@ -18,14 +18,14 @@ pub record HasRoom {A : Type 0} (parser : LongParser A) (size : ℕ) (stream : L
   pub counted : open_size stream + count + SEPARATORS < 2 ^ 64
 
 abbrev pub held_long : {T A : Type 0} → LongProcessor T A → List ℕ
-held_long processor = held_of processor.turns.hold
+held_long processor = held_of processor.engine.hold
 
 abbrev pub timeout_long : {T A : Type 0} → LongProcessor T A → T
-timeout_long processor = processor.turns.state.timeout
+timeout_long processor = processor.engine.state.timeout
 
 -- After the stream, the processor has memory for `count` more bytes.
 abbrev pub HasMemory : {T A : Type 0} → LongProcessor T A → (stream : List ℕ) → (count : ℕ) → Type 0
-HasMemory processor = HasRoom processor.turns.parser processor.turns.state.text.size
+HasMemory processor = HasRoom processor.engine.parser processor.engine.state.text.size
 
 -- Memory that was there stays.
 abbrev pub KeepsMemory : (had has : List ℕ → ℕ → Type 0) → Type 0
@@ -38,10 +38,10 @@ pub record LacksMemoryForSome {T A : Type 0} (processor : LongProcessor T A)
   pub more : ℕ
   pub within : more ≤ left
   pub few : (more ≤ SLICE) ⊎ (length (held_long processor) + more ≤ most_held)
-  pub lacks : (stream : List ℕ) → HasReadLong processor.turns.parser stream
+  pub lacks : (stream : List ℕ) → HasReadLong processor.engine.parser stream
       → ¬ HasMemory processor stream (length (held_long processor) + more)
 
 -- The processor has given back its memory: that for data of a command, and that to join a text.
 abbrev pub HasFreedMemory : {T A : Type 0} → LongProcessor T A → Type 0
 HasFreedMemory processor =
-    (memory_of processor.turns.parser ≡ 0) × (string_capacity processor.turns.state.text.text ≡ 0)
+    (memory_of processor.engine.parser ≡ 0) × (string_capacity processor.engine.state.text.text ≡ 0)

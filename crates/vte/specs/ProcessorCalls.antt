@@ -18,16 +18,16 @@ abbrev pub held_of : {A : Type 0} → Hold A → List ℕ
 held_of hold = drop hold.released hold.bytes.items
 
 abbrev pub held_in : {T A : Type 0} → Processor T A → List ℕ
-held_in processor = held_of processor.turns.hold
+held_in processor = held_of processor.engine.hold
 
 abbrev pub timeout_in : {T A : Type 0} → Processor T A → T
-timeout_in processor = processor.turns.state.timeout
+timeout_in processor = processor.engine.state.timeout
 
 -- The processor has parsed bytes, and holds those that follow. It knows the last printed character.
 pub record HasParsedAndHolds {T A W : Type 0} (timeout_of : T → W) (processor : Processor T A)
     (parsed held : List ℕ) (timeout : W) : Type 0 where
-  pub has_read : HasRead processor.turns.parser parsed
-  pub last : processor.turns.state.preceding_char ≡ last_printed (events usual_limit parsed)
+  pub has_read : HasRead processor.engine.parser parsed
+  pub last : processor.engine.state.preceding_char ≡ last_printed (events usual_limit parsed)
   pub timeout_is : timeout_of (timeout_in processor) ≡ timeout
   pub holds : held_in processor ≡ held
 
@@ -42,8 +42,8 @@ pub record IsAt {V W : Type 0} (Stands : Standing W) (value : V) (state : State 
   pub handler_is : value ≡ state.handler
 
 -- A call led to a state by turns, and is there: `IsThere` says so of the processor and the
--- handler's value, as `IsAt` does. Each given byte is parsed or held, once and in order. `HoldsWell`
--- stays true.
+-- handler's value, as `IsAt` does. Each given byte is parsed or held, once and in order.
+-- `HoldsWell` stays true.
 pub record Advanced {V W : Type 0} (meaning : Meaning V W) (state : State V W) (bytes : List ℕ)
     (IsThere : State V W → Type 0) : Type 0 where
   pub next : State V W
@@ -96,8 +96,8 @@ AreAdvances (StopSync ∷ steps) = ⊥
 -- the processor and the handler stood before, `Stands` and `new` where they stand now.
 pub record ParsesAll {V W : Type 0} (meaning : Meaning V W) (Stood Stands : Standing W)
     (old new : V) (bytes : List ℕ) : Type 0 where
-  -- If the handler was as after the calls of the stream, from the value with which it started, it is
-  -- as after those of both. Of an empty stream that is so with its value before the call.
+  -- If the handler was as after the calls of the stream, from the value with which it started, it
+  -- is as after those of both. Of an empty stream that is so with its value before the call.
   pub follows : (start : V) (stream : List ℕ) → HasParsedAll Stood stream
       → old ≡ after meaning.step start (calls (events meaning.limit stream))
       → new ≡ after meaning.step start (calls (events meaning.limit (stream ++ bytes)))

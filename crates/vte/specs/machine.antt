@@ -5,4 +5,4 @@ pub mod Meanings
 pub mod Performer
 pub mod Performing
 pub mod Texts
-pub mod Turns
+pub mod Engine

@@ -24,7 +24,7 @@ mod std_sync_handler;
 mod tests;
 mod text_buffer;
 mod titles;
-mod turns;
+mod engine;
 mod values;
 
 pub use clock::Clock;

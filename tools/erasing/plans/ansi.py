@@ -101,7 +101,7 @@ PROCESSOR = dict(
         "vte/ansi/rendition": {INLINE: ["fn attribute"]},
         "vte/ansi/numbers": {INLINE: ["fn next_or", "pub(crate) fn first_number"]},
         # what a processor does per call, which matters if a call has few bytes
-        "vte/ansi/turns": {
+        "vte/ansi/engine": {
             INLINE: ["pub(crate) fn read<", "fn turn<", "fn hold_bytes"],
             # stops are rare: kept out of a turn, they leave its loop over bytes as it is
             "#[inline(never)]": ["pub(crate) fn stop<"],

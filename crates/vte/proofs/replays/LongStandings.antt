@@ -1,18 +1,18 @@
--- A processor without a limit stands where its turns do, so what the turns ensure is true of it. A call is refused no
+-- A processor without a limit stands where its engine does, so what the engine ensures is true of it. A call is refused no
 -- memory that was there for all its bytes: room for the held and the given bytes at the start leaves room for what is
 -- left, turn by turn.
 use Rattle.vte.proofs.Common.{◌≡◌, ℕ, ◌+◌, ◌-◌, ◌<◌, List, ◌++◌, length, Result, Ok, Err, refl, ap, arith, length-append, Refused, LongParser, counts_data}
-use Rattle.vte.proofs.Common.{AdvancesLong, Bor, Meaning, IsAt, HasMemory, HasParsedAndHoldsLong, HasTaken, Reserves, StopsSyncLong, TurnsLackMemory, TurnsRead, TurnsReserve, TurnsStandAt, TurnsStop, State, Bool, stop, drop, length-drop, unlimited}
-use Rattle.vte.proofs.turns.Turns.{taken-to}
+use Rattle.vte.proofs.Common.{AdvancesLong, Bor, Meaning, IsAt, HasMemory, HasParsedAndHoldsLong, HasTaken, Reserves, StopsSyncLong, EngineLacksMemory, EngineReads, EngineReserves, EngineStandsAt, EngineStops, State, Bool, stop, drop, length-drop, unlimited}
+use Rattle.vte.proofs.turns.ToCalls.{taken-to}
 use Rattle.vte.proofs.replays.Standings.{reads_in_turns}
 use Rattle.vte.specs.declared.ansi.long_processor.LongProcessor.{LongProcessor}
 use Rattle.vte.proofs.turns.Slices.{some_grow}
 
 module _ {T A W : Type 0} {timeout_of : T → W} {processor : LongProcessor T A} {parsed held : List ℕ}
     {timeout : W} where
-  turns_stand : HasParsedAndHoldsLong timeout_of processor parsed held timeout
-      → TurnsStandAt (unlimited timeout_of) processor.turns parsed held timeout
-  turns_stand s = record {
+  engine_stands : HasParsedAndHoldsLong timeout_of processor parsed held timeout
+      → EngineStandsAt (unlimited timeout_of) processor.engine parsed held timeout
+  engine_stands s = record {
     has_read = s.has_read;
     last = s.last;
     timeout_is = s.timeout_is;
@@ -20,7 +20,7 @@ module _ {T A W : Type 0} {timeout_of : T → W} {processor : LongProcessor T A}
     has_memory = s.has_memory;
   }
 
-  long_stands : TurnsStandAt (unlimited timeout_of) processor.turns parsed held timeout
+  long_stands : EngineStandsAt (unlimited timeout_of) processor.engine parsed held timeout
       → HasParsedAndHoldsLong timeout_of processor parsed held timeout
   long_stands s = record {
     has_read = s.has_read;
@@ -31,36 +31,36 @@ module _ {T A W : Type 0} {timeout_of : T → W} {processor : LongProcessor T A}
   }
 
 module _ {T A V W : Type 0} {timeout_of : T → W} {processor : LongProcessor T A} {value : V} (s : State V W) where
-  turns_at : IsAt (HasParsedAndHoldsLong timeout_of processor) value s
-      → IsAt (TurnsStandAt (unlimited timeout_of) processor.turns) value s
-  turns_at at = record { stands = turns_stand at.stands; handler_is = at.handler_is }
+  engine_at : IsAt (HasParsedAndHoldsLong timeout_of processor) value s
+      → IsAt (EngineStandsAt (unlimited timeout_of) processor.engine) value s
+  engine_at at = record { stands = engine_stands at.stands; handler_is = at.handler_is }
 
-  is_at : IsAt (TurnsStandAt (unlimited timeout_of) processor.turns) value s
+  is_at : IsAt (EngineStandsAt (unlimited timeout_of) processor.engine) value s
       → IsAt (HasParsedAndHoldsLong timeout_of processor) value s
   is_at at = record { stands = long_stands at.stands; handler_is = at.handler_is }
 
 pub reserves_long : {T A W : Type 0} {timeout_of : T → W} {old new : LongProcessor T A} {more : ℕ} {result : Bool}
-    → TurnsReserve (unlimited timeout_of) old.turns new.turns more result → Reserves timeout_of old new more result
+    → EngineReserves (unlimited timeout_of) old.engine new.engine more result → Reserves timeout_of old new more result
 reserves_long r = record {
-  same = λ parsed held timeout had. long_stands (r.same parsed held timeout (turns_stand had));
-  room = λ yes parsed held timeout has. r.room yes parsed held timeout (turns_stand has);
+  same = λ parsed held timeout had. long_stands (r.same parsed held timeout (engine_stands had));
+  room = λ yes parsed held timeout has. r.room yes parsed held timeout (engine_stands has);
   memory = r.memory;
   lacks = r.lacks;
 }
 
 pub stops_long : {T A V W : Type 0} {timeout_of : T → W} {m : Meaning V W} {old new : LongProcessor T A}
-    {before value : V} → TurnsStop (unlimited timeout_of) m old.turns new.turns before value
+    {before value : V} → EngineStops (unlimited timeout_of) m old.engine new.engine before value
     → StopsSyncLong timeout_of m old new before value
 stops_long {m} r = record {
-  stops = λ s at. is_at (stop m s) (r.stops s (turns_at s at));
-  memory = λ s at. r.memory s (turns_at s at);
+  stops = λ s at. is_at (stop m s) (r.stops s (engine_at s at));
+  memory = λ s at. r.memory s (engine_at s at);
 }
 
 module _ {T A V W : Type 0} {timeout_of : T → W} {m : Meaning V W} {new : LongProcessor T A} {value : V}
     {s : State V W} {bytes : List ℕ} where
   had_memory : (read : ℕ) → read < length bytes
-      → HasTaken m s bytes read (IsAt (TurnsStandAt (unlimited timeout_of) new.turns) value)
-      → TurnsLackMemory (unlimited timeout_of) new.turns (length bytes - read)
+      → HasTaken m s bytes read (IsAt (EngineStandsAt (unlimited timeout_of) new.engine) value)
+      → EngineLacksMemory (unlimited timeout_of) new.engine (length bytes - read)
       → HasMemory new s.parsed (length s.held + length bytes) → ⊥
   had_memory read less taken lacks room =
       let t = taken.next in
@@ -87,23 +87,23 @@ module _ {T A V W : Type 0} {timeout_of : T → W} {m : Meaning V W} {new : Long
 
 pub advances_long : {T A V W : Type 0} {timeout_of : T → W} {m : Meaning V W} {old new : LongProcessor T A}
     {before value : V} (bytes : Bor (List ℕ)) (result : Result (Unit {0}) Refused)
-    → TurnsRead (unlimited timeout_of) m old.turns new.turns before value bytes.now result
+    → EngineReads (unlimited timeout_of) m old.engine new.engine before value bytes.now result
     → AdvancesLong timeout_of m old new before value bytes.now result
 advances_long bytes (Ok all) r = record {
-  takes = λ s at. taken-to is_at (r.takes s (turns_at s at));
+  takes = λ s at. taken-to is_at (r.takes s (engine_at s at));
   within = tt;
   lacks = tt;
-  memory = λ s at. r.memory s (turns_at s at);
-  all = reads_in_turns bytes (λ s at. taken-to is_at (r.takes s (turns_at s at))) refl;
+  memory = λ s at. r.memory s (engine_at s at);
+  all = reads_in_turns bytes (λ s at. taken-to is_at (r.takes s (engine_at s at))) refl;
   enough = λ s at room. refl;
 }
 advances_long bytes (Err refused) r = record {
-  takes = λ s at. taken-to is_at (r.takes s (turns_at s at));
+  takes = λ s at. taken-to is_at (r.takes s (engine_at s at));
   within = r.within;
   lacks = record { more = r.lacks.more; within = r.lacks.within; few = r.lacks.few; lacks = r.lacks.lacks };
-  memory = λ s at. r.memory s (turns_at s at);
+  memory = λ s at. r.memory s (engine_at s at);
   all = tt;
   enough = λ s at room.
-      absurd (had_memory refused.read r.within (r.takes s (turns_at s at)) r.lacks
-      (r.memory s (turns_at s at) _ _ room));
+      absurd (had_memory refused.read r.within (r.takes s (engine_at s at)) r.lacks
+      (r.memory s (engine_at s at) _ _ room));
 }

@@ -1,20 +1,20 @@
--- A processor with a limit stands where its turns do: there is always memory. So what the turns ensure is true of it.
-use Rattle.vte.proofs.Common.{◌≤◌, ℕ, List, length, Result, Ok, Err, arith, Bor, Refused, TurnsMeaning, Meaning, State, usual_limit}
-use Rattle.vte.proofs.Common.{Advanced, HasParsedAndHolds, HasTaken, IsAt, ReadsInTurns, TurnsRead, Standing, TurnsStandAt}
-use Rattle.vte.proofs.Common.{◌≡◌, refl, short_meaning, of_turns}
+-- A processor with a limit stands where its engine does: there is always memory. So what the engine ensures is true of it.
+use Rattle.vte.proofs.Common.{◌≤◌, ℕ, List, length, Result, Ok, Err, arith, Bor, Refused, EngineMeaning, Meaning, State, usual_limit}
+use Rattle.vte.proofs.Common.{Advanced, HasParsedAndHolds, HasTaken, IsAt, ReadsInTurns, EngineReads, Standing, EngineStandsAt}
+use Rattle.vte.proofs.Common.{◌≡◌, refl, short_meaning, of_engine}
 use Rattle.vte_core.specs.declared.parser.Parser.{Parser}
 use Rattle.vte.proofs.replays.PlainReplays.{plain_call}
-use Rattle.vte.proofs.turns.Turns.{has_advanced, taken-to}
+use Rattle.vte.proofs.turns.ToCalls.{has_advanced, taken-to}
 use Rattle.vte.specs.declared.ansi.processor.Processor.{Processor}
 use Rattle.vte.specs.declared.ansi.titles.TheConstants.{TEXT_ROOM}
 
-abbrev pub limited : {N : ℕ} {B T W : Type 0} → (T → W) → TurnsMeaning (Parser N) B T W
-limited timeout_of = of_turns usual_limit short_meaning (λ text. TEXT_ROOM) timeout_of
+abbrev pub limited : {N : ℕ} {B T W : Type 0} → (T → W) → EngineMeaning (Parser N) B T W
+limited timeout_of = of_engine usual_limit short_meaning (λ text. TEXT_ROOM) timeout_of
 
 module _ {T A V W : Type 0} {timeout_of : T → W} {processor : Processor T A} {value : V} (s : State V W) where
-  turns_at : IsAt (HasParsedAndHolds timeout_of processor) value s
-      → IsAt (TurnsStandAt (limited timeout_of) processor.turns) value s
-  turns_at at = record {
+  engine_at : IsAt (HasParsedAndHolds timeout_of processor) value s
+      → IsAt (EngineStandsAt (limited timeout_of) processor.engine) value s
+  engine_at at = record {
     stands = record {
       has_read = at.stands.has_read;
       last = at.stands.last;
@@ -25,7 +25,7 @@ module _ {T A V W : Type 0} {timeout_of : T → W} {processor : Processor T A} {
     handler_is = at.handler_is;
   }
 
-  is_at : IsAt (TurnsStandAt (limited timeout_of) processor.turns) value s
+  is_at : IsAt (EngineStandsAt (limited timeout_of) processor.engine) value s
       → IsAt (HasParsedAndHolds timeout_of processor) value s
   is_at at = record {
     stands = record {
@@ -49,10 +49,10 @@ module _ {V W : Type 0} {m : Meaning V W} {Stood Stands : Standing W} {old new :
 
 pub never_refused : {T A V W : Type 0} {timeout_of : T → W} {m : Meaning V W} {processor next : Processor T A}
     {old new : V} (bytes : Bor (List ℕ)) (result : Result (Unit {0}) Refused)
-    → TurnsRead (limited timeout_of) m processor.turns next.turns old new bytes.now result
+    → EngineReads (limited timeout_of) m processor.engine next.engine old new bytes.now result
     → ReadsInTurns m (HasParsedAndHolds timeout_of processor) (HasParsedAndHolds timeout_of next) old new bytes.now
-never_refused bytes (Ok all) r = reads_in_turns bytes (λ s at. taken-to is_at (r.takes s (turns_at s at))) refl
+never_refused bytes (Ok all) r = reads_in_turns bytes (λ s at. taken-to is_at (r.takes s (engine_at s at))) refl
 never_refused bytes (Err refused) r =
     reads_in_turns bytes {read = length bytes.now} (λ s at. absurd (
-    let t = r.takes s (turns_at s at) in
+    let t = r.takes s (engine_at s at) in
     r.lacks.lacks t.next.parsed t.is_at.stands.has_read (omega arith))) refl

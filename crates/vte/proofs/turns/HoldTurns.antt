@@ -1,7 +1,7 @@
 -- A hold turn by its parts: bytes join the hold, the timeout is set as often as they begin updates, and what the hold
 -- releases is parsed.
-use Rattle.vte.proofs.Common.{◌≡◌, ℕ, ◌+◌, ◌-◌, ◌<◌, List, [], ◌∷◌, ◌++◌, length, length-append, length-take, take, refl, sym, ◌∙◌, arith, take_all, Turns, IsAdded}
-use Rattle.vte.proofs.Common.{held_of, released_of, still_held, Meaning, set_times, AreAt, TurnsMeaning, AreNextAt, IsParsed, IsParsedOn, IsParsedWithRoom, State, after_last_end, extend, from_begin, hold_turn, release}
+use Rattle.vte.proofs.Common.{◌≡◌, ℕ, ◌+◌, ◌-◌, ◌<◌, List, [], ◌∷◌, ◌++◌, length, length-append, length-take, take, refl, sym, ◌∙◌, arith, take_all, Engine, IsAdded}
+use Rattle.vte.proofs.Common.{held_of, released_of, still_held, Meaning, set_times, EngineIsAt, EngineMeaning, EngineIsAtKeeping, IsParsed, IsParsedKeeping, IsParsedWithRoom, State, after_last_end, extend, from_begin, hold_turn, release}
 use Rattle.vte.proofs.Common.{ap, inl, inr, parse, stop, with_held}
 use Rattle.std.proofs.lemmas.List.{nil_from_length}
 use Rattle.vte.proofs.turns.Kinds.{holds_all, holds_rest}
@@ -42,12 +42,12 @@ module _ {V W : Type 0} (m : Meaning V W) where
   ]
 
 -- the hold has the new bytes, and the timeout was set as often as they begin updates
-module _ {P B T A V W : Type 0} {w : TurnsMeaning P B T W} (m : Meaning V W) {s : State V W} {more : List ℕ}
-    {old : Turns P B T A} {hold : Hold A} {timeout : T} {begins : ℕ} {value : V}
-    (at : AreAt w old value s) (added : IsAdded s.held more hold begins)
+module _ {P B T A V W : Type 0} {w : EngineMeaning P B T W} (m : Meaning V W) {s : State V W} {more : List ℕ}
+    {old : Engine P B T A} {hold : Hold A} {timeout : T} {begins : ℕ} {value : V}
+    (at : EngineIsAt w old value s) (added : IsAdded s.held more hold begins)
     (is_set : w.timeout_of timeout ≡ set_times m.timeout begins (w.timeout_of old.state.timeout))
     (room : w.reading.has_memory old.parser (w.room_of old.state.text) s.parsed (length s.held + length more)) where
-  abbrev set : Turns P B T A
+  abbrev set : Engine P B T A
   set = record old { hold = hold; state = record old.state { timeout = timeout } }
 
   extended : IsParsed w set.parser set.state value (extend m s more)
@@ -59,14 +59,14 @@ module _ {P B T A V W : Type 0} {w : TurnsMeaning P B T W} (m : Meaning V W) {s 
   }
 
   -- the released bytes are parsed, and the others stay held, with memory to parse them
-  pub turned_cut : {last : Turns P B T A} {next : V} → 0 < length (held_of hold)
+  pub turned_cut : {last : Engine P B T A} {next : V} → 0 < length (held_of hold)
       → ((t : State V W) (n : ℕ) → IsParsed w set.parser set.state value t
       → (0 < length (released_of hold)
       → w.reading.has_memory set.parser (w.room_of set.state.text) t.parsed (length (released_of hold) + n))
-      → IsParsedOn w set.parser set.state last.parser last.state next (parse m t (released_of hold)))
+      → IsParsedKeeping w set.parser set.state last.parser last.state next (parse m t (released_of hold)))
       → ((t : State V W) (n : ℕ) → IsParsedWithRoom w set.parser set.state value t (length (released_of hold) + n)
       → w.reading.has_memory last.parser (w.room_of last.state.text) (t.parsed ++ released_of hold) n)
-      → last.hold ≡ hold → AreNextAt w old last next (hold_turn m s more)
+      → last.hold ≡ hold → EngineIsAtKeeping w old last next (hold_turn m s more)
   turned_cut {last} {next} some parses leaves kept =
       let t = extend m s more in
       let all = s.held ++ more in
@@ -104,12 +104,12 @@ module _ {P B T A V W : Type 0} {w : TurnsMeaning P B T W} (m : Meaning V W) {s 
       })
 
   -- the update is stopped
-  pub turned_stop : {last : Turns P B T A} {next : V} → 0 < length more → length (held_of hold) ≡ 0
+  pub turned_stop : {last : Engine P B T A} {next : V} → 0 < length more → length (held_of hold) ≡ 0
       → ((t : State V W) (n : ℕ) → IsParsed w set.parser set.state value t → released_of hold ≡ t.held
       → held_of hold ≡ []
       → (0 < length t.held → w.reading.has_memory set.parser (w.room_of set.state.text) t.parsed (length t.held + n))
-      → AreNextAt w set last next (stop m t))
-      → AreNextAt w old last next (hold_turn m s more)
+      → EngineIsAtKeeping w set last next (stop m t))
+      → EngineIsAtKeeping w old last next (hold_turn m s more)
   turned_stop {last} {next} some is stops =
       let all = s.held ++ more in
       let none : held_of hold ≡ [] = nil_from_length (held_of hold) is in
@@ -117,7 +117,7 @@ module _ {P B T A V W : Type 0} {w : TurnsMeaning P B T W} (m : Meaning V W) {s 
       let whole : released_of hold ≡ all =
       added.released_is ∙ rw nothing (take_all (length all - 0) all (omega arith)) in
       let sum : length all + 0 ≡ length s.held + length more = omega (arith, length-append s.held more) in
-      let there : AreNextAt w set last next (stop m (extend m s more)) =
+      let there : EngineIsAtKeeping w set last next (stop m (extend m s more)) =
       stops (extend m s more) 0 extended whole none (λ some. rw sum room) in
       rw (holds_none m s more (omega (arith, some, length-append s.held more)) nothing)
       (record { are_at = there.are_at; memory = there.memory })

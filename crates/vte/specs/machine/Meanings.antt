@@ -1,6 +1,6 @@
--- What the parts of turns mean: those of a processor with a limit, and of one without. Of the types,
--- `P` is the parser, `B` its buffer for texts, `T` the timeout, `W` the timeout's value, and `A` the
--- allocator.
+-- What the parts of an engine mean: of a processor with a limit, and of one without. Of the types,
+-- `P` is the parser, `B` its buffer for texts, `T` the timeout, `W` the timeout's value, and `A`
+-- the allocator.
 use Rattle.std.specs.Prelude.{ℕ, ◌≤◌, List, None, Option}
 use Rattle.vte_core.specs.LongParser.{HasReadLong}
 use Rattle.vte_core.specs.Parser.{HasRead}
@@ -10,8 +10,8 @@ use Rattle.vte.specs.Memory.{HasRoom}
 use Rattle.vte.specs.declared.ansi.growing_text.GrowingText.{GrowingText}
 use Rattle.vte.specs.declared.ansi.titles.TheConstants.{TEXT_ROOM}
 
--- A parser: the streams that it has read, and for how many more bytes it has memory after each, with
--- a text of `size` bytes.
+-- A parser: the streams that it has read, and for how many more bytes it has memory after each,
+-- with a text of `size` bytes.
 pub record ParserMeaning (P : Type 0) : Type 1 where
   pub has_read : P → List ℕ → Type 0
   pub has_memory : P → (size : ℕ) → List ℕ → ℕ → Type 0
@@ -27,17 +27,17 @@ abbrev pub long_meaning : {A : Type 0} → ParserMeaning (LongParser A)
 long_meaning = record { has_read = HasReadLong; has_memory = HasRoom }
 
 -- The parser, with its limit, the buffer for texts and the timeout.
-pub record TurnsMeaning (P B T W : Type 0) : Type 1 where
+pub record EngineMeaning (P B T W : Type 0) : Type 1 where
   pub limit : Option ℕ
   pub reading : ParserMeaning P
   pub room_of : B → ℕ
   pub timeout_of : T → W
 
-abbrev pub of_turns : {P B T W : Type 0} → Option ℕ → ParserMeaning P → (B → ℕ) → (T → W)
-    → TurnsMeaning P B T W
-of_turns limit reading room_of timeout_of =
+abbrev pub of_engine : {P B T W : Type 0} → Option ℕ → ParserMeaning P → (B → ℕ) → (T → W)
+    → EngineMeaning P B T W
+of_engine limit reading room_of timeout_of =
     record { limit = limit; reading = reading; room_of = room_of; timeout_of = timeout_of }
 
 -- The parts of a processor without a limit.
-abbrev pub unlimited : {T A W : Type 0} → (T → W) → TurnsMeaning (LongParser A) (GrowingText A) T W
-unlimited timeout_of = of_turns None long_meaning (λ text. text.size) timeout_of
+abbrev pub unlimited : {T A W : Type 0} → (T → W) → EngineMeaning (LongParser A) (GrowingText A) T W
+unlimited timeout_of = of_engine None long_meaning (λ text. text.size) timeout_of

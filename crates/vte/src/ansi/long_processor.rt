@@ -8,7 +8,7 @@ ghost use Rattle.vte.specs.Memory.{HasFreedMemory, held_long, timeout_long};
 ghost use Rattle.vte.specs.ProcessorCalls.{CountsHeld, HasParsedAll};
 
 use crate::ansi::growing_text::GrowingText;
-use crate::ansi::turns::Turns;
+use crate::ansi::engine::Engine;
 use std::alloc::{AllocError, Allocator};
 use vte_core::{InRuns, LongParser, Refused, Singly};
 use vte_handler::{Handler, HandlerText, Timeout};
@@ -29,7 +29,7 @@ use vte_handler::{Handler, HandlerText, Timeout};
 /// ```
 #[derive(Drop)]
 pub struct LongProcessor<T: Timeout + Drop, A: Allocator> {
-    turns: Turns<LongParser<A>, GrowingText<A>, T, A>,
+    engine: Engine<LongParser<A>, GrowingText<A>, T, A>,
 }
 
 /// A clone goes on as the processor would, if so does that of its timeout.
@@ -37,8 +37,8 @@ impl<T: Timeout + Clone + Drop, A: Allocator + Clone> Clone for LongProcessor<T,
     ghost is_clone = { IsCopyOfLong T.is_clone T.value_of };
 
     fn clone(&self) -> Result<Self, AllocError> {
-        let turns = self.turns.clone()?;
-        Ok(LongProcessor { turns })
+        let engine = self.engine.clone()?;
+        Ok(LongProcessor { engine })
     }
 }
 
@@ -60,8 +60,8 @@ impl<T: Timeout + Drop, A: Allocator + Copy> LongProcessor<T, A> {
     {
         let parser = LongParser::new(alloc);
         let text = GrowingText::new(alloc);
-        let turns = Turns::new(alloc, parser, text, timeout)?;
-        Ok(LongProcessor { turns })
+        let engine = Engine::new(alloc, parser, text, timeout)?;
+        Ok(LongProcessor { engine })
     }
 }
 
@@ -70,14 +70,14 @@ impl<T: Timeout + Drop, A: Allocator> LongProcessor<T, A> {
     pub fn sync_timeout(&self) -> &T
         ensures { result.now ≡ timeout_long self.now }
     {
-        &self.turns.state.timeout
+        &self.engine.state.timeout
     }
 
     /// Returns the number of bytes that are held back, at most 2,097,150.
     pub fn sync_bytes_count(&self) -> usize
         ensures { CountsHeld (held_long self.now) result }
     {
-        self.turns.hold.len()
+        self.engine.hold.len()
     }
 
     /// Takes memory for the bytes that are held back and for this many more, and returns whether it
@@ -85,7 +85,7 @@ impl<T: Timeout + Drop, A: Allocator> LongProcessor<T, A> {
     pub fn reserve(&mut self, more: usize) -> bool
         ensures { Reserves T.value_of self.old self.new more result }
     {
-        self.turns.reserve(more)
+        self.engine.reserve(more)
     }
 
     /// Gives back the memory that an open operating system command doesn't need, unless bytes are
@@ -99,9 +99,9 @@ impl<T: Timeout + Drop, A: Allocator> LongProcessor<T, A> {
             → HasParsedAndHoldsLong T.value_of self.old parsed [] timeout → open_size parsed ≡ 0
             → HasFreedMemory self.new }
     {
-        if self.turns.hold.len() == 0 {
-            self.turns.parser.shrink();
-            self.turns.state.text.free();
+        if self.engine.hold.len() == 0 {
+            self.engine.parser.shrink();
+            self.engine.state.text.free();
         }
     }
 
@@ -114,7 +114,7 @@ impl<T: Timeout + Drop, A: Allocator> LongProcessor<T, A> {
             (meaning None H.step T.set T.clear T.allows) self.old self.new (H.value_of handler.old)
             (H.value_of handler.new) }
     {
-        self.turns.stop::<H, Singly>(handler);
+        self.engine.stop::<H, Singly>(handler);
     }
 
     /// Stops an update as [`stop_sync`](Self::stop_sync) does. The handler receives text in runs.
@@ -124,7 +124,7 @@ impl<T: Timeout + Drop, A: Allocator> LongProcessor<T, A> {
             (meaning None H.step T.set T.clear T.allows) self.old self.new (H.value_of handler.old)
             (H.value_of handler.new) }
     {
-        self.turns.stop::<H, InRuns>(handler);
+        self.engine.stop::<H, InRuns>(handler);
     }
 
     /// Reads bytes, and parses them or holds them back: all of them, or as many as there is memory
@@ -137,7 +137,7 @@ impl<T: Timeout + Drop, A: Allocator> LongProcessor<T, A> {
             (meaning None H.step T.set T.clear T.allows) self.old self.new (H.value_of handler.old)
             (H.value_of handler.new) bytes.now result }
     {
-        self.turns.read::<H, Singly>(handler, bytes)
+        self.engine.read::<H, Singly>(handler, bytes)
     }
 
     /// Reads bytes as [`advance`](Self::advance) does. The handler receives text in runs.
@@ -150,6 +150,6 @@ impl<T: Timeout + Drop, A: Allocator> LongProcessor<T, A> {
             (meaning None H.step T.set T.clear T.allows) self.old self.new (H.value_of handler.old)
             (H.value_of handler.new) bytes.now result }
     {
-        self.turns.read::<H, InRuns>(handler, bytes)
+        self.engine.read::<H, InRuns>(handler, bytes)
     }
 }

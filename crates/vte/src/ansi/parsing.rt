@@ -4,8 +4,8 @@ ghost use Rattle.std.specs.Prelude.{◌≡◌, ◌≤◌, ◌+◌, ◌++◌, ℕ
 ghost use Rattle.vte.specs.machine.Performing.{PerformsAll, PerformsUntilStop, performer_value};
 ghost use Rattle.vte.specs.Processor.{State, meaning, parse};
 ghost use Rattle.vte.specs.machine.Performer.{with_event};
-ghost use Rattle.vte.specs.machine.Turns.{IsAtBegin, IsParsedOn, IsParsedWithRoom};
-ghost use Rattle.vte.specs.machine.Meanings.{ParserMeaning, of_turns, short_meaning};
+ghost use Rattle.vte.specs.machine.Engine.{IsAtBegin, IsParsedKeeping, IsParsedWithRoom};
+ghost use Rattle.vte.specs.machine.Meanings.{ParserMeaning, of_engine, short_meaning};
 ghost use Rattle.vte.specs.Memory.{KeepsMemory};
 ghost use Rattle.vte_handler.specs.Timeout.{timeout_meaning};
 ghost use Rattle.vte_core.specs.Stream.{usual_limit};
@@ -132,14 +132,14 @@ pub(crate) fn parse_all<
     G: ParseAs<H, T, P>,
 >(parser: &mut P, state: &mut PerformerState<T, B>, handler: &mut H, bytes: &[u8])
     ensures parsed { (s : State H.Value T.Value) (n : ℕ)
-        → IsParsedWithRoom (of_turns P.limit P.reading B.room T.value_of) parser.old state.old
+        → IsParsedWithRoom (of_engine P.limit P.reading B.room T.value_of) parser.old state.old
         (H.value_of handler.old) s (length bytes.now + n) →
-        IsParsedOn
-        (of_turns P.limit P.reading B.room T.value_of) parser.old state.old parser.new state.new
+        IsParsedKeeping
+        (of_engine P.limit P.reading B.room T.value_of) parser.old state.old parser.new state.new
         (H.value_of handler.new)
         (parse (meaning P.limit H.step T.set T.clear T.allows) s bytes.now) }
     ensures room { (s : State H.Value T.Value) (n : ℕ)
-        → IsParsedWithRoom (of_turns P.limit P.reading B.room T.value_of) parser.old state.old
+        → IsParsedWithRoom (of_engine P.limit P.reading B.room T.value_of) parser.old state.old
         (H.value_of handler.old) s (length bytes.now + n) →
         P.reading.has_memory parser.new (B.room state.new.text) (s.parsed ++ bytes.now) n }
 {
@@ -163,11 +163,11 @@ pub(crate) fn parse_until_begin<
 >(parser: &mut P, state: &mut PerformerState<T, B>, handler: &mut H, bytes: &[u8]) -> (usize, bool)
     ensures within { result.0 ≤ length bytes.now }
     ensures stops { (s : State H.Value T.Value) (n : ℕ)
-        → IsParsedWithRoom (of_turns P.limit P.reading B.room T.value_of) parser.old state.old
+        → IsParsedWithRoom (of_engine P.limit P.reading B.room T.value_of) parser.old state.old
         (H.value_of handler.old) s (length bytes.now + n) →
         IsAtBegin (meaning P.limit H.step T.set T.clear T.allows) s bytes.now result.0 result.1
-        (IsParsedOn
-        (of_turns P.limit P.reading B.room T.value_of) parser.old state.old parser.new state.new
+        (IsParsedKeeping
+        (of_engine P.limit P.reading B.room T.value_of) parser.old state.old parser.new state.new
         (H.value_of handler.new)) }
 {
     let mut performer = Performer {

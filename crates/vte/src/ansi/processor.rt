@@ -6,7 +6,7 @@ ghost use Rattle.vte.specs.ProcessorCalls.{CountsHeld, HasParsedAll, HasParsedAn
 ghost use Rattle.vte_core.specs.Stream.{usual_limit};
 
 use crate::ansi::parsing::{ProcessorParser, ProcessorText};
-use crate::ansi::turns::Turns;
+use crate::ansi::engine::Engine;
 use std::alloc::{AllocError, Allocator};
 use vte_core::{InRuns, Singly};
 use vte_handler::{Handler, HandlerText, Timeout};
@@ -40,7 +40,7 @@ use vte_handler::{Handler, HandlerText, Timeout};
 /// ```
 #[derive(Drop)]
 pub struct Processor<T: Timeout + Drop, A: Allocator> {
-    turns: Turns<ProcessorParser, ProcessorText, T, A>,
+    engine: Engine<ProcessorParser, ProcessorText, T, A>,
 }
 
 /// A clone goes on as the processor would, if so does that of its timeout.
@@ -48,8 +48,8 @@ impl<T: Timeout + Clone + Drop, A: Allocator + Clone> Clone for Processor<T, A> 
     ghost is_clone = { IsCopyOf T.is_clone T.value_of };
 
     fn clone(&self) -> Result<Self, AllocError> {
-        let turns = self.turns.clone()?;
-        Ok(Processor { turns })
+        let engine = self.engine.clone()?;
+        Ok(Processor { engine })
     }
 }
 
@@ -69,22 +69,22 @@ impl<T: Timeout + Drop, A: Allocator> Processor<T, A> {
         ensures parses_all { IfOk result
             (λ processor. HasParsedAll (HasParsedAndHolds T.value_of processor) []) }
     {
-        let turns = Turns::new(alloc, ProcessorParser::new(), ProcessorText::new(), timeout)?;
-        Ok(Processor { turns })
+        let engine = Engine::new(alloc, ProcessorParser::new(), ProcessorText::new(), timeout)?;
+        Ok(Processor { engine })
     }
 
     /// Returns the timeout.
     pub fn sync_timeout(&self) -> &T
         ensures { result.now ≡ timeout_in self.now }
     {
-        &self.turns.state.timeout
+        &self.engine.state.timeout
     }
 
     /// Returns the number of bytes that are held back, at most 2,097,150.
     pub fn sync_bytes_count(&self) -> usize
         ensures { CountsHeld (held_in self.now) result }
     {
-        self.turns.hold.len()
+        self.engine.hold.len()
     }
 
     /// Stops an update: parses the bytes that are held back, tells the handler that the update has
@@ -94,7 +94,7 @@ impl<T: Timeout + Drop, A: Allocator> Processor<T, A> {
             (HasParsedAndHolds T.value_of self.old) (HasParsedAndHolds T.value_of self.new)
             (H.value_of handler.old) (H.value_of handler.new) }
     {
-        self.turns.stop::<H, Singly>(handler);
+        self.engine.stop::<H, Singly>(handler);
     }
 
     /// Stops an update as [`stop_sync`](Self::stop_sync) does. The handler receives text in runs.
@@ -103,7 +103,7 @@ impl<T: Timeout + Drop, A: Allocator> Processor<T, A> {
             (HasParsedAndHolds T.value_of self.old) (HasParsedAndHolds T.value_of self.new)
             (H.value_of handler.old) (H.value_of handler.new) }
     {
-        self.turns.stop::<H, InRuns>(handler);
+        self.engine.stop::<H, InRuns>(handler);
     }
 
     /// Reads bytes, and parses them or holds them back.
@@ -116,7 +116,7 @@ impl<T: Timeout + Drop, A: Allocator> Processor<T, A> {
             (H.value_of handler.old) (H.value_of handler.new) bytes.now }
     {
         // The memory is there, so all bytes are read.
-        let _ = self.turns.read::<H, Singly>(handler, bytes);
+        let _ = self.engine.read::<H, Singly>(handler, bytes);
     }
 
     /// Reads bytes as [`advance`](Self::advance) does. The handler receives text in runs.
@@ -126,6 +126,6 @@ impl<T: Timeout + Drop, A: Allocator> Processor<T, A> {
             (H.value_of handler.old) (H.value_of handler.new) bytes.now }
     {
         // The memory is there, so all bytes are read.
-        let _ = self.turns.read::<H, InRuns>(handler, bytes);
+        let _ = self.engine.read::<H, InRuns>(handler, bytes);
     }
 }

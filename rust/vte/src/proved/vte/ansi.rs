@@ -5,6 +5,7 @@ mod color_reader;
 mod color_text;
 mod command_calls;
 mod control_calls;
+mod engine;
 mod escape_calls;
 mod growing_text;
 mod hold;
@@ -21,7 +22,6 @@ mod release;
 mod rendition;
 mod text_buffer;
 mod titles;
-mod turns;
 mod values;
 
 pub use long_processor::LongProcessor;

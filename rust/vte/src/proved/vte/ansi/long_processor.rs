@@ -1,8 +1,8 @@
 // Written by tools/erase from crates/vte/src/ansi/long_processor.rt: edit that one.
 //! The processor without a limit.
 
+use crate::proved::vte::ansi::engine::Engine;
 use crate::proved::vte::ansi::growing_text::GrowingText;
-use crate::proved::vte::ansi::turns::Turns;
 use crate::proved::vte_core::{InRuns, LongParser, Refused, Singly};
 use crate::proved::vte_handler::{Handler, HandlerText, Timeout};
 
@@ -32,7 +32,7 @@ use crate::proved::vte_handler::{Handler, HandlerText, Timeout};
 /// ```
 #[derive(Clone)]
 pub struct LongProcessor<T: Timeout> {
-    turns: Turns<LongParser, GrowingText, T>,
+    engine: Engine<LongParser, GrowingText, T>,
 }
 
 impl<T: Timeout> LongProcessor<T> {
@@ -43,35 +43,35 @@ impl<T: Timeout> LongProcessor<T> {
     pub fn new(timeout: T) -> Result<Self, T> {
         let parser = LongParser::new();
         let text = GrowingText::new();
-        let turns = Turns::new(parser, text, timeout)?;
-        Ok(LongProcessor { turns })
+        let engine = Engine::new(parser, text, timeout)?;
+        Ok(LongProcessor { engine })
     }
 }
 
 impl<T: Timeout> LongProcessor<T> {
     /// Returns the timeout.
     pub fn sync_timeout(&self) -> &T {
-        &self.turns.state.timeout
+        &self.engine.state.timeout
     }
 
     /// Returns the number of bytes that are held back, at most 2,097,150.
     pub fn sync_bytes_count(&self) -> usize {
-        self.turns.hold.len()
+        self.engine.hold.len()
     }
 
     /// Takes memory for the bytes that are held back and for this many more, and returns whether it
     /// is there. Calls with no more bytes than that are then never refused memory.
     #[must_use = "the memory may be refused"]
     pub fn reserve(&mut self, more: usize) -> bool {
-        self.turns.reserve(more)
+        self.engine.reserve(more)
     }
 
     /// Gives back the memory that an open operating system command doesn't need, unless bytes are
     /// held back. The 2,097,152 bytes for updates stay.
     pub fn shrink(&mut self) {
-        if self.turns.hold.len() == 0 {
-            self.turns.parser.shrink();
-            self.turns.state.text.free();
+        if self.engine.hold.len() == 0 {
+            self.engine.parser.shrink();
+            self.engine.state.text.free();
         }
     }
 
@@ -79,12 +79,12 @@ impl<T: Timeout> LongProcessor<T> {
     /// ended, and clears the timeout. Without an update too, the handler is told. It needs no
     /// memory: what is held back has taken it.
     pub fn stop_sync<H: Handler>(&mut self, handler: &mut H) {
-        self.turns.stop::<H, Singly>(handler);
+        self.engine.stop::<H, Singly>(handler);
     }
 
     /// Stops an update as [`stop_sync`](Self::stop_sync) does. The handler receives text in runs.
     pub fn stop_sync_text<H: HandlerText>(&mut self, handler: &mut H) {
-        self.turns.stop::<H, InRuns>(handler);
+        self.engine.stop::<H, InRuns>(handler);
     }
 
     /// Reads bytes, and parses them or holds them back: all of them, or as many as there is memory
@@ -93,7 +93,7 @@ impl<T: Timeout> LongProcessor<T> {
     /// If the timeout is never pending and no memory is refused, all bytes are parsed: the handler
     /// of a new processor receives the calls of the whole stream, however it is split.
     pub fn advance<H: Handler>(&mut self, handler: &mut H, bytes: &[u8]) -> Result<(), Refused> {
-        self.turns.read::<H, Singly>(handler, bytes)
+        self.engine.read::<H, Singly>(handler, bytes)
     }
 
     /// Reads bytes as [`advance`](Self::advance) does. The handler receives text in runs.
@@ -102,6 +102,6 @@ impl<T: Timeout> LongProcessor<T> {
         handler: &mut H,
         bytes: &[u8],
     ) -> Result<(), Refused> {
-        self.turns.read::<H, InRuns>(handler, bytes)
+        self.engine.read::<H, InRuns>(handler, bytes)
     }
 }

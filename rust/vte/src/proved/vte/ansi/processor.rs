@@ -1,8 +1,8 @@
 // Written by tools/erase from crates/vte/src/ansi/processor.rt: edit that one.
 //! The processor. A call of `advance` takes turns, and each turn parses bytes or holds them back.
 
+use crate::proved::vte::ansi::engine::Engine;
 use crate::proved::vte::ansi::parsing::{ProcessorParser, ProcessorText};
-use crate::proved::vte::ansi::turns::Turns;
 use crate::proved::vte_core::{InRuns, Singly};
 use crate::proved::vte_handler::{Handler, HandlerText, Timeout};
 
@@ -14,7 +14,7 @@ use crate::proved::vte_handler::{Handler, HandlerText, Timeout};
 /// stops an update that has expired.
 #[derive(Clone)]
 pub struct Processor<T: Timeout> {
-    turns: Turns<ProcessorParser, ProcessorText, T>,
+    engine: Engine<ProcessorParser, ProcessorText, T>,
 }
 
 impl<T: Timeout> Processor<T> {
@@ -23,29 +23,29 @@ impl<T: Timeout> Processor<T> {
     ///
     /// Returns the timeout if memory runs out.
     pub fn new(timeout: T) -> Result<Self, T> {
-        let turns = Turns::new(ProcessorParser::new(), ProcessorText::new(), timeout)?;
-        Ok(Processor { turns })
+        let engine = Engine::new(ProcessorParser::new(), ProcessorText::new(), timeout)?;
+        Ok(Processor { engine })
     }
 
     /// Returns the timeout.
     pub fn sync_timeout(&self) -> &T {
-        &self.turns.state.timeout
+        &self.engine.state.timeout
     }
 
     /// Returns the number of bytes that are held back, at most 2,097,150.
     pub fn sync_bytes_count(&self) -> usize {
-        self.turns.hold.len()
+        self.engine.hold.len()
     }
 
     /// Stops an update: parses the bytes that are held back, tells the handler that the update has
     /// ended, and clears the timeout. Without an update too, the handler is told.
     pub fn stop_sync<H: Handler>(&mut self, handler: &mut H) {
-        self.turns.stop::<H, Singly>(handler);
+        self.engine.stop::<H, Singly>(handler);
     }
 
     /// Stops an update as [`stop_sync`](Self::stop_sync) does. The handler receives text in runs.
     pub fn stop_sync_text<H: HandlerText>(&mut self, handler: &mut H) {
-        self.turns.stop::<H, InRuns>(handler);
+        self.engine.stop::<H, InRuns>(handler);
     }
 
     /// Reads bytes, and parses them or holds them back.
@@ -54,12 +54,12 @@ impl<T: Timeout> Processor<T> {
     /// receives the calls of the whole stream, however it is split.
     pub fn advance<H: Handler>(&mut self, handler: &mut H, bytes: &[u8]) {
         // The memory is there, so all bytes are read.
-        let _ = self.turns.read::<H, Singly>(handler, bytes);
+        let _ = self.engine.read::<H, Singly>(handler, bytes);
     }
 
     /// Reads bytes as [`advance`](Self::advance) does. The handler receives text in runs.
     pub fn advance_text<H: HandlerText>(&mut self, handler: &mut H, bytes: &[u8]) {
         // The memory is there, so all bytes are read.
-        let _ = self.turns.read::<H, InRuns>(handler, bytes);
+        let _ = self.engine.read::<H, InRuns>(handler, bytes);
     }
 }

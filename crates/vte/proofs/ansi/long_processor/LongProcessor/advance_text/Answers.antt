@@ -1,4 +1,4 @@
--- What the turns ensure, and that no memory is refused which is there (`replays/LongStandings`).
+-- What the engine ensures, and that no memory is refused which is there (`replays/LongStandings`).
 use Rattle.vte.proofs.replays.LongStandings.{advances_long}
 use Rattle.vte.proofs.ansi.long_processor.LongProcessor.advance_text.Goals as goal
 

@@ -1,4 +1,4 @@
--- What its turns reserve.
+-- What its engine reserves.
 use Rattle.vte.proofs.replays.LongStandings.{reserves_long}
 use Rattle.vte.proofs.ansi.long_processor.LongProcessor.reserve.Goals as goal
 

@@ -1,13 +1,13 @@
 -- By the timeout's answer: the bytes are held while an update is pending and there is room. Otherwise it is stopped if
 -- it is pending or bytes are held, and the turn is an open one.
 use Rattle.vte.proofs.Common.{◌≡◌, ◌<◌, length, refl, sym, ◌∙◌, arith, nat_tests, nat_le, most_held, held_of, inr, true, false, and-false, ◌+◌}
-use Rattle.vte.proofs.Common.{meaning, of_turns, AreNextAt}
+use Rattle.vte.proofs.Common.{meaning, of_engine, EngineIsAtKeeping}
 use Rattle.vte.proofs.turns.Kinds.{is_held, is_stopped, stop_if_due}
 use Rattle.vte.proofs.turns.Slices.{halted_nothing}
-use Rattle.vte.proofs.turns.Turns.{after-next, ends_turn, kept-next, next-at, stops-next, turned_hold}
-use Rattle.vte.proofs.ansi.turns.Turns.turn.Goals as goal
-use Rattle.vte.proofs.ansi.turns.Turns.turn.Goals.{else-pending-via-else-pending, else-pending-via-then-pending+else-has_room, else-pending-2+else-len-gt0, then-pending-2}
-use Rattle.vte.proofs.ansi.turns.Turns.turn.Goals.{then-pending-2-via-else-pending-2+then-len-gt0, then-pending-2-via-then-pending-2}
+use Rattle.vte.proofs.turns.ToCalls.{after-next, ends_turn, kept-next, next-at, stops-next, turned_hold}
+use Rattle.vte.proofs.ansi.engine.Engine.turn.Goals as goal
+use Rattle.vte.proofs.ansi.engine.Engine.turn.Goals.{else-pending-via-else-pending, else-pending-via-then-pending+else-has_room, else-pending-2+else-len-gt0, then-pending-2}
+use Rattle.vte.proofs.ansi.engine.Engine.turn.Goals.{then-pending-2-via-else-pending-2+then-len-gt0, then-pending-2-via-then-pending-2}
 
 -- An open turn: the bytes are not to be held, and what was pending or held is stopped first, as `opened` says.
 pub returns-clause-turned : goal.returns-clause-turned
@@ -23,8 +23,8 @@ returns-clause-turned g c = λ s at.
       | else-pending-via-else-pending w ↦ rw w.if-pending.false refl
     ] in
     let m = meaning g.P.EventParser.limit g.H.Handler.step g.T.Timeout.set g.T.Timeout.clear g.T.Timeout.allows in
-    let w = of_turns g.P.EventParser.limit g.P.EventParser.reading g.B.TextBuffer.room g.T.Timeout.value_of in
-    let here : AreNextAt w c.args.self.now c.if-pending-2.self (g.H.Handler.value_of c.if-pending-2.handler)
+    let w = of_engine g.P.EventParser.limit g.P.EventParser.reading g.B.TextBuffer.room g.T.Timeout.value_of in
+    let here : EngineIsAtKeeping w c.args.self.now c.if-pending-2.self (g.H.Handler.value_of c.if-pending-2.handler)
     (stop_if_due m pending s) = elim c.if-pending-2.branch [
       -- Stopped first.
       | then-pending-2 w ↦

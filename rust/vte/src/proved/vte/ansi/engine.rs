@@ -1,5 +1,6 @@
-// Written by tools/erase from crates/vte/src/ansi/turns.rt: edit that one.
-//! Turns: each parses bytes of a call, or holds them back.
+// Written by tools/erase from crates/vte/src/ansi/engine.rt: edit that one.
+//! What a processor is, whatever its limit. It takes turns: each parses bytes of a call, or holds
+//! them back.
 
 use crate::proved::vte::ansi::hold::{Hold, MOST_HELD};
 use crate::proved::vte::ansi::parsing::{parse_all, parse_until_begin, EventParser, ParseAs};
@@ -16,18 +17,18 @@ const SLICE: usize = 65_536;
 /// The parser, the hold and the state of a processor, whatever its limit. `P`: parser, `B`: buffer
 /// for joined texts, `T`: timeout, `A`: allocator.
 #[derive(Clone)]
-pub(crate) struct Turns<P, B, T> {
+pub(crate) struct Engine<P, B, T> {
     pub(crate) parser: P,
     pub(crate) hold: Hold,
     pub(crate) state: PerformerState<T, B>,
 }
 
-impl<P: EventParser, B: TextBuffer, T: Timeout> Turns<P, B, T> {
-    /// Creates turns of a parser that has read nothing, with the memory for a hold. Returns the
+impl<P: EventParser, B: TextBuffer, T: Timeout> Engine<P, B, T> {
+    /// Creates one with a parser that has read nothing, with the memory for a hold. Returns the
     /// timeout if memory runs out.
     pub(crate) fn new(parser: P, text: B, timeout: T) -> Result<Self, T> {
         match Hold::new() {
-            Ok(hold) => Ok(Turns {
+            Ok(hold) => Ok(Engine {
                 parser,
                 hold,
                 state: PerformerState {

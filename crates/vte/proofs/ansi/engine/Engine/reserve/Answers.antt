@@ -1,6 +1,6 @@
 -- What the parser reserves: the parsed and held bytes stay as they were, and there is room for as many more.
 use Rattle.vte.proofs.Common.{length}
-use Rattle.vte.proofs.ansi.turns.Turns.reserve.Goals as goal
+use Rattle.vte.proofs.ansi.engine.Engine.reserve.Goals as goal
 
 pub returns-clause-reserved : goal.returns-clause-reserved
 returns-clause-reserved g c = record {

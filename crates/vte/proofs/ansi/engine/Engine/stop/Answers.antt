@@ -1,7 +1,7 @@
 -- All held bytes are released and parsed, and then the update ends.
 use Rattle.vte.proofs.Common.{add-zero, ◌∙◌}
-use Rattle.vte.proofs.turns.Turns.{parts-at, stops_update}
-use Rattle.vte.proofs.ansi.turns.Turns.stop.Goals as goal
+use Rattle.vte.proofs.turns.ToCalls.{parts-at, stops_update}
+use Rattle.vte.proofs.ansi.engine.Engine.stop.Goals as goal
 
 pub returns-clause-stopped : goal.returns-clause-stopped
 returns-clause-stopped g c = stops_update (λ stream count had. had) (λ s at.

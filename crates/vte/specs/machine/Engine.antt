@@ -9,64 +9,65 @@ use Rattle.vte.specs.Memory.{KeepsMemory}
 use Rattle.vte.specs.Processor.{Meaning, State, begin_front, most_held, open_turn, parse, turn}
 use Rattle.vte.specs.ProcessorCalls.{IsAt, StopsSync, held_of}
 use Rattle.vte.specs.Refusal.{HasTaken, TakesSome}
-use Rattle.vte.specs.machine.Meanings.{TurnsMeaning}
+use Rattle.vte.specs.machine.Meanings.{EngineMeaning}
 use Rattle.vte.specs.declared.ansi.performer.PerformerState.{PerformerState}
-use Rattle.vte.specs.declared.ansi.turns.TheConstants.{SLICE}
-use Rattle.vte.specs.declared.ansi.turns.Turns.{Turns}
+use Rattle.vte.specs.declared.ansi.engine.TheConstants.{SLICE}
+use Rattle.vte.specs.declared.ansi.engine.Engine.{Engine}
 
--- After a stream, turns have memory for `count` more bytes.
-abbrev pub TurnsHaveMemory : {P B T A W : Type 0} → TurnsMeaning P B T W → Turns P B T A
+-- After a stream, the engine has memory for `count` more bytes.
+abbrev pub EngineHasMemory : {P B T A W : Type 0} → EngineMeaning P B T W → Engine P B T A
     → (stream : List ℕ) → (count : ℕ) → Type 0
-TurnsHaveMemory parts turns =
-    parts.reading.has_memory turns.parser (parts.room_of turns.state.text)
+EngineHasMemory parts engine =
+    parts.reading.has_memory engine.parser (parts.room_of engine.state.text)
 
--- What calls of a processor ensure, said of its turns, whatever its limit: where they stand (as in
+-- What calls of a processor ensure, said of its engine, whatever the limit: where it stands (as in
 -- `HasParsedAndHoldsLong`), and what `LongProcessor` says of each call.
-pub record TurnsStandAt {P B T A W : Type 0} (parts : TurnsMeaning P B T W) (turns : Turns P B T A)
+pub record EngineStandsAt {P B T A W : Type 0} (parts : EngineMeaning P B T W)
+    (engine : Engine P B T A)
     (parsed held : List ℕ) (timeout : W) : Type 0 where
-  pub has_read : parts.reading.has_read turns.parser parsed
-  pub last : turns.state.preceding_char ≡ last_printed (events parts.limit parsed)
-  pub timeout_is : parts.timeout_of turns.state.timeout ≡ timeout
-  pub holds : held_of turns.hold ≡ held
-  pub has_memory : 0 < length held → TurnsHaveMemory parts turns parsed (length held)
+  pub has_read : parts.reading.has_read engine.parser parsed
+  pub last : engine.state.preceding_char ≡ last_printed (events parts.limit parsed)
+  pub timeout_is : parts.timeout_of engine.state.timeout ≡ timeout
+  pub holds : held_of engine.hold ≡ held
+  pub has_memory : 0 < length held → EngineHasMemory parts engine parsed (length held)
 
-pub record TurnsReserve {P B T A W : Type 0} (parts : TurnsMeaning P B T W)
-    (old new : Turns P B T A) (more : ℕ) (result : Bool) : Type 0 where
-  pub same : (parsed held : List ℕ) (timeout : W) → TurnsStandAt parts old parsed held timeout
-      → TurnsStandAt parts new parsed held timeout
+pub record EngineReserves {P B T A W : Type 0} (parts : EngineMeaning P B T W)
+    (old new : Engine P B T A) (more : ℕ) (result : Bool) : Type 0 where
+  pub same : (parsed held : List ℕ) (timeout : W) → EngineStandsAt parts old parsed held timeout
+      → EngineStandsAt parts new parsed held timeout
   pub room : result ≡ true → (parsed held : List ℕ) (timeout : W)
-      → TurnsStandAt parts new parsed held timeout
-      → TurnsHaveMemory parts new parsed (length held + more)
-  pub memory : KeepsMemory (TurnsHaveMemory parts old) (TurnsHaveMemory parts new)
+      → EngineStandsAt parts new parsed held timeout
+      → EngineHasMemory parts new parsed (length held + more)
+  pub memory : KeepsMemory (EngineHasMemory parts old) (EngineHasMemory parts new)
   pub lacks : result ≡ false → (stream : List ℕ) → parts.reading.has_read new.parser stream
-      → ¬ TurnsHaveMemory parts new stream (length (held_of new.hold) + more)
+      → ¬ EngineHasMemory parts new stream (length (held_of new.hold) + more)
 
-pub record TurnsStop {P B T A V W : Type 0} (parts : TurnsMeaning P B T W)
-    (meaning : Meaning V W) (turns next : Turns P B T A) (old new : V) : Type 0 where
-  pub stops : StopsSync meaning (TurnsStandAt parts turns) (TurnsStandAt parts next) old new
-  pub memory : (state : State V W) → IsAt (TurnsStandAt parts turns) old state
-      → KeepsMemory (TurnsHaveMemory parts turns) (TurnsHaveMemory parts next)
+pub record EngineStops {P B T A V W : Type 0} (parts : EngineMeaning P B T W)
+    (meaning : Meaning V W) (engine next : Engine P B T A) (old new : V) : Type 0 where
+  pub stops : StopsSync meaning (EngineStandsAt parts engine) (EngineStandsAt parts next) old new
+  pub memory : (state : State V W) → IsAt (EngineStandsAt parts engine) old state
+      → KeepsMemory (EngineHasMemory parts engine) (EngineHasMemory parts next)
 
-pub record TurnsLackMemory {P B T A W : Type 0} (parts : TurnsMeaning P B T W)
-    (turns : Turns P B T A) (left : ℕ) : Type 0 where
+pub record EngineLacksMemory {P B T A W : Type 0} (parts : EngineMeaning P B T W)
+    (engine : Engine P B T A) (left : ℕ) : Type 0 where
   pub more : ℕ
   pub within : more ≤ left
-  pub few : (more ≤ SLICE) ⊎ (length (held_of turns.hold) + more ≤ most_held)
-  pub lacks : (stream : List ℕ) → parts.reading.has_read turns.parser stream
-      → ¬ TurnsHaveMemory parts turns stream (length (held_of turns.hold) + more)
+  pub few : (more ≤ SLICE) ⊎ (length (held_of engine.hold) + more ≤ most_held)
+  pub lacks : (stream : List ℕ) → parts.reading.has_read engine.parser stream
+      → ¬ EngineHasMemory parts engine stream (length (held_of engine.hold) + more)
 
-pub record TurnsRead {P B T A V W : Type 0} (parts : TurnsMeaning P B T W)
-    (meaning : Meaning V W) (turns next : Turns P B T A) (old new : V) (bytes : List ℕ)
+pub record EngineReads {P B T A V W : Type 0} (parts : EngineMeaning P B T W)
+    (meaning : Meaning V W) (engine next : Engine P B T A) (old new : V) (bytes : List ℕ)
     (result : Result (Unit {0}) Refused) : Type 0 where
-  pub takes : (state : State V W) → IsAt (TurnsStandAt parts turns) old state
-      → HasTaken meaning state bytes (read_of result bytes) (IsAt (TurnsStandAt parts next) new)
+  pub takes : (state : State V W) → IsAt (EngineStandsAt parts engine) old state
+      → HasTaken meaning state bytes (read_of result bytes) (IsAt (EngineStandsAt parts next) new)
   pub within : IfErr result (λ refused. refused.read < length bytes)
-  pub lacks : IfErr result (λ refused. TurnsLackMemory parts next (length bytes - refused.read))
-  pub memory : (state : State V W) → IsAt (TurnsStandAt parts turns) old state
-      → KeepsMemory (TurnsHaveMemory parts turns) (TurnsHaveMemory parts next)
+  pub lacks : IfErr result (λ refused. EngineLacksMemory parts next (length bytes - refused.read))
+  pub memory : (state : State V W) → IsAt (EngineStandsAt parts engine) old state
+      → KeepsMemory (EngineHasMemory parts engine) (EngineHasMemory parts next)
 
 -- The parser, the state lent to it and the handler's value are as the state says, whatever is held.
-pub record IsParsed {P B T V W : Type 0} (parts : TurnsMeaning P B T W) (parser : P)
+pub record IsParsed {P B T V W : Type 0} (parts : EngineMeaning P B T W) (parser : P)
     (lent : PerformerState T B) (value : V) (state : State V W) : Type 0 where
   pub has_read : parts.reading.has_read parser state.parsed
   pub last : lent.preceding_char ≡ last_printed (events parts.limit state.parsed)
@@ -74,36 +75,38 @@ pub record IsParsed {P B T V W : Type 0} (parts : TurnsMeaning P B T W) (parser 
   pub handler_is : value ≡ state.handler
 
 -- `IsParsed`, and there is memory for `count` bytes.
-pub record IsParsedWithRoom {P B T V W : Type 0} (parts : TurnsMeaning P B T W) (parser : P)
+pub record IsParsedWithRoom {P B T V W : Type 0} (parts : EngineMeaning P B T W) (parser : P)
     (lent : PerformerState T B) (value : V) (state : State V W) (count : ℕ) : Type 0 where
   pub is_parsed : IsParsed parts parser lent value state
   pub room : parts.reading.has_memory parser (parts.room_of lent.text) state.parsed count
 
 -- `IsParsed`, with the memory that was there before.
-pub record IsParsedOn {P B T V W : Type 0} (parts : TurnsMeaning P B T W) (parser : P)
+pub record IsParsedKeeping {P B T V W : Type 0} (parts : EngineMeaning P B T W) (parser : P)
     (lent : PerformerState T B) (next : P) (back : PerformerState T B)
     (value : V) (state : State V W) : Type 0 where
   pub is_parsed : IsParsed parts next back value state
   pub memory : KeepsMemory (parts.reading.has_memory parser (parts.room_of lent.text))
       (parts.reading.has_memory next (parts.room_of back.text))
 
--- The turns and the handler's value are as the state says.
-abbrev pub AreAt : {P B T A V W : Type 0} → TurnsMeaning P B T W → Turns P B T A → V → State V W
+-- The engine and the handler's value are as the state says.
+abbrev pub EngineIsAt : {P B T A V W : Type 0} → EngineMeaning P B T W → Engine P B T A → V
+    → State V W
     → Type 0
-AreAt parts turns = IsAt (TurnsStandAt parts turns)
+EngineIsAt parts engine = IsAt (EngineStandsAt parts engine)
 
--- The turns are at a state, with the memory that was there before.
-pub record AreNextAt {P B T A V W : Type 0} (parts : TurnsMeaning P B T W)
-    (turns next : Turns P B T A)
+-- The engine is at a state, with the memory that was there before.
+pub record EngineIsAtKeeping {P B T A V W : Type 0} (parts : EngineMeaning P B T W)
+    (engine next : Engine P B T A)
     (value : V) (state : State V W) : Type 0 where
-  pub are_at : AreAt parts next value state
-  pub memory : KeepsMemory (TurnsHaveMemory parts turns) (TurnsHaveMemory parts next)
+  pub are_at : EngineIsAt parts next value state
+  pub memory : KeepsMemory (EngineHasMemory parts engine) (EngineHasMemory parts next)
 
--- From each state that the turns are at, they lead on as `ends` says.
-abbrev pub LeadOn : {P B T A V W : Type 0} → TurnsMeaning P B T W → Turns P B T A → Turns P B T A
+-- From each state that the engine is at, it leads on as `ends` says.
+abbrev pub LeadOn : {P B T A V W : Type 0} → EngineMeaning P B T W → Engine P B T A → Engine P B T A
     → V → V → (State V W → (State V W → Type 0) → Type 0) → Type 0
-LeadOn parts turns next old new ends =
-    (state : State _ _) → AreAt parts turns old state → ends state (AreNextAt parts turns next new)
+LeadOn parts engine next old new ends =
+    (state : State _ _) → EngineIsAt parts engine old state
+        → ends state (EngineIsAtKeeping parts engine next new)
 
 module _ {V W : Type 0} (meaning : Meaning V W) (state : State V W) (bytes : List ℕ) where
   -- The first `read` bytes were parsed: those up to the one that begins an update, or all if none

@@ -1,16 +1,16 @@
 -- The slices so far begin no update, and are parsed. Each has at least one byte, so the loop reads all.
-use Rattle.vte.proofs.Common.{◌<◌, ◌≤◌, length, meaning, AreAt, of_turns, AreNextAt, IsOpenAt, State}
-use Rattle.vte.proofs.ansi.turns.Turns.open.Given as goal
+use Rattle.vte.proofs.Common.{◌<◌, ◌≤◌, length, meaning, EngineIsAt, of_engine, EngineIsAtKeeping, IsOpenAt, State}
+use Rattle.vte.proofs.ansi.engine.Engine.open.Given as goal
 
 abbrev pub invariant-loop-slice : goal.invariant-loop-slice
 invariant-loop-slice g l =
     let m = meaning g.P.EventParser.limit g.H.Handler.step g.T.Timeout.set g.T.Timeout.clear g.T.Timeout.allows in
-    let w = of_turns g.P.EventParser.limit g.P.EventParser.reading g.B.TextBuffer.room g.T.Timeout.value_of in
+    let w = of_engine g.P.EventParser.limit g.P.EventParser.reading g.B.TextBuffer.room g.T.Timeout.value_of in
     record {
       within : l.read ≤ length l.bytes;
       some : l._slice < length l.bytes → l.read < length l.bytes;
       reaches : (s : State g.H.Handler.Value g.T.Timeout.Value)
-          → AreAt w l.initial.self (g.H.Handler.value_of l.initial.handler) s
+          → EngineIsAt w l.initial.self (g.H.Handler.value_of l.initial.handler) s
           → (l._slice ≤ l.read)
-          × IsOpenAt m s l.bytes l.read (AreNextAt w l.initial.self l.self (g.H.Handler.value_of l.handler));
+          × IsOpenAt m s l.bytes l.read (EngineIsAtKeeping w l.initial.self l.self (g.H.Handler.value_of l.handler));
     }

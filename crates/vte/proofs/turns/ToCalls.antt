@@ -1,17 +1,17 @@
 -- From turns to a call: what the private functions ensure of parser, hold and handler is put together into `Turned`
 -- and `Halted`, and the loop over turns into `TakesTurns` and `TakesSome`.
 use Rattle.vte.proofs.Common.{◌≡◌, ℕ, ◌+◌, ◌-◌, ◌<◌, ◌≤◌, Bool, true, List, [], ◌++◌, length, take, drop, refl, ap, sym, ◌∙◌, arith, length-drop}
-use Rattle.vte.proofs.Common.{append_assoc, Result, Ok, Err, append_cancel_right, drop_all, drop-drop, take_all, take-append-drop, Refused, PerformerState, Turns, Meaning}
+use Rattle.vte.proofs.Common.{append_assoc, Result, Ok, Err, append_cancel_right, drop_all, drop-drop, take_all, take-append-drop, Refused, PerformerState, Engine, Meaning}
 use Rattle.vte.proofs.Common.{held_of, false, MatchResult, EndsTurn, within}
-use Rattle.vte.proofs.Common.{Advanced, AreAt, HasTaken, TurnsMeaning, KeepsMemory, TurnsHaveMemory, TurnsRead, TurnsStop, AreNextAt, EndsOpen, Halted, IsAtBegin, IsOpenAt, IsParsed, IsParsedOn}
-use Rattle.vte.proofs.Common.{IsParsedWithRoom, Turned, State, TakesSome, TakesTurns, all_bytes, turn, hold_turn, parse, stop, between, done, TurnsLackMemory, TurnsReserve}
+use Rattle.vte.proofs.Common.{Advanced, EngineIsAt, HasTaken, EngineMeaning, KeepsMemory, EngineHasMemory, EngineReads, EngineStops, EngineIsAtKeeping, EndsOpen, Halted, IsAtBegin, IsOpenAt, IsParsed, IsParsedKeeping}
+use Rattle.vte.proofs.Common.{IsParsedWithRoom, Turned, State, TakesSome, TakesTurns, all_bytes, turn, hold_turn, parse, stop, between, done, EngineLacksMemory, EngineReserves}
 use Rattle.vte.proofs.turns.EachOnce.{grown_bytes}
 use Rattle.vte.proofs.turns.Kinds.{halts_open, is_held, stop_if_due, turn_holds, turn_parses}
 use Rattle.vte.proofs.turns.Slices.{all_taken, halts, one_taken, some_grow, some_on, some_well, taken_on}
 
--- turns stand where their parts do
-module _ {P B T A V W : Type 0} {w : TurnsMeaning P B T W} {turns : Turns P B T A} {value : V} {s : State V W} where
-  pub parts-at : AreAt w turns value s → IsParsed w turns.parser turns.state value s
+-- an engine stands where its parts do
+module _ {P B T A V W : Type 0} {w : EngineMeaning P B T W} {engine : Engine P B T A} {value : V} {s : State V W} where
+  pub parts-at : EngineIsAt w engine value s → IsParsed w engine.parser engine.state value s
   parts-at at = record {
     has_read = at.stands.has_read;
     last = at.stands.last;
@@ -20,8 +20,8 @@ module _ {P B T A V W : Type 0} {w : TurnsMeaning P B T W} {turns : Turns P B T 
   }
 
   -- if they hold nothing
-  pub at-parts : IsParsed w turns.parser turns.state value s → held_of turns.hold ≡ s.held → s.held ≡ []
-      → AreAt w turns value s
+  pub at-parts : IsParsed w engine.parser engine.state value s → held_of engine.hold ≡ s.held → s.held ≡ []
+      → EngineIsAt w engine value s
   at-parts parsed holds none = record {
     stands =
         record {
@@ -35,35 +35,36 @@ module _ {P B T A V W : Type 0} {w : TurnsMeaning P B T W} {turns : Turns P B T 
   }
 
 -- turns that go on, with the memory that was there before
-module _ {P B T A V W : Type 0} {w : TurnsMeaning P B T W} {value : V} {s : State V W} where
-  pub next-at : {turns : Turns P B T A} → AreAt w turns value s → AreNextAt w turns turns value s
+module _ {P B T A V W : Type 0} {w : EngineMeaning P B T W} {value : V} {s : State V W} where
+  pub next-at : {engine : Engine P B T A} → EngineIsAt w engine value s → EngineIsAtKeeping w engine engine value s
   next-at at = record { are_at = at; memory = λ stream count had. had }
 
-  pub after-next : {old mid new : Turns P B T A} → KeepsMemory (TurnsHaveMemory w old) (TurnsHaveMemory w mid)
-      → AreNextAt w mid new value s → AreNextAt w old new value s
+  pub after-next : {old mid new : Engine P B T A} → KeepsMemory (EngineHasMemory w old) (EngineHasMemory w mid)
+      → EngineIsAtKeeping w mid new value s → EngineIsAtKeeping w old new value s
   after-next keeps next =
       record { are_at = next.are_at; memory = λ stream count had. next.memory stream count (keeps stream count had) }
 
   -- they stand where they stood, and the handler is the same
-  pub kept-next : {old mid new : Turns P B T A} {more : ℕ} {result : Bool} → TurnsReserve w mid new more result
-      → AreNextAt w old mid value s → AreNextAt w old new value s
+  pub kept-next : {old mid new : Engine P B T A} {more : ℕ} {result : Bool} → EngineReserves w mid new more result
+      → EngineIsAtKeeping w old mid value s → EngineIsAtKeeping w old new value s
   kept-next r at = record {
     are_at = record { stands = r.same s.parsed s.held s.timeout at.are_at.stands; handler_is = at.are_at.handler_is };
     memory = λ stream count had. r.memory stream count (at.memory stream count had);
   }
 
 -- a slice is parsed with the memory that was taken for it
-module _ {P B T A V W : Type 0} {w : TurnsMeaning P B T W} {m : Meaning V W} {s : State V W} {bytes slice : List ℕ}
+module _ {P B T A V W : Type 0} {w : EngineMeaning P B T W} {m : Meaning V W} {s : State V W} {bytes slice : List ℕ}
     {read count n : ℕ} {b : Bool}
-    {first old taken : Turns P B T A} {parser : P} {state : PerformerState T B} {before value : V} where
-  pub slice_parsed : IsOpenAt m s bytes read (AreNextAt w first old before) → TurnsReserve w old taken count true
+    {first old taken : Engine P B T A} {parser : P} {state : PerformerState T B} {before value : V} where
+  pub slice_parsed : IsOpenAt m s bytes read (EngineIsAtKeeping w first old before)
+      → EngineReserves w old taken count true
       → length slice ≡ count → s.held ≡ []
       → ((t : State V W) (k : ℕ) → IsParsedWithRoom w taken.parser taken.state before t (length slice + k)
-      → IsAtBegin m t slice n b (IsParsedOn w taken.parser taken.state parser state value))
+      → IsAtBegin m t slice n b (IsParsedKeeping w taken.parser taken.state parser state value))
       → IsAtBegin m (parse m s (take read bytes)) slice n b
-      (AreNextAt w first (record taken { parser = parser; state = state }) value)
+      (EngineIsAtKeeping w first (record taken { parser = parser; state = state }) value)
   slice_parsed o reserved size none parses =
-      let here : AreNextAt w first taken before (parse m s (take read bytes)) = kept-next reserved o.is_at in
+      let here : EngineIsAtKeeping w first taken before (parse m s (take read bytes)) = kept-next reserved o.is_at in
       let all : length slice + 0 ≡ length s.held + count = omega (arith, size, ap length none) in
       let p =
       parses (parse m s (take read bytes)) 0
@@ -73,35 +74,36 @@ module _ {P B T A V W : Type 0} {w : TurnsMeaning P B T W} {m : Meaning V W} {s 
         begins_is = p.begins_is;
         is_at = record {
           are_at = at-parts
-              {turns = record taken { parser = parser; state = state }} p.is_at.is_parsed here.are_at.stands.holds none;
+              {engine = record taken { parser = parser; state = state }} p.is_at.is_parsed here.are_at.stands.holds
+                  none;
           memory = λ stream more had. p.is_at.memory stream more (here.memory stream more had);
         };
       }
 
 -- after a stop
-pub stops_update : {P B T A V W : Type 0} {w : TurnsMeaning P B T W} {m : Meaning V W} {old mid new : Turns P B T A}
-    {before value : V} → KeepsMemory (TurnsHaveMemory w old) (TurnsHaveMemory w mid)
-    → ((s : State V W) → AreAt w old before s → AreNextAt w mid new value (stop m s))
-    → TurnsStop w m old new before value
-stops_update {m = m} keeps ends = record {
+pub stops_update : {P B T A V W : Type 0} {w : EngineMeaning P B T W} {m : Meaning V W} {old mid new : Engine P B T A}
+    {before value : V} → KeepsMemory (EngineHasMemory w old) (EngineHasMemory w mid)
+    → ((s : State V W) → EngineIsAt w old before s → EngineIsAtKeeping w mid new value (stop m s))
+    → EngineStops w m old new before value
+stops_update {m} keeps ends = record {
   stops = λ s at. (ends s at).are_at;
   memory = λ s at stream count had. (ends s at).memory stream count (keeps stream count had);
 }
 
-pub stops-next : {P B T A V W : Type 0} {w : TurnsMeaning P B T W} {m : Meaning V W} {old new : Turns P B T A}
-    {before value : V} {s : State V W} → TurnsStop w m old new before value
-    → AreAt w old before s → AreNextAt w old new value (stop m s)
+pub stops-next : {P B T A V W : Type 0} {w : EngineMeaning P B T W} {m : Meaning V W} {old new : Engine P B T A}
+    {before value : V} {s : State V W} → EngineStops w m old new before value
+    → EngineIsAt w old before s → EngineIsAtKeeping w old new value (stop m s)
 stops-next stopped at = record { are_at = stopped.stops _ at; memory = stopped.memory _ at }
 
 -- a turn that parses bytes, after a stop if need be
-pub ends_turn : {P B T A V W : Type 0} {w : TurnsMeaning P B T W} {m : Meaning V W} {old mid new : Turns P B T A}
+pub ends_turn : {P B T A V W : Type 0} {w : EngineMeaning P B T W} {m : Meaning V W} {old mid new : Engine P B T A}
     {value : V} {s : State V W} {bytes : List ℕ} (pending : Bool)
     → m.timeout.allows s.timeout pending → is_held pending s bytes ≡ false
-    → KeepsMemory (TurnsHaveMemory w old) (TurnsHaveMemory w mid) → (result : Result ℕ Refused)
+    → KeepsMemory (EngineHasMemory w old) (EngineHasMemory w mid) → (result : Result ℕ Refused)
     → MatchResult result (λ read. read ≤ length bytes) (λ refused. refused.read < length bytes)
-    → EndsOpen m (stop_if_due m pending s) bytes result (AreNextAt w mid new value)
-    → EndsTurn m s bytes result (AreNextAt w old new value)
-ends_turn {m = m} {s = s} {bytes = bytes} pending allowed parses keeps (Ok read) less e = record {
+    → EndsOpen m (stop_if_due m pending s) bytes result (EngineIsAtKeeping w mid new value)
+    → EndsTurn m s bytes result (EngineIsAtKeeping w old new value)
+ends_turn {m} {s} {bytes} pending allowed parses keeps (Ok read) less e = record {
   turned =
       record {
         pending = pending;
@@ -112,7 +114,7 @@ ends_turn {m = m} {s = s} {bytes = bytes} pending allowed parses keeps (Ok read)
       };
   halted = tt;
 }
-ends_turn {m = m} {s = s} {bytes = bytes} pending allowed parses keeps (Err refused) less e = record {
+ends_turn {m} {s} {bytes} pending allowed parses keeps (Err refused) less e = record {
   turned = tt;
   halted = record {
     next = parse m (stop_if_due m pending s) (take refused.read bytes);
@@ -159,12 +161,12 @@ module _ {V W : Type 0} (m : Meaning V W) (s : State V W) (bytes : List ℕ) whe
   pub reaches-nothing : {IsThere : State V W → Type 0} → IsThere s → HasReached 0 0 IsThere
   reaches-nothing at = record { here = s; enough = omega arith; takes = done; is_at = at }
 
-  pub reaches-more : {P B T A : Type 0} {w : TurnsMeaning P B T W} {first mid new : Turns P B T A} {before value : V}
+  pub reaches-more : {P B T A : Type 0} {w : EngineMeaning P B T W} {first mid new : Engine P B T A} {before value : V}
       {count read n : ℕ}
-      → (r : HasReached count read (AreNextAt w first mid before)) → read < length bytes
-      → Turned m r.here (take (length bytes - read) (drop read bytes)) n (AreNextAt w mid new value)
-      → HasReached (count + 1) (read + n) (AreNextAt w first new value)
-  reaches-more {count = count} {read = read} {n = n} r some u =
+      → (r : HasReached count read (EngineIsAtKeeping w first mid before)) → read < length bytes
+      → Turned m r.here (take (length bytes - read) (drop read bytes)) n (EngineIsAtKeeping w mid new value)
+      → HasReached (count + 1) (read + n) (EngineIsAtKeeping w first new value)
+  reaches-more {count} {read} {n} r some u =
       let slice = take (length bytes - read) (drop read bytes) in
       let is : slice ≡ drop read bytes = rest_is bytes read (omega arith) in
       let left : 0 < length slice = rw (is, length-drop read bytes) (omega arith) in
@@ -179,7 +181,7 @@ module _ {V W : Type 0} (m : Meaning V W) (s : State V W) (bytes : List ℕ) whe
 
   taken : {read : ℕ} {IsThere : State V W → Type 0} (t : State V W) → TakesSome m s bytes t (drop read bytes)
       → IsThere t → HasTaken m s bytes read IsThere
-  taken {read = read} t takes at = record {
+  taken {read} t takes at = record {
     next = t;
     takes = takes;
     each_once = append_cancel_right _ _ (drop read bytes)
@@ -195,12 +197,12 @@ module _ {V W : Type 0} (m : Meaning V W) (s : State V W) (bytes : List ℕ) whe
   has_taken r = taken r.here (between r.takes) r.is_at
 
   -- a turn was refused memory
-  pub has_halted : {P B T A : Type 0} {w : TurnsMeaning P B T W} {first mid new : Turns P B T A} {before value : V}
+  pub has_halted : {P B T A : Type 0} {w : EngineMeaning P B T W} {first mid new : Engine P B T A} {before value : V}
       {count read n : ℕ}
-      → (r : HasReached count read (AreNextAt w first mid before)) → read ≤ length bytes
-      → Halted m r.here (take (length bytes - read) (drop read bytes)) n (AreNextAt w mid new value)
-      → HasTaken m s bytes (read + n) (AreNextAt w first new value)
-  has_halted {read = read} {n = n} r inside h =
+      → (r : HasReached count read (EngineIsAtKeeping w first mid before)) → read ≤ length bytes
+      → Halted m r.here (take (length bytes - read) (drop read bytes)) n (EngineIsAtKeeping w mid new value)
+      → HasTaken m s bytes (read + n) (EngineIsAtKeeping w first new value)
+  has_halted {read} {n} r inside h =
       let slice = take (length bytes - read) (drop read bytes) in
       let is : slice ≡ drop read bytes = rest_is bytes read inside in
       let left : drop n slice ≡ drop (read + n) bytes = rw (is, drop-drop n read bytes) in
@@ -231,17 +233,18 @@ module _ {V W : Type 0} {m : Meaning V W} {s : State V W} {bytes : List ℕ} {re
         is_at = follows h.next h.is_at;
       }
 
-  taken-at : {P B T A : Type 0} {w : TurnsMeaning P B T W} {old new : Turns P B T A} {value : V}
-      → HasTaken m s bytes read (AreNextAt w old new value) → HasTaken m s bytes read (AreAt w new value)
+  taken-at : {P B T A : Type 0} {w : EngineMeaning P B T W} {old new : Engine P B T A} {value : V}
+      → HasTaken m s bytes read (EngineIsAtKeeping w old new value) → HasTaken m s bytes read (EngineIsAt w new value)
   taken-at = taken-to (λ t next. next.are_at)
 
 -- what a call ensures by its turns
-module _ {P B T A V W : Type 0} {w : TurnsMeaning P B T W} {m : Meaning V W} {old new : Turns P B T A}
+module _ {P B T A V W : Type 0} {w : EngineMeaning P B T W} {m : Meaning V W} {old new : Engine P B T A}
     {before value : V} (bytes : List ℕ) where
   pub all_read : {count read : ℕ}
-      → ((s : State V W) → AreAt w old before s → HasReached m s bytes count read (AreNextAt w old new value))
-      → ((s : State V W) → AreAt w old before s → read ≡ length bytes)
-      → TurnsRead w m old new before value bytes (Ok tt)
+      → ((s : State V W) → EngineIsAt w old before s
+      → HasReached m s bytes count read (EngineIsAtKeeping w old new value))
+      → ((s : State V W) → EngineIsAt w old before s → read ≡ length bytes)
+      → EngineReads w m old new before value bytes (Ok tt)
   all_read reaches is = record {
     takes = λ s at. rw (is s at) at (taken-at (has_taken m s bytes (reaches s at)));
     within = tt;
@@ -250,9 +253,10 @@ module _ {P B T A V W : Type 0} {w : TurnsMeaning P B T W} {m : Meaning V W} {ol
   }
 
   pub read_until : {refused : Refused}
-      → ((s : State V W) → AreAt w old before s → HasTaken m s bytes refused.read (AreNextAt w old new value))
-      → refused.read < length bytes → TurnsLackMemory w new (length bytes - refused.read)
-      → TurnsRead w m old new before value bytes (Err refused)
+      → ((s : State V W) → EngineIsAt w old before s
+      → HasTaken m s bytes refused.read (EngineIsAtKeeping w old new value))
+      → refused.read < length bytes → EngineLacksMemory w new (length bytes - refused.read)
+      → EngineReads w m old new before value bytes (Err refused)
   read_until taken less lacks =
       record {
         takes = λ s at. taken-at (taken s at);

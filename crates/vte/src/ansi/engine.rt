@@ -1,10 +1,11 @@
-//! Turns: each parses bytes of a call, or holds them back.
+//! What a processor is, whatever its limit. It takes turns: each parses bytes of a call, or holds
+//! them back.
 ghost use Rattle.std.specs.Prelude.{◌≡◌, ℕ, ◌+◌, ◌≤◌, [], length, IfErr, IfOk, MatchResult, ◌-◌, ◌<◌, ◌++◌, nat_le};
-ghost use Rattle.vte.specs.machine.Meanings.{of_turns};
+ghost use Rattle.vte.specs.machine.Meanings.{of_engine};
 ghost use Rattle.vte.specs.ProcessorCalls.{held_of};
 ghost use Rattle.vte.specs.machine.Hold.{released_of};
 ghost use Rattle.vte.specs.Processor.{State, hold_turn, meaning, most_held, parse, set_times, stop};
-ghost use Rattle.vte.specs.machine.Turns.{AreNextAt, EndsOpen, EndsTurn, IsParsed, IsParsedOn, IsParsedWithRoom, LeadOn, TurnsLackMemory, TurnsRead, TurnsReserve, TurnsStandAt, TurnsStop};
+ghost use Rattle.vte.specs.machine.Engine.{EngineIsAtKeeping, EndsOpen, EndsTurn, IsParsed, IsParsedKeeping, IsParsedWithRoom, LeadOn, EngineLacksMemory, EngineReads, EngineReserves, EngineStandsAt, EngineStops};
 ghost use Rattle.vte_handler.specs.Timeout.{timeout_meaning};
 
 use crate::ansi::hold::{Hold, MOST_HELD};
@@ -23,30 +24,30 @@ const SLICE: usize = 65_536;
 /// The parser, the hold and the state of a processor, whatever its limit. `P`: parser, `B`: buffer
 /// for joined texts, `T`: timeout, `A`: allocator.
 #[derive(Clone, Drop)]
-pub(crate) struct Turns<P: Drop, B: Drop, T: Drop, A: Allocator> {
+pub(crate) struct Engine<P: Drop, B: Drop, T: Drop, A: Allocator> {
     pub(crate) parser: P,
     pub(crate) hold: Hold<A>,
     pub(crate) state: PerformerState<T, B>,
 }
 
-impl<P: EventParser + Drop, B: TextBuffer + Drop, T: Timeout + Drop, A: Allocator> Turns<
+impl<P: EventParser + Drop, B: TextBuffer + Drop, T: Timeout + Drop, A: Allocator> Engine<
     P,
     B,
     T,
     A,
 > {
-    /// Creates turns of a parser that has read nothing, with the memory for a hold. Returns the
+    /// Creates one with a parser that has read nothing, with the memory for a hold. Returns the
     /// timeout if memory runs out.
     pub(crate) fn new(alloc: A, parser: P, text: B, timeout: T) -> Result<Self, T>
         requires reads { P.reading.has_read parser [] }
         ensures stands { MatchResult result
-            (λ turns. TurnsStandAt (of_turns P.limit P.reading B.room T.value_of) turns [] []
+            (λ engine. EngineStandsAt (of_engine P.limit P.reading B.room T.value_of) engine [] []
             (T.value_of timeout)) (λ back. back ≡ timeout) }
-        ensures timeout { IfOk result (λ turns. turns.state.timeout ≡ timeout) }
+        ensures timeout { IfOk result (λ engine. engine.state.timeout ≡ timeout) }
     {
         laws::empty_stream();
         match Hold::new(alloc) {
-            Ok(hold) => Ok(Turns {
+            Ok(hold) => Ok(Engine {
                 parser,
                 hold,
                 state: PerformerState {
@@ -66,7 +67,7 @@ impl<P: EventParser + Drop, B: TextBuffer + Drop, T: Timeout + Drop, A: Allocato
         handler: &mut H,
         bytes: &[u8],
     ) -> Result<(), Refused>
-        ensures { TurnsRead (of_turns P.limit P.reading B.room T.value_of)
+        ensures { EngineReads (of_engine P.limit P.reading B.room T.value_of)
             (meaning P.limit H.step T.set T.clear T.allows)
             self.old self.new (H.value_of handler.old) (H.value_of handler.new) bytes.now result }
     {
@@ -89,7 +90,7 @@ impl<P: EventParser + Drop, B: TextBuffer + Drop, T: Timeout + Drop, A: Allocato
 
     /// Stops the update, whatever is held: there is memory to parse it.
     pub(crate) fn stop<H: Handler, G: ParseAs<H, T, P>>(&mut self, handler: &mut H)
-        ensures stopped { TurnsStop (of_turns P.limit P.reading B.room T.value_of)
+        ensures stopped { EngineStops (of_engine P.limit P.reading B.room T.value_of)
             (meaning P.limit H.step T.set T.clear T.allows) self.old self.new
             (H.value_of handler.old) (H.value_of handler.new) }
         ensures none { held_of self.new.hold ≡ [] }
@@ -102,13 +103,13 @@ impl<P: EventParser + Drop, B: TextBuffer + Drop, T: Timeout + Drop, A: Allocato
     /// update has ended.
     fn end_update<H: Handler, G: ParseAs<H, T, P>>(&mut self, handler: &mut H)
         ensures stops { (s : State H.Value T.Value) (n : ℕ)
-            → IsParsed (of_turns P.limit P.reading B.room T.value_of) self.old.parser self.old.state
-            (H.value_of handler.old) s →
+            → IsParsed (of_engine P.limit P.reading B.room T.value_of) self.old.parser
+            self.old.state (H.value_of handler.old) s →
             released_of self.old.hold ≡ s.held → held_of self.old.hold ≡ []
             → (0 < length s.held
             → P.reading.has_memory self.old.parser (B.room self.old.state.text) s.parsed
             (length s.held + n)) →
-            AreNextAt (of_turns P.limit P.reading B.room T.value_of) self.old self.new
+            EngineIsAtKeeping (of_engine P.limit P.reading B.room T.value_of) self.old self.new
             (H.value_of handler.new) (stop (meaning P.limit H.step T.set T.clear T.allows) s) }
         ensures hold { self.new.hold ≡ self.old.hold }
     {
@@ -120,18 +121,18 @@ impl<P: EventParser + Drop, B: TextBuffer + Drop, T: Timeout + Drop, A: Allocato
     /// Parses the released bytes.
     fn parse_released<H: Handler, G: ParseAs<H, T, P>>(&mut self, handler: &mut H)
         ensures parsed { (s : State H.Value T.Value) (n : ℕ)
-            → IsParsed (of_turns P.limit P.reading B.room T.value_of) self.old.parser self.old.state
-            (H.value_of handler.old) s →
+            → IsParsed (of_engine P.limit P.reading B.room T.value_of) self.old.parser
+            self.old.state (H.value_of handler.old) s →
             (0 < length (released_of self.old.hold)
             → P.reading.has_memory self.old.parser (B.room self.old.state.text) s.parsed
             (length (released_of self.old.hold) + n)) →
-            IsParsedOn
-            (of_turns P.limit P.reading B.room T.value_of) self.old.parser self.old.state
+            IsParsedKeeping
+            (of_engine P.limit P.reading B.room T.value_of) self.old.parser self.old.state
             self.new.parser self.new.state (H.value_of handler.new)
             (parse (meaning P.limit H.step T.set T.clear T.allows) s (released_of self.old.hold)) }
         ensures room { (s : State H.Value T.Value) (n : ℕ) →
             IsParsedWithRoom
-            (of_turns P.limit P.reading B.room T.value_of) self.old.parser self.old.state
+            (of_engine P.limit P.reading B.room T.value_of) self.old.parser self.old.state
             (H.value_of handler.old) s (length (released_of self.old.hold) + n) →
             P.reading.has_memory self.new.parser (B.room self.new.state.text)
             (s.parsed ++ released_of self.old.hold) n }
@@ -155,11 +156,11 @@ impl<P: EventParser + Drop, B: TextBuffer + Drop, T: Timeout + Drop, A: Allocato
         requires some { 0 < length bytes.now }
         ensures within { MatchResult result (λ read. read ≤ length bytes.now)
             (λ refused. refused.read < length bytes.now) }
-        ensures turned { LeadOn (of_turns P.limit P.reading B.room T.value_of) self.old self.new
+        ensures turned { LeadOn (of_engine P.limit P.reading B.room T.value_of) self.old self.new
             (H.value_of handler.old) (H.value_of handler.new)
             (λ s. EndsTurn (meaning P.limit H.step T.set T.clear T.allows) s bytes.now result) }
         ensures lacks { IfErr result
-            (λ refused. TurnsLackMemory (of_turns P.limit P.reading B.room T.value_of) self.new
+            (λ refused. EngineLacksMemory (of_engine P.limit P.reading B.room T.value_of) self.new
             (length bytes.now - refused.read)) }
     {
         let pending = self.state.timeout.pending_timeout();
@@ -194,11 +195,11 @@ impl<P: EventParser + Drop, B: TextBuffer + Drop, T: Timeout + Drop, A: Allocato
         requires none { held_of self.old.hold ≡ [] }
         ensures within { MatchResult result (λ read. read ≤ length bytes.now)
             (λ refused. refused.read < length bytes.now) }
-        ensures opened { LeadOn (of_turns P.limit P.reading B.room T.value_of) self.old self.new
+        ensures opened { LeadOn (of_engine P.limit P.reading B.room T.value_of) self.old self.new
             (H.value_of handler.old) (H.value_of handler.new)
             (λ s. EndsOpen (meaning P.limit H.step T.set T.clear T.allows) s bytes.now result) }
         ensures lacks { IfErr result
-            (λ refused. TurnsLackMemory (of_turns P.limit P.reading B.room T.value_of) self.new
+            (λ refused. EngineLacksMemory (of_engine P.limit P.reading B.room T.value_of) self.new
             (length bytes.now - refused.read)) }
     {
         let mut read = 0;
@@ -225,8 +226,8 @@ impl<P: EventParser + Drop, B: TextBuffer + Drop, T: Timeout + Drop, A: Allocato
 
     /// Takes memory for the held bytes and for this many more, and returns whether it is there.
     pub(crate) fn reserve(&mut self, more: usize) -> bool
-        ensures reserved { TurnsReserve
-            (of_turns P.limit P.reading B.room T.value_of) self.old self.new more result }
+        ensures reserved { EngineReserves
+            (of_engine P.limit P.reading B.room T.value_of) self.old self.new more result }
         ensures hold { self.new.hold ≡ self.old.hold }
     {
         self.parser
@@ -237,7 +238,7 @@ impl<P: EventParser + Drop, B: TextBuffer + Drop, T: Timeout + Drop, A: Allocato
     fn hold_bytes<H: Handler, G: ParseAs<H, T, P>>(&mut self, handler: &mut H, bytes: &[u8])
         requires some { 0 < length bytes.now }
         requires room { length (held_of self.old.hold) + length bytes.now ≤ most_held }
-        ensures { LeadOn (of_turns P.limit P.reading B.room T.value_of) self.old self.new
+        ensures { LeadOn (of_engine P.limit P.reading B.room T.value_of) self.old self.new
             (H.value_of handler.old) (H.value_of handler.new)
             (λ s IsThere. P.reading.has_memory self.old.parser (B.room self.old.state.text) s.parsed
             (length s.held + length bytes.now) →

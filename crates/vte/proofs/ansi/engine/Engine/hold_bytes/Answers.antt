@@ -1,7 +1,7 @@
 -- What the hold releases is parsed: all of it with a stop if nothing stays held, otherwise a front of it.
 use Rattle.vte.proofs.Common.{meaning, sym, ◌∙◌, arith}
 use Rattle.vte.proofs.turns.HoldTurns.{turned_cut, turned_stop}
-use Rattle.vte.proofs.ansi.turns.Turns.hold_bytes.Goals as goal
+use Rattle.vte.proofs.ansi.engine.Engine.hold_bytes.Goals as goal
 
 pub returns-then-len-eq0 : goal.returns-then-len-eq0
 returns-then-len-eq0 g c = λ s at room.

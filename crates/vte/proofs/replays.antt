@@ -1,5 +1,5 @@
--- From what an engine ensures to what a processor does, and from there to lists of calls: what the handler receives in all
--- of them.
+-- From what an engine ensures to what a processor does, and on to lists of calls: what the handler receives in all of
+-- them.
 pub mod LongStandings
 pub mod PlainReplays
 pub mod Replays

@@ -1,4 +1,4 @@
--- A processor with a limit stands where its engine does: there is always memory. So what the engine ensures holds of it.
+-- A processor with a limit stands where its engine does: there is always memory. So it does what the engine ensures.
 use Rattle.vte.proofs.Common.{◌≤◌, ℕ, List, length, Result, Ok, Err, arith, Bor, Refused, EngineMeaning, Meaning, State, usual_limit}
 use Rattle.vte.proofs.Common.{Advanced, HasParsedAndHolds, HasTaken, IsAt, ReadsInTurns, EngineReads, Standing, EngineStandsAt}
 use Rattle.vte.proofs.Common.{◌≡◌, refl, short_meaning, of_engine}

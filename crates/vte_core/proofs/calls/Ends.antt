@@ -15,9 +15,9 @@ by_settled limit (Text _) parser (InText bytes) settled s = absurd settled
 by_settled limit _ parser (InText bytes) settled s = absurd s
 by_settled limit _ parser _ settled s = tt
 
-pub between-settled : {B : Type 0} {limit : Option ℕ} (parser : Machine B) → IsSettled parser.state → (place : Place)
+pub settled-place : {B : Type 0} {limit : Option ℕ} (parser : Machine B) → IsSettled parser.state → (place : Place)
     → Stands limit parser place → IsSettledPlace place
-between-settled {limit} parser settled place s = by_settled limit parser.state parser place settled s.by
+settled-place {limit} parser settled place s = by_settled limit parser.state parser place settled s.by
 
 pub settled-by : (state other : State) → state ≡ other → IsSettled other → IsSettled state
 settled-by state other e settled = subst IsSettled (sym e) settled
@@ -36,12 +36,12 @@ module _ {V B : Type 0} {call : ChunkCall V} where
   pub settles : {old value : V} {stream : List ℕ} {i : ℕ} {parser : Machine B} → IsSettled parser.state
       → StandsInside call old value stream i parser → StandsAt call old value stream i parser
   settles {parser} settled s =
-      let settled = between-settled parser settled s.place s.stands in
+      let place_is = settled-place parser settled s.place s.stands in
       record {
         place = s.place;
         stands = s.stands;
-        settled = λ _. between;
-        has_come = come-settled (stands-place parser s.place s.stands) between s.has_come;
+        settled = λ _. place_is;
+        has_come = come-settled (stands-place parser s.place s.stands) place_is s.has_come;
       }
 
   pub inside-all : {old value : V} {stream : List ℕ} {i : ℕ} {parser : Machine B}

@@ -14,7 +14,7 @@ invariant-loop-position-2 g l = record {
   advances : Advances ⊥ (this g l.input.bytes.now) (g.P.CountedPerform.value_of l.fn.performer)
       (g.P.CountedPerform.value_of l.performer) l.from l.position l.fn.self l.self;
   may_go_on : MayGoOn (this g l.input.bytes.now) (g.P.CountedPerform.value_of l.performer);
-  between : l.position < length l.input.bytes.now → l.self.state ≡ Text Nothing;
+  settled : l.position < length l.input.bytes.now → l.self.state ≡ Text Nothing;
   low : l.from ≤ l.position;
   high : l.position ≤ length l.input.bytes.now;
   moves : l.initial.position ≤ l.position;
@@ -38,7 +38,7 @@ invariant-loop-position g l = record {
   advances : Advances ⊥ (this g l.input.bytes.now) (g.P.CountedPerform.value_of l.fn.performer)
       (g.P.CountedPerform.value_of l.performer) l.from l.position l.fn.self l.self;
   may_go_on : MayGoOn (this g l.input.bytes.now) (g.P.CountedPerform.value_of l.performer);
-  between : l.position < length l.input.bytes.now → l.self.state ≡ Text Nothing;
+  settled : l.position < length l.input.bytes.now → l.self.state ≡ Text Nothing;
   low : l.from ≤ l.position;
   high : l.position ≤ length l.input.bytes.now;
   front : length l.front.bytes.now ≤ length l.input.bytes.now;

@@ -54,7 +54,7 @@ pub use Rattle.vte.specs.machine.Engine.{EngineIsAt, EngineIsAtKeeping, EndsOpen
 pub use Rattle.vte.specs.machine.Meanings.{ParserMeaning, EngineMeaning, long_meaning, of_engine, short_meaning, unlimited}
 pub use Rattle.vte.specs.Rendition.{attribute_calls, attributes_from}
 pub use Rattle.vte.specs.Synchronized.{begin_update, held_begin_count, begins_with, after_last_end, end_update, from_begin, last_part}
-pub use Rattle.vte.specs.machine.Texts.{FitsRoom, fits_room, joined_size, parts_left, after_separator}
+pub use Rattle.vte.specs.machine.Texts.{FitsRoom, fits_room, joined_size, parts_left, text_to_join}
 pub use Rattle.vte_types.specs.Words.{after_word}
 pub use Rattle.vte.specs.Titles.{joined_texts, text_in}
 pub use Rattle.vte.specs.declared.ansi.laws.replays.Step.{Step}

@@ -3,23 +3,23 @@
 use Rattle.std.proofs.lemmas.Str.{IsUtf8-from_is_utf8, is_utf8-from_IsUtf8}
 use Rattle.vte.proofs.Common.{◌≡◌, ◌≤◌, ◌<◌, ◌+◌, ◌∙◌, ℕ, Bool, true, false, List, [], ◌∷◌, ◌++◌, length, refl, sym, ap, arith, map, drop, get_or, Bor}
 use Rattle.vte.proofs.Common.{false_from_ne_true, append-nil, drop_more, concat, join_with_byte, is_utf8, IsUtf8}
-use Rattle.vte.proofs.Common.{append_assoc, length-append, decimal, after_separator, joined_texts, text_in, filter_map, Option, Some, None, FitsRoom, joined_size}
+use Rattle.vte.proofs.Common.{append_assoc, length-append, decimal, text_to_join, joined_texts, text_in, filter_map, Option, Some, None, FitsRoom, joined_size}
 use Rattle.std.proofs.lemmas.Fmt.{length-decimal-le}
 use Rattle.std.specs.Option.{option_map, unwrap_or}
 
 -- what texts add after others
 abbrev pub joined_more : Bool → List (List ℕ) → List ℕ
 joined_more is_first [] = []
-joined_more is_first (text ∷ texts) = after_separator is_first text ++ joined_more false texts
+joined_more is_first (text ∷ texts) = text_to_join is_first text ++ joined_more false texts
 
-joined-after_separator : (text : List ℕ) (texts : List (List ℕ))
+joined-text_to_join : (text : List ℕ) (texts : List (List ℕ))
     → join_with_byte 0x3b (text ∷ texts) ≡ text ++ joined_more false texts
-joined-after_separator text [] = sym (append-nil text)
-joined-after_separator text (next ∷ texts) = ap (λ more. text ++ (0x3b ∷ more)) (joined-after_separator next texts)
+joined-text_to_join text [] = sym (append-nil text)
+joined-text_to_join text (next ∷ texts) = ap (λ more. text ++ (0x3b ∷ more)) (joined-text_to_join next texts)
 
 joined-all : (texts : List (List ℕ)) → joined_more true texts ≡ join_with_byte 0x3b texts
 joined-all [] = refl
-joined-all (text ∷ texts) = sym (joined-after_separator text texts)
+joined-all (text ∷ texts) = sym (joined-text_to_join text texts)
 
 -- the text holds what was joined, the texts of the pieces that are left add the rest, and there is
 -- room for them
@@ -45,9 +45,9 @@ texts-same keeps_all piece left none = rw (← none) refl
 text-short : (keeps_all : Bool) (piece part : List ℕ) → Some part ≡ text_in keeps_all piece → length part ≤ length piece
 text-short keeps_all piece part is = grind arith
 
-after_separator-length : (is_first : Bool) (text : List ℕ) → length (after_separator is_first text) ≤ length text + 1
-after_separator-length true text = omega arith
-after_separator-length false text = omega arith
+text_to_join-length : (is_first : Bool) (text : List ℕ) → length (text_to_join is_first text) ≤ length text + 1
+text_to_join-length true text = omega arith
+text_to_join-length false text = omega arith
 
 module _ (keeps_all : Bool) (pieces : List (Bor (List ℕ))) (i : ℕ) (d : Bor (List ℕ)) (inside : i < length pieces)
     {room : ℕ} {text : List ℕ} {is_first : Bool}
@@ -68,18 +68,18 @@ module _ (keeps_all : Bool) (pieces : List (Bor (List ℕ))) (i : ℕ) (d : Bor 
 
   -- a piece has a text
   pub joins-more : (part : List ℕ) → Some part ≡ text_in keeps_all piece
-      → Joins keeps_all room (text ++ after_separator is_first part) false left all
+      → Joins keeps_all room (text ++ text_to_join is_first part) false left all
   joins-more part is = record {
     joins =
-        append_assoc text (after_separator is_first part) _
+        append_assoc text (text_to_join is_first part) _
         ∙ (rw (texts-more keeps_all piece left is) at opened.joins);
     fits = omega (
       arith,
       text-short keeps_all piece part is,
       opened.fits,
-      length-append text (after_separator is_first part),
+      length-append text (text_to_join is_first part),
       length-append piece (concat left),
-      after_separator-length is_first part,
+      text_to_join-length is_first part,
     );
   }
 

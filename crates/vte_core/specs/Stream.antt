@@ -40,7 +40,8 @@ outcome limit stream =
 unfoldable pub events : Option ℕ → List ℕ → List Event
 events limit stream = (outcome limit stream).told
 
--- The events that more bytes add.
+-- The events that more bytes add to those of the stream, which stay as they are
+-- (`laws::events_grow`).
 abbrev pub added : Option ℕ → List ℕ → List ℕ → List Event
 added limit stream more = drop (length (events limit stream)) (events limit (stream ++ more))
 
@@ -48,7 +49,8 @@ added limit stream more = drop (length (events limit stream)) (events limit (str
 abbrev pub IsFinished : Option ℕ → List ℕ → Type 0
 IsFinished limit stream = (more : List ℕ) → added limit stream more ≡ events limit more
 
--- A character or a sequence is unfinished there: a `0` isn't printed, or not alone.
+-- A character or a sequence is unfinished there: a `0` isn't printed, or not alone. It serves as a
+-- probe, because it belongs to whatever is unfinished, or ends it.
 abbrev pub IsUnfinished : Option ℕ → List ℕ → Type 0
 IsUnfinished limit stream = added limit stream (0x30 ∷ []) ≢ Print 0x30 ∷ []
 

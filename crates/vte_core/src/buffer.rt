@@ -11,14 +11,17 @@ pub(crate) trait Buffer {
     /// The most bytes that are held, if there is a limit.
     ghost limit: { Option ℕ };
 
+    /// The bytes that are held.
     ghost held: { Self → List ℕ };
 
     /// The number of bytes for which memory was allocated.
     ghost capacity: { Self → ℕ };
 
+    /// Returns the held bytes.
     fn bytes(&self) -> &[u8]
         ensures { result.now ≡ held self.now };
 
+    /// Drops the held bytes. Their memory stays.
     fn clear(&mut self)
         ensures empty { held self.new ≡ [] }
         ensures memory { capacity self.new ≡ capacity self.old };

@@ -10,10 +10,10 @@ abbrev pub parts_left : ℕ → Option (Bor (List ℕ)) → List (List ℕ)
 parts_left separator None = []
 parts_left separator (Some text) = parts_of separator text.now
 
--- Every text but the first is preceded by `;`.
-abbrev pub after_separator : Bool → List ℕ → List ℕ
-after_separator true text = text
-after_separator false text = 0x3b ∷ text
+-- What is added for a text: `;` and the text, or of the first the text alone.
+abbrev pub text_to_join : Bool → List ℕ → List ℕ
+text_to_join true text = text
+text_to_join false text = 0x3b ∷ text
 
 -- All bytes, and a separator for each piece.
 abbrev pub joined_size : List (List ℕ) → ℕ

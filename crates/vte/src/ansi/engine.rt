@@ -18,7 +18,8 @@ use vte_core::{Refused, laws};
 use vte_handler::{Handler, Timeout};
 use vte_types::{NamedPrivateMode, PrivateMode};
 
-/// For how many bytes an open turn takes memory at once.
+/// For how many bytes an open turn takes memory at once: little beside the memory of a hold, and
+/// enough that few slices are taken.
 const SLICE: usize = 65_536;
 
 /// The parser, the hold and the state of a processor, whatever its limit. `P`: parser, `B`: buffer

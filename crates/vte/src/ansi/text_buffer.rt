@@ -5,8 +5,10 @@ use arrayvec::ArrayString;
 
 /// Holds a text, of as many bytes as it has room for.
 pub(crate) trait TextBuffer {
+    /// The text.
     ghost held: { Self → List ℕ };
 
+    /// How many bytes there is room for, in all.
     ghost room: { Self → ℕ };
 
     /// Returns how many bytes there is room for, in all.
@@ -19,6 +21,7 @@ pub(crate) trait TextBuffer {
         ensures kept { room self.old ≤ room self.new }
         ensures lacks { result ≡ false → room self.new < size };
 
+    /// Empties the text. Its room stays.
     fn clear(&mut self)
         ensures empty { held self.new ≡ [] }
         ensures same { room self.new ≡ room self.old };
@@ -30,11 +33,13 @@ pub(crate) trait TextBuffer {
         ensures pushed { held self.new ≡ held self.old ++ c ∷ [] }
         ensures same { room self.new ≡ room self.old };
 
+    /// Appends a text.
     fn push_str(&mut self, part: &str)
         requires { length (held self.old) + length part.now ≤ room self.old }
         ensures pushed { held self.new ≡ held self.old ++ part.now }
         ensures same { room self.new ≡ room self.old };
 
+    /// Returns the text.
     fn as_str(&self) -> &str
         ensures { result.now ≡ held self.now };
 }

@@ -3,7 +3,7 @@ ghost use Rattle.std.specs.Prelude.{◌≡◌, ◌≤◌, ◌+◌, ◌++◌, len
 ghost use Rattle.std.specs.Fmt.{decimal};
 ghost use Rattle.vte.specs.Numbers.{decimal_number};
 ghost use Rattle.vte.specs.Titles.{joined_texts, text_in, title_calls};
-ghost use Rattle.vte.specs.machine.Texts.{FitsRoom, after_separator};
+ghost use Rattle.vte.specs.machine.Texts.{FitsRoom, text_to_join};
 ghost use Rattle.vte_handler.specs.Handler.{after};
 
 use crate::ansi::text_buffer::TextBuffer;
@@ -51,7 +51,7 @@ pub(crate) fn join_texts<B: TextBuffer>(text: &mut B, pieces: &[&[u8]], keeps_al
 /// Appends a text to those before it, after a `;` unless it is the first.
 fn push_part<B: TextBuffer>(text: &mut B, is_first: bool, part: &str)
     requires { length (B.held text.old) + length part.now + 1 ≤ B.room text.old }
-    ensures pushed { B.held text.new ≡ B.held text.old ++ after_separator is_first part.now }
+    ensures pushed { B.held text.new ≡ B.held text.old ++ text_to_join is_first part.now }
     ensures same { B.room text.new ≡ B.room text.old }
 {
     if !is_first {

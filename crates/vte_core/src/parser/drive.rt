@@ -99,6 +99,7 @@ impl<B: Buffer> Machine<B> {
             return Ok(self.read_text::<P, G, MAY_STOP>(looks, performer, input, from));
         }
         Ok(match self.state {
+            // Never: this was tested above.
             State::Text(_) => self.read_text::<P, G, MAY_STOP>(looks, performer, input, from),
             State::Escape => self.read_escape::<P, G, MAY_STOP>(looks, performer, input, from),
             State::EscapeIntermediate => {

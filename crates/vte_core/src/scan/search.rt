@@ -11,8 +11,7 @@ use memchr::memchr;
 
 impl<B> Looks<B> {
     /// Finds where the data bytes of an operating system command end that start at a position:
-    /// before
-    /// `;` or a control, or with the input.
+    /// before `;` or a control, or with the input.
     pub(crate) fn find_command_data_end(&mut self, input: Input<'_, B>, from: usize) -> usize
         requires { from ≤ length input.bytes.now }
         ensures { FindsEnd IsCommandData input.entry.bytes.now from result self.old self.new }

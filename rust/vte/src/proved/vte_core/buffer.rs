@@ -7,8 +7,10 @@ use crate::prelude::Vec;
 
 /// Holds bytes, up to a limit or as many as there is memory for.
 pub(crate) trait Buffer {
+    /// Returns the held bytes.
     fn bytes(&self) -> &[u8];
 
+    /// Drops the held bytes. Their memory stays.
     fn clear(&mut self);
 
     /// Returns whether the limit is reached.

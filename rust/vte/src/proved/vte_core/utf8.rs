@@ -4,16 +4,22 @@
 /// The bytes of an unfinished character, at most three.
 #[derive(Clone, Copy)]
 pub(crate) enum Unfinished {
+    /// No character is open.
     Nothing,
+    /// The first byte of two, three or four.
     One(u8),
+    /// Two bytes of three or four.
     Two(u8, u8),
+    /// Three bytes of four.
     Three(u8, u8, u8),
 }
 
 /// What one more byte makes of an unfinished character.
 #[derive(Clone, Copy)]
 pub(crate) enum Carried {
+    /// More bytes, and still no character.
     Unfinished(Unfinished),
+    /// The character is whole.
     Whole(char),
     /// The byte belongs to no character that the others began.
     Broken,

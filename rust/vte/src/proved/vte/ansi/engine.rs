@@ -11,7 +11,8 @@ use crate::proved::vte_handler::{Handler, Timeout};
 use crate::proved::vte_types::{NamedPrivateMode, PrivateMode};
 use core::time::Duration;
 
-/// For how many bytes an open turn takes memory at once.
+/// For how many bytes an open turn takes memory at once: little beside the memory of a hold, and
+/// enough that few slices are taken.
 const SLICE: usize = 65_536;
 
 /// The parser, the hold and the state of a processor, whatever its limit. `P`: parser, `B`: buffer

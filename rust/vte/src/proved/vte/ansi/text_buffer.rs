@@ -11,13 +11,16 @@ pub(crate) trait TextBuffer {
     /// Makes room for `size` bytes in all, and returns whether it is there.
     fn reserve(&mut self, size: usize) -> bool;
 
+    /// Empties the text. Its room stays.
     fn clear(&mut self);
 
     /// Appends a character of one byte.
     fn push(&mut self, c: char);
 
+    /// Appends a text.
     fn push_str(&mut self, part: &str);
 
+    /// Returns the text.
     fn as_str(&self) -> &str;
 }
 

@@ -56,6 +56,7 @@ impl<B: Buffer> Machine<B> {
             return Ok(self.read_text::<P, G, MAY_STOP>(performer, input, from));
         }
         Ok(match self.state {
+            // Never: this was tested above.
             State::Text(_) => self.read_text::<P, G, MAY_STOP>(performer, input, from),
             State::Escape => self.read_escape(performer, input, from),
             State::EscapeIntermediate => self.read_intermediates(performer, input, from),

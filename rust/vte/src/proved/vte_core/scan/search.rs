@@ -9,8 +9,7 @@ use crate::proved::vte_core::class::{cannot_end, ends_all, is_device_data, ESCAP
 use crate::proved::vte_core::scan::{get_block, up_to};
 
 /// Finds where the data bytes of an operating system command end that start at a position:
-/// before
-/// `;` or a control, or with the input.
+/// before `;` or a control, or with the input.
 pub(crate) fn find_command_data_end(input: &[u8], from: usize) -> usize {
     let mut end = from;
     while end < input.len() && input[end] >= 0x20 && input[end] != b';' {

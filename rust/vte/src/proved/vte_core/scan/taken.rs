@@ -27,8 +27,11 @@ pub enum Taken<'a> {
 /// What stands at the position of a run.
 #[derive(Clone, Copy)]
 pub(crate) enum RunKind {
+    /// Text to print.
     OfText,
+    /// Data of a device control string.
     OfData,
+    /// No run, where a call ends.
     Empty,
 }
 

@@ -1,12 +1,11 @@
 """Handler calls and what is held of updates are those of the rows, from C and C++."""
 import re
-import shutil
 from functools import cache
 from typing import List, NamedTuple
 
 import pytest
 from generating.rows import all_rows, bytes_of, lines_of
-from tests.missing import miss
+from tests.missing import miss, need
 
 from c_library.library import BESIDE, HERE, SANITIZERS, output_of
 from c_library.test_numbers import of_rust
@@ -194,8 +193,7 @@ SCRIPTS = list(scripts())
 def program(library, suffix, *words):
     """The program in C or C++."""
     compiler = {"c": "cc", "cpp": "c++"}[suffix]
-    if shutil.which(compiler) is None:
-        miss(f"{compiler}, so calls.{suffix} was not built")
+    need(compiler, f"{compiler}, so calls.{suffix} was not built")
     name = f"calls_{suffix}{'_sanitized' if words else ''}"
     made = library.program(HERE / f"calls.{suffix}", "-Wl,--wrap=clock_gettime", *words,
                            compiler=compiler, name=name, optional=words)

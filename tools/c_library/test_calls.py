@@ -94,10 +94,8 @@ def hexadecimal(word):
 
 # how the arguments of a call are written in the rows, if not as they are
 SHOWN = {
-    "terminal_attribute": attribute,
-    "set_cursor_style": style,
-    "set_hyperlink": link,
-    "identify_terminal": letter,
+    "terminal_attribute": attribute, "set_cursor_style": style,
+    "set_hyperlink": link, "identify_terminal": letter,
     "set_title": lambda title: optional(quoted(title)),
     "set_scrolling_region": lambda top, bottom: (
         f"{top} {optional(None if bottom == '0' else bottom)}"),
@@ -109,10 +107,8 @@ SHOWN = {
     "configure_charset": each("G{}".format, named("StandardCharset")),
     "clipboard_store": each(hexadecimal, lambda data: data[1:] or "-"),
     "clipboard_load": each(hexadecimal, quoted),
-    "clear_line": named("LineClearMode"),
-    "clear_screen": named("ClearMode"),
-    "clear_tabs": named("TabulationClearMode"),
-    "set_cursor_shape": named("CursorShape"),
+    "clear_line": named("LineClearMode"), "clear_screen": named("ClearMode"),
+    "clear_tabs": named("TabulationClearMode"), "set_cursor_shape": named("CursorShape"),
     "set_scp": each(named("ScpCharPath"), named("ScpUpdateMode")),
     "set_keyboard_mode": each(str, named("KeyboardModesApplyBehavior")),
     "set_modify_other_keys": named("ModifyOtherKeys"),

@@ -13,7 +13,7 @@ import subprocess
 import sys
 from pathlib import Path
 
-from erasing.crate import read_files, write_crate
+from erasing.crate import Failure, read_files, write_crate
 from erasing.plans.peer import PEER
 
 TOOLS = Path(__file__).resolve().parent.parent
@@ -95,7 +95,11 @@ def placed_peers(is_ours, folder, profile, count):
 def copy_sources(folder):
     """The sources of tools/peer, with what they share with crates/, erased."""
     shutil.copytree(TOOLS / "peer" / "src", folder, dirs_exist_ok=True)
-    for place, text in write_crate(PEER, shared_files).items():
+    try:
+        files = write_crate(PEER, shared_files)
+    except Failure as failure:
+        stop(f"tools/peer: {failure}")
+    for place, text in files.items():
         if place != "mod.rs":
             (folder / Path(place).name).write_text(text)
 

@@ -133,7 +133,8 @@ def rows(race, programs, given):
     """Measures each side over the given streams: nanoseconds per byte, a number for each round and
     placement."""
     sides = programs.commands(race)
-    for name, piece in asked_for(given, RACES[race]):
+    asked = {4096: given.streams} if given.streams else RACES[race]
+    for name, piece in ((name, piece) for piece, names in asked.items() for name in names):
         commands = {side: of_side for side, of_side in sides.items()
                     if side != "ours" or name not in BEYOND_THE_LIMIT}
         compare_checksums(name, commands, programs.stream(name, CHECKED))
@@ -143,10 +144,3 @@ def rows(race, programs, given):
         found = {side: [[its / given.bytes * 1e9 for its in seconds] for seconds in of_side]
                  for side, of_side in times.items()}
         yield {"race": race, "stream": name, "piece": piece, "nanoseconds": found}
-
-
-def asked_for(given, default):
-    """The names of streams, each with the bytes of a call."""
-    if given.streams:
-        return [(name, 4096) for name in given.streams]
-    return [(name, piece) for piece, names in default.items() for name in names]

@@ -13,7 +13,7 @@ import subprocess
 import sys
 from pathlib import Path
 
-from erasing.crate import erase
+from erasing.crate import Failure, read_files, write_crate
 from erasing.plans.peer import PEER
 
 TOOLS = Path(__file__).resolve().parent.parent
@@ -95,14 +95,18 @@ def placed_peers(is_ours, folder, profile, count):
 def copy_sources(folder):
     """The sources of tools/peer, with what they share with crates/, erased."""
     shutil.copytree(TOOLS / "peer" / "src", folder, dirs_exist_ok=True)
-    unused = PEER.entries()
-    for crate, name in ((crate, name) for crate, names in SHARED.items() for name in names):
-        text = (TOOLS.parent / "crates" / crate / "src" / f"{name}.rt").read_text()
-        erased, _, used = erase(text, crate, f"{crate}/{name}", PEER)
-        (folder / f"{name}.rs").write_text(erased)
-        unused -= used
-    if unused:
-        stop(f"the plan of tools/peer has what no file needs: {unused}")
+    try:
+        files = write_crate(PEER, shared_files)
+    except Failure as failure:
+        stop(f"tools/peer: {failure}")
+    for place, text in files.items():
+        if place != "mod.rs":
+            (folder / Path(place).name).write_text(text)
+
+
+def shared_files(crate):
+    files = read_files(TOOLS.parent, crate)
+    return {f"{name}.rt": files[f"{name}.rt"] for name in SHARED[crate]}
 
 
 def run(words, what, environment=None, folder=None):

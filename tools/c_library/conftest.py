@@ -1,9 +1,8 @@
-import shutil
 from functools import cache
 
 import pytest
 from building import builder
-from tests.missing import miss
+from tests.missing import need
 
 from c_library.library import Library
 
@@ -28,8 +27,7 @@ def built(tmp_path_factory):
     @cache
     def build_by(build):
         for command in "cc", build:
-            if shutil.which(command) is None:
-                miss(f"{command}, so the C library was not tested")
+            need(command, f"{command}, so the C library was not tested")
         return Library(build, tmp_path_factory.mktemp(build))
     return build_by
 

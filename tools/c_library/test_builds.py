@@ -1,9 +1,8 @@
 """The symbols of the library, and programs that try its edges, under sanitizers."""
 import re
-import shutil
 
 import pytest
-from tests.missing import miss
+from tests.missing import miss, need
 
 from c_library.library import (
     BESIDE, CRATE, EXAMPLES, HERE, INCLUDES, OLD_CALLS, OLD_PROGRAM, SANITIZERS, TOOLS,
@@ -37,8 +36,7 @@ def symbols(library, *options):
 def test_symbols(library):
     """It has the functions of its headers and needs few of C. rt's has no panic, and cargo's none
     but those of an index and of memory."""
-    if shutil.which("nm") is None:
-        miss("nm (Debian: binutils), so the library's symbols were not checked")
+    need("nm", "nm (Debian: binutils), so the library's symbols were not checked")
     wanted = declared(library)
     assert {name for _, name in symbols(library.archive, "-g", "--defined-only")} == wanted
     assert {name for _, name in symbols(library.shared, "-D", "--defined-only")} == wanted

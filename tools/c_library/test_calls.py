@@ -1,12 +1,11 @@
 """Handler calls and what is held of updates are those of the rows, from C and C++."""
 import re
-import shutil
 from functools import cache
 from typing import List, NamedTuple
 
 import pytest
 from generating.rows import all_rows, bytes_of, lines_of
-from tests.missing import miss
+from tests.missing import miss, need
 
 from c_library.library import BESIDE, HERE, SANITIZERS, output_of
 from c_library.test_numbers import of_rust
@@ -95,10 +94,8 @@ def hexadecimal(word):
 
 # how the arguments of a call are written in the rows, if not as they are
 SHOWN = {
-    "terminal_attribute": attribute,
-    "set_cursor_style": style,
-    "set_hyperlink": link,
-    "identify_terminal": letter,
+    "terminal_attribute": attribute, "set_cursor_style": style,
+    "set_hyperlink": link, "identify_terminal": letter,
     "set_title": lambda title: optional(quoted(title)),
     "set_scrolling_region": lambda top, bottom: (
         f"{top} {optional(None if bottom == '0' else bottom)}"),
@@ -110,10 +107,8 @@ SHOWN = {
     "configure_charset": each("G{}".format, named("StandardCharset")),
     "clipboard_store": each(hexadecimal, lambda data: data[1:] or "-"),
     "clipboard_load": each(hexadecimal, quoted),
-    "clear_line": named("LineClearMode"),
-    "clear_screen": named("ClearMode"),
-    "clear_tabs": named("TabulationClearMode"),
-    "set_cursor_shape": named("CursorShape"),
+    "clear_line": named("LineClearMode"), "clear_screen": named("ClearMode"),
+    "clear_tabs": named("TabulationClearMode"), "set_cursor_shape": named("CursorShape"),
     "set_scp": each(named("ScpCharPath"), named("ScpUpdateMode")),
     "set_keyboard_mode": each(str, named("KeyboardModesApplyBehavior")),
     "set_modify_other_keys": named("ModifyOtherKeys"),
@@ -194,8 +189,7 @@ SCRIPTS = list(scripts())
 def program(library, suffix, *words):
     """The program in C or C++."""
     compiler = {"c": "cc", "cpp": "c++"}[suffix]
-    if shutil.which(compiler) is None:
-        miss(f"{compiler}, so calls.{suffix} was not built")
+    need(compiler, f"{compiler}, so calls.{suffix} was not built")
     name = f"calls_{suffix}{'_sanitized' if words else ''}"
     made = library.program(HERE / f"calls.{suffix}", "-Wl,--wrap=clock_gettime", *words,
                            compiler=compiler, name=name, optional=words)

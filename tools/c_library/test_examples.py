@@ -1,11 +1,10 @@
 """The examples in C, C++ and Go, some on a pipe that is written slowly."""
 import os
 import select
-import shutil
 import subprocess
 
 import pytest
-from tests.missing import miss
+from tests.missing import need
 
 from c_library.library import CRATE, EXAMPLES, SANITIZERS, TOOLS, output_of
 
@@ -29,8 +28,7 @@ def program(library, place, *words):
     """An example, in the language of its file."""
     source = EXAMPLES / place
     compiler = {".c": "cc", ".cpp": "c++", ".go": "go"}[source.suffix]
-    if shutil.which(compiler) is None:
-        miss(f"{compiler}, so {place} was not built")
+    need(compiler, f"{compiler}, so {place} was not built")
     if compiler != "go":
         return library.program(source, OF_PTY, *words, compiler=compiler)
     made = library.folder / f"{source.parent.name}_go"

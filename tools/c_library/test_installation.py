@@ -6,7 +6,7 @@ import subprocess
 from pathlib import Path
 
 import pytest
-from tests.missing import miss
+from tests.missing import need
 
 from c_library.library import EXAMPLES, HERE, OLD_CALLS, OLD_PROGRAM, TOOLS, output_of
 from c_library.test_examples import STREAM, TEXT
@@ -107,8 +107,7 @@ def test_build_in_a_folder_with_a_blank(place):
 
 
 def test_pkg_config(prefix):
-    if shutil.which("pkg-config") is None:
-        miss("pkg-config, so the installed library was not looked for by it")
+    need("pkg-config", "pkg-config, so the installed library was not looked for by it")
     assert "soname: [libvte_c.so.6]" in prefix.run("readelf", "-d", "prefix/lib/libvte_c.so")
     prefix.run("pkg-config", "--exists", "libvte_c >= 6")
     prefix.run("pkg-config", "--exists", "libvte_c >= 7", status=1)
@@ -128,8 +127,7 @@ def test_pkg_config(prefix):
 
 
 def cmake(place, *words, **how):
-    if shutil.which("cmake") is None:
-        miss("cmake, so the installed library was not looked for by it")
+    need("cmake", "cmake, so the installed library was not looked for by it")
     source = f"-DSOURCE={EXAMPLES / 'c/stripper.c'}"
     place.run("cmake", source, *words, "-S", HERE, "-B", "built", **how)
 

@@ -1,10 +1,9 @@
 """The numbers that cross the border, which Rust's types and vte_handler.h each name."""
 import re
-import shutil
 from functools import cache
 
 import pytest
-from tests.missing import miss
+from tests.missing import need
 
 from c_library.library import BESIDE, HERE, TOOLS, output_of
 
@@ -52,7 +51,6 @@ def test_names(name):
 
 def test_handler(whole):
     """The other names, and refused memory in C++."""
-    if shutil.which("c++") is None:
-        miss("c++, so vte.hpp was not tested")
+    need("c++", "c++, so vte.hpp was not tested")
     words = ["-std=c++17", "-Wl,--wrap=malloc", "-Wl,--wrap=realloc"]
     assert output_of([whole.program(HERE / "handler.cpp", *words, compiler="c++")]) == b""

@@ -92,7 +92,8 @@ def erase(text, crate, name, plan):
     before = words_of_code(source)
     passes.drop_items(source, plan.dropped_items.get(name, ()))
     _drop_modules(source, name, plan)
-    _apply_rules(source, crate, name, plan)
+    apply(source, plan.rules.get(name, ()), are_needed=True)
+    apply(source, GENERAL + plan.rules.get("", []) + plan.rules.get(crate, []) + OLDER)
     if name in plan.default_bodies:
         passes.give_bodies(source, plan.default_bodies[name])
     if name in plan.inlined:
@@ -119,8 +120,3 @@ def _drop_modules(source, name, plan):
     for module in modules:
         exports = [f"use {module}"] * bool(source.places(f"use {module}"))
         passes.drop_items(source, [f"mod {module}", *exports])
-
-
-def _apply_rules(source, crate, name, plan):
-    apply(source, plan.rules.get(name, ()), are_needed=True)
-    apply(source, GENERAL + plan.rules.get("", []) + plan.rules.get(crate, []) + OLDER)

@@ -1,4 +1,5 @@
-"""Writes files of this repository that are made from others, or checks that they are up to date."""
+"""Writes files of this repository that are made from others, or checks that they are up to date;
+and the parser of arguments that tools have."""
 import argparse
 import re
 import sys
@@ -7,11 +8,16 @@ from pathlib import Path
 TOP = Path(__file__).resolve().parents[2]
 
 
+def parser_of(about, **how):
+    """A parser of arguments, whose help is the text about a tool, line by line."""
+    layout = argparse.RawDescriptionHelpFormatter
+    return argparse.ArgumentParser(description=about, formatter_class=layout, **how)
+
+
 def write_or_check(about, make, top=TOP):
     """Writes the files that aren't up to date, or with --check ends the program with their names.
     `make` yields the path of each below `top`, and its text, or None for one that is to go."""
-    parser = argparse.ArgumentParser(description=about,
-                                     formatter_class=argparse.RawDescriptionHelpFormatter)
+    parser = parser_of(about)
     parser.add_argument("--check", action="store_true", help="only check that files are up to date")
     is_check = parser.parse_args().check
     stale = {name: text for name, text in make() if not is_current(top / name, text)}

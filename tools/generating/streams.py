@@ -154,10 +154,8 @@ PARTS = {
 }
 # a beginning, and what follows over and over
 REPEATED = {
-    "bad_ff": (b"", b"\xff"),
-    "bad_trunc4": (b"", b"\xf0\x9f\x98"),
-    "bad_alternate": (b"", b"a\xff"),
-    "lead_esc": (b"", b"\xe2\x1b[m"),
+    "bad_ff": (b"", b"\xff"), "bad_trunc4": (b"", b"\xf0\x9f\x98"),
+    "bad_alternate": (b"", b"a\xff"), "lead_esc": (b"", b"\xe2\x1b[m"),
     "esc_flood": (b"", b"\x1b"),
     # a string that means nothing, and an update, without end
     "sos_open": (b"\x1bX", b"text "),

@@ -5,24 +5,14 @@ from collections import namedtuple
 # for each rule what it may be, the default first; a number stands for any number or none;
 # docs/JUDGE.md says what they are about
 CHOICES = {
-    "encoding": ("utf-8", "bytes"),
-    "malformed": ("subparts", "bytes", "drop"),
-    "c1-bytes": ("execute", "replace", "drop"),
-    "c1-characters": ("execute", "print", "drop"),
-    "delete": ("print", "drop"),
-    "bell": ("ends", "drop"),
-    "command-9c": ("data", "ends"),
-    "device-9c": ("ends", "drop"),
-    "ignored-9c": ("drop", "ends"),
-    "terminator": ("event", "silent"),
-    "escaped-commands": ("dispatch", "drop"),
-    "cancelled-commands": ("dispatch", "drop"),
-    "empty-commands": ("dispatch", "drop"),
+    "encoding": ("utf-8", "bytes"), "malformed": ("subparts", "bytes", "drop"),
+    "c1-bytes": ("execute", "replace", "drop"), "c1-characters": ("execute", "print", "drop"),
+    "delete": ("print", "drop"), "bell": ("ends", "drop"),
+    "command-9c": ("data", "ends"), "device-9c": ("ends", "drop"), "ignored-9c": ("drop", "ends"),
+    "terminator": ("event", "silent"), "escaped-commands": ("dispatch", "drop"),
+    "cancelled-commands": ("dispatch", "drop"), "empty-commands": ("dispatch", "drop"),
     "colon": ("joins", "separates", "refuses"),
-    "limit": 1024,
-    "pieces": 16,
-    "numbers": 32,
-    "largest": 65535,
+    "limit": 1024, "pieces": 16, "numbers": 32, "largest": 65535,
 }
 House = namedtuple("House", [name.replace("-", "_") for name in CHOICES],
                    defaults=[it[0] if isinstance(it, tuple) else it for it in CHOICES.values()])

@@ -1,6 +1,7 @@
 """What tests need that may not be there: they fail without it, or are skipped, which tools/test
 lists. tools/run_pytest has this as a plugin."""
 import os
+import shutil
 
 import pytest
 
@@ -10,6 +11,12 @@ def miss(what):
     if os.environ.get("NAQSHUVE_ALLOW_MISSING") != "1":
         pytest.fail(f"{what}. NAQSHUVE_ALLOW_MISSING=1 lets it pass")
     pytest.skip(what)
+
+
+def need(command, what):
+    """Misses something if there is no such command."""
+    if shutil.which(command) is None:
+        miss(what)
 
 
 def pytest_terminal_summary(terminalreporter):

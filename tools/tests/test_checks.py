@@ -202,8 +202,7 @@ def differences(source, written, place="c/mod.rs", **given):
 @pytest.mark.parametrize("source, written, wanted", [
     ("/// F.\npub fn f() { laws::x(); g(alloc, c::X); }", "/// F. More.\npub fn f() { g(X); }", []),
     ("trait T { fn f(); fn g() -> bool; }", "trait T { fn f() {} fn g() -> bool { false } }", []),
-    ("fn f() { g(); }", "", ["fn f"]),
-    ("trait T { fn f(); }", "trait T {}", ["fn f"]),
+    ("fn f() { g(); }", "", ["fn f"]), ("trait T { fn f(); }", "trait T {}", ["fn f"]),
     ("", "fn f() { g(); }", ["fn f: { g ( ) ; }"]),
     ("fn f() { g(1); }", "fn f() { g(2); }", ["fn f: { g ( 2 ) ; }", "fn f"]),
     ("fn f() { g(); }", "fn f() {}", ["fn f: { }", "fn f"]),
@@ -280,8 +279,7 @@ def test_mutants_stand_once(crate):
 
 # what `rt must-fail` says in the end, and the last line of the mutant then
 @pytest.mark.parametrize("said, status, line", [
-    ("NOT TRIED", 1, "# refused at abc1200 by old"),
-    ("not refused", 1, "new: two"),
+    ("NOT TRIED", 1, "# refused at abc1200 by old"), ("not refused", 1, "new: two"),
     ("refused, as it must be: why", 1, "new: two"),
     *((f"refused, as it must be: {why}", 0, f"# refused at abc1234 by {goal}") for goal, why in {
         "x-y": "`x-y`: why (`x`)",

@@ -9,7 +9,7 @@ from pathlib import Path
 
 import pytest
 
-from tests.support import write
+from tests.support import wait_until, write
 
 TOP = Path(__file__).resolve().parents[2]
 # what the launcher may use
@@ -87,13 +87,6 @@ def start():
     with open("errors", "w") as errors:
         return subprocess.Popen(["env", "--default-signal", "./vtlog"], stderr=errors,
                                 stdout=subprocess.DEVNULL)
-
-
-def wait_until(is_so):
-    end = time.monotonic() + 300
-    while not is_so() and time.monotonic() < end:
-        time.sleep(0.01)
-    assert is_so()
 
 
 def test_answers():

@@ -117,8 +117,6 @@ PROCESSOR = dict(
         "vte/ansi/escape_calls": {
             "#[allow(clippy::manual_range_patterns)]": ["pub(crate) fn perform_execute"]},
     },
-    inlined={
-        "vte/ansi/hold": "impl Hold",
-        "vte/ansi/numbers": "impl NumberIterator for ParamsIter",
-    },
+    inlined={"vte/ansi/hold": "impl Hold",
+             "vte/ansi/numbers": "impl NumberIterator for ParamsIter"},
 )

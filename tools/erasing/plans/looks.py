@@ -32,11 +32,9 @@ COUNTS = [
     ("looks.tell_text(performer, input, $$p)", "performer.print_text(text(input, $p))"),
     ("looks.tell_data(performer, input, $$p)", "performer.put_slice(data(input, $p))"),
     ("looks.$f(", "$f("), ("looks.$f::<$n>(", "$f::<$n>("),
-    ("(&mut self.looks,", "("), ("(looks,", "("), ("(looks)", "()"),
-    ("Input::new($x)", "$x"),
+    ("(&mut self.looks,", "("), ("(looks,", "("), ("(looks)", "()"), ("Input::new($x)", "$x"),
     ("Input<$a, B>", lambda names: "&[u8]" if names["a"] == "'_" else f"&{names['a']} [u8]"),
-    ("input.up_to(", "up_to(input, "),
-    ("input.take_run(", "take_run(input, "),
+    ("input.up_to(", "up_to(input, "), ("input.take_run(", "take_run(input, "),
     # the buffer that a `Looks` counts for: a function that has another use of its own `B` would no
     # longer compile
     ("fn $f<B>", "fn $f"), ("fn $f<B, ", "fn $f<"),
@@ -74,8 +72,7 @@ OF_FILES = {
          "pub(crate) fn data(input: &[u8], from: usize, to: usize) -> &[u8]"),
         ("fn take_run(self, place: RunRange) -> Run<'a>",
          "fn take_run(input: &[u8], place: RunRange) -> Run<'_>"),
-        ("self.text(", "text(input, "),
-        ("self.data(", "data(input, "),
+        ("self.text(", "text(input, "), ("self.data(", "data(input, "),
         ("unsafe {", f"{OF_TEXT}unsafe {{"),
     ],
     "vte_core/scan/search": [

@@ -162,10 +162,7 @@ VTE_CORE = dict(
                 "pub(crate) fn advance_text_until_terminated", "pub(crate) fn stored"],
         },
     },
-    inlined={
-        "vte_core/buffer": "impl Buffer for Vec",
-        "vte_core/store": "impl Store<Vec",
-        "vte_core/parser/long": "impl LongParser",
-    },
+    inlined={"vte_core/buffer": "impl Buffer for Vec", "vte_core/store": "impl Store<Vec",
+             "vte_core/parser/long": "impl LongParser"},
     default_bodies={"vte_core/perform": "pub trait Perform {"},
 )

@@ -4,6 +4,8 @@ import subprocess
 import sys
 from pathlib import Path
 
+from tests.support import write
+
 TOOLS = Path(__file__).resolve().parents[2]
 VECTORS = TOOLS.parent / "vectors"
 TOY = Path(__file__).with_name("toy.py")
@@ -24,7 +26,4 @@ def run_python(*words, **how):
 
 def program_in(folder, line):
     """A program in a folder, of a line for the shell."""
-    program = folder / "program"
-    program.write_text(f"#!/bin/sh\n{line}\n")
-    program.chmod(0o755)
-    return program
+    return write(folder / "program", f"#!/bin/sh\n{line}\n", 0o755)

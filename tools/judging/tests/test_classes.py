@@ -1,6 +1,7 @@
 """Tests of the judge on functions of this process: which classes it finds."""
 import random
 import re
+from types import SimpleNamespace
 
 import pytest
 from judging import (candidate, cases, classes, definition, house, judgement, kinds, report,
@@ -9,13 +10,6 @@ from judging.classes import Difference
 from judging.judgement import Judge, is_alike
 from judging.rules import CUT, LEVELS, RULES
 from support import FILES
-
-
-class Defined:
-    """The definition as the reference."""
-
-    def answers(self, streams):
-        return [definition.lines_of(stream) for stream in streams]
 
 
 class Side:
@@ -38,7 +32,9 @@ CASES = [case for case in cases.all_cases(("vectors", "random"), "1", 240)
 
 
 def judge_of(answer, **given):
-    return Judge(Defined(), Side(answer), views.View(), house.DEFAULT, **given)
+    # the definition is the reference
+    defined = SimpleNamespace(answers=lambda streams: [*map(definition.lines_of, streams)])
+    return Judge(defined, Side(answer), views.View(), house.DEFAULT, **given)
 
 
 def judged(answer, some=CASES, **given):

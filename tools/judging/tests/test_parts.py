@@ -340,8 +340,7 @@ def test_junit_is_read_by_its_library(given, others):
                        for kind in (junitparser.Failure, junitparser.Skipped))
     assert (failed, skipped) == (["colon", *others], ["text"])
     assert "'<&#\">'" in results["colon"][0].text
-    assert (suite.tests, suite.failures, suite.skipped) == (
-        len(results), 1 + len(others), 1)
+    assert (suite.tests, suite.failures, suite.skipped) == (len(results), 1 + len(others), 1)
 
 
 def test_json():

@@ -9,6 +9,7 @@ import time
 
 import pytest
 from support import TOOLS, TOY, program_in, run, run_python
+from tests.support import wait_until
 
 
 def toy(fault=None, pieces=True, once=False):
@@ -32,15 +33,6 @@ def processes(word):
     _, told = run("ps", "-ww", "-eo", "args")
     return [line for line in told.splitlines() if line.endswith(word)
             and "tools/judge " not in line]
-
-
-def comes_true(what, seconds=1200):
-    end = time.monotonic() + seconds
-    while time.monotonic() < end:
-        if what():
-            return True
-        time.sleep(0.05)
-    return False
 
 
 @pytest.mark.parametrize("words, fault", [
@@ -122,11 +114,11 @@ def test_nothing_survives_the_judge(vtlog):
     words = [TOOLS / "judge", "--vtlog", vtlog, "--timeout", 60, *toy(mark)]
     running = subprocess.Popen([sys.executable, *map(str, words)], stdout=subprocess.DEVNULL)
     try:
-        assert comes_true(lambda: processes(mark) and running.poll() is None)
+        wait_until(lambda: processes(mark) and running.poll() is None)
     finally:
         running.kill()
         running.wait()
-    assert comes_true(lambda: not processes(mark)), "the program has outlived the judge"
+    wait_until(lambda: not processes(mark), "the program has outlived the judge")
 
 
 @pytest.mark.parametrize("pieces", [True, False])

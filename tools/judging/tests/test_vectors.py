@@ -11,7 +11,7 @@ from generating.rows import bytes_of, lines_of
 from judging import definition
 from judging.house import House
 from support import EVENTS, FILES, TOOLS, TOY, VECTORS, run, run_python
-from tests.missing import miss
+from tests.missing import miss, need
 
 
 def test_files_are_up_to_date():
@@ -65,8 +65,8 @@ RUNNERS = {
 
 @pytest.fixture(params=RUNNERS)
 def language(request):
-    if not shutil.which(next(filter(None, RUNNERS[request.param][:2])).split()[0]):
-        miss(f"vectors/run.{request.param} needs a language that isn't here")
+    command = next(filter(None, RUNNERS[request.param][:2])).split()[0]
+    need(command, f"vectors/run.{request.param} needs a language that isn't here")
     return request.param
 
 

@@ -14,6 +14,6 @@ fourth_part r g b rest =
     further_part r g b (parts_of 0x2f rest) _ (length-slice_split (λ (byte : ℕ). byte == 0x2f) rest)
 
 -- three hex digits at most give little
-pub few_digits : (i number : ℕ) → i ≤ 3 → number < 16 ^ i → number < 4096
-few_digits i number few small = let k : 16 ^ i ≤ 16 ^ 3 = pow-le-pow_right {n = 16} (omega arith) few in
+pub few_hex_digits : (i number : ℕ) → i ≤ 3 → number < 16 ^ i → number < 4096
+few_hex_digits i number few small = let k : 16 ^ i ≤ 16 ^ 3 = pow-le-pow_right {n = 16} (omega arith) few in
     omega (arith, k, small)

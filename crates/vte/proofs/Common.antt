@@ -33,16 +33,16 @@ pub use Rattle.vte_core.specs.declared.parser.refused.Refused.{Refused}
 pub use Rattle.vte_handler.specs.Call.{Call, Input, ResetColor}
 pub use Rattle.vte_handler.specs.Handler.{after}
 pub use Rattle.vte_handler.specs.Timeout.{AllowsOnly, IsSteady, TimeoutMeaning, timeout_meaning}
-pub use Rattle.vte.specs.Processor.{EndsInBegin, HoldsWellAt, IsInsideUpdate, IsOutsideUpdate, Meaning, TakesSteps, State, TakesAllTurns, TakesTurns, all_bytes, begin_front, given_bytes, AreInOrder, added_calls, calls_between, calls_with_stops, done, extend, hold_turn, kind_of, turn_of, OpenTurn, ExpiredTurn, HoldTurn, release, meaning, most_held, open_turn, parse, set_times, stop, turn, turns, update_nanos, with_held}
+pub use Rattle.vte.specs.Processor.{EndsInBegin, HoldsWellAt, IsInsideUpdate, IsOutsideUpdate, Meaning, TakesSteps, State, TakesAllTurns, TakesTurns, all_bytes, begin_front, given_bytes, AreInOrder, added_calls, calls_between, calls_with_stops, done, extend, hold_turn, kind_of, turn_of, OpenTurn, ExpiredTurn, HoldTurn, release, meaning_of, most_held, open_turn, parse, set_times, stop, turn, turns, update_nanos, with_held}
 pub use Rattle.vte.specs.Refusal.{OpenTurnHalts, HasTaken, TakesSome, TurnHalts, between, within}
 pub use Rattle.vte.specs.BeginUpdate.{begin_count, begins_in_event, is_update_group, update_group_count}
 pub use Rattle.vte.specs.Calls.{calls_beyond, calls, calls_from, calls_of, last_printed_after, last_printed, last_printed_from}
-pub use Rattle.vte.specs.Change.{change_calls}
+pub use Rattle.vte.specs.ModeChange.{change_calls}
 pub use Rattle.vte.specs.ColorReading.{kind_reading}
 pub use Rattle.vte.specs.CommandCalls.{dynamic_calls, id_of, link_to, palette_entry_calls, palette_entries_calls}
 unfoldable pub use Rattle.vte.specs.CommandCalls.{all_reset}
 pub use Rattle.vte.specs.machine.ColorReader.{component_at_front}
-pub use Rattle.vte.specs.machine.Hold.{Adds, IsAdded, IsEnd, released_of, still_held}
+pub use Rattle.vte.specs.machine.Hold.{Adds, IsAdded, IsHeldTail, released_of, still_held}
 pub use Rattle.vte.specs.ProcessorCalls.{Advanced, HasParsedAll, HasParsedAndHolds, IsAt, ReadsInTurns, Replayed, Replays, Standing, held_of}
 pub use Rattle.vte.specs.machine.Performing.{PerformsAll, PerformsUntilStop, performer_value, with_private_mode, with_private_modes}
 pub use Rattle.vte.specs.LongProcessor.{AdvancesLong, HasParsedAndHoldsLong, Reserves, StopsSyncLong}
@@ -51,7 +51,7 @@ pub use Rattle.vte.specs.Numbers.{decimal_number, first_number, first_numbers, n
 pub use Rattle.vte.specs.Parts.{first_after, parts_of}
 pub use Rattle.vte.specs.machine.Performer.{FitsText, PerformerValue, with_event}
 pub use Rattle.vte.specs.machine.Engine.{EngineIsAt, EngineIsAtKeeping, EndsOpen, EndsTurn, Halted, IsAtBegin, IsOpenAt, IsParsed, IsParsedKeeping, IsParsedWithRoom, Opened, Turned, EngineHasMemory, EngineLacksMemory, EngineReads, EngineReserves, EngineStandsAt, EngineStops}
-pub use Rattle.vte.specs.machine.Meanings.{ParserMeaning, EngineMeaning, long_meaning, of_engine, short_meaning, unlimited}
+pub use Rattle.vte.specs.machine.Meanings.{ParserMeaning, EngineMeaning, long_meaning, engine_meaning, limited_meaning, unlimited}
 pub use Rattle.vte.specs.Rendition.{attribute_calls, attributes_from}
 pub use Rattle.vte.specs.Synchronized.{begin_update, held_begin_count, begins_with, after_last_end, end_update, from_begin, last_part}
 pub use Rattle.vte.specs.machine.Texts.{FitsRoom, fits_room, joined_size, parts_left, text_to_join}

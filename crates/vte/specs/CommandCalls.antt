@@ -3,7 +3,7 @@ use Rattle.std.specs.Prelude.{ℕ, Bool, true, false, List, [], ◌∷◌, ◌++
 use Rattle.std.specs.Fmt.{decimal}
 use Rattle.std.specs.List.{filter_map, range_with_len}
 use Rattle.vte.specs.ColorText.{xparse_color_of}
-use Rattle.vte.specs.Maybe.{for_some}
+use Rattle.vte.specs.OptionalCalls.{for_some}
 use Rattle.vte.specs.Numbers.{decimal_number}
 use Rattle.vte.specs.Parts.{first_after, parts_of}
 use Rattle.vte_types.specs.Rows.{Row, entry_of}

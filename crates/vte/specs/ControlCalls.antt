@@ -1,12 +1,12 @@
 -- The calls of a control sequence, by its final byte and intermediates (ECMA-48, the VT500, xterm).
 use Rattle.std.specs.Prelude.{ℕ, pos, List, [], ◌∷◌, if◌then◌else◌, ◌==◌, ◌&&◌, ◌-◌, Option, Some, None, drop, replicate, unwrap_or}
-use Rattle.vte.specs.declared.ansi.control_calls.Change.TheVariants as change
-use Rattle.vte.specs.Change.{change_calls}
+use Rattle.vte.specs.declared.ansi.control_calls.ModeChange.TheVariants as change
+use Rattle.vte.specs.ModeChange.{change_calls}
 use Rattle.vte.specs.Numbers.{first_of, first_or, first_numbers, asks_other_keys}
 use Rattle.vte.specs.Rendition.{attribute_calls}
-use Rattle.vte.specs.Maybe.{for_both, for_some}
+use Rattle.vte.specs.OptionalCalls.{for_both, for_some}
 use Rattle.vte_types.specs.Rows.{Row, entry_of}
-use Rattle.vte.specs.Values.{behavior_of, bottom_of, cursor_rows, keyboard_modes, keys_rows, line_rows, path_rows, screen_rows, tab_rows, scp_update_rows}
+use Rattle.vte.specs.SelectedValues.{behavior_of, bottom_of, cursor_rows, keyboard_modes, keys_rows, line_rows, path_rows, screen_rows, tab_rows, scp_update_rows}
 use Rattle.vte_handler.specs.Call.{Call}
 use Rattle.vte_handler.specs.Call as call
 use Rattle.vte_types.specs.Mode.{mode_of, private_mode_of}

@@ -1,7 +1,7 @@
 pub mod BeginUpdate
 pub mod CallExamples
 pub mod Calls
-pub mod Change
+pub mod ModeChange
 pub mod ColorReading
 pub mod ColorText
 pub mod CommandCalls
@@ -9,7 +9,7 @@ pub mod ControlCalls
 pub mod EscapeCalls
 pub mod LongProcessor
 pub mod machine
-pub mod Maybe
+pub mod OptionalCalls
 pub mod Memory
 pub mod Numbers
 pub mod Parts
@@ -21,14 +21,14 @@ pub mod StdSyncHandler
 pub mod Synchronized
 pub mod Titles
 pub mod UpdateExamples
-pub mod Values
+pub mod SelectedValues
 -- Crates that depend on `vte` find here the definitions that its contracts use from the crates
 -- below.
 pub use Rattle.vte_core.specs.Advance
 pub use Rattle.vte_core.specs.AdvanceToRun
 pub use Rattle.vte_core.specs.AdvanceUntilTerminated
 pub use Rattle.vte_core.specs.Body
-pub use Rattle.vte_core.specs.Brief
+pub use Rattle.vte_core.specs.EventBounds
 pub use Rattle.vte_core.specs.Class
 pub use Rattle.vte_core.specs.ControlSequence
 pub use Rattle.vte_core.specs.DeviceControl
@@ -37,7 +37,7 @@ pub use Rattle.vte_core.specs.EarlyStop
 pub use Rattle.vte_core.specs.Escape
 pub use Rattle.vte_core.specs.Event
 pub use Rattle.vte_core.specs.Examples
-pub use Rattle.vte_core.specs.FirstMatch
+pub use Rattle.vte_core.specs.CutBefore
 pub use Rattle.vte_core.specs.Head
 pub use Rattle.vte_core.specs.IgnoredString
 pub use Rattle.vte_core.specs.Intermediates
@@ -52,7 +52,7 @@ pub use Rattle.vte_core.specs.Parameters
 pub use Rattle.vte_core.specs.Parser
 pub use Rattle.vte_core.specs.Perform
 pub use Rattle.vte_core.specs.Saved
-pub use Rattle.vte_core.specs.Stops
+pub use Rattle.vte_core.specs.EarlyStopLaws
 pub use Rattle.vte_core.specs.Stream
 pub use Rattle.vte_core.specs.SystemCommand
 pub use Rattle.vte_core.specs.Text

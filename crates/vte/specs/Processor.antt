@@ -20,9 +20,9 @@ pub record Meaning (V W : Type 0) : Type 1 where
   pub step : V → Call → V
   pub timeout : TimeoutMeaning W
 
-abbrev pub meaning : {V W : Type 0} → Option ℕ → (V → Call → V) → (W → ℕ → W) → (W → W)
+abbrev pub meaning_of : {V W : Type 0} → Option ℕ → (V → Call → V) → (W → ℕ → W) → (W → W)
     → (W → Bool → Type 0) → Meaning V W
-meaning limit step set clear allows =
+meaning_of limit step set clear allows =
     record { limit = limit; step = step; timeout = timeout_meaning set clear allows }
 
 -- The timeout of an update, 150 ms.
@@ -128,14 +128,14 @@ module _ {V W : Type 0} (meaning : Meaning V W) where
 
   -- Without an end-update everything stays held; after the last one, what the next begin-update
   -- begins.
-  abbrev pub release_end : State V W → Option (List ℕ) → State V W
-  release_end state None = state
-  release_end state (Some rest) = release state (from_begin rest)
+  abbrev pub release_after_end : State V W → Option (List ℕ) → State V W
+  release_after_end state None = state
+  release_after_end state (Some rest) = release state (from_begin rest)
 
   -- A hold turn: all bytes join the hold, and what ends in it is released.
   abbrev pub hold_turn : State V W → List ℕ → State V W
   hold_turn state bytes =
-      let next = extend state bytes in release_end next (after_last_end next.held)
+      let next = extend state bytes in release_after_end next (after_last_end next.held)
 
   -- Outside an update, bytes are parsed. An update that has expired is stopped first. In an
   -- update, bytes are held if there is room for all of them. If there isn't, the update is stopped,

@@ -72,7 +72,7 @@ pub record Replayed {V W : Type 0} (meaning : Meaning V W) (state : State V W) (
       ≡ after meaning.step state.handler
       (calls_with_stops meaning.limit next.parsed (length state.parsed) positions)
   pub holds_well : HoldsWellAt meaning state → HoldsWellAt meaning next
-  pub alone : IsSteady meaning.timeout → HoldsWellAt meaning state → (other : State V W)
+  pub only : IsSteady meaning.timeout → HoldsWellAt meaning state → (other : State V W)
       → TakesSteps meaning state steps other
       → other ≡ next
   pub is_at : IsThere next

@@ -5,6 +5,7 @@ mod color_reader;
 mod color_text;
 mod command_calls;
 mod control_calls;
+mod engine;
 mod escape_calls;
 mod growing_text;
 mod hold;
@@ -24,7 +25,6 @@ mod std_sync_handler;
 mod tests;
 mod text_buffer;
 mod titles;
-mod engine;
 mod values;
 
 pub use clock::Clock;

@@ -17,7 +17,7 @@ pub use Rattle.std.specs.List.{All, concat, flat_map}
 pub use Rattle.std.specs.Str.{IsUtf8, chars}
 pub use Rattle.event_log.specs.Plain.{plain_text}
 unfoldable pub use Rattle.event_log.specs.Plain.{plain_text_of}
-pub use Rattle.vte_core.specs.Brief.{IsBounded, IsBrief, IsShort}
+pub use Rattle.vte_core.specs.EventBounds.{IsBounded, IsBrief, IsShort}
 pub use Rattle.vte_core.specs.EarlyStop.{ComesTo, IsStart, breaks}
 unfoldable pub use Rattle.vte_core.specs.EarlyStop.{breaks_at, stream_at, told_before}
 pub use Rattle.vte_core.specs.Event.{CsiDispatch, EscDispatch, Event, Execute, Hook, OscDispatch, Print, Put, Unhook, replacement}
@@ -26,7 +26,7 @@ pub use Rattle.vte_core.specs.Parameters.{AreGroups, count_of}
 pub use Rattle.vte_core.specs.Parser.{HasRead}
 pub use Rattle.vte_core.specs.Perform.{after}
 pub use Rattle.vte_core.specs.Saved.{HasReadSaved}
-pub use Rattle.vte_core.specs.Stops.{GoesOnFromPositions, TellsUnits}
+pub use Rattle.vte_core.specs.EarlyStopLaws.{GoesOnFromPositions, TellsUnits}
 pub use Rattle.vte_core.specs.Stream.{added, usual_limit}
 unfoldable pub use Rattle.vte_core.specs.Stream.{events, open_end}
 pub use Rattle.vte_core.specs.declared.parser.Parser.{Parser}

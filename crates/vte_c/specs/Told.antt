@@ -3,7 +3,7 @@ use Rattle.std.specs.Prelude.{◌≡◌, ◌+◌, ◌-◌, ◌^◌, ◌<◌, ◌
 use Rattle.std.specs.List.{flat_map}
 use Rattle.std.specs.Str.{IsUtf8}
 use Rattle.event_log.specs.Plain.{plain_text}
-use Rattle.vte_core.specs.Brief.{IsBounded}
+use Rattle.vte_core.specs.EventBounds.{IsBounded}
 use Rattle.vte_core.specs.Event.{Event}
 use Rattle.vte_core.specs.Saved.{HasReadSaved}
 use Rattle.vte_core.specs.Stream.{added, events, usual_limit}

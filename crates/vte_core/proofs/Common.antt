@@ -17,9 +17,9 @@ pub use Rattle.std.specs.Fmt.{HasWritten, IsPlainFormatter, decimal}
 pub use Rattle.std.specs.List.{All, concat, filter, flat_map, fold, join_with_byte, list_all, list_any, onto_first, slice_range, slice_split}
 pub use Rattle.std.specs.Prelude.{MatchOption, slice_index}
 pub use Rattle.std.specs.Str.{IsAscii, IsUtf8, chars}
-pub use Rattle.vte_core.specs.Body.{body_rest, shape_outcome}
+pub use Rattle.vte_core.specs.Body.{body_rest, sequence_outcome}
 unfoldable pub use Rattle.vte_core.specs.Body.{body_outcome}
-pub use Rattle.vte_core.specs.Brief.{FitsStore, IsBounded, IsBrief, IsExecuted, IsPrintable, IsShort}
+pub use Rattle.vte_core.specs.EventBounds.{FitsStore, IsBounded, IsBrief, IsExecuted, IsPrintable, IsShort}
 pub use Rattle.vte_core.specs.Class.{AreInClass, Cancel, Class, Colon, Control, Delete, Digit, Final, High, Intermediate, Marker, Semicolon, dispatches_escape, ends_all, ends_head, is_cancel, IsPut, is_control, is_device_data, is_final, is_head, is_intermediate, is_key, is_marker, is_parameter_text}
 unfoldable pub use Rattle.vte_core.specs.Class.{class_of}
 unfoldable pub use Rattle.vte_core.specs.ControlSequence.{control_sequence_end, control_sequence_outcome}
@@ -32,21 +32,21 @@ pub use Rattle.vte_core.specs.Event.{CsiDispatch, EscDispatch, Event, Execute, H
 pub use Rattle.vte_core.specs.Head.{Head, head_after, reported_intermediates}
 unfoldable pub use Rattle.vte_core.specs.Head.{sequence_event, head_of, is_well_shaped}
 pub use Rattle.vte_core.specs.Intermediates.{are_too_many, first_two}
-pub use Rattle.vte_core.specs.Key.{Dispatch, Key}
+pub use Rattle.vte_core.specs.Key.{EscapeSequence, Key}
 unfoldable pub use Rattle.vte_core.specs.Key.{key_of}
 pub use Rattle.vte_core.specs.Laws.{AreParameters, CountsData, DispatchesShown}
 pub use Rattle.vte_core.specs.LongParser.{MeetsData, data_left, open_size, read_count}
 pub use Rattle.vte_core.specs.Looks.{looked}
-pub use Rattle.vte_core.specs.Quiet.{AddsQuietly, IsQuietEvent, IsBeyondAscii, TellsQuietly}
+pub use Rattle.vte_core.specs.Quiet.{AddsQuietly, IsQuietEvent, PrintsNoAscii, TellsQuietly}
 pub use Rattle.vte_core.specs.Outcome.{SaysLoss, NothingToClose, ToClose, CharacterToClose, CommandToClose, Outcome, events_before_escape, closing_events, leaves, tell, open_bytes}
 pub use Rattle.vte_core.specs.Parameters.{AreGroups, Number, colon, count_of, greatest_number, grouped, is_colon, is_separator, most_numbers, number_of, numbers_of, semicolon, with_number}
 unfoldable pub use Rattle.vte_core.specs.Parameters.{groups_of, has_too_many_numbers, numbers, shown}
 pub use Rattle.vte_core.specs.Perform.{after}
-pub use Rattle.vte_core.specs.FirstMatch.{from_first}
+pub use Rattle.vte_core.specs.CutBefore.{from_first}
 pub use Rattle.vte_core.specs.Stream.{added, cut_at_escape, escape, with_bodies, usual_limit}
 unfoldable pub use Rattle.vte_core.specs.Stream.{events, open_end, outcome}
 pub use Rattle.vte_core.specs.SystemCommand.{IsCommandData, bell, ends_command, has_room, is_data_item, kept_after, most_pieces, system_command_rest}
-unfoldable pub use Rattle.vte_core.specs.SystemCommand.{drops_data, kept_items, pieces_of, system_command_outcome}
+unfoldable pub use Rattle.vte_core.specs.SystemCommand.{loses_data, kept_items, pieces_of, system_command_outcome}
 pub use Rattle.vte_core.specs.Text.{EndsRun, is_control_character, is_layout, ends_run, StaysInRun, segments_outcome, run_event}
 unfoldable pub use Rattle.vte_core.specs.Text.{character_event, executed_events, malformed_event, segment_event, text_outcome}
 pub use Rattle.vte_core.specs.Utf8.{Range, allowed_length, is_in, scalar_of, segments, segments_after, from_to, rows_after_bytes, rows_after_byte, is_complete}
@@ -63,7 +63,7 @@ pub use Rattle.vte_core.specs.declared.utf8.Unfinished.TheVariants.{Nothing, One
 pub use Rattle.vte_core.specs.machine.Data.{AreIgnored, ArePut, IsIgnored}
 pub use Rattle.vte_core.specs.machine.Leads.{Leads, Reads}
 pub use Rattle.vte_core.specs.machine.Moves.{Spends}
-pub use Rattle.vte_core.specs.machine.Standing.{CountsNumbers, HoldsIntermediates, HoldsHead, HasReadUnder, IsMarker, KeepsIntermediates, KeepsNumbers, numbers_from, HoldsNumbers, Stands, StandsBy, StandsInHead, StaysIllShaped}
+pub use Rattle.vte_core.specs.machine.ParserFields.{CountsNumbers, HoldsIntermediates, HoldsHead, HasReadUnder, IsMarker, KeepsIntermediates, KeepsNumbers, numbers_from, HoldsNumbers, Stands, StandsBy, StandsInHead, StaysIllShaped}
 pub use Rattle.vte_core.specs.machine.Place.{AtEscape, InControlSequence, InData, InDeviceControl, InEscape, InIgnoredString, InSystemCommand, InText, IsAfter, IsSettledPlace, Place, closing_events_at, left_at, rest_outcome}
 unfoldable pub use Rattle.vte_core.specs.machine.Place.{outcome_from}
 pub use Rattle.vte_core.specs.machine.Progress.{Advances, ChunkCall, chunk_call, ProgressAt, ProgressInside, IsRefusedInCommand, IsSettled, MayGoOn, ReadsUpTo, ReadsUntilRefused, StandsAt, StandsInside}

@@ -2,7 +2,7 @@
 
 -- The place of a state, and what is told from place to place.
 pub mod States
-pub mod Places
+pub mod Progress
 pub mod AddedEvents
 -- Any stretch of a call: where it starts and ends, and how stretches and bytes compose.
 pub mod Ends

@@ -4,7 +4,7 @@ use Rattle.vte_core.specs.Class.{class_of, is_cancel, ends_head}
 use Rattle.vte_core.specs.Event.{Event, Execute, CsiDispatch}
 use Rattle.vte_core.specs.Head.{head_of, head_bytes, is_well_shaped, sequence_event}
 use Rattle.vte_core.specs.Outcome.{Outcome, NothingToClose, leaves, tell}
-use Rattle.vte_core.specs.FirstMatch.{cut_before}
+use Rattle.vte_core.specs.CutBefore.{cut_before}
 use Rattle.vte_core.specs.Text.{text_outcome, executed_events}
 
 -- CAN and SUB are executed. A final byte dispatches a well-shaped head, and gives nothing after any

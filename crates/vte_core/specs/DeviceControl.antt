@@ -6,7 +6,7 @@ use Rattle.vte_core.specs.Event.{Event, Execute, Hook, Put, Unhook}
 use Rattle.vte_core.specs.Head.{head_of, head_bytes, is_well_shaped, sequence_event}
 use Rattle.vte_core.specs.IgnoredString.{ignored_string_outcome}
 use Rattle.vte_core.specs.Outcome.{Outcome, NothingToClose, DataToClose, leaves, tell}
-use Rattle.vte_core.specs.FirstMatch.{cut_before}
+use Rattle.vte_core.specs.CutBefore.{cut_before}
 use Rattle.vte_core.specs.Text.{text_outcome}
 
 -- ST as a single byte. It is the only 8-bit control that is recognised outside text, and only in

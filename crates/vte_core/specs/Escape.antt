@@ -5,7 +5,7 @@ use Rattle.vte_core.specs.Class.{class_of, is_cancel, is_intermediate, ends_esca
 use Rattle.vte_core.specs.Event.{Event, Execute, EscDispatch}
 use Rattle.vte_core.specs.Intermediates.{first_two, are_too_many}
 use Rattle.vte_core.specs.Outcome.{Outcome, NothingToClose, leaves, tell}
-use Rattle.vte_core.specs.FirstMatch.{cut_before}
+use Rattle.vte_core.specs.CutBefore.{cut_before}
 use Rattle.vte_core.specs.Text.{text_outcome, executed_events}
 
 -- CAN and SUB are executed. A final byte dispatches the sequence.

@@ -174,8 +174,11 @@ pub record OpenExample : Type 0 where
   pub left : ToClose
 
 abbrev pub keeps : List ℕ → List (List ℕ) → OpenExample
-keeps items pieces = record { stream = codes "\u{1b}]"
-    ++ items; left = CommandToClose pieces false }
+keeps items pieces = record {
+  stream = codes "\u{1b}]"
+      ++ items;
+  left = CommandToClose pieces false;
+}
 
 abbrev pub loses : List ℕ → List (List ℕ) → OpenExample
 loses items pieces = record { stream = codes "\u{1b}]" ++ items; left = CommandToClose pieces true }

@@ -6,7 +6,7 @@ use Rattle.vte_core.specs.Class.{class_of, is_head, is_intermediate, is_marker, 
 use Rattle.vte_core.specs.Intermediates.{first_two, are_too_many}
 use Rattle.vte_core.specs.Event.{Event}
 use Rattle.vte_core.specs.Parameters.{groups_of, has_too_many_numbers}
-use Rattle.vte_core.specs.FirstMatch.{cut_before}
+use Rattle.vte_core.specs.CutBefore.{cut_before}
 
 -- A head: an optional private marker, then parameter bytes, then the rest, which should be
 -- intermediates.

@@ -3,7 +3,7 @@ use Rattle.std.specs.Prelude.{ℕ, List, [], ◌∷◌}
 use Rattle.vte_core.specs.Class.{class_of, is_cancel}
 use Rattle.vte_core.specs.Event.{Execute}
 use Rattle.vte_core.specs.Outcome.{Outcome, NothingToClose, leaves, tell}
-use Rattle.vte_core.specs.FirstMatch.{from_first}
+use Rattle.vte_core.specs.CutBefore.{from_first}
 use Rattle.vte_core.specs.Text.{text_outcome}
 
 -- The end is executed, and text follows. Without an end nothing is left open.

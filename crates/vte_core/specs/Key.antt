@@ -11,7 +11,7 @@ pub data Key : Type 0 where
   -- X, ^ and _: SOS, PM and APC
   IgnoredString : Key
   -- any other byte, which belongs to an escape sequence
-  Dispatch : Key
+  EscapeSequence : Key
 
 -- X, ^ and _
 abbrev pub begins_ignored_string : ℕ → Bool
@@ -23,4 +23,4 @@ key_of b =
     else if b == 0x50 then DeviceControl
     else if b == 0x5d then SystemCommand
     else if begins_ignored_string b then IgnoredString
-    else Dispatch
+    else EscapeSequence

@@ -3,7 +3,7 @@ use Rattle.std.specs.Char.{IsScalar, encode_utf8}
 use Rattle.std.specs.Prelude.{◌≡◌, ◌≢◌, ◌⊎◌, ℕ, ◌+◌, ◌<◌, ◌≤◌, true, false, List, [], ◌∷◌, ◌++◌, length, map, All, Option, Some, None}
 use Rattle.std.specs.Str.{chars}
 use Rattle.vte_core.specs.Event.{CsiDispatch, Print, replacement}
-use Rattle.vte_core.specs.Brief.{IsBounded}
+use Rattle.vte_core.specs.EventBounds.{IsBounded}
 use Rattle.vte_core.specs.LongParser.{open_size}
 use Rattle.vte_core.specs.Parameters.{count_of, shown, AreGroups}
 use Rattle.vte_core.specs.Stream.{events, added, open_end, escape}

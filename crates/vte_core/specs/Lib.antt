@@ -2,7 +2,7 @@ pub mod Advance
 pub mod AdvanceToRun
 pub mod AdvanceUntilTerminated
 pub mod Body
-pub mod Brief
+pub mod EventBounds
 pub mod Class
 pub mod ControlSequence
 pub mod DeviceControl
@@ -11,7 +11,7 @@ pub mod EarlyStop
 pub mod Escape
 pub mod Event
 pub mod Examples
-pub mod FirstMatch
+pub mod CutBefore
 pub mod Head
 pub mod IgnoredString
 pub mod Intermediates
@@ -27,7 +27,7 @@ pub mod Parameters
 pub mod Parser
 pub mod Perform
 pub mod Saved
-pub mod Stops
+pub mod EarlyStopLaws
 pub mod Stream
 pub mod SystemCommand
 pub mod Text

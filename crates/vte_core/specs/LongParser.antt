@@ -3,7 +3,7 @@ use Rattle.std.specs.Prelude.{◌≡◌, ℕ, Bool, ◌+◌, ◌<◌, ◌≤◌,
 use Rattle.std.specs.List.{concat}
 use Rattle.vte_core.specs.declared.parser.long.LongParser.{LongParser}
 use Rattle.vte_core.specs.declared.parser.refused.Refused.{Refused}
-use Rattle.vte_core.specs.machine.Standing.{HasReadUnder}
+use Rattle.vte_core.specs.machine.ParserFields.{HasReadUnder}
 use Rattle.vte_core.specs.machine.Store.{LacksMemoryAt}
 use Rattle.vte_core.specs.Outcome.{ToClose, CommandToClose}
 use Rattle.vte_core.specs.Stream.{outcome}
@@ -15,7 +15,7 @@ HasReadLong parser stream = HasReadUnder None parser.machine stream
 
 -- Whether a parser lost data of the operating system command that is open, or else ended last.
 abbrev pub lost_data_long : {A : Type 0} → LongParser A → Bool
-lost_data_long parser = parser.machine.command.dropped
+lost_data_long parser = parser.machine.command.lost
 
 -- How many data bytes fit into the memory that a parser has allocated.
 abbrev pub memory_of : {A : Type 0} → LongParser A → ℕ
@@ -48,7 +48,7 @@ read_count (Err refused) = refused.read
 
 -- How many data bytes the open operating system command has in its first 16 pieces.
 abbrev pub data_left : ToClose → ℕ
-data_left (CommandToClose pieces dropped) = length (concat pieces)
+data_left (CommandToClose pieces lost) = length (concat pieces)
 data_left _ = 0
 
 abbrev pub open_size : List ℕ → ℕ
@@ -57,8 +57,8 @@ open_size stream = data_left (outcome None stream).left
 -- If an operating system command is open, as many bytes are stored as its first 16 pieces have.
 abbrev pub StoresPieces : {A : Type 0} → LongParser A → List ℕ → Type 0
 StoresPieces parser stream =
-    (pieces : List (List ℕ)) (dropped : Bool)
-    → (outcome None stream).left ≡ CommandToClose pieces dropped
+    (pieces : List (List ℕ)) (lost : Bool)
+    → (outcome None stream).left ≡ CommandToClose pieces lost
     → length parser.machine.command.bytes ≡ length (concat pieces)
 
 -- The stream ends in an open operating system command with fewer than 16 `;`, and the byte is data
@@ -66,9 +66,9 @@ StoresPieces parser stream =
 pub record MeetsData (stream : List ℕ) (byte : ℕ) : Type 0 where
   pub pieces : List (List ℕ)
   pub last : List ℕ
-  pub dropped : Bool
+  pub lost : Bool
   pub few : length pieces < most_pieces
-  pub is_open : (outcome None stream).left ≡ CommandToClose (pieces ++ last ∷ []) dropped
+  pub is_open : (outcome None stream).left ≡ CommandToClose (pieces ++ last ∷ []) lost
   pub is_data : IsCommandData byte
   pub joins : (outcome None (stream ++ byte ∷ [])).left
-      ≡ CommandToClose (pieces ++ (last ++ byte ∷ []) ∷ []) dropped
+      ≡ CommandToClose (pieces ++ (last ++ byte ∷ []) ∷ []) lost

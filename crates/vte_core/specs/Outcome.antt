@@ -17,12 +17,12 @@ abbrev pub closing_events : ToClose → List Event
 closing_events NothingToClose = []
 closing_events (CharacterToClose bytes) = Print replacement ∷ []
 closing_events DataToClose = Unhook ∷ []
-closing_events (CommandToClose pieces dropped) = OscDispatch pieces false ∷ []
+closing_events (CommandToClose pieces lost) = OscDispatch pieces false ∷ []
 
 -- If a command is open, the flag says whether data bytes of it are in no piece.
 abbrev pub SaysLoss : ToClose → Bool → Type 0
-SaysLoss (CommandToClose pieces dropped) lost = lost ≡ dropped
-SaysLoss _ lost = ⊤
+SaysLoss (CommandToClose pieces lost) answer = answer ≡ lost
+SaysLoss _ answer = ⊤
 
 -- The bytes of an open character.
 abbrev pub open_bytes : ToClose → List ℕ

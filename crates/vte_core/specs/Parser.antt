@@ -1,7 +1,7 @@
 -- What a parser has read.
 use Rattle.std.specs.Prelude.{◌≡◌, ℕ, Bool, Some, List}
 use Rattle.vte_core.specs.declared.parser.Parser.{Parser}
-use Rattle.vte_core.specs.machine.Standing.{HasReadUnder}
+use Rattle.vte_core.specs.machine.ParserFields.{HasReadUnder}
 
 -- The parser continues as one that has read the stream: more bytes give the events that they add to
 -- it. A new parser has read the empty stream, and each call preserves the relation. Callers need to
@@ -11,7 +11,7 @@ HasRead {N} parser stream = HasReadUnder (Some N) parser.machine stream
 
 -- Whether a parser lost data of the operating system command that is open, or else ended last.
 abbrev pub lost_data : {N : ℕ} → Parser N → Bool
-lost_data parser = parser.machine.command.dropped
+lost_data parser = parser.machine.command.lost
 
 -- The copy continues as the parser does: it has read the same, and lost data of the same command.
 pub record IsCopyOf {N : ℕ} (parser copy : Parser N) : Type 0 where

@@ -12,17 +12,17 @@ IsQuietEvent (Put byte) = ⊥
 IsQuietEvent _ = ⊤
 
 -- Neither a printed character of ASCII nor data.
-abbrev pub IsBeyondAscii : Event → Type 0
-IsBeyondAscii (Print c) = 0x80 ≤ c
-IsBeyondAscii (Put byte) = ⊥
-IsBeyondAscii _ = ⊤
+abbrev pub PrintsNoAscii : Event → Type 0
+PrintsNoAscii (Print c) = 0x80 ≤ c
+PrintsNoAscii (Put byte) = ⊥
+PrintsNoAscii _ = ⊤
 
 -- Before position n of a call nothing is told that belongs into a run: only the character that an
 -- earlier call began, if one was open.
 pub record TellsQuietly (limit : Option ℕ) (stream bytes : List ℕ) (n : ℕ) : Type 0 where
   pub quietly : open_end stream ≡ [] → All IsQuietEvent (told_before limit stream bytes n)
   -- The character that an earlier call began isn't ASCII.
-  pub opened : All IsBeyondAscii (told_before limit stream bytes n)
+  pub opened : All PrintsNoAscii (told_before limit stream bytes n)
 
 -- What is told between two positions of a call belongs into no run.
 pub record AddsQuietly (limit : Option ℕ) (stream bytes : List ℕ) (i j : ℕ) : Type 0 where

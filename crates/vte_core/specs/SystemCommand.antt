@@ -5,7 +5,7 @@ use Rattle.vte_core.specs.Class.{class_of, is_cancel}
 use Rattle.vte_core.specs.Event.{Event, Execute, OscDispatch}
 use Rattle.vte_core.specs.Outcome.{Outcome, CommandToClose, leaves, tell}
 use Rattle.vte_core.specs.Parameters.{semicolon}
-use Rattle.vte_core.specs.FirstMatch.{cut_before}
+use Rattle.vte_core.specs.CutBefore.{cut_before}
 use Rattle.vte_core.specs.Text.{text_outcome}
 
 abbrev pub bell : ℕ
@@ -52,8 +52,8 @@ pieces_of limit items =
 
 -- Whether data bytes among the items are in no piece: those for which there is no room, and those
 -- after the 16th piece.
-unfoldable pub drops_data : Option ℕ → List ℕ → Bool
-drops_data limit items =
+unfoldable pub loses_data : Option ℕ → List ℕ → Bool
+loses_data limit items =
     nat_lt (length (concat (pieces_of limit items))) (length (filter is_data_item items))
 
 -- BEL dispatches the command. CAN and SUB dispatch it and are executed.
@@ -64,12 +64,12 @@ command_end pieces end =
 
 -- The end, and the text that follows it. Without an end the command stays open.
 abbrev pub system_command_rest : List (List ℕ) → Bool → List ℕ → Outcome
-system_command_rest pieces dropped [] = leaves (CommandToClose pieces dropped)
-system_command_rest pieces dropped (end ∷ text) = tell (command_end pieces end) (text_outcome text)
+system_command_rest pieces lost [] = leaves (CommandToClose pieces lost)
+system_command_rest pieces lost (end ∷ text) = tell (command_end pieces end) (text_outcome text)
 
 -- The end is the first of BEL, CAN and SUB.
 unfoldable pub system_command_outcome : Option ℕ → List ℕ → Outcome
 system_command_outcome limit bytes =
     let cut = cut_before ends_command bytes in
     let items = items_of cut.inside in
-    system_command_rest (pieces_of limit items) (drops_data limit items) cut.rest
+    system_command_rest (pieces_of limit items) (loses_data limit items) cut.rest

@@ -8,7 +8,7 @@ pub mod Unfinished
 pub mod Store
 pub mod Groups
 pub mod Ready
-pub mod Standing
+pub mod ParserFields
 -- What a byte does to the performer and to the parser.
 pub mod Tells
 pub mod Takes

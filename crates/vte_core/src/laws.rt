@@ -2,14 +2,14 @@
 ghost use Rattle.std.specs.Prelude.{◌≡◌, ◌+◌, ◌≤◌, ◌^◌, List, [], ◌∷◌, ℕ, Option, Some, None, All, map, true, IsUtf8, chars};
 ghost use Rattle.std.specs.Char.{IsScalar, encode_utf8};
 ghost use Rattle.std.specs.List.{concat, flat_map};
-ghost use Rattle.vte_core.specs.Brief.{IsBounded, IsBrief};
+ghost use Rattle.vte_core.specs.EventBounds.{IsBounded, IsBrief};
 ghost use Rattle.vte_core.specs.Division.{AreRightSegments, IsAllDivided};
 ghost use Rattle.vte_core.specs.Examples.{AreRight, text_examples, escape_examples, control_sequence_examples, device_control_examples, system_command_examples, full_store_examples};
 ghost use Rattle.vte_core.specs.Examples.{store_of_five_examples, store_of_two_examples, empty_store_examples, ignored_string_examples};
 ghost use Rattle.vte_core.specs.Examples.{AreLeft, open_command_examples};
 ghost use Rattle.vte_core.specs.Laws.{AreParameters, AreWellFormed, Resyncs, CountsData, DispatchesShown, GivesCharacters, Grows, IsDecoded, IsEncoding, OpensSilently};
 ghost use Rattle.vte_core.specs.Perform.{after};
-ghost use Rattle.vte_core.specs.Stops.{GoesOnFromPositions, TellsUnits};
+ghost use Rattle.vte_core.specs.EarlyStopLaws.{GoesOnFromPositions, TellsUnits};
 ghost use Rattle.vte_core.specs.Stream.{added, events, usual_limit};
 ghost use Rattle.vte_core.specs.Utf8.{is_well_formed, segments};
 

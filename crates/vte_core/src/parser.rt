@@ -106,8 +106,8 @@ impl<const OSC_RAW_BUF_SIZE: usize> Clone for Parser<OSC_RAW_BUF_SIZE> {
         let mut clone = Self::new_with_size();
         clone.machine.state = self.machine.state;
         clone.machine.collected = self.machine.collected.clone()?;
-        let (bytes, ends, dropped) = self.machine.command.parts();
-        clone.machine.command.restore(bytes, ends, dropped);
+        let (bytes, ends, lost) = self.machine.command.parts();
+        clone.machine.command.restore(bytes, ends, lost);
         Ok(clone)
     }
 }
@@ -120,7 +120,7 @@ impl<const OSC_RAW_BUF_SIZE: usize> Parser<OSC_RAW_BUF_SIZE> {
     {
         Parser {
             machine: Machine::new(ArrayVec::new()),
-            looks: Looks::limited(),
+            looks: Looks::for_limited(),
         }
     }
 

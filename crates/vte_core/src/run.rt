@@ -11,7 +11,7 @@ use crate::utf8::{is_continuation, is_lead, is_printed_ascii, may_begin_four, ma
 
 /// Longer runs go on in blocks. By then single bytes have taken fewer looks than they may, enough
 /// to pay for one wasted block.
-const LONG: usize = 48;
+const SHORT_RUN: usize = 48;
 
 impl<B> Looks<B> {
     /// Returns whether printed ASCII begins a run at a position: four bytes of it, of which the
@@ -80,14 +80,14 @@ impl<B> Looks<B> {
             Some(second) if is_continuation(second) => match self.get(input, from + 2) {
                 Some(third) if first < 0xe0 => {
                     if is_lead(third) && is_printed_pair(first, second) {
-                        self.find_run_end_for(performer, input, from + 2)
+                        self.find_run_end_of(performer, input, from + 2)
                     } else {
                         from
                     }
                 }
                 Some(third)
                     if first < 0xf0 && is_continuation(third) && may_begin_three(first, second) => {
-                    self.find_run_end_for(performer, input, from + 3)
+                    self.find_run_end_of(performer, input, from + 3)
                 }
                 _ => from,
             },
@@ -97,7 +97,7 @@ impl<B> Looks<B> {
 
     /// Finds where the run ends that has come to a position, for a performer.
     #[inline(never)]
-    pub(crate) fn find_run_end_for<P: CountedPerform<B, G>, G: Grain>(
+    pub(crate) fn find_run_end_of<P: CountedPerform<B, G>, G: Grain>(
         &mut self,
         performer: &P,
         input: Input<'_, B>,
@@ -119,18 +119,18 @@ impl<B> Looks<B> {
         ensures ended { EndsRun keeps input.entry.bytes.now result }
         ensures count { looked self.new + 4 * from ≤ looked self.old + 4 * result + 4 }
     {
-        let to = input.len().min(from + LONG);
-        let end = self.find_end_before(input, from, to, keeps);
+        let to = input.len().min(from + SHORT_RUN);
+        let end = self.find_end_up_to(input, from, to, keeps);
         if end < to || end == input.len() {
             end
         } else {
-            self.find_long_run_end(input, end, keeps)
+            self.find_run_end_by_blocks(input, end, keeps)
         }
     }
 
     /// Finds where the run ends that has come to a position, or where it comes to or past another.
     #[inline(always)]
-    fn find_end_before(&mut self, input: Input<'_, B>, from: usize, to: usize, keeps: bool) -> usize
+    fn find_end_up_to(&mut self, input: Input<'_, B>, from: usize, to: usize, keeps: bool) -> usize
         requires range { IsRange input.bytes.now from to }
         ensures scans { Scans (IsRun keeps) input.entry.bytes.now from result self.old self.new }
         ensures ended { result < to → EndsRun keeps input.entry.bytes.now result }
@@ -156,14 +156,14 @@ impl<B> Looks<B> {
 
     /// Finds where a long run ends that has come to a position.
     #[inline(never)]
-    fn find_long_run_end(&mut self, input: Input<'_, B>, from: usize, keeps: bool) -> usize
+    fn find_run_end_by_blocks(&mut self, input: Input<'_, B>, from: usize, keeps: bool) -> usize
         requires { from ≤ length input.bytes.now }
         ensures scans { Scans (IsRun keeps) input.entry.bytes.now from result self.old self.new }
         ensures ended { EndsRun keeps input.entry.bytes.now result }
         ensures count { 3 * looked self.new + 11 * from ≤ 3 * looked self.old + 11 * result + 60 }
     {
         let end = self.skip_run_blocks(input, from, keeps);
-        self.find_end_before(input, end, input.len(), keeps)
+        self.find_end_up_to(input, end, input.len(), keeps)
     }
 
     /// Finds where the character ends that stands at a position and is no printed ASCII, if a run

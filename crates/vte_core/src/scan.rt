@@ -128,7 +128,7 @@ impl<'a, B> Input<'a, B> {
 
 impl<const N: usize> Looks<ArrayVec<u8, N>> {
     /// Creates a count of no looks, for a parser with a limit.
-    pub(crate) fn limited() -> Self
+    pub(crate) fn for_limited() -> Self
         ensures { looked result ≡ 0 }
     {
         Looks::none()
@@ -137,7 +137,7 @@ impl<const N: usize> Looks<ArrayVec<u8, N>> {
 
 impl<A: Allocator> Looks<Vec<u8, A>> {
     /// Creates a count of no looks, for a parser without a limit.
-    pub(crate) fn unlimited() -> Self
+    pub(crate) fn for_unlimited() -> Self
         ensures { looked result ≡ 0 }
     {
         Looks::none()

@@ -20,7 +20,7 @@ pub(crate) struct Store<B: Buffer> {
     // the ends of the first 16 pieces in them
     ends: ArrayVec<usize, MOST_PIECES>,
     // whether data bytes were dropped
-    dropped: bool,
+    lost: bool,
 }
 
 impl<B: Buffer> Model for Store<B> {
@@ -34,7 +34,7 @@ impl<B: Buffer> Model for Store<B> {
       capacity = B.capacity store.bytes;
       bytes = B.held store.bytes;
       ends = store.ends.items;
-      dropped = store.dropped;
+      lost = store.lost;
     } };
 
     ghost invariant = { λ store. IsNonDecreasing store.ends.items
@@ -50,7 +50,7 @@ impl<B: Buffer> Store<B> {
         Store {
             bytes,
             ends: ArrayVec::new(),
-            dropped: false,
+            lost: false,
         }
     }
 
@@ -60,14 +60,14 @@ impl<B: Buffer> Store<B> {
     {
         self.ends = ArrayVec::new();
         self.bytes.clear();
-        self.dropped = false;
+        self.lost = false;
     }
 
     /// Returns whether data bytes were dropped.
-    pub(crate) fn has_dropped(&self) -> bool
-        ensures { result ≡ self.now.dropped }
+    pub(crate) fn has_lost_data(&self) -> bool
+        ensures { result ≡ self.now.lost }
     {
-        self.dropped
+        self.lost
     }
 
     /// Takes memory for this many more data bytes, and returns whether it is there.
@@ -125,7 +125,7 @@ impl<B: Buffer> Store<B> {
         if !self.ends.is_full() {
             self.bytes.append(looks, input, from, to);
         }
-        self.dropped |= self.bytes.bytes().len() - before < to - from;
+        self.lost |= self.bytes.bytes().len() - before < to - from;
     }
 
     /// Dispatches the command with its pieces.
@@ -173,18 +173,18 @@ impl<const N: usize> Store<ArrayVec<u8, N>> {
         ensures fit { length result.0.now ≤ N }
         ensures ends { result.1.now ≡ self.now.ends }
         ensures are { ArePieceEnds self.now.bytes self.now.ends }
-        ensures dropped { result.2 ≡ self.now.dropped }
+        ensures lost { result.2 ≡ self.now.lost }
     {
-        (self.bytes.as_slice(), self.ends.as_slice(), self.dropped)
+        (self.bytes.as_slice(), self.ends.as_slice(), self.lost)
     }
 
     /// Holds these parts instead, without the ends if they can't be ends of pieces.
-    pub(crate) fn restore(&mut self, bytes: &[u8], ends: &[usize], dropped: bool)
+    pub(crate) fn restore(&mut self, bytes: &[u8], ends: &[usize], lost: bool)
         requires fit { length bytes.now ≤ N }
         requires few { length ends.now ≤ most_pieces }
         ensures bytes { self.new.bytes ≡ bytes.now }
         ensures ends { ArePieceEnds bytes.now ends.now → self.new.ends ≡ ends.now }
-        ensures dropped { self.new.dropped ≡ dropped }
+        ensures lost { self.new.lost ≡ lost }
     {
         self.ends = ArrayVec::new();
         self.bytes.clear();
@@ -193,7 +193,7 @@ impl<const N: usize> Store<ArrayVec<u8, N>> {
         if are_piece_ends(ends, bytes.len()) {
             let _ = self.ends.try_extend_from_slice(ends);
         }
-        self.dropped = dropped;
+        self.lost = lost;
     }
 }
 
@@ -231,7 +231,7 @@ impl<A: Allocator + Clone> Clone for Store<Vec<u8, A>> {
         Ok(Store {
             bytes,
             ends: self.ends.clone()?,
-            dropped: self.dropped,
+            lost: self.lost,
         })
     }
 }

@@ -37,7 +37,7 @@ VTE_CORE = dict(
             "crate::proved::vte_core::automaton": "skip_run_blocks",
             "crate::proved::vte_core::run":
                 "begins_ascii find_ascii_run_end find_run_end_at_lead find_run_end "
-                "find_run_end_for",
+                "find_run_end_of",
             "crate::proved::vte_core::scan":
                 "Grain InRuns Run RunKind RunRange Singly data get get_block take_run "
                 "tell_character tell_single text up_to",

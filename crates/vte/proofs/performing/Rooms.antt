@@ -2,9 +2,9 @@
 -- was stored and read, nor more separators than 16; so the contracts of both parsers become those of one.
 use Rattle.vte.proofs.Common.{◌≡◌, ℕ, ◌+◌, ◌≤◌, true, All, Option, Some, None, List, [], ◌∷◌, ◌++◌, length, Result, Ok, Err, refl, arith, concat, take-append_seam, usual_limit}
 use Rattle.vte.proofs.Common.{false≢true, nat_tests, All-cons, All-drop, All-head, All-nil, All-tail, All-take, Event, OscDispatch}
-use Rattle.vte.proofs.Common.{added, events, LongParser, Refused, added_both, counts_data, events_are_bounded, PerformsAll, PerformsUntilStop, FitsText, PerformerValue, HasRoom, KeepsMemory, fits_room, short_meaning}
+use Rattle.vte.proofs.Common.{added, events, LongParser, Refused, added_both, counts_data, events_are_bounded, PerformsAll, PerformsUntilStop, FitsText, PerformerValue, HasRoom, KeepsMemory, fits_room, limited_meaning}
 use Rattle.vte.proofs.Common.{long_meaning}
-use Rattle.vte_core.specs.Brief.{IsBounded}
+use Rattle.vte_core.specs.EventBounds.{IsBounded}
 use Rattle.vte_core.specs.LongParserCalls.{ReadsBytesLong, ReadsUntilTerminatedLong}
 use Rattle.vte_core.specs.LongParser.{memory_of, open_size, read_count}
 use Rattle.vte.specs.declared.ansi.titles.TheConstants.{TEXT_ROOM}
@@ -14,12 +14,12 @@ use Rattle.vte_core.specs.AdvanceUntilTerminated.{ReadsUntilTerminated}
 
 -- ---- a text with room for the data and 16 separators holds what is joined of a command
 
-pieces_fit : (size n : ℕ) (pieces : List (List ℕ)) → n + 16 ≤ size → length pieces ≤ 16 → length (concat pieces) ≤ n
+joined_fit : (size n : ℕ) (pieces : List (List ℕ)) → n + 16 ≤ size → length pieces ≤ 16 → length (concat pieces) ≤ n
     → fits_room size pieces ≡ true
-pieces_fit size n pieces room few small = grind (arith, nat_tests)
+joined_fit size n pieces room few small = grind (arith, nat_tests)
 
 event_fits : (size n : ℕ) (event : Event) → n + 16 ≤ size → IsBounded (Some n) event → FitsText size event
-event_fits size n (OscDispatch pieces bell) room h = λ last. rw (pieces_fit size n pieces room h.0 h.1) refl
+event_fits size n (OscDispatch pieces bell) room h = λ last. rw (joined_fit size n pieces room h.0 h.1) refl
 event_fits size n event room h = λ last. grind arith
 
 events_fit : (size n : ℕ) (events : List Event) → n + 16 ≤ size → All (IsBounded (Some n)) events
@@ -54,7 +54,7 @@ module _ {V W : Type 0} {step : PerformerValue V W → Event → PerformerValue 
     {old new : PerformerValue V W} {bytes : List ℕ}
     {parser next : Parser 1024} where
   pub short_parses : ReadsBytes step old new bytes parser next
-      → PerformsAll short_meaning usual_limit step parser next old new bytes
+      → PerformsAll limited_meaning usual_limit step parser next old new bytes
   short_parses r = record {
     parses =
         λ stream n read room. record {
@@ -67,7 +67,7 @@ module _ {V W : Type 0} {step : PerformerValue V W → Event → PerformerValue 
   }
 
   pub short_stops : {read : ℕ} → ReadsUntilTerminated step (λ lent. lent.terminated) old new bytes read parser next
-      → PerformsUntilStop short_meaning usual_limit step parser next old new bytes read
+      → PerformsUntilStop limited_meaning usual_limit step parser next old new bytes read
   short_stops r = record {
     within = r.within;
     stops =

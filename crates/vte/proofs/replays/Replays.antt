@@ -70,7 +70,7 @@ module _ {V W : Type 0} (m : Meaning V W) where
         in_order = e.in_order;
         handler_is = e.told;
         holds_well = replay_well s t steps run;
-        alone = λ steady well other r. replay_alone m steady s t other steps well run r;
+        only = λ steady well other r. replay_alone m steady s t other steps well run r;
         is_at = at;
       }
 

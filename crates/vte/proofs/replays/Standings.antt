@@ -1,7 +1,7 @@
 -- A processor with a limit stands where its engine does: there is always memory. So it does what the engine ensures.
 use Rattle.vte.proofs.Common.{◌≤◌, ℕ, List, length, Result, Ok, Err, arith, Bor, Refused, EngineMeaning, Meaning, State, usual_limit}
 use Rattle.vte.proofs.Common.{Advanced, HasParsedAndHolds, HasTaken, IsAt, ReadsInTurns, EngineReads, Standing, EngineStandsAt}
-use Rattle.vte.proofs.Common.{◌≡◌, refl, short_meaning, of_engine}
+use Rattle.vte.proofs.Common.{◌≡◌, refl, limited_meaning, engine_meaning}
 use Rattle.vte_core.specs.declared.parser.Parser.{Parser}
 use Rattle.vte.proofs.replays.PlainReplays.{plain_call}
 use Rattle.vte.proofs.turns.ToCalls.{has_advanced, taken-to}
@@ -9,7 +9,7 @@ use Rattle.vte.specs.declared.ansi.processor.Processor.{Processor}
 use Rattle.vte.specs.declared.ansi.titles.TheConstants.{TEXT_ROOM}
 
 abbrev pub limited : {N : ℕ} {B T W : Type 0} → (T → W) → EngineMeaning (Parser N) B T W
-limited timeout_of = of_engine usual_limit short_meaning (λ text. TEXT_ROOM) timeout_of
+limited timeout_of = engine_meaning usual_limit limited_meaning (λ text. TEXT_ROOM) timeout_of
 
 module _ {T A V W : Type 0} {timeout_of : T → W} {processor : Processor T A} {value : V} (s : State V W) where
   engine_at : IsAt (HasParsedAndHolds timeout_of processor) value s

@@ -75,7 +75,7 @@ module _ {P B T A V W : Type 0} {w : EngineMeaning P B T W} {m : Meaning V W} {s
         is_at = record {
           are_at = at-parts
               {engine = record taken { parser = parser; state = state }} p.is_at.is_parsed here.are_at.stands.holds
-                  none;
+              none;
           memory = λ stream more had. p.is_at.memory stream more (here.memory stream more had);
         };
       }

@@ -2,7 +2,7 @@
 -- unread starts. Only a position with ESC can change it, and the older bytes matter only by their last seven.
 use Rattle.vte.proofs.Common.{◌≡◌, ℕ, zero, suc, ◌+◌, ◌-◌, ◌<◌, ◌≤◌, inl, inr, true, false, eqb, Some, None, List, [], ◌∷◌, length, drop, take, get_or, refl}
 use Rattle.vte.proofs.Common.{ap, ◌∙◌, add-zero, length-drop, arith, cases_Bool, nat_tests, drop_all, drop_more, get_or-drop, get_or-take, length-take-le, take_all, ◌++◌}
-use Rattle.vte.proofs.Common.{IsEnd, drop-drop, length-append, Adds, after_word, begin_update, end_update, held_begin_count, begins_with, after_last_end, from_begin}
+use Rattle.vte.proofs.Common.{IsHeldTail, drop-drop, length-append, Adds, after_word, begin_update, end_update, held_begin_count, begins_with, after_last_end, from_begin}
 use Rattle.std.specs.Prelude.{nat_lt}
 use Rattle.memchr.specs.Find.{NoneAfter, Nowhere, Passes, is_byte}
 use Rattle.vte.proofs.updates.Sequences.{after_whole, held_begin_count-tail, begins_is, begins_long, after_last_end-tail, end_skipped, not_further, not_some}
@@ -39,14 +39,14 @@ abbrev HasNoEscape : List ℕ → Type 0
 HasNoEscape [] = Unit {0}
 HasNoEscape (b ∷ bytes) = (eqb b 0x1b ≡ false) × HasNoEscape bytes
 
-no_escape : (sequence text : List ℕ) (i : ℕ) → HasNoEscape sequence → i < length sequence
+no_escape-within : (sequence text : List ℕ) (i : ℕ) → HasNoEscape sequence → i < length sequence
     → eqb (get_or text i 0) 0x1b ≡ true
     → begins_with sequence text ≡ false
-no_escape [] text i plain inside here = absurd (omega arith)
-no_escape (a ∷ sequence) [] i plain inside here = refl
-no_escape (a ∷ sequence) (b ∷ text) zero plain inside here = let first = plain.0 in grind (arith, nat_tests)
-no_escape (a ∷ sequence) (b ∷ text) (suc i) plain inside here =
-    not_further a b sequence text (no_escape sequence text i plain.1 (omega arith) here)
+no_escape-within [] text i plain inside here = absurd (omega arith)
+no_escape-within (a ∷ sequence) [] i plain inside here = refl
+no_escape-within (a ∷ sequence) (b ∷ text) zero plain inside here = let first = plain.0 in grind (arith, nat_tests)
+no_escape-within (a ∷ sequence) (b ∷ text) (suc i) plain inside here =
+    not_further a b sequence text (no_escape-within sequence text i plain.1 (omega arith) here)
 
 neither_before : (text : List ℕ) (position escape : ℕ) → position < escape → escape < position + 8
     → escape < length text
@@ -59,7 +59,7 @@ neither_before text position escape before near inside here =
     let none : (sequence : List ℕ) → HasNoEscape sequence → 7 ≡ length sequence
     → begins_with (0x1b ∷ sequence) (drop position text) ≡ false
     = λ sequence plain long.
-    rw d (not_further 0x1b _ sequence _ (no_escape sequence _ i plain (omega (arith, long)) there)) in
+    rw d (not_further 0x1b _ sequence _ (no_escape-within sequence _ i plain (omega (arith, long)) there)) in
     record {
       no_begin = none (drop 1 begin_update) (refl, (refl, (refl, (refl, (refl, (refl, (refl, tt))))))) refl;
       no_end = none (drop 1 end_update) (refl, (refl, (refl, (refl, (refl, (refl, (refl, tt))))))) refl;
@@ -168,7 +168,7 @@ module _ {all : List ℕ} {new position unread begin begins : ℕ} (e : IsLastEs
       further begin begins
       (seen_other all new position begin begins e.inside e.seen (record { no_begin = b; no_end = other }))
 
-module _ {held more text : List ℕ} {start : ℕ} (e : IsEnd held more text start) where
+module _ {held more text : List ℕ} {start : ℕ} (e : IsHeldTail held more text start) where
   abbrev all : List ℕ
   all = held ++ more
 

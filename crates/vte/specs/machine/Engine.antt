@@ -106,7 +106,7 @@ abbrev pub LeadOn : {P B T A V W : Type 0} → EngineMeaning P B T W → Engine 
     → V → V → (State V W → (State V W → Type 0) → Type 0) → Type 0
 LeadOn parts engine next old new ends =
     (state : State _ _) → EngineIsAt parts engine old state
-        → ends state (EngineIsAtKeeping parts engine next new)
+    → ends state (EngineIsAtKeeping parts engine next new)
 
 module _ {V W : Type 0} (meaning : Meaning V W) (state : State V W) (bytes : List ℕ) where
   -- The first `read` bytes were parsed: those up to the one that begins an update, or all if none

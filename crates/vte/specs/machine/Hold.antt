@@ -20,7 +20,7 @@ still_held text = kept_part text (after_last_end text)
 
 -- The end of a hold, from `start` on, to whose bytes others were added: these, and at most seven
 -- before them.
-pub record IsEnd (held more text : List ℕ) (start : ℕ) : Type 0 where
+pub record IsHeldTail (held more text : List ℕ) (start : ℕ) : Type 0 where
   pub start_is : start ≡ length held - 7
   pub is : text ≡ drop start (held ++ more)
 

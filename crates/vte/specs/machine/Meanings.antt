@@ -17,8 +17,8 @@ pub record ParserMeaning (P : Type 0) : Type 1 where
   pub has_memory : P → (size : ℕ) → List ℕ → ℕ → Type 0
 
 -- With a limit it needs memory only for a text of a fixed size, which holds what is joined.
-abbrev pub short_meaning : {N : ℕ} → ParserMeaning (Parser N)
-short_meaning = record {
+abbrev pub limited_meaning : {N : ℕ} → ParserMeaning (Parser N)
+limited_meaning = record {
   has_read = HasRead;
   has_memory = λ parser size stream count. TEXT_ROOM ≤ size;
 }
@@ -33,11 +33,11 @@ pub record EngineMeaning (P B T W : Type 0) : Type 1 where
   pub room_of : B → ℕ
   pub timeout_of : T → W
 
-abbrev pub of_engine : {P B T W : Type 0} → Option ℕ → ParserMeaning P → (B → ℕ) → (T → W)
+abbrev pub engine_meaning : {P B T W : Type 0} → Option ℕ → ParserMeaning P → (B → ℕ) → (T → W)
     → EngineMeaning P B T W
-of_engine limit reading room_of timeout_of =
+engine_meaning limit reading room_of timeout_of =
     record { limit = limit; reading = reading; room_of = room_of; timeout_of = timeout_of }
 
 -- The parts of a processor without a limit.
 abbrev pub unlimited : {T A W : Type 0} → (T → W) → EngineMeaning (LongParser A) (GrowingText A) T W
-unlimited timeout_of = of_engine None long_meaning (λ text. text.size) timeout_of
+unlimited timeout_of = engine_meaning None long_meaning (λ text. text.size) timeout_of

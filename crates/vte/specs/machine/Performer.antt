@@ -34,12 +34,12 @@ FitsText room event = (last : Option ℕ) → calls_made room last event ≡ cal
 -- An event that begins an update terminates the performer.
 abbrev pub with_event : {V W : Type 0}
     → (V → Call → V) → TimeoutMeaning W → PerformerValue V W → Event → PerformerValue V W
-with_event step timeout lent event = record {
-  handler = after step lent.handler (calls_made lent.room lent.last event);
-  timeout = set_times timeout (begins_in_event event) lent.timeout;
-  last = last_printed_after lent.last event;
-  room = lent.room;
-  terminated = lent.terminated || nat_lt 0 (begins_in_event event);
-  state_name = lent.state_name;
-  handler_name = lent.handler_name;
+with_event step timeout performer event = record {
+  handler = after step performer.handler (calls_made performer.room performer.last event);
+  timeout = set_times timeout (begins_in_event event) performer.timeout;
+  last = last_printed_after performer.last event;
+  room = performer.room;
+  terminated = performer.terminated || nat_lt 0 (begins_in_event event);
+  state_name = performer.state_name;
+  handler_name = performer.handler_name;
 }

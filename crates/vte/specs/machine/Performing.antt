@@ -4,13 +4,13 @@ use Rattle.std.specs.Prelude.{◌≡◌, ℕ, ◌+◌, ◌≤◌, ◌||◌, ◌=
 use Rattle.std.specs.Prelude.{length, nat_lt}
 use Rattle.std.specs.List.{All}
 use Rattle.vte.specs.BeginUpdate.{update_group_count, update_mode}
-use Rattle.vte.specs.Change.{change_call, change_calls}
+use Rattle.vte.specs.ModeChange.{change_call, change_calls}
 use Rattle.vte.specs.Memory.{KeepsMemory}
 use Rattle.vte.specs.machine.Meanings.{ParserMeaning}
 use Rattle.vte.specs.Processor.{set_times}
 use Rattle.vte.specs.Numbers.{first_numbers}
 use Rattle.vte.specs.machine.Performer.{FitsText, PerformerValue}
-use Rattle.vte.specs.declared.ansi.control_calls.Change.TheVariants.{SetPrivate}
+use Rattle.vte.specs.declared.ansi.control_calls.ModeChange.TheVariants.{SetPrivate}
 use Rattle.vte.specs.declared.ansi.performer.Performer.{Performer}
 use Rattle.vte_core.specs.EarlyStop.{StopsExactly, stream_at}
 use Rattle.vte_core.specs.Event.{Event}
@@ -35,19 +35,19 @@ performer_value handler_of timeout_of room_of performer = record {
 -- A private mode is set. The handler receives the call, and the update mode also begins an update.
 abbrev pub with_private_mode : {V W : Type 0}
     → (V → Call → V) → TimeoutMeaning W → PerformerValue V W → ℕ → PerformerValue V W
-with_private_mode step timeout lent number = record lent {
-  handler = step lent.handler (change_call SetPrivate number);
-  timeout = set_times timeout (if number == update_mode then 1 else 0) lent.timeout;
-  terminated = lent.terminated || number == update_mode;
+with_private_mode step timeout performer number = record performer {
+  handler = step performer.handler (change_call SetPrivate number);
+  timeout = set_times timeout (if number == update_mode then 1 else 0) performer.timeout;
+  terminated = performer.terminated || number == update_mode;
 }
 
 -- One is set for each group.
 abbrev pub with_private_modes : {V W : Type 0}
     → (V → Call → V) → TimeoutMeaning W → PerformerValue V W → List (List ℕ) → PerformerValue V W
-with_private_modes step timeout lent groups = record lent {
-  handler = after step lent.handler (change_calls SetPrivate (first_numbers groups));
-  timeout = set_times timeout (update_group_count groups) lent.timeout;
-  terminated = lent.terminated || nat_lt 0 (update_group_count groups);
+with_private_modes step timeout performer groups = record performer {
+  handler = after step performer.handler (change_calls SetPrivate (first_numbers groups));
+  timeout = set_times timeout (update_group_count groups) performer.timeout;
+  terminated = performer.terminated || nat_lt 0 (update_group_count groups);
 }
 
 -- A parser has read bytes after a stream, and performed what they add. It still has memory for n
@@ -67,7 +67,7 @@ pub record HasStopped {P V W : Type 0} (reading : ParserMeaning P) (limit : Opti
     (step : PerformerValue V W → Event → PerformerValue V W) (next : P)
     (old new : PerformerValue V W)
     (stream bytes : List ℕ) (read : ℕ) : Type 0 where
-  pub stops : StopsExactly step (λ lent. lent.terminated) old limit stream bytes new read
+  pub stops : StopsExactly step (λ performer. performer.terminated) old limit stream bytes new read
   pub fits : All (FitsText old.room) (added limit stream bytes)
   pub reads : reading.has_read next (stream_at stream bytes read)
 

@@ -3,18 +3,18 @@ ghost use Rattle.std.specs.Prelude.{◌≡◌, ◌≢◌, [], ◌∷◌, unwrap_
 ghost use Rattle.vte.specs.ControlCalls.{control_calls, repeat_calls, window_rows};
 ghost use Rattle.vte.specs.ControlCalls.{rows_without_intermediates};
 ghost use Rattle.vte.specs.Numbers.{first_numbers};
-ghost use Rattle.vte.specs.Maybe.{for_some};
-ghost use Rattle.vte.specs.Values.{cursor_rows, keys_rows, line_rows, screen_rows, tab_rows};
+ghost use Rattle.vte.specs.OptionalCalls.{for_some};
+ghost use Rattle.vte.specs.SelectedValues.{cursor_rows, keys_rows, line_rows, screen_rows, tab_rows};
 ghost use Rattle.vte_handler.specs.Call as call;
 ghost use Rattle.vte_types.specs.Rows.{entry_of};
-ghost use Rattle.vte.specs.Change.{change_call, change_calls};
+ghost use Rattle.vte.specs.ModeChange.{change_call, change_calls};
 ghost use Rattle.vte_handler.specs.Handler.{after};
 
 use crate::ansi::input::InputAs;
 use crate::ansi::numbers::{NumberIterator, first_number};
 use crate::ansi::rendition::perform_attributes;
 use crate::ansi::values::{
-    character_path, keyboard_behavior, keyboard_modes, scrolling_bottom, scp_update_mode,
+    character_path, keyboard_behavior, keyboard_modes, scp_update_mode, scrolling_bottom,
 };
 use vte_core::Params;
 use vte_handler::Handler;
@@ -48,7 +48,7 @@ pub(crate) fn perform_control<H: InputAs<G>, G>(
                 handler.set_tabs(8);
             }
         }
-        ([b'?'], 'l') => change_modes(handler, params, Change::ResetPrivate),
+        ([b'?'], 'l') => change_modes(handler, params, ModeChange::ResetPrivate),
         ([b'$'], 'p') => handler.report_mode(Mode::new(numbers.next_or(0))),
         ([b'?', b'$'], 'p') => handler.report_private_mode(PrivateMode::new(numbers.next_or(0))),
         ([b' '], 'q') => set_cursor_style(handler, numbers.next_or(0)),
@@ -126,8 +126,8 @@ fn perform_plain<H: InputAs<G>, G>(
         's' => handler.save_cursor_position(),
         'u' => handler.restore_cursor_position(),
         'm' => perform_attributes(handler, params),
-        'h' => change_modes(handler, params, Change::Set),
-        'l' => change_modes(handler, params, Change::Reset),
+        'h' => change_modes(handler, params, ModeChange::Set),
+        'l' => change_modes(handler, params, ModeChange::Reset),
         'n' => handler.device_status(usize::from(numbers.next_or(0))),
         't' => operate_window(handler, numbers.next_or(1)),
         _ => {}
@@ -230,7 +230,7 @@ fn set_cursor_style<H: Handler>(handler: &mut H, number: u16)
 
 /// What happens to modes.
 #[derive(Clone, Copy)]
-pub(crate) enum Change {
+pub(crate) enum ModeChange {
     Set,
     Reset,
     SetPrivate,
@@ -238,7 +238,7 @@ pub(crate) enum Change {
 }
 
 /// Changes the modes that the first numbers of the groups name.
-fn change_modes<H: Handler>(handler: &mut H, params: &Params, change: Change)
+fn change_modes<H: Handler>(handler: &mut H, params: &Params, change: ModeChange)
     ensures { H.value_of handler.new ≡ after H.step (H.value_of handler.old)
         (change_calls change (first_numbers params.now)) }
 {
@@ -248,14 +248,14 @@ fn change_modes<H: Handler>(handler: &mut H, params: &Params, change: Change)
 }
 
 /// Changes one mode.
-pub(crate) fn change_mode<H: Handler>(handler: &mut H, change: Change, number: u16)
+pub(crate) fn change_mode<H: Handler>(handler: &mut H, change: ModeChange, number: u16)
     ensures { H.value_of handler.new
         ≡ H.step (H.value_of handler.old) (change_call change number) }
 {
     match change {
-        Change::Set => handler.set_mode(Mode::new(number)),
-        Change::Reset => handler.unset_mode(Mode::new(number)),
-        Change::SetPrivate => handler.set_private_mode(PrivateMode::new(number)),
-        Change::ResetPrivate => handler.unset_private_mode(PrivateMode::new(number)),
+        ModeChange::Set => handler.set_mode(Mode::new(number)),
+        ModeChange::Reset => handler.unset_mode(Mode::new(number)),
+        ModeChange::SetPrivate => handler.set_private_mode(PrivateMode::new(number)),
+        ModeChange::ResetPrivate => handler.unset_private_mode(PrivateMode::new(number)),
     }
 }

@@ -2,7 +2,7 @@
 ghost use Rattle.std.specs.Prelude.{◌≡◌, ℕ, List, None, Option};
 ghost use Rattle.vte.specs.CallExamples.{AreMade, AreRead, color_examples, command_examples, counted_examples, escape_examples, executed_examples};
 ghost use Rattle.vte.specs.CallExamples.{link_examples, mode_examples, palette_examples, position_examples, rendition_examples, selected_examples, title_examples};
-ghost use Rattle.vte.specs.Processor.{HoldsWellAt, State, TakesAllTurns, TakesTurns, all_bytes, meaning, stop};
+ghost use Rattle.vte.specs.Processor.{HoldsWellAt, State, TakesAllTurns, TakesTurns, all_bytes, meaning_of, stop};
 ghost use Rattle.vte.specs.Refusal.{TakesSome};
 ghost use Rattle.vte.specs.UpdateExamples.{AreLed, expired_example, update_examples};
 ghost use Rattle.vte_handler.specs.Timeout.{IsSteady};
@@ -39,9 +39,10 @@ pub fn worked_examples()
 #[tactic(auto, using(crate::proofs::turns::HoldFacts::stop_well))]
 pub fn stops_lose_nothing<H: Handler, T: Timeout>()
     ensures each_once { (limit : Option ℕ) (state : State H.Value T.Value)
-        → all_bytes (stop (meaning limit H.step T.set T.clear T.allows) state) ≡ all_bytes state }
+        → all_bytes (stop (meaning_of limit H.step T.set T.clear T.allows) state)
+        ≡ all_bytes state }
     ensures holds_well { (limit : Option ℕ) (state : State H.Value T.Value)
-        → let m = meaning limit H.step T.set T.clear T.allows in HoldsWellAt m (stop m state) }
+        → let m = meaning_of limit H.step T.set T.clear T.allows in HoldsWellAt m (stop m state) }
 {}
 
 /// Where the rest of a refused call of a [`LongProcessor`](crate::ansi::LongProcessor) leads to,
@@ -50,11 +51,11 @@ pub fn stops_lose_nothing<H: Handler, T: Timeout>()
 #[tactic(auto, using(crate::proofs::turns::Slices::taken_on))]
 pub fn refused_calls_go_on<H: Handler, T: Timeout>()
     ensures between { (state next end : State H.Value T.Value) (bytes rest : List ℕ)
-        → let m = meaning None H.step T.set T.clear T.allows in
+        → let m = meaning_of None H.step T.set T.clear T.allows in
         TakesTurns m state bytes next rest → TakesAllTurns m next rest end
         → TakesAllTurns m state bytes end }
     ensures within { (state next end : State H.Value T.Value) (bytes rest : List ℕ)
-        → let m = meaning None H.step T.set T.clear T.allows in
+        → let m = meaning_of None H.step T.set T.clear T.allows in
         IsSteady m.timeout → HoldsWellAt m state → TakesSome m state bytes next rest →
         TakesAllTurns m next rest end → TakesAllTurns m state bytes end }
 {}

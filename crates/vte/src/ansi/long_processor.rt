@@ -2,13 +2,13 @@
 ghost use Rattle.std.specs.Prelude.{◌≡◌, ℕ, ◌+◌, false, List, [], length, None, IfOk, MatchResult};
 ghost use Rattle.vte_core.specs.LongParser.{open_size};
 ghost use Rattle.vte_handler.specs.Timeout.{AllowsOnly, IsSteady, timeout_meaning};
-ghost use Rattle.vte.specs.Processor.{HoldsWell, meaning};
+ghost use Rattle.vte.specs.Processor.{HoldsWell, meaning_of};
 ghost use Rattle.vte.specs.LongProcessor.{AdvancesLong, HasParsedAndHoldsLong, IsCopyOfLong, Reserves, StopsSyncLong};
 ghost use Rattle.vte.specs.Memory.{HasFreedMemory, held_long, timeout_long};
 ghost use Rattle.vte.specs.ProcessorCalls.{CountsHeld, HasParsedAll};
 
-use crate::ansi::growing_text::GrowingText;
 use crate::ansi::engine::Engine;
+use crate::ansi::growing_text::GrowingText;
 use std::alloc::{AllocError, Allocator};
 use vte_core::{InRuns, LongParser, Refused, Singly};
 use vte_handler::{Handler, HandlerText, Timeout};
@@ -111,8 +111,8 @@ impl<T: Timeout + Drop, A: Allocator> LongProcessor<T, A> {
     #[tactic(auto, using(crate::proofs::replays::LongStandings::stops_long))]
     pub fn stop_sync<H: Handler>(&mut self, handler: &mut H)
         ensures { StopsSyncLong T.value_of
-            (meaning None H.step T.set T.clear T.allows) self.old self.new (H.value_of handler.old)
-            (H.value_of handler.new) }
+            (meaning_of None H.step T.set T.clear T.allows) self.old self.new
+            (H.value_of handler.old) (H.value_of handler.new) }
     {
         self.engine.stop::<H, Singly>(handler);
     }
@@ -121,8 +121,8 @@ impl<T: Timeout + Drop, A: Allocator> LongProcessor<T, A> {
     #[tactic(auto, using(crate::proofs::replays::LongStandings::stops_long))]
     pub fn stop_sync_text<H: HandlerText>(&mut self, handler: &mut H)
         ensures { StopsSyncLong T.value_of
-            (meaning None H.step T.set T.clear T.allows) self.old self.new (H.value_of handler.old)
-            (H.value_of handler.new) }
+            (meaning_of None H.step T.set T.clear T.allows) self.old self.new
+            (H.value_of handler.old) (H.value_of handler.new) }
     {
         self.engine.stop::<H, InRuns>(handler);
     }
@@ -134,8 +134,8 @@ impl<T: Timeout + Drop, A: Allocator> LongProcessor<T, A> {
     /// of a new processor receives the calls of the whole stream, however it is split.
     pub fn advance<H: Handler>(&mut self, handler: &mut H, bytes: &[u8]) -> Result<(), Refused>
         ensures { AdvancesLong T.value_of
-            (meaning None H.step T.set T.clear T.allows) self.old self.new (H.value_of handler.old)
-            (H.value_of handler.new) bytes.now result }
+            (meaning_of None H.step T.set T.clear T.allows) self.old self.new
+            (H.value_of handler.old) (H.value_of handler.new) bytes.now result }
     {
         self.engine.read::<H, Singly>(handler, bytes)
     }
@@ -147,8 +147,8 @@ impl<T: Timeout + Drop, A: Allocator> LongProcessor<T, A> {
         bytes: &[u8],
     ) -> Result<(), Refused>
         ensures { AdvancesLong T.value_of
-            (meaning None H.step T.set T.clear T.allows) self.old self.new (H.value_of handler.old)
-            (H.value_of handler.new) bytes.now result }
+            (meaning_of None H.step T.set T.clear T.allows) self.old self.new
+            (H.value_of handler.old) (H.value_of handler.new) bytes.now result }
     {
         self.engine.read::<H, InRuns>(handler, bytes)
     }

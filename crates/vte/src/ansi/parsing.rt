@@ -2,10 +2,10 @@
 //! fields of one struct, so that the performer can borrow each.
 ghost use Rattle.std.specs.Prelude.{◌≡◌, ◌≤◌, ◌+◌, ◌++◌, ℕ, List, Option, true, false, length};
 ghost use Rattle.vte.specs.machine.Performing.{PerformsAll, PerformsUntilStop, performer_value};
-ghost use Rattle.vte.specs.Processor.{State, meaning, parse};
+ghost use Rattle.vte.specs.Processor.{State, meaning_of, parse};
 ghost use Rattle.vte.specs.machine.Performer.{with_event};
 ghost use Rattle.vte.specs.machine.Engine.{IsAtBegin, IsParsedKeeping, IsParsedWithRoom};
-ghost use Rattle.vte.specs.machine.Meanings.{ParserMeaning, of_engine, short_meaning};
+ghost use Rattle.vte.specs.machine.Meanings.{ParserMeaning, engine_meaning, limited_meaning};
 ghost use Rattle.vte.specs.Memory.{KeepsMemory};
 ghost use Rattle.vte_handler.specs.Timeout.{timeout_meaning};
 ghost use Rattle.vte_core.specs.Stream.{usual_limit};
@@ -48,7 +48,7 @@ pub(crate) trait EventParser {
 impl EventParser for ProcessorParser {
     ghost limit = { usual_limit };
 
-    ghost reading = { short_meaning };
+    ghost reading = { limited_meaning };
 
     fn reserve<B: TextBuffer>(&mut self, text: &mut B, _held: usize, _more: usize) -> bool {
         text.reserve(TEXT_ROOM)
@@ -132,14 +132,15 @@ pub(crate) fn parse_all<
     G: ParseAs<H, T, P>,
 >(parser: &mut P, state: &mut PerformerState<T, B>, handler: &mut H, bytes: &[u8])
     ensures parsed { (s : State H.Value T.Value) (n : ℕ)
-        → IsParsedWithRoom (of_engine P.limit P.reading B.room T.value_of) parser.old state.old
+        → IsParsedWithRoom (engine_meaning P.limit P.reading B.room T.value_of) parser.old state.old
         (H.value_of handler.old) s (length bytes.now + n) →
         IsParsedKeeping
-        (of_engine P.limit P.reading B.room T.value_of) parser.old state.old parser.new state.new
+        (engine_meaning P.limit P.reading B.room T.value_of) parser.old state.old parser.new
+        state.new
         (H.value_of handler.new)
-        (parse (meaning P.limit H.step T.set T.clear T.allows) s bytes.now) }
+        (parse (meaning_of P.limit H.step T.set T.clear T.allows) s bytes.now) }
     ensures room { (s : State H.Value T.Value) (n : ℕ)
-        → IsParsedWithRoom (of_engine P.limit P.reading B.room T.value_of) parser.old state.old
+        → IsParsedWithRoom (engine_meaning P.limit P.reading B.room T.value_of) parser.old state.old
         (H.value_of handler.old) s (length bytes.now + n) →
         P.reading.has_memory parser.new (B.room state.new.text) (s.parsed ++ bytes.now) n }
 {
@@ -163,11 +164,12 @@ pub(crate) fn parse_until_begin<
 >(parser: &mut P, state: &mut PerformerState<T, B>, handler: &mut H, bytes: &[u8]) -> (usize, bool)
     ensures within { result.0 ≤ length bytes.now }
     ensures stops { (s : State H.Value T.Value) (n : ℕ)
-        → IsParsedWithRoom (of_engine P.limit P.reading B.room T.value_of) parser.old state.old
+        → IsParsedWithRoom (engine_meaning P.limit P.reading B.room T.value_of) parser.old state.old
         (H.value_of handler.old) s (length bytes.now + n) →
-        IsAtBegin (meaning P.limit H.step T.set T.clear T.allows) s bytes.now result.0 result.1
+        IsAtBegin (meaning_of P.limit H.step T.set T.clear T.allows) s bytes.now result.0 result.1
         (IsParsedKeeping
-        (of_engine P.limit P.reading B.room T.value_of) parser.old state.old parser.new state.new
+        (engine_meaning P.limit P.reading B.room T.value_of) parser.old state.old parser.new
+        state.new
         (H.value_of handler.new)) }
 {
     let mut performer = Performer {

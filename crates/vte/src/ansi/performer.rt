@@ -8,7 +8,7 @@ ghost use Rattle.vte.specs.machine.Texts.{fits_room};
 ghost use Rattle.vte_handler.specs.Timeout.{timeout_meaning};
 
 use crate::ansi::command_calls::perform_system_command;
-use crate::ansi::control_calls::{Change, change_mode, perform_control};
+use crate::ansi::control_calls::{ModeChange, change_mode, perform_control};
 use crate::ansi::escape_calls::{perform_escape, perform_execute};
 use crate::ansi::input::InputAs;
 use crate::ansi::numbers::first_number;
@@ -143,7 +143,7 @@ impl<'s, 'h, H: Handler, T: Timeout + Drop, B: TextBuffer + Drop, G> Performer<'
                 .set_timeout(Duration::from_millis(UPDATE_TIMEOUT_MILLIS));
             self.terminated = true;
         }
-        change_mode(self.handler, Change::SetPrivate, number);
+        change_mode(self.handler, ModeChange::SetPrivate, number);
     }
 }
 

@@ -1,12 +1,12 @@
 //! The processor. A call of `advance` takes turns, and each turn parses bytes or holds them back.
 ghost use Rattle.std.specs.Prelude.{◌≡◌, [], IfOk, MatchResult, false};
 ghost use Rattle.vte_handler.specs.Timeout.{AllowsOnly, IsSteady, timeout_meaning};
-ghost use Rattle.vte.specs.Processor.{HoldsWell, meaning};
+ghost use Rattle.vte.specs.Processor.{HoldsWell, meaning_of};
 ghost use Rattle.vte.specs.ProcessorCalls.{CountsHeld, HasParsedAll, HasParsedAndHolds, IsCopyOf, ReadsInTurns, StopsSync, held_in, timeout_in};
 ghost use Rattle.vte_core.specs.Stream.{usual_limit};
 
-use crate::ansi::parsing::{ProcessorParser, ProcessorText};
 use crate::ansi::engine::Engine;
+use crate::ansi::parsing::{ProcessorParser, ProcessorText};
 use std::alloc::{AllocError, Allocator};
 use vte_core::{InRuns, Singly};
 use vte_handler::{Handler, HandlerText, Timeout};
@@ -90,7 +90,7 @@ impl<T: Timeout + Drop, A: Allocator> Processor<T, A> {
     /// Stops an update: parses the bytes that are held back, tells the handler that the update has
     /// ended, and clears the timeout. Without an update too, the handler is told.
     pub fn stop_sync<H: Handler>(&mut self, handler: &mut H)
-        ensures { StopsSync (meaning usual_limit H.step T.set T.clear T.allows)
+        ensures { StopsSync (meaning_of usual_limit H.step T.set T.clear T.allows)
             (HasParsedAndHolds T.value_of self.old) (HasParsedAndHolds T.value_of self.new)
             (H.value_of handler.old) (H.value_of handler.new) }
     {
@@ -99,7 +99,7 @@ impl<T: Timeout + Drop, A: Allocator> Processor<T, A> {
 
     /// Stops an update as [`stop_sync`](Self::stop_sync) does. The handler receives text in runs.
     pub fn stop_sync_text<H: HandlerText>(&mut self, handler: &mut H)
-        ensures { StopsSync (meaning usual_limit H.step T.set T.clear T.allows)
+        ensures { StopsSync (meaning_of usual_limit H.step T.set T.clear T.allows)
             (HasParsedAndHolds T.value_of self.old) (HasParsedAndHolds T.value_of self.new)
             (H.value_of handler.old) (H.value_of handler.new) }
     {
@@ -111,7 +111,7 @@ impl<T: Timeout + Drop, A: Allocator> Processor<T, A> {
     /// If the timeout is never pending, all bytes are parsed: the handler of a new processor
     /// receives the calls of the whole stream, however it is split.
     pub fn advance<H: Handler>(&mut self, handler: &mut H, bytes: &[u8])
-        ensures { ReadsInTurns (meaning usual_limit H.step T.set T.clear T.allows)
+        ensures { ReadsInTurns (meaning_of usual_limit H.step T.set T.clear T.allows)
             (HasParsedAndHolds T.value_of self.old) (HasParsedAndHolds T.value_of self.new)
             (H.value_of handler.old) (H.value_of handler.new) bytes.now }
     {
@@ -121,7 +121,7 @@ impl<T: Timeout + Drop, A: Allocator> Processor<T, A> {
 
     /// Reads bytes as [`advance`](Self::advance) does. The handler receives text in runs.
     pub fn advance_text<H: HandlerText>(&mut self, handler: &mut H, bytes: &[u8])
-        ensures { ReadsInTurns (meaning usual_limit H.step T.set T.clear T.allows)
+        ensures { ReadsInTurns (meaning_of usual_limit H.step T.set T.clear T.allows)
             (HasParsedAndHolds T.value_of self.old) (HasParsedAndHolds T.value_of self.new)
             (H.value_of handler.old) (H.value_of handler.new) bytes.now }
     {

@@ -1,6 +1,6 @@
 //! What a hold releases when bytes are added to it.
 ghost use Rattle.std.specs.Prelude.{◌≡◌, ℕ, ◌+◌, ◌≤◌, ◌<◌, ◌^◌, List, ◌++◌, IsTrue, None, length};
-ghost use Rattle.vte.specs.machine.Hold.{Adds, IsEnd};
+ghost use Rattle.vte.specs.machine.Hold.{Adds, IsHeldTail};
 ghost use Rattle.vte.specs.Synchronized.{begin_update, begins_with, after_last_end, end_update};
 
 use memchr::memrchr;
@@ -23,7 +23,8 @@ pub(crate) struct Release {
 /// down to the last end-update.
 pub(crate) fn find_release(text: &[u8], start: usize) -> Release
     requires { start + length text.now < 2 ^ 64 }
-    ensures { (held more : List ℕ) → IsEnd held more text.now start → after_last_end held ≡ None
+    ensures { (held more : List ℕ) → IsHeldTail held more text.now start
+        → after_last_end held ≡ None
         → Adds (held ++ more) (length more) result }
 {
     let mut begin = start + text.len();

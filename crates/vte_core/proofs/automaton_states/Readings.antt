@@ -5,7 +5,7 @@ use Rattle.std.proofs.lemmas.Str.{encode_ascii, encodes-chars}
 use Rattle.vte_core.specs.machine.Each.{Each}
 use Rattle.vte_core.specs.machine.Automaton.{AutomatonState, Between, Failed, state_code, state_after, HasScanned, LastEnd}
 use Rattle.vte_core.proofs.automaton_states.Scanned.{IsBegun, ReadSoFar, standing}
-use Rattle.vte_core.proofs.automaton_states.Steps.{wanted_ranges, state_after-append, between, gone, waiting, turn}
+use Rattle.vte_core.proofs.automaton_states.Steps.{wanted_ranges, state_after-append, between, gone, waiting, phase}
 
 -- ---- codes
 
@@ -42,7 +42,7 @@ last_end-here text at within is =
     }
 
 wanted_ranges-some : (s : AutomatonState) → s ≢ Between → s ≢ Failed → 1 ≤ length (wanted_ranges s)
-wanted_ranges-some s not going = elim (turn s) [
+wanted_ranges-some s not going = elim (phase s) [
   | between same ↦ absurd (not same)
   | gone same ↦ absurd (going same)
   | waiting t range _ _ is _ ↦ omega (arith, ap length is)

@@ -7,7 +7,7 @@ use Rattle.vte_core.proofs.bytes.FirstBytes.{fits}
 use Rattle.vte_core.proofs.bytes.Printable.{printable-nil, printable-append}
 use Rattle.vte_core.proofs.bytes.Scalars.{in_range-bounds}
 use Rattle.vte_core.specs.machine.Automaton.{AutomatonState, Between, Failed, next_between, next_if_in, next_state, state_after}
-use Rattle.vte_core.proofs.automaton_states.Steps.{wanted_ranges, state_after-append, failed, between, gone, waiting, turn}
+use Rattle.vte_core.proofs.automaton_states.Steps.{wanted_ranges, state_after-append, failed, between, gone, waiting, phase}
 use Rattle.vte_core.proofs.automaton_states.Begins.{prints, fails, opens, begins}
 
 -- From `end` up to `at` stand a first byte and bytes that are none.
@@ -130,11 +130,11 @@ module _ (text : List ℕ) (at : ℕ) (within : at < length text) (s : Automaton
         let completes : (u : List ℕ) → fits (wanted_ranges t) u ≡ true → IsUtf8Run true ((taken ++ b ∷ []) ++ u) =
         λ u more. subst (IsUtf8Run true) (sym (append_assoc taken (b ∷ []) u)) (old.completes (b ∷ u)
         (ap (λ ranges. fits ranges (b ∷ u)) is ∙ ap (λ v. v && fits (wanted_ranges t) u) fit ∙ more)) in
-        subst (ReadSoFar text (at + 1)) (sym e) (elim (turn t) [
+        subst (ReadSoFar text (at + 1)) (sym e) (elim (phase t) [
           | between same ↦
               let whole : IsUtf8Run true (taken ++ b ∷ []) =
               subst (IsUtf8Run true) (append-nil (taken
-                  ++ b ∷ [])) (completes [] (ap (λ v. fits (wanted_ranges v) []) same)) in
+              ++ b ∷ [])) (completes [] (ap (λ v. fits (wanted_ranges v) []) same)) in
               subst (ReadSoFar text (at + 1)) (sym same) (settles whole)
           | gone same ↦ absurd (ok (e ∙ same))
           | waiting v r other _ _ _ ↦
@@ -150,7 +150,7 @@ module _ (text : List ℕ) (at : ℕ) (within : at < length text) (s : Automaton
 
   one_more : next_state s b ≢ Failed → ReadSoFar text (at + 1) (next_state s b)
   unfolding next_state
-  one_more ok = elim (turn s) [
+  one_more ok = elim (phase s) [
     | between same ↦ first same ok
     | gone same ↦ absurd (ok (ap (λ v. next_state v b) same))
     | waiting t range not last is steps ↦ later t range not last is (steps b) ok

@@ -37,22 +37,22 @@ stays_between (b ∷ bytes) all =
 
 -- ---- what one more byte makes of a state
 
-pub data Turn (s : AutomatonState) : Type 0 where
-  between : s ≡ Between → Turn s
-  gone : s ≡ Failed → Turn s
+pub data Phase (s : AutomatonState) : Type 0 where
+  between : s ≡ Between → Phase s
+  gone : s ≡ Failed → Phase s
   waiting : (t : AutomatonState) (range : Range) → s ≢ Between → range.last ≤ 0xbf
       → wanted_ranges s ≡ range ∷ wanted_ranges t
-      → ((b : ℕ) → next_state s b ≡ next_if_in range t b) → Turn s
+      → ((b : ℕ) → next_state s b ≡ next_if_in range t b) → Phase s
 
-pub turn : (s : AutomatonState) → Turn s
+pub phase : (s : AutomatonState) → Phase s
 unfolding next_state
-turn Between = between refl
-turn One = waiting Between continuation (λ e. cc) (omega arith) refl (λ b. refl)
-turn Two = waiting One continuation (λ e. cc) (omega arith) refl (λ b. refl)
-turn Three = waiting Two continuation (λ e. cc) (omega arith) refl (λ b. refl)
-turn AfterE0 = waiting One (from_to 0xa0 0xbf) (λ e. cc) (omega arith) refl (λ b. refl)
-turn AfterED = waiting One (from_to 0x80 0x9f) (λ e. cc) (omega arith) refl (λ b. refl)
-turn AfterF0 = waiting Two (from_to 0x90 0xbf) (λ e. cc) (omega arith) refl (λ b. refl)
-turn AfterF4 = waiting Two (from_to 0x80 0x8f) (λ e. cc) (omega arith) refl (λ b. refl)
-turn AfterC2 = waiting Between (from_to 0xa0 0xbf) (λ e. cc) (omega arith) refl (λ b. refl)
-turn Failed = gone refl
+phase Between = between refl
+phase One = waiting Between continuation (λ e. cc) (omega arith) refl (λ b. refl)
+phase Two = waiting One continuation (λ e. cc) (omega arith) refl (λ b. refl)
+phase Three = waiting Two continuation (λ e. cc) (omega arith) refl (λ b. refl)
+phase AfterE0 = waiting One (from_to 0xa0 0xbf) (λ e. cc) (omega arith) refl (λ b. refl)
+phase AfterED = waiting One (from_to 0x80 0x9f) (λ e. cc) (omega arith) refl (λ b. refl)
+phase AfterF0 = waiting Two (from_to 0x90 0xbf) (λ e. cc) (omega arith) refl (λ b. refl)
+phase AfterF4 = waiting Two (from_to 0x80 0x8f) (λ e. cc) (omega arith) refl (λ b. refl)
+phase AfterC2 = waiting Between (from_to 0xa0 0xbf) (λ e. cc) (omega arith) refl (λ b. refl)
+phase Failed = gone refl

@@ -50,12 +50,12 @@ module _ (keeps : Bool) (bytes : List ℕ) (from a : ℕ) (within : from < lengt
   later m = take m (drop (from + 1) bytes)
 
   -- a well-formed sequence there begins with the byte
-  record Begins (n : ℕ) : Type 0 where
+  record BeginsHere (n : ℕ) : Type 0 where
     m : ℕ
     parts : take n (drop from bytes) ≡ a ∷ later m
     well : is_well_formed (a ∷ later m) ≡ true
 
-  begins : (n : ℕ) → is_well_formed (take n (drop from bytes)) ≡ true → Begins n
+  begins : (n : ℕ) → is_well_formed (take n (drop from bytes)) ≡ true → BeginsHere n
   unfolding is_well_formed utf8_rows
   begins zero whole = absurd (false≢true whole)
   begins (suc m) whole =

@@ -41,9 +41,9 @@ plain-stays keeps b p =
 
 -- ---- ASCII
 
-run_bytes : (keeps : Bool) (bytes : List ℕ) → IsAscii bytes → All (StaysInRun keeps) bytes
+run_of_ascii : (keeps : Bool) (bytes : List ℕ) → IsAscii bytes → All (StaysInRun keeps) bytes
     → IsUtf8Run keeps bytes
-run_bytes keeps bytes a stay =
+run_of_ascii keeps bytes a stay =
     record {
       utf8 = IsUtf8-from_ascii bytes a;
       plain = subst (All (StaysInRun keeps)) (sym (chars-IsAscii bytes a)) stay;
@@ -54,7 +54,7 @@ printable-ascii keeps bytes n are =
     let printed : (k : ℕ) → k < length (take n bytes) → IsPrinted (get_or (take n bytes) k 0) = λ k l.
     let below : k < n = omega (arith, l, length-take n bytes) in
     subst IsPrinted (sym (get_or-take n bytes k 0 below)) (are k (omega arith) below) in
-    run_bytes keeps (take n bytes)
+    run_of_ascii keeps (take n bytes)
     (IsAscii-from_reads (take n bytes) (length (take n bytes)) (omega arith) (λ k l. (printed k l).1))
     (All-from_get_or (StaysInRun keeps) (take n bytes) 0 (λ k l. plain-stays keeps _ (printed k l)))
 
@@ -86,9 +86,9 @@ pub run_one : (keeps : Bool) (c : ℕ) → IsScalar c → StaysInRun keeps c
 run_one keeps c is stays = subst (All (StaysInRun keeps)) (sym (chars_encode c is))
     (All-cons (StaysInRun keeps) c [] stays (All-nil (StaysInRun keeps)))
 
-pub after_one : {V : Type 0} (keeps : Bool) (step : V → Event → V) (old : V) (c : ℕ) → IsScalar c
+pub after_character : {V : Type 0} (keeps : Bool) (step : V → Event → V) (old : V) (c : ℕ) → IsScalar c
     → after step old (map (run_event keeps) (chars (encode c))) ≡ step old (run_event keeps c)
-after_one keeps step old c is = ap (λ cs. after step old (map (run_event keeps) cs)) (chars_encode c is)
+after_character keeps step old c is = ap (λ cs. after step old (map (run_event keeps) cs)) (chars_encode c is)
 
 pub no_control_event : (keeps : Bool) (c : ℕ) → is_control_character c ≡ false → run_event keeps c ≡ Print c
 no_control_event keeps c e = grind (arith, nat_tests, layout-is_control c)
@@ -108,7 +108,7 @@ pub run-layout : (bytes : List ℕ) (from b : ℕ) → from < length bytes → b
     → IsRun true bytes from (from + 1)
 run-layout bytes from b within is layout =
     subst (IsUtf8Run true) (sym (one_byte bytes from b within is))
-    (run_bytes true (b ∷ []) (IsAscii-cons b [] (layout-is_ascii b layout) IsAscii-nil)
+    (run_of_ascii true (b ∷ []) (IsAscii-cons b [] (layout-is_ascii b layout) IsAscii-nil)
     (All-cons (StaysInRun true) b [] (layout-stays b layout)
     (All-nil (StaysInRun true))))
 

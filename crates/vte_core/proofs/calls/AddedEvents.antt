@@ -5,7 +5,7 @@ use Rattle.vte_core.proofs.Common.{Place, InText, InData, IsAfter, AddsQuietly, 
 use Rattle.vte_core.specs.machine.Completes.{AddsCharacter}
 use Rattle.vte_core.specs.machine.Progress.{HasProgress}
 use Rattle.vte_core.specs.machine.ToRun.{IsQuietIn}
-use Rattle.vte_core.proofs.calls.Places.{stretch-added}
+use Rattle.vte_core.proofs.calls.Progress.{stretch-added}
 use Rattle.vte_core.proofs.fields.PlaceOfState.{IsPlace}
 use Rattle.vte_core.proofs.places.PlaceSteps.{steps}
 use Rattle.vte_core.proofs.places.TextSteps.{AreOthers, IsQuiet}
@@ -75,8 +75,12 @@ module _ {limit : Option ℕ} {stream bytes : List ℕ} {i : ℕ} where
   pub adds-same : {j : ℕ} → told_before limit stream bytes i ≡ told_before limit stream bytes j
       → AddsQuietly limit stream bytes i j
   adds-same e =
-      record { events = []; are = All-nil IsQuietEvent; parts = sym e
-          ∙ sym (append-nil (told_before limit stream bytes i)) }
+      record {
+        events = [];
+        are = All-nil IsQuietEvent;
+        parts = sym e
+            ∙ sym (append-nil (told_before limit stream bytes i));
+      }
 
   pub adds-then : {j k : ℕ} → AddsQuietly limit stream bytes i j
       → AddsQuietly limit stream bytes j k → AddsQuietly limit stream bytes i k

@@ -1,11 +1,11 @@
 -- What a call tells before a run is told by no run: nothing at its start, then what an open character is, then
 -- stretches of which each tells none.
-use Rattle.vte_core.proofs.Common.{◌≡◌, ℕ, inl, inr, Option, List, [], ◌++◌, ap, sym, subst, ◌∙◌, All, All-append, All-nil, Event, Machine, HasReadUnder, IsSettled, told_before, open_end, AddsQuietly, IsQuietEvent, TellsQuietly, IsBeyondAscii}
+use Rattle.vte_core.proofs.Common.{◌≡◌, ℕ, inl, inr, Option, List, [], ◌++◌, ap, sym, subst, ◌∙◌, All, All-append, All-nil, Event, Machine, HasReadUnder, IsSettled, told_before, open_end, AddsQuietly, IsQuietEvent, TellsQuietly, PrintsNoAscii}
 use Rattle.vte_core.specs.machine.Completes.{AddsCharacter}
 use Rattle.vte_core.proofs.calls.Ends.{starts-at}
 use Rattle.vte_core.proofs.calls.AddedEvents.{keeping, told-at}
 use Rattle.vte_core.proofs.streams.After.{added-nothing}
-use Rattle.vte_core.proofs.streams.QuietEvents.{beyond_ascii, beyond_ascii-all, beyond_ascii-character}
+use Rattle.vte_core.proofs.streams.QuietEvents.{prints_no_ascii, prints_no_ascii-all, prints_no_ascii-character}
 
 -- nothing, at its start
 pub tells-nothing : {B : Type 0} {limit : Option ℕ} {stream bytes : List ℕ} {parser : Machine B}
@@ -15,7 +15,7 @@ tells-nothing {limit} {stream} {bytes} settled h =
     told-at (starts-at {call = keeping limit bytes} settled h) in
     record {
       quietly = λ _. subst (All IsQuietEvent) none (All-nil IsQuietEvent);
-      opened = subst (All IsBeyondAscii) none (All-nil IsBeyondAscii);
+      opened = subst (All PrintsNoAscii) none (All-nil PrintsNoAscii);
     }
 
 -- what an open character is
@@ -26,11 +26,11 @@ tells-open {limit} {stream} {bytes} {j} a opened =
     a.parts ∙ ap (λ (es : List Event). es ++ a.events) (added-nothing limit stream) in
     record {
       quietly = λ none. absurd (opened none);
-      opened = subst (All IsBeyondAscii) (sym all) (elim a.are [
-        | inl others ↦ beyond_ascii-all a.events others
+      opened = subst (All PrintsNoAscii) (sym all) (elim a.are [
+        | inl others ↦ prints_no_ascii-all a.events others
         | inr whole ↦
-            subst (All IsBeyondAscii) (sym whole.same)
-            (beyond_ascii-character _ (beyond_ascii _ whole.well whole.long))
+            subst (All PrintsNoAscii) (sym whole.same)
+            (prints_no_ascii-character _ (prints_no_ascii _ whole.well whole.long))
       ]);
     }
 
@@ -41,9 +41,10 @@ tells-more {limit} {stream} {bytes} {i} t a = record {
   quietly =
       λ none.
       subst (All IsQuietEvent) (sym a.parts)
-          (All-append IsQuietEvent (told_before limit stream bytes i) a.events (t.quietly none)
+      (All-append IsQuietEvent (told_before limit stream bytes i) a.events (t.quietly none)
       a.are);
   opened =
-      subst (All IsBeyondAscii) (sym a.parts)
-      (All-append IsBeyondAscii (told_before limit stream bytes i) a.events t.opened (beyond_ascii-all a.events a.are));
+      subst (All PrintsNoAscii) (sym a.parts)
+      (All-append PrintsNoAscii (told_before limit stream bytes i) a.events t.opened
+      (prints_no_ascii-all a.events a.are));
 }

@@ -2,7 +2,7 @@
 -- start (`settles`).
 use Rattle.vte_core.proofs.Common.{◌≡◌, ℕ, ◌<◌, ◌≤◌, true, Option, List, [], ◌++◌, length, refl, sym, subst, arith, Machine, State, Text, Nothing, StopsExactly, stream_at, IsSettled, ReadsUpTo, StandsAt, StandsInside, Stands, StandsBy, HasReadUnder, after, Place, InText, ChunkCall}
 use Rattle.vte_core.proofs.Common.{IsSettledPlace, added, bytes_of, Unfinished, ComesTo}
-use Rattle.vte_core.proofs.calls.Places.{come-all, come-settled, come-nowhere, come-performs, come-starts, come-to}
+use Rattle.vte_core.proofs.calls.Progress.{come-all, come-settled, come-nowhere, come-performs, come-starts, come-to}
 use Rattle.vte_core.proofs.fields.PlaceOfState.{stands-place}
 use Rattle.vte_core.proofs.shapes.Told.{stream_at-all}
 

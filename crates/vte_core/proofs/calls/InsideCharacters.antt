@@ -7,7 +7,7 @@ use Rattle.vte_core.proofs.fields.PlaceOfState.{may_continue-truncated, stands-b
 use Rattle.vte_core.proofs.places.PlaceLeads.{text-unfinished, text-whole}
 use Rattle.vte_core.proofs.streams.Performing.{carried_is_no_escape}
 use Rattle.vte_core.proofs.shapes.Told.{breaks-broken, breaks-unfinished, breaks-whole}
-use Rattle.vte_core.proofs.calls.Places.{come-settled, come-broken, come-carried}
+use Rattle.vte_core.proofs.calls.Progress.{come-settled, come-broken, come-carried}
 use Rattle.vte_core.proofs.streams.After.{after-open_end}
 use Rattle.vte_core.proofs.places.StreamLemmas.{reads-byte}
 

@@ -1,6 +1,6 @@
 -- Only between characters of a text does a parser go on as a new one: after every other place the digit 0 gives
 -- something else than after the empty stream.
-use Rattle.vte_core.proofs.Common.{◌≡◌, ◌≢◌, ℕ, Option, List, [], ◌∷◌, ◌++◌, refl, ap, sym, subst, ◌∙◌, arith, Digit, Machine, State, Text, Stands, StandsBy, HasReadUnder, Event, Print, replacement, Place, InText, AtEscape, InEscape, InControlSequence, InDeviceControl, InData, InSystemCommand, InIgnoredString, IsAfter, Leads, ◌≤◌, ◌<◌, true, false, eqb, Dispatch, Unfinished, class_of, escape, is_truncated, key_of}
+use Rattle.vte_core.proofs.Common.{◌≡◌, ◌≢◌, ℕ, Option, List, [], ◌∷◌, ◌++◌, refl, ap, sym, subst, ◌∙◌, arith, Digit, Machine, State, Text, Stands, StandsBy, HasReadUnder, Event, Print, replacement, Place, InText, AtEscape, InEscape, InControlSequence, InDeviceControl, InData, InSystemCommand, InIgnoredString, IsAfter, Leads, ◌≤◌, ◌<◌, true, false, eqb, EscapeSequence, Unfinished, class_of, escape, is_truncated, key_of}
 use Rattle.vte_core.proofs.Common.{added, bytes_of, events_from}
 use Rattle.vte_core.proofs.bytes.FirstBytes.{ascii_breaks}
 use Rattle.vte_core.proofs.fields.PlaceOfState.{IsPlace, stands-place}
@@ -12,27 +12,27 @@ use Rattle.vte_core.proofs.places.StreamLemmas.{reads-byte, waits-byte}
 use Rattle.vte_core.specs.Stream.{IsFinished, IsUnfinished}
 
 -- the byte is a digit
-record IsDigit (b : ℕ) : Type 0 where
+record IsProbe (b : ℕ) : Type 0 where
   class : class_of b ≡ Digit
-  key : key_of b ≡ Dispatch
+  key : key_of b ≡ EscapeSequence
   low : 0x20 ≤ b
   high : b < 0x80
   other : eqb b escape ≡ false
 
-zero_digit : IsDigit 0x30
+zero_digit : IsProbe 0x30
 unfolding class_of key_of
 zero_digit = record { class = refl; key = refl; low = omega arith; high = omega arith; other = refl }
 
 -- what a digit gives after a stream
 gives : (limit : Option ℕ) (stream : List ℕ) {place next : Place} {b : ℕ} {told : List Event}
-    → IsDigit b → IsAfter limit stream place → Leads limit place b told next → IsPlace next
+    → IsProbe b → IsAfter limit stream place → Leads limit place b told next → IsPlace next
     → added limit stream (b ∷ []) ≡ told
 gives limit stream {place} {next} {b} {told} d a leads =
     added-reads limit stream (b ∷ []) place next told a (reads-byte limit place next b told d.other leads)
 
 -- it breaks a character
 in_character : (limit : Option ℕ) (stream u : List ℕ) (b : ℕ)
-    → IsDigit b → is_truncated u ≡ true → IsAfter limit stream (InText u)
+    → IsProbe b → is_truncated u ≡ true → IsAfter limit stream (InText u)
     → added limit stream (b ∷ []) ≡ Print replacement ∷ events_from limit (InText []) (b ∷ [])
 in_character limit stream u b d is a =
     let tests = ascii_breaks u b is d.high in
@@ -45,7 +45,7 @@ first_event e = cc
 
 -- it isn't printed alone, but between characters
 not_alone : (limit : Option ℕ) (stream : List ℕ) (place : Place) (b : ℕ)
-    → IsDigit b → IsPlace place → IsAfter limit stream place → place ≢ InText []
+    → IsProbe b → IsPlace place → IsAfter limit stream place → place ≢ InText []
     → added limit stream (b ∷ []) ≢ Print b ∷ []
 not_alone limit stream (InText []) b d is a other = absurd (other refl)
 not_alone limit stream (InText (c ∷ u)) b d is a other = λ alone.

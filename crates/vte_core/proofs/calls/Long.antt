@@ -1,7 +1,7 @@
 -- What a call without a limit ensures, refused memory or not: the facts that `drive` ensures, put into each contract.
 use Rattle.vte_core.specs.declared.scan.taken.Run.{Run}
 use Rattle.vte_core.specs.declared.scan.taken.RunRange.{RunRange}
-use Rattle.vte_core.specs.LongParserCalls.{ReadsToRunLong, GoesOnLong, PassesLong, ReadsBytesLong, ReadsUntilTerminatedLong}
+use Rattle.vte_core.specs.LongParserCalls.{ReadsToRunLong, ReadsAtCost, PassesLong, ReadsBytesLong, ReadsUntilTerminatedLong}
 use Rattle.vte_core.specs.machine.ToRun.{ComesToRun, IsTaken, bytes_at}
 use Rattle.vte_core.proofs.Common.{◌≡◌, TellsQuietly, ℕ, ◌+◌, ◌*◌, ◌≤◌, Bool, List, None, length, Result, Ok, Err, IfErr, IfOk, IfErr-weaker, IfOk-weaker, refl, arith, rules, false, read_count, ReadsUpTo, Event, Machine, HasReadUnder, ReadsUntilRefused, true, Refused, chunk_call}
 use Rattle.vte_core.proofs.calls.ToRun.{reads-run, returns-run}
@@ -21,7 +21,7 @@ pub goes-on : {A V Answer : Type 0} (may_stop : Bool) (step : V → Event → V)
     parser.machine next.machine)
     → memory_of parser ≤ memory_of next → looks_long next ≤ looks_long parser + rate * length bytes + 8
     → IfOk result (λ _. looks_long next ≤ looks_long parser + rate * n + 8) → looks_long parser + n ≤ looks_long next
-    → GoesOnLong rate bytes result n later parser next
+    → ReadsAtCost rate bytes result n later parser next
 goes-on may_stop step is_terminated old new result reads refuses memory count paid least = record {
   reads = reads;
   stores = λ stream h. stores_pieces _ _ (reads stream h);

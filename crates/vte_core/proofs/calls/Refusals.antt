@@ -1,9 +1,9 @@
 -- What a call without a limit stores, and where it stops for lack of memory. What is stored of an open command is said
 -- of its place, so it holds of every parser that is at one.
 use Rattle.vte_core.proofs.Common.{◌≡◌, ℕ, ◌+◌, ◌≤◌, Bool, None, List, [], ◌∷◌, ◌++◌, length, take, Result, Ok, Err, IfErr, IfOk, IsOk, refl, ap, sym, subst, ◌∙◌, length-take, IsAfter, arith, concat, slice_index, Machine, MeetsData, data_left, open_size, read_count, State, SystemCommand, ProgressAt, IsRefusedInCommand, ReadsUntilRefused, StandsInside, HasReadUnder, Stands, StandsBy, Place, InSystemCommand, InText, ChunkCall}
-use Rattle.vte_core.proofs.Common.{left_at, Stored, HoldsItems, ToClose, CommandToClose, drops_data, outcome, pieces_of, Refused}
+use Rattle.vte_core.proofs.Common.{left_at, Stored, HoldsItems, ToClose, CommandToClose, loses_data, outcome, pieces_of, Refused}
 use Rattle.vte_core.proofs.calls.States.{reads-item}
-use Rattle.vte_core.proofs.calls.Places.{come-command}
+use Rattle.vte_core.proofs.calls.Progress.{come-command}
 use Rattle.vte_core.proofs.fields.OpenPieces.{open_for}
 use Rattle.vte_core.proofs.fields.StoreLemmas.{pieces_stored}
 use Rattle.vte_core.proofs.fields.PlaceOfState.{in_command, stands-by, stands-place}
@@ -34,15 +34,15 @@ meets_data {parser} {stream} {bytes} {from} refused h =
     record {
       pieces = o.pieces;
       last = o.last;
-      dropped = drops_data None k.items;
+      lost = loses_data None k.items;
       few = o.few;
       is_open =
           left_here parser stream h ∙ ap (left_at None) k.same
-          ∙ ap (λ those. CommandToClose those (drops_data None k.items)) o.before;
+          ∙ ap (λ those. CommandToClose those (loses_data None k.items)) o.before;
       is_data = refused.is_data;
       joins = after-left None (stream ++ byte ∷ []) last joined tt
-          ∙ ap (λ those. CommandToClose those (drops_data None (k.items ++ byte ∷ []))) o.later
-          ∙ ap (λ d. CommandToClose (o.pieces ++ (o.last ++ byte ∷ []) ∷ []) d) o.dropped;
+          ∙ ap (λ those. CommandToClose those (loses_data None (k.items ++ byte ∷ []))) o.later
+          ∙ ap (λ d. CommandToClose (o.pieces ++ (o.last ++ byte ∷ []) ∷ []) d) o.lost;
     }
 
 -- ---- where a call ends
@@ -89,32 +89,32 @@ is_command : {B : Type 0} (state : State) (parser : Machine B) (items : List ℕ
 is_command SystemCommand parser items s = refl
 is_command _ parser items s = absurd s
 
-by_place : {B : Type 0} (parser : Machine B) (place : Place) (pieces : List (List ℕ)) (dropped : Bool)
-    → Stands None parser place → left_at None place ≡ CommandToClose pieces dropped
+by_place : {B : Type 0} (parser : Machine B) (place : Place) (pieces : List (List ℕ)) (lost : Bool)
+    → Stands None parser place → left_at None place ≡ CommandToClose pieces lost
     → parser.state ≡ SystemCommand
-by_place parser (InText []) pieces dropped s e = cc
-by_place parser (InText (a ∷ u)) pieces dropped s e = cc
-by_place parser (InSystemCommand items) pieces dropped s e = is_command parser.state parser items s.by
-by_place parser _ pieces dropped s e = cc
+by_place parser (InText []) pieces lost s e = cc
+by_place parser (InText (a ∷ u)) pieces lost s e = cc
+by_place parser (InSystemCommand items) pieces lost s e = is_command parser.state parser items s.by
+by_place parser _ pieces lost s e = cc
 
 -- a command is open in that state alone
 in_state : {B : Type 0} (parser : Machine B) (stream : List ℕ) → HasReadUnder None parser stream
-    → (pieces : List (List ℕ)) (dropped : Bool) → (outcome None stream).left ≡ CommandToClose pieces dropped
+    → (pieces : List (List ℕ)) (lost : Bool) → (outcome None stream).left ≡ CommandToClose pieces lost
     → parser.state ≡ SystemCommand
-in_state parser stream h pieces dropped open_command =
-    by_place parser h.place pieces dropped h.stands (sym (left_here parser stream h) ∙ open_command)
+in_state parser stream h pieces lost open_command =
+    by_place parser h.place pieces lost h.stands (sym (left_here parser stream h) ∙ open_command)
 
 -- of an open command the bytes of its pieces
 pub stores_pieces : {B : Type 0} (parser : Machine B) (stream : List ℕ) → HasReadUnder None parser stream
-    → (pieces : List (List ℕ)) (dropped : Bool)
-    → (outcome None stream).left ≡ CommandToClose pieces dropped → length parser.command.bytes ≡ length (concat pieces)
-stores_pieces parser stream h pieces dropped open_command =
-    stored_is_open parser stream (in_state parser stream h pieces dropped open_command) h ∙ ap data_left open_command
+    → (pieces : List (List ℕ)) (lost : Bool)
+    → (outcome None stream).left ≡ CommandToClose pieces lost → length parser.command.bytes ≡ length (concat pieces)
+stores_pieces parser stream h pieces lost open_command =
+    stored_is_open parser stream (in_state parser stream h pieces lost open_command) h ∙ ap data_left open_command
 
 by_left : (left : ToClose) (n : ℕ)
-    → ((pieces : List (List ℕ)) (dropped : Bool) → left ≡ CommandToClose pieces dropped → n ≡ length (concat pieces))
+    → ((pieces : List (List ℕ)) (lost : Bool) → left ≡ CommandToClose pieces lost → n ≡ length (concat pieces))
     → data_left left ≤ n
-by_left (CommandToClose pieces dropped) n stored = omega (arith, stored pieces dropped refl)
+by_left (CommandToClose pieces lost) n stored = omega (arith, stored pieces lost refl)
 by_left _ n stored = omega arith
 
 -- no more are open
@@ -130,7 +130,7 @@ none_is_open parser stream other h =
     omega (
       arith,
       by_left (outcome None stream).left 0
-          (λ pieces dropped e. absurd (other (in_state parser stream h pieces dropped e))),
+          (λ pieces lost e. absurd (other (in_state parser stream h pieces lost e))),
     )
 
 -- a store that was cleared has no data bytes

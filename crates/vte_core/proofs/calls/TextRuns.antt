@@ -7,7 +7,7 @@ use Rattle.std.proofs.lemmas.Str.{inside_one, encodes-chars, scalars-chars}
 use Rattle.vte_core.proofs.bytes.EachLemmas.{each-one}
 use Rattle.vte_core.proofs.bytes.Printable.{chars-one, layout-is_control, no_control_event, printed-event, run-ascii}
 use Rattle.vte_core.proofs.dividing.Utf8Agrees.{cut-text, text_outcome-encodes}
-use Rattle.vte_core.proofs.calls.Places.{come-further, stretch-added}
+use Rattle.vte_core.proofs.calls.Progress.{come-further, stretch-added}
 use Rattle.vte_core.proofs.streams.After.{added-reads}
 use Rattle.vte_core.proofs.shapes.Told.{told-settled, told-broken}
 use Rattle.vte_core.proofs.stops.Units.{added_both}
@@ -67,15 +67,15 @@ no_escape-encodes keeps (c ∷ cs) plain =
     (no_escape-encode keeps c (All-head (StaysInRun keeps) c cs plain))
     (no_escape-encodes keeps cs (All-tail (StaysInRun keeps) c cs plain))
 
-no_escape : (keeps : Bool) (run : List ℕ) → IsUtf8Run keeps run → All (λ b. b ≢ escape) run
-no_escape keeps run are =
+no_escape-run : (keeps : Bool) (run : List ℕ) → IsUtf8Run keeps run → All (λ b. b ≢ escape) run
+no_escape-run keeps run are =
     subst (All (λ b. b ≢ escape)) (encodes-chars run are.utf8) (no_escape-encodes keeps (chars run) are.plain)
 
 pub reads-text : (limit : Option ℕ) (keeps : Bool) (run : List ℕ) → IsUtf8Run keeps run
     → Reads limit (InText []) run (map (run_event keeps) (chars run)) (InText [])
 reads-text limit keeps run are =
     subst (λ es. Reads limit (InText []) run es (InText [])) (plain-events keeps (chars run) are.plain)
-    (reads-characters limit run are.utf8 (no_escape keeps run are))
+    (reads-characters limit run are.utf8 (no_escape-run keeps run are))
 
 -- ---- what it does
 

@@ -2,7 +2,7 @@
 -- needn't change, and that no further printed character or data byte follows.
 use Rattle.vte_core.proofs.Common.{◌≡◌, ℕ, zero, suc, ◌+◌, ◌-◌, ◌<◌, ◌≤◌, false, true, Option, List, [], ◌∷◌, ◌++◌, drop, length, length-take, length-drop, map, take, refl, ap, sym, subst, ◌∙◌, arith, append-nil, drop_more, slice_index, Machine, DeviceData, Text, State, Nothing, class_of, stream_at, Event, Print, Put, Reads, Stands, StandsBy, HasReadUnder, Place, InData, InText, IsAfter, IsSettled, StandsAt, ChunkCall}
 use Rattle.vte_core.proofs.Common.{EndsRun, IsRun, chars, Unfinished, IsRange}
-use Rattle.vte_core.specs.machine.Prelude.{ArePut, AreOfKind, ComesToRun, IsOutside, IsPut, IsTaken}
+use Rattle.vte_core.specs.machine.Prelude.{ArePut, AreOfKind, ComesToRun, IsOutsideTextAndData, IsPut, IsTaken}
 use Rattle.vte_core.specs.machine.ToRun.{HasRun, IsWholeAt, bytes_at, kind_events}
 use Rattle.vte_core.specs.AdvanceToRun.{IsRunIn, IsWhole, ReturnsRun, run_bytes, taken_bytes, taken_events}
 use Rattle.vte_core.specs.declared.scan.taken.Run.{Run}
@@ -40,7 +40,7 @@ has-nowhere {limit} {bytes} {from} {place} {parser} within starts ends kind =
 
 -- in no other state
 pub outside : (state : State) → ((unfinished : Unfinished) → state ≡ Text unfinished → ⊥) → (state ≡ DeviceData → ⊥)
-    → IsOutside state
+    → IsOutsideTextAndData state
 outside (Text unfinished) no_text no_data = no_text unfinished refl
 outside DeviceData no_text no_data = no_data refl
 outside _ no_text no_data = tt

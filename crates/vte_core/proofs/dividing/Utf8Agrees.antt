@@ -186,19 +186,19 @@ segments-encodes (c ∷ cs) are =
 pub segments_of_text : (text : List ℕ) → IsUtf8 text → segments text ≡ map encode (chars text)
 segments_of_text text is = rw (encodes-chars text is) at (segments-encodes (chars text) (scalars-chars text is))
 
-abbrev IsWhole : List ℕ → Type 0
-IsWhole segment = is_well_formed segment ≡ true
+abbrev IsWholeSegment : List ℕ → Type 0
+IsWholeSegment segment = is_well_formed segment ≡ true
 
-concat-well_formed : (those : List (List ℕ)) → All IsWhole those → IsUtf8 (concat those)
+concat-well_formed : (those : List (List ℕ)) → All IsWholeSegment those → IsUtf8 (concat those)
 concat-well_formed [] are = IsUtf8-nil
 concat-well_formed (segment ∷ more) are =
-    let well : IsWhole segment = All-head IsWhole segment more are in
+    let well : IsWholeSegment segment = All-head IsWholeSegment segment more are in
     let first : IsUtf8 segment = rw (well_formed_is_encoded segment well)
     at (IsUtf8-encode (scalar_of segment) (well_formed_is_scalar segment well)) in
-    IsUtf8-append segment (concat more) first (concat-well_formed more (All-tail IsWhole segment more are))
+    IsUtf8-append segment (concat more) first (concat-well_formed more (All-tail IsWholeSegment segment more are))
 
 -- a text without a malformed segment is one of the library
-pub text_of_segments : (text : List ℕ) → All IsWhole (segments text) → IsUtf8 text
+pub text_of_segments : (text : List ℕ) → All IsWholeSegment (segments text) → IsUtf8 text
 text_of_segments text are = rw (all_divided text) at (concat-well_formed (segments text) are)
 
 -- ---- the events of a text of the library

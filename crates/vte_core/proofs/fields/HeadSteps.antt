@@ -109,10 +109,10 @@ malformed-marker old head b h is = record {
 }
 
 -- what is no intermediate after an intermediate
-malformed-after_intermediate : (old : Collected) (head : List ℕ) (b : ℕ) → HoldsHead old Intermediates head
+ill_shaped-after_intermediate : (old : Collected) (head : List ℕ) (b : ℕ) → HoldsHead old Intermediates head
     → is_intermediate (class_of b) ≡ false → StaysIllShaped (head ++ b ∷ [])
 unfolding is_well_shaped
-malformed-after_intermediate old head b h is = record {
+ill_shaped-after_intermediate old head b h is = record {
   stays = λ more.
       let e : (head ++ b ∷ []) ++ more ≡ h.marker ++ (h.parameters ++ (h.intermediates ++ (b ∷ more))) =
       rw h.shape (simp append_assoc) in
@@ -176,7 +176,7 @@ pub ill_shaped-late : (old : Collected) (part : HeadPart) (head : List ℕ) (b :
     → (part ≡ Entry → ⊥) → StaysIllShaped (head ++ b ∷ [])
 ill_shaped-late old Entry head b s h i p n = absurd (n refl)
 ill_shaped-late old Parameters head b s h i p n = malformed-marker old head b s (left_is_marker _ h (p (inr refl)) i)
-ill_shaped-late old Intermediates head b s h i p n = malformed-after_intermediate old head b s i
+ill_shaped-late old Intermediates head b s h i p n = ill_shaped-after_intermediate old head b s i
 ill_shaped-late old IllShaped head b s h i p n = ill_shaped-more head b s
 
 -- what is handed over at the end of a head

@@ -102,17 +102,17 @@ some_pieces limit items =
 
 -- ---- one more item of a command is at most one more data byte
 
-abbrev joined_size : ℕ → List (List ℕ) → ℕ
-joined_size n pieces = length (concat (take n pieces))
+abbrev first_pieces_size : ℕ → List (List ℕ) → ℕ
+first_pieces_size n pieces = length (concat (take n pieces))
 
 onto_first_size : (n b : ℕ) (pieces : List (List ℕ))
-    → joined_size (suc n) (onto_first b pieces) ≡ joined_size (suc n) pieces + 1
+    → first_pieces_size (suc n) (onto_first b pieces) ≡ first_pieces_size (suc n) pieces + 1
 onto_first_size n b [] = ap (λ rest. suc (length (concat rest))) (take-nil n)
 onto_first_size n b (piece ∷ pieces) =
     omega (arith, length-append (b ∷ piece) (concat (take n pieces)), length-append piece (concat (take n pieces)))
 
 split_push : (n : ℕ) (p : ℕ → Bool) (items : List ℕ) (item : ℕ)
-    → joined_size n (slice_split p (items ++ item ∷ [])) ≤ joined_size n (slice_split p items) + 1
+    → first_pieces_size n (slice_split p (items ++ item ∷ [])) ≤ first_pieces_size n (slice_split p items) + 1
 split_push zero p items item = omega arith
 split_push (suc n) p [] item = elim (cases_Bool (p item)) [
   | inl cuts ↦ rw cuts (grind (arith, common_steps))

@@ -1,11 +1,11 @@
 -- The pieces of an open command, before and after one more data byte: with fewer than 16 `;` the byte joins the last
 -- piece, and the others stay.
-use Rattle.vte_core.proofs.Common.{◌≡◌, ◌≢◌, ℕ, ◌<◌, suc, zero, None, List, [], ◌∷◌, ◌++◌, length, take, drop, refl, ap, ◌∙◌, arith, length-append, slice_range, ◌+◌, All-cons, All-nil, append-nil, concat, drop-append-le, drops_data, nat_tests, take_all, Stored, HoldsItems, PiecesEnd, cut_data, semicolon, most_pieces, pieces_of}
+use Rattle.vte_core.proofs.Common.{◌≡◌, ◌≢◌, ℕ, ◌<◌, suc, zero, None, List, [], ◌∷◌, ◌++◌, length, take, drop, refl, ap, ◌∙◌, arith, length-append, slice_range, ◌+◌, All-cons, All-nil, append-nil, concat, drop-append-le, loses_data, nat_tests, take_all, Stored, HoldsItems, PiecesEnd, cut_data, semicolon, most_pieces, pieces_of}
 use Rattle.std.proofs.lemmas.List.Folds.{concat-append}
 use Rattle.vte_core.proofs.fields.StoreLemmas.{IsDataItem, after_byte, after_nothing, count-run, ends-within, pieces_held, slice_within}
 
 -- the pieces of held bytes, and those with a byte more
-record GoesOn (start : ℕ) (bytes ends : List ℕ) (byte : ℕ) : Type 0 where
+record ContinuesPiece (start : ℕ) (bytes ends : List ℕ) (byte : ℕ) : Type 0 where
   pieces : List (List ℕ)
   last : List ℕ
   ended : length pieces ≡ length ends
@@ -13,7 +13,7 @@ record GoesOn (start : ℕ) (bytes ends : List ℕ) (byte : ℕ) : Type 0 where
   later : cut_data start (bytes ++ byte ∷ []) ends ≡ pieces ++ (last ++ byte ∷ []) ∷ []
 
 goes_on : (left start : ℕ) (bytes ends : List ℕ) (byte : ℕ) → PiecesEnd left start ends (length bytes)
-    → GoesOn start bytes ends byte
+    → ContinuesPiece start bytes ends byte
 goes_on left start bytes [] byte are =
     let within = ends-within left start [] (length bytes) are in
     record {
@@ -42,7 +42,7 @@ pub record IsOpenFor (items : List ℕ) (byte : ℕ) : Type 0 where
   pub few : length pieces < most_pieces
   pub before : pieces_of None items ≡ pieces ++ last ∷ []
   pub later : pieces_of None (items ++ byte ∷ []) ≡ pieces ++ (last ++ byte ∷ []) ∷ []
-  pub dropped : drops_data None (items ++ byte ∷ []) ≡ drops_data None items
+  pub lost : loses_data None (items ++ byte ∷ []) ≡ loses_data None items
 
 take_pieces : (pieces : List (List ℕ)) (last : List ℕ) → length pieces < most_pieces
     → take most_pieces (pieces ++ last ∷ []) ≡ pieces ++ last ∷ []
@@ -54,12 +54,12 @@ concat_last : (pieces : List (List ℕ)) (last : List ℕ)
 concat_last pieces last = rw (concat-append pieces (last ∷ []), append-nil last) (length-append (concat pieces) last)
 
 -- a data byte more that is in a piece isn't dropped
-same_drops : (items : List ℕ) (byte : ℕ) (pieces : List (List ℕ)) (last : List ℕ)
+same_loss : (items : List ℕ) (byte : ℕ) (pieces : List (List ℕ)) (last : List ℕ)
     → pieces_of None items ≡ pieces ++ last ∷ []
     → pieces_of None (items ++ byte ∷ []) ≡ pieces ++ (last ++ byte ∷ []) ∷ [] → byte ≢ semicolon
-    → drops_data None (items ++ byte ∷ []) ≡ drops_data None items
-unfolding drops_data
-same_drops items byte pieces last before later other =
+    → loses_data None (items ++ byte ∷ []) ≡ loses_data None items
+unfolding loses_data
+same_loss items byte pieces last before later other =
     let more = count-run items (byte ∷ []) (All-cons IsDataItem byte [] other (All-nil IsDataItem)) in
     rw (
       before,
@@ -88,5 +88,5 @@ open_for held items byte keeps few other =
       few = some;
       before = before;
       later = later;
-      dropped = same_drops items byte g.pieces g.last before later other;
+      lost = same_loss items byte g.pieces g.last before later other;
     }

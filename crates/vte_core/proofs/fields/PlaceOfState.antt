@@ -104,5 +104,5 @@ keeps-same limit old new items same keeps = record {
   goes_on = rw (same.bytes, same.ends) keeps.goes_on;
   end = rw (same.bytes, same.ends) keeps.end;
   fewer = rw same.bytes keeps.fewer;
-  dropped = rw same.bytes (same.dropped ∙ keeps.dropped);
+  lost = rw same.bytes (same.lost ∙ keeps.lost);
 }

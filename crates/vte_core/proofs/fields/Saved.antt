@@ -21,7 +21,7 @@ pub record HasSaved {B : Type 0} (saved : Saved) (machine : Machine B) : Type 0 
   pub bytes : machine.state ≡ SystemCommand
       → take saved.byte_count saved.bytes ≡ machine.command.bytes
   pub ends : machine.state ≡ SystemCommand → take saved.end_count saved.ends ≡ machine.command.ends
-  pub dropped : machine.state ≡ SystemCommand → flag_of saved.dropped ≡ machine.command.dropped
+  pub lost : machine.state ≡ SystemCommand → flag_of saved.lost ≡ machine.command.lost
   pub are_ends : machine.state ≡ SystemCommand
       → ArePieceEnds machine.command.bytes machine.command.ends
 
@@ -45,7 +45,7 @@ same_items : {B C : Type 0} {saved : Saved} {old : Machine B} {new : Machine C} 
 same_items h r old_is new_is = record {
   bytes = r.bytes new_is ∙ h.bytes old_is;
   ends = r.ends new_is (rw (h.bytes old_is, h.ends old_is) (h.are_ends old_is)) ∙ h.ends old_is;
-  dropped = r.dropped new_is ∙ h.dropped old_is;
+  lost = r.lost new_is ∙ h.lost old_is;
 }
 
 by_saved : {B C : Type 0} (limit : Option ℕ) {saved : Saved} (state : State) (old : Machine B) (new : Machine C)

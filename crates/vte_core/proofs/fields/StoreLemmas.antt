@@ -3,7 +3,7 @@
 --
 -- `after_X`: the pieces if X follows; `ends-X`: where pieces end; `keeps-X`: what is kept after X (`HoldsItems`).
 use Rattle.vte_core.proofs.Common.{◌≡◌, ◌≢◌, ℕ, ◌+◌, ◌-◌, ◌≤◌, ◌<◌, zero, suc, true, false, List, [], ◌∷◌, ◌++◌, length, take, drop, Option, Some, None, refl, sym, ap, ◌∙◌, arith, append_assoc, length-append, length-drop, length-take, inl, inr, All, concat, filter, slice_range, drop-append-le, take-append-le, All-head, All-tail, take-nil, cases_Bool, ltb-false, ltb-true, ne_eqb, semicolon, Stored, HoldsItems, PiecesEnd}
-use Rattle.vte_core.proofs.Common.{cut_data, cut_pieces, ends_after, fitting, pieces_from, Bool, drops_data, has_room, is_data_item, nat_tests, kept_after, kept_items, most_pieces, pieces_of}
+use Rattle.vte_core.proofs.Common.{cut_data, cut_pieces, ends_after, fitting, pieces_from, Bool, loses_data, has_room, is_data_item, nat_tests, kept_after, kept_items, most_pieces, pieces_of}
 use Rattle.std.proofs.Common.{append-nil}
 use Rattle.std.specs.Prelude.{◌||◌, nat_lt}
 use Rattle.std.proofs.lemmas.List.Elements.{filter-append}
@@ -141,10 +141,10 @@ count-end items = rw (filter-append is_data_item items (semicolon ∷ []), appen
 
 -- The flag of a store that held `before` of `count` data bytes, and holds `after` of them when n
 -- more have come.
-drops-more : (before after count n : ℕ) (old new : Bool) → before ≤ count → before ≤ after → after ≤ before + n
+loses-more : (before after count n : ℕ) (old new : Bool) → before ≤ count → before ≤ after → after ≤ before + n
     → old ≡ nat_lt before count
     → new ≡ (old || nat_lt (after - before) n) → new ≡ nat_lt after (count + n)
-drops-more before after count n old new some low high was is = grind (arith, nat_tests, some, low, high, was, is)
+loses-more before after count n old new some low high was is = grind (arith, nat_tests, some, low, high, was, is)
 
 length-fitting : (limit : Option ℕ) (count : ℕ) (run : List ℕ) → length (fitting limit count run) ≤ length run
 length-fitting None count run = omega arith
@@ -152,14 +152,14 @@ length-fitting (Some limit) count run = omega (arith, length-take (limit - count
 
 -- ---- a store
 
-pub keeps-nothing : (limit : Option ℕ) (held : Stored) → held.bytes ≡ [] → held.ends ≡ [] → held.dropped ≡ false
+pub keeps-nothing : (limit : Option ℕ) (held : Stored) → held.bytes ≡ [] → held.ends ≡ [] → held.lost ≡ false
     → HoldsItems limit held []
 unfolding pieces_of kept_items
-keeps-nothing limit held no_bytes no_ends none_dropped = record {
+keeps-nothing limit held no_bytes no_ends none_lost = record {
   goes_on = λ more. rw (no_bytes, no_ends) (ap (take most_pieces) (cut_at_ends (kept_after limit 0 more)));
   end = rw (no_bytes, no_ends) (omega arith);
   fewer = rw no_bytes (omega arith);
-  dropped = rw (no_bytes, none_dropped) refl;
+  lost = rw (no_bytes, none_lost) refl;
 }
 
 -- no item more counts
@@ -183,18 +183,18 @@ none-counts limit held items more done keeps later =
 pub keeps-later : (limit : Option ℕ) (old new : Stored) (items run : List ℕ) → length old.ends ≡ most_pieces
     → All IsDataItem run
     → new.bytes ≡ old.bytes → new.ends ≡ old.ends
-    → new.dropped ≡ (old.dropped || nat_lt (length new.bytes - length old.bytes) (length run))
+    → new.lost ≡ (old.lost || nat_lt (length new.bytes - length old.bytes) (length run))
     → HoldsItems limit old items → HoldsItems limit new (items ++ run)
-keeps-later limit old new items run complete none bytes ends dropped keeps = record {
+keeps-later limit old new items run complete none bytes ends lost keeps = record {
   goes_on =
       λ more.
       rw (bytes, ends) (none-counts limit old items run (done-complete limit old items complete keeps) keeps more);
   end = rw (bytes, ends) keeps.end;
   fewer = rw (bytes, count-run items run none) (omega (arith, keeps.fewer));
-  dropped =
+  lost =
       rw (bytes, count-run items run none)
-      (drops-more (length old.bytes) (length old.bytes) _ (length run) old.dropped new.dropped
-      keeps.fewer (omega arith) (omega arith) keeps.dropped (rw bytes at dropped));
+      (loses-more (length old.bytes) (length old.bytes) _ (length run) old.lost new.lost
+      keeps.fewer (omega arith) (omega arith) keeps.lost (rw bytes at lost));
 }
 
 -- if no more items count, a `;` changes nothing
@@ -204,17 +204,17 @@ keeps-done limit held items done keeps = record {
   goes_on = none-counts limit held items (semicolon ∷ []) done keeps;
   end = keeps.end;
   fewer = rw (count-end items) keeps.fewer;
-  dropped = rw (count-end items) keeps.dropped;
+  lost = rw (count-end items) keeps.lost;
 }
 
 -- data bytes more
 pub keeps-run : (limit : Option ℕ) (old new : Stored) (items run : List ℕ) → length old.ends < most_pieces
     → All IsDataItem run
     → new.bytes ≡ old.bytes ++ fitting limit (length old.bytes) run → new.ends ≡ old.ends
-    → new.dropped ≡ (old.dropped || nat_lt (length new.bytes - length old.bytes) (length run))
+    → new.lost ≡ (old.lost || nat_lt (length new.bytes - length old.bytes) (length run))
     → HoldsItems limit old items
     → HoldsItems limit new (items ++ run)
-keeps-run limit old new items run few none bytes ends dropped keeps =
+keeps-run limit old new items run few none bytes ends lost keeps =
     let kept : List ℕ = fitting limit (length old.bytes) run in
     let end = ends-more most_pieces 0 old.ends (length old.bytes) (length kept) few keeps.end in
     let size : length new.bytes ≡ length old.bytes + length kept = rw bytes (length-append old.bytes kept) in
@@ -226,26 +226,26 @@ keeps-run limit old new items run few none bytes ends dropped keeps =
           (keeps.goes_on (run ++ more) ∙ after_run limit old.bytes old.ends run more none);
       end = rw (bytes, ends, length-append old.bytes kept) end;
       fewer = omega (arith, size, keeps.fewer, fit, count-run items run none);
-      dropped =
+      lost =
           rw (count-run items run none)
-          (drops-more (length old.bytes) (length new.bytes) _ (length run) old.dropped new.dropped
-          keeps.fewer (omega (arith, size)) (omega (arith, size, fit)) keeps.dropped dropped);
+          (loses-more (length old.bytes) (length new.bytes) _ (length run) old.lost new.lost
+          keeps.fewer (omega (arith, size)) (omega (arith, size, fit)) keeps.lost lost);
     }
 
 -- a `;` more
 pub keeps-end : (limit : Option ℕ) (old new : Stored) (items : List ℕ) → length old.ends < most_pieces
     → has_room limit (length old.bytes) ≡ true
-    → new.bytes ≡ old.bytes → new.ends ≡ old.ends ++ length old.bytes ∷ [] → new.dropped ≡ old.dropped
+    → new.bytes ≡ old.bytes → new.ends ≡ old.ends ++ length old.bytes ∷ [] → new.lost ≡ old.lost
     → HoldsItems limit old items
     → HoldsItems limit new (items ++ semicolon ∷ [])
-keeps-end limit old new items few room bytes ends dropped keeps = record {
+keeps-end limit old new items few room bytes ends lost keeps = record {
   goes_on =
       λ more.
       rw (append_assoc items (semicolon ∷ []) more, bytes, ends)
       (keeps.goes_on (semicolon ∷ more) ∙ after_end limit old.bytes old.ends room more);
   end = rw (bytes, ends) (ends-push most_pieces 0 old.ends (length old.bytes) few keeps.end);
   fewer = rw (bytes, count-end items) keeps.fewer;
-  dropped = rw (bytes, count-end items) (dropped ∙ keeps.dropped);
+  lost = rw (bytes, count-end items) (lost ∙ keeps.lost);
 }
 
 -- the pieces, by what a store holds
@@ -260,7 +260,7 @@ pieces_stored limit held items keeps =
     rw (pieces_held limit held items keeps) (omega (arith, ends-stored most_pieces 0 held.bytes held.ends keeps.end))
 
 -- a store knows whether data bytes were dropped
-pub drops_held : (limit : Option ℕ) (held : Stored) (items : List ℕ) → HoldsItems limit held items
-    → drops_data limit items ≡ held.dropped
-unfolding drops_data
-drops_held limit held items keeps = rw (pieces_stored limit held items keeps) at (sym keeps.dropped)
+pub loses_held : (limit : Option ℕ) (held : Stored) (items : List ℕ) → HoldsItems limit held items
+    → loses_data limit items ≡ held.lost
+unfolding loses_data
+loses_held limit held items keeps = rw (pieces_stored limit held items keeps) at (sym keeps.lost)

@@ -2,7 +2,7 @@
 -- definition of that shape alone.
 --
 -- A lemma is named by the place and what comes there, as `escape-end` for the end of a sequence right after ESC.
-use Rattle.vte_core.proofs.Common.{◌≡◌, ℕ, ◌≤◌, true, false, eqb, Option, List, [], ◌∷◌, ◌++◌, ap, sym, append_assoc, append-nil, arith, nat_tests, Class, Control, Intermediate, Delete, Digit, Colon, Semicolon, Marker, Final, High, dispatches_escape, class_of, is_cancel, is_device_data, is_head, Dispatch, key_of, body_outcome, control_sequence_end, control_sequence_outcome, data_outcome, device_control_end, ends_command}
+use Rattle.vte_core.proofs.Common.{◌≡◌, ℕ, ◌≤◌, true, false, eqb, Option, List, [], ◌∷◌, ◌++◌, ap, sym, append_assoc, append-nil, arith, nat_tests, Class, Control, Intermediate, Delete, Digit, Colon, Semicolon, Marker, Final, High, dispatches_escape, class_of, is_cancel, is_device_data, is_head, EscapeSequence, key_of, body_outcome, control_sequence_end, control_sequence_outcome, data_outcome, device_control_end, ends_command}
 use Rattle.vte_core.proofs.Common.{ends_data, device_control_outcome, escape_outcome, executed_events, first_two, are_too_many, Execute, Hook, Put, Unhook, OscDispatch, CsiDispatch, EscDispatch, head_of, is_well_shaped, sequence_event, Leads, InText, AtEscape, InEscape, InControlSequence, InDeviceControl, InData, InSystemCommand, InIgnoredString, pieces_of, bell, system_command_outcome, text_outcome, character_event, Bool}
 use Rattle.vte_core.proofs.Common.{Place, refl, malformed_event, is_truncated, is_well_formed, scalar_of, nat_le}
 use Rattle.vte_core.specs.IgnoredString.{ignored_string_outcome}
@@ -63,17 +63,17 @@ begun_by ControlSequence = InControlSequence []
 begun_by DeviceControl = InDeviceControl []
 begun_by SystemCommand = InSystemCommand []
 begun_by IgnoredString = InIgnoredString
-begun_by Dispatch = AtEscape
+begun_by EscapeSequence = AtEscape
 
 abbrev pub begins_body : Key → Bool
-begins_body Dispatch = false
+begins_body EscapeSequence = false
 begins_body _ = true
 
 pub escape-key : (limit : Option ℕ) (b : ℕ) (k : Key) → class_of b ≡ Final → key_of b ≡ k → begins_body k ≡ true
     → Leads limit AtEscape b [] (begun_by k)
 unfolding body_outcome executed_events control_sequence_outcome control_sequence_from device_control_outcome
     device_control_from system_command_outcome system_command_from
-escape-key limit b Dispatch e is begins = cc
+escape-key limit b EscapeSequence e is begins = cc
 escape-key limit b _ e is begins = record { leads = λ rest. simp (e, is) }
 
 -- ---- after ESC and intermediates
@@ -96,7 +96,7 @@ intermediate-end limit ints b _ e h = cc
 
 -- where it has no other meaning after ESC
 pub escape-end : (limit : Option ℕ) (b : ℕ) (k : Class) → class_of b ≡ k → dispatches_escape k ≡ true
-    → key_of b ≡ Dispatch
+    → key_of b ≡ EscapeSequence
     → Leads limit AtEscape b (EscDispatch [] false b ∷ []) (InText [])
 unfolding body_outcome executed_events escape_outcome
 escape-end limit b Digit e h key = record { leads = λ rest. simp (e, key) }
@@ -147,10 +147,10 @@ pub device-well_shaped : (limit : Option ℕ) (head : List ℕ) (b : ℕ) → cl
 unfolding device_control_from device_control_end
 device-well_shaped limit head b e well = record { leads = λ rest. simp (e, append-nil, well) }
 
-pub device-malformed : (limit : Option ℕ) (head : List ℕ) (b : ℕ) → class_of b ≡ Final
+pub device-ill_shaped : (limit : Option ℕ) (head : List ℕ) (b : ℕ) → class_of b ≡ Final
     → is_well_shaped (head_of head) ≡ false → Leads limit (InDeviceControl head) b [] InIgnoredString
 unfolding device_control_from device_control_end
-device-malformed limit head b e ill = record { leads = λ rest. simp (e, append-nil, ill) }
+device-ill_shaped limit head b e ill = record { leads = λ rest. simp (e, append-nil, ill) }
 
 -- ---- in the data of a hooked string
 

@@ -1,6 +1,6 @@
 -- After every place every byte reports at most two events, of which the second is short, and leads to a place
 -- (`steps`): by cases of the place and of the byte's class, each by a lemma of `PlaceLeads`.
-use Rattle.vte_core.proofs.Common.{◌≡◌, ℕ, inl, inr, false, eqb, Option, List, refl, arith, cases_Bool, nat_tests, Class, Control, Cancel, Intermediate, Final, Delete, High, class_of, ends_all, Key, Dispatch, key_of, IsBrief, Event, head_of, is_well_shaped, sequence_event, Leads, Place, InText, AtEscape, InEscape, InControlSequence, InDeviceControl, InData, InSystemCommand, InIgnoredString, closing_events_at, escape, bell, pieces_of}
+use Rattle.vte_core.proofs.Common.{◌≡◌, ℕ, inl, inr, false, eqb, Option, List, refl, arith, cases_Bool, nat_tests, Class, Control, Cancel, Intermediate, Final, Delete, High, class_of, ends_all, Key, EscapeSequence, key_of, IsBrief, Event, head_of, is_well_shaped, sequence_event, Leads, Place, InText, AtEscape, InEscape, InControlSequence, InDeviceControl, InData, InSystemCommand, InIgnoredString, closing_events_at, escape, bell, pieces_of}
 use Rattle.vte_core.proofs.Common.{kept_items, data_left, left_at, breaks, open_at, sym, false≢true, ◌∙◌, [], ◌∷◌, ◌++◌, Execute}
 use Rattle.vte_core.proofs.bytes.FirstBytes.{Tests, ascii_breaks}
 use Rattle.vte_core.proofs.shapes.Told.{breaks-broken}
@@ -10,16 +10,16 @@ use Rattle.vte_core.proofs.places.CancelLemmas.{cancel, closing_brief, closing_a
 use Rattle.vte_core.proofs.bytes.ClassCases.{ends_not_cancel}
 use Rattle.vte_core.proofs.bytes.ClassLemmas.{Spans, spans}
 use Rattle.vte_core.proofs.bytes.PlainKeys.{below_finals}
-use Rattle.vte_core.proofs.places.PlaceLeads.{escape-key, escape-intermediate, escape-end, intermediate-more, intermediate-end, byte-dropped, byte-executed, control-head, control-dispatched, control-silent, device-dropped, device-head, device-well_shaped, device-malformed, data-put, data-dropped}
+use Rattle.vte_core.proofs.places.PlaceLeads.{escape-key, escape-intermediate, escape-end, intermediate-more, intermediate-end, byte-dropped, byte-executed, control-head, control-dispatched, control-silent, device-dropped, device-head, device-well_shaped, device-ill_shaped, data-put, data-dropped}
 use Rattle.vte_core.proofs.places.PlaceLeads.{data-terminator, command-item, command-control, command-bell, ignored-more}
 use Rattle.vte_core.proofs.fields.PlaceOfState.{IsPlace}
 use Rattle.vte_core.proofs.fields.KeptItems.{few_pieces, pieces_push, some_pieces}
 use Rattle.vte_core.proofs.places.StreamLemmas.{reads-escape, no_escape, cancel_is_no_escape}
 use Rattle.vte_core.proofs.places.TextSteps.{AreOthers, FitsLeft, IsLittle, IsQuiet, IsText, Steps, leads_on, steps-text}
 
-abbrev IsOutside : Place → Type 0
-IsOutside (InText u) = ⊥
-IsOutside _ = Unit {0}
+abbrev IsOutsideText : Place → Type 0
+IsOutsideText (InText u) = ⊥
+IsOutsideText _ = Unit {0}
 
 abbrev HoldsNothing : Place → Type 0
 HoldsNothing (InText (a ∷ u)) = ⊥
@@ -29,12 +29,12 @@ HoldsNothing _ = Unit {0}
 -- From outside of text to a place that holds no bytes of a character or a command. Between places that are known this
 -- computes, and `outside` proves it.
 abbrev Sequenced : Place → Place → Type 0
-Sequenced place next = IsOutside place × HoldsNothing next
+Sequenced place next = IsOutsideText place × HoldsNothing next
 
 outside : Unit {0} × Unit {0}
 outside = (tt, tt)
 
-no_text : (place : Place) → IsOutside place → IsText place → ⊥
+no_text : (place : Place) → IsOutsideText place → IsText place → ⊥
 no_text (InText u) is text = is
 no_text _ is text = text
 
@@ -79,7 +79,7 @@ module _ {limit : Option ℕ} {place next : Place} {b : ℕ} where
 -- ---- after ESC
 
 step-final : (limit : Option ℕ) (b : ℕ) (k : Key) → class_of b ≡ Final → key_of b ≡ k → Steps limit AtEscape b
-step-final limit b Dispatch is k =
+step-final limit b EscapeSequence is k =
     let s = spans b Final is in
     sequenced is refl outside (escape-end limit b Final is refl k) (λ _ _. (omega arith, s.1, omega arith)) (λ _. tt)
 step-final limit b key is k = silent is refl outside (escape-key limit b key is k refl)
@@ -145,7 +145,7 @@ step-device limit head b Final is no_end = elim (cases_Bool (is_well_shaped (hea
   | inl well ↦
       sequenced is no_end outside (device-well_shaped limit head b is well)
       (λ size _. (bounded-head size (head_of head) b (spans b Final is)).1) (λ _. tt)
-  | inr ill ↦ silent is no_end outside (device-malformed limit head b is ill)
+  | inr ill ↦ silent is no_end outside (device-ill_shaped limit head b is ill)
 ]
 step-device limit head b Delete is no_end = silent is no_end outside (device-dropped limit head b Delete is refl)
 step-device limit head b High is no_end = silent is no_end outside (device-dropped limit head b High is refl)

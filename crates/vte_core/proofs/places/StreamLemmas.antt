@@ -50,7 +50,7 @@ pub outcome_from-escape : (limit : Option ℕ) (place : Place) (more : List ℕ)
 unfolding outcome_from
 outcome_from-escape limit place more is =
     ap (λ part. tell (events_before_escape part) (outcome_from limit AtEscape more))
-        (rest_outcome-nothing limit place is)
+    (rest_outcome-nothing limit place is)
 
 pub reads-escape : (limit : Option ℕ) (place : Place) → IsPlace place
     → Reads limit place (escape ∷ []) (closing_events_at limit place) AtEscape

@@ -1,6 +1,6 @@
 -- What is kept from start to start holds wherever a call stops: by induction over the places, a unit at a time.
 use Rattle.vte_core.proofs.Common.{ℕ, zero, suc, ◌+◌, ◌<◌, ◌≤◌, inl, inr, Option, List, [], ◌++◌, length, sym, subst, arith, IsBrief, IsStart, told_before, Event}
-use Rattle.vte_core.specs.Stops.{TellsUnit, TellsUnits}
+use Rattle.vte_core.specs.EarlyStopLaws.{TellsUnit, TellsUnits}
 
 -- P is to hold of what is told before each place. It holds of no events, and a unit keeps it.
 -- Before each unit Q holds, which is what the performer answers when it is asked: at first, and at

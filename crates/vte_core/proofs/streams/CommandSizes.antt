@@ -5,7 +5,7 @@ use Rattle.vte_core.proofs.streams.After.{added-reads, after-left, after-reads}
 use Rattle.vte_core.proofs.streams.StreamSteps.{arrives, leads_to, size_at}
 
 fits_by : (n : ℕ) (left : ToClose) → data_left left ≤ n → FitsLeft (Some n) left
-fits_by n (CommandToClose pieces dropped) within = within
+fits_by n (CommandToClose pieces lost) within = within
 fits_by n _ within = tt
 
 pub counts_data : (stream bytes : List ℕ) → CountsData stream bytes

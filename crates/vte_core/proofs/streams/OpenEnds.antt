@@ -1,16 +1,16 @@
 -- The size of the store has no say in what is unfinished at the end: by the definitions, part by part, only what is
 -- kept of a command depends on it.
-use Rattle.vte_core.proofs.Common.{◌≡◌, ℕ, Bool, cases_Bool, inl, inr, Option, None, List, [], ◌∷◌, refl, Key, key_of, body_rest, body_outcome, shape_outcome, class_of, is_cancel, is_key, Outcome, open_bytes, from_first, cut_at_escape, with_bodies, outcome, open_end, ends_command, system_command_outcome, system_command_rest, text_outcome}
+use Rattle.vte_core.proofs.Common.{◌≡◌, ℕ, Bool, cases_Bool, inl, inr, Option, None, List, [], ◌∷◌, refl, Key, key_of, body_rest, body_outcome, sequence_outcome, class_of, is_cancel, is_key, Outcome, open_bytes, from_first, cut_at_escape, with_bodies, outcome, open_end, ends_command, system_command_outcome, system_command_rest, text_outcome}
 use Rattle.vte_core.specs.Key.{SystemCommand}
 
-by_pieces : (pieces others : List (List ℕ)) (dropped other : Bool) (rest : List ℕ)
-    → open_bytes (system_command_rest pieces dropped rest).left
+by_pieces : (pieces others : List (List ℕ)) (lost other : Bool) (rest : List ℕ)
+    → open_bytes (system_command_rest pieces lost rest).left
     ≡ open_bytes (system_command_rest others other rest).left
-by_pieces pieces others dropped other [] = refl
-by_pieces pieces others dropped other (end ∷ text) = refl
+by_pieces pieces others lost other [] = refl
+by_pieces pieces others lost other (end ∷ text) = refl
 
 by_shape : (limit : Option ℕ) (k : Key) (key : ℕ) (bytes : List ℕ)
-    → open_bytes (shape_outcome limit k key bytes).left ≡ open_bytes (shape_outcome None k key bytes).left
+    → open_bytes (sequence_outcome limit k key bytes).left ≡ open_bytes (sequence_outcome None k key bytes).left
 unfolding system_command_outcome
 by_shape limit SystemCommand key bytes = by_pieces _ _ _ _ (from_first ends_command bytes)
 by_shape limit _ key bytes = refl

@@ -10,9 +10,9 @@ use Rattle.vte_core.specs.Event.{Event}
 use Rattle.vte_core.specs.Head.{head_bytes}
 use Rattle.vte_core.specs.IgnoredString.{ignored_string_outcome}
 use Rattle.vte_core.specs.Outcome.{ToClose, NothingToClose, CharacterToClose, DataToClose, CommandToClose, Outcome, closing_events, tell}
-use Rattle.vte_core.specs.FirstMatch.{cut_before}
+use Rattle.vte_core.specs.CutBefore.{cut_before}
 use Rattle.vte_core.specs.Stream.{cut_at_escape, events, outcome, with_bodies}
-use Rattle.vte_core.specs.SystemCommand.{drops_data, ends_command, items_of, pieces_of, system_command_rest}
+use Rattle.vte_core.specs.SystemCommand.{loses_data, ends_command, items_of, pieces_of, system_command_rest}
 use Rattle.vte_core.specs.Text.{executed_events, text_outcome}
 
 pub data Place : Type 0 where
@@ -63,7 +63,7 @@ unfoldable pub system_command_from : Option ℕ → List ℕ → List ℕ → Ou
 system_command_from limit items bytes =
     let cut = cut_before ends_command bytes in
     let all = items ++ items_of cut.inside in
-    system_command_rest (pieces_of limit all) (drops_data limit all) cut.rest
+    system_command_rest (pieces_of limit all) (loses_data limit all) cut.rest
 
 -- The outcome of the rest of the text or body.
 abbrev pub rest_outcome : Option ℕ → Place → List ℕ → Outcome
@@ -81,7 +81,7 @@ abbrev pub left_at : Option ℕ → Place → ToClose
 left_at limit (InText (a ∷ bytes)) = CharacterToClose (a ∷ bytes)
 left_at limit InData = DataToClose
 left_at limit (InSystemCommand items) = CommandToClose (pieces_of limit items)
-    (drops_data limit items)
+    (loses_data limit items)
 left_at limit _ = NothingToClose
 
 -- The events of an ESC at the place.

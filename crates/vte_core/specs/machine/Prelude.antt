@@ -11,7 +11,7 @@ pub use Rattle.vte_core.specs.Perform.{after}
 pub use Rattle.vte_core.specs.Outcome.{SaysLoss}
 pub use Rattle.vte_core.specs.Stream.{IsFinished, IsUnfinished}
 unfoldable pub use Rattle.vte_core.specs.Stream.{outcome}
-unfoldable pub use Rattle.vte_core.specs.SystemCommand.{drops_data}
+unfoldable pub use Rattle.vte_core.specs.SystemCommand.{loses_data}
 pub use Rattle.vte_core.specs.SystemCommand.{IsCommandData, has_room, most_pieces}
 pub use Rattle.vte_core.specs.Text.{EndsRun, character_event, is_control_character, is_layout, malformed_event, run_event}
 pub use Rattle.vte_core.specs.Utf8.{is_in, is_truncated, scalar_of, from_to}
@@ -23,7 +23,7 @@ pub use Rattle.vte_core.specs.machine.Completes.{Completes}
 pub use Rattle.vte_core.specs.machine.Data.{AreIgnored, ArePut}
 pub use Rattle.vte_core.specs.machine.MayRead.{MayRead, MayReadAt, MayReadByte}
 pub use Rattle.vte_core.specs.machine.Moves.{Costs, HandlesByte, Moves, Refuses, Spends}
-pub use Rattle.vte_core.specs.machine.Standing.{CountsNumbers, HoldsIntermediates, HoldsHead, HasReadUnder, KeepsIntermediates, KeepsNumbers, HoldsNumbers, Stands, StandsInHead}
+pub use Rattle.vte_core.specs.machine.ParserFields.{CountsNumbers, HoldsIntermediates, HoldsHead, HasReadUnder, KeepsIntermediates, KeepsNumbers, HoldsNumbers, Stands, StandsInHead}
 pub use Rattle.vte_core.specs.machine.Place.{AtEscape, InControlSequence, InDeviceControl, IsSettledPlace, Place, closing_events_at}
 pub use Rattle.vte_core.specs.machine.Progress.{Advances, IsSettled, ReadsUpTo, ReadsUntilRefused, StandsAt, chunk_call}
 pub use Rattle.vte_core.specs.machine.Reading.{ReadsHeadUpTo, with_open_number}
@@ -33,5 +33,5 @@ pub use Rattle.vte_core.specs.machine.Scans.{FindsEnd, IsRange, Scans, TakesFew}
 pub use Rattle.vte_core.specs.machine.Store.{ArePieceEnds, HasCapacity, Stored, HoldsItems, ReservesCapacity, SameItems, cut_pieces, fitting}
 pub use Rattle.vte_core.specs.machine.Takes.{Dispatches, TakesBytes, TakesByte}
 pub use Rattle.vte_core.specs.machine.Tells.{Tells, TellsAll}
-pub use Rattle.vte_core.specs.machine.ToRun.{AreOfKind, ComesToRun, IsOutside, IsQuietIn, IsTaken, read_up_to, performed_up_to}
+pub use Rattle.vte_core.specs.machine.ToRun.{AreOfKind, ComesToRun, IsOutsideTextAndData, IsQuietIn, IsTaken, read_up_to, performed_up_to}
 pub use Rattle.vte_core.specs.machine.Unfinished.{BeginsFour, BeginsThree, BeginsTwo, Carries, bytes_of, second_range}

@@ -4,7 +4,7 @@ use Rattle.vte_core.specs.Class.{is_head, AreInClass}
 use Rattle.vte_core.specs.declared.head.Collected.{Collected}
 use Rattle.vte_core.specs.declared.head.HeadEnd.{HeadEnd}
 use Rattle.vte_core.specs.declared.head.HeadPart.{HeadPart}
-use Rattle.vte_core.specs.machine.Standing.{StandsInHead}
+use Rattle.vte_core.specs.machine.ParserFields.{StandsInHead}
 
 -- What is collected, with this number in its field. While its digits are read, it is in a local.
 abbrev pub with_open_number : Collected → ℕ → Collected

@@ -56,7 +56,7 @@ pub record IsRestored {B : Type 0} (saved : Saved) (machine : Machine B) : Type 
   pub ends : machine.state ≡ SystemCommand
       → ArePieceEnds (take saved.byte_count saved.bytes) (take saved.end_count saved.ends)
       → machine.command.ends ≡ take saved.end_count saved.ends
-  pub dropped : machine.state ≡ SystemCommand → machine.command.dropped ≡ flag_of saved.dropped
+  pub lost : machine.state ≡ SystemCommand → machine.command.lost ≡ flag_of saved.lost
 
 abbrev pub zeros_of : ℕ → List ℕ
 zeros_of n = replicate n 0
@@ -76,6 +76,6 @@ zeros = record {
   bytes = zeros_of 1024;
   end_count = 0;
   ends = zeros_of 16;
-  dropped = 0;
+  lost = 0;
   state = zeros_of 4;
 }

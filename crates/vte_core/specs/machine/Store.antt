@@ -18,7 +18,7 @@ pub record Stored : Type 0 where
   pub capacity : ℕ
   pub bytes : List ℕ
   pub ends : List ℕ
-  pub dropped : Bool
+  pub lost : Bool
 
 -- The bytes of `run` for which there is room after `count` bytes.
 abbrev pub fitting : Option ℕ → ℕ → List ℕ → List ℕ
@@ -69,7 +69,7 @@ pub record HoldsItems (limit : Option ℕ) (held : Stored) (items : List ℕ) : 
       → pieces_of limit (items ++ more) ≡ pieces_from limit held.bytes held.ends more
   pub end : PiecesEnd most_pieces 0 held.ends (length held.bytes)
   pub fewer : length held.bytes ≤ length (filter is_data_item items)
-  pub dropped : held.dropped ≡ nat_lt (length held.bytes) (length (filter is_data_item items))
+  pub lost : held.lost ≡ nat_lt (length held.bytes) (length (filter is_data_item items))
 
 -- The memory doesn't suffice for what is held and the data bytes that begin at `from`.
 pub record LacksMemoryAt (held : Stored) (bytes : List ℕ) (from : ℕ) : Type 0 where
@@ -82,7 +82,7 @@ pub record LacksMemoryAt (held : Stored) (bytes : List ℕ) (from : ℕ) : Type 
 pub record SameItems (old new : Stored) : Type 0 where
   pub bytes : new.bytes ≡ old.bytes
   pub ends : new.ends ≡ old.ends
-  pub dropped : new.dropped ≡ old.dropped
+  pub lost : new.lost ≡ old.lost
 
 -- The ends of at most 16 pieces, in order and within the bytes.
 pub record ArePieceEnds (bytes ends : List ℕ) : Type 0 where

@@ -7,7 +7,7 @@ use Rattle.vte_core.specs.declared.parser.State.TheVariants.{Text}
 use Rattle.vte_core.specs.declared.utf8.Unfinished.TheVariants.{Nothing}
 use Rattle.vte_core.specs.Event.{Event}
 use Rattle.vte_core.specs.machine.Leads.{Leads, Reads}
-use Rattle.vte_core.specs.machine.Standing.{Stands}
+use Rattle.vte_core.specs.machine.ParserFields.{Stands}
 use Rattle.vte_core.specs.machine.Place.{Place}
 use Rattle.vte_core.specs.machine.Tells.{Tells}
 use Rattle.vte_core.specs.Perform.{after}

@@ -12,7 +12,7 @@ use Rattle.vte_core.specs.declared.parser.State.{State}
 use Rattle.vte_core.specs.declared.parser.State.TheVariants.{Text, DeviceData}
 use Rattle.vte_core.specs.Class.{IsPut, class_of, is_device_data}
 use Rattle.vte_core.specs.Event.{Event, Print, Put}
-use Rattle.vte_core.specs.machine.Standing.{HasReadUnder}
+use Rattle.vte_core.specs.machine.ParserFields.{HasReadUnder}
 use Rattle.vte_core.specs.machine.Progress.{ChunkCall, StandsAt}
 use Rattle.vte_core.specs.machine.TextRun.{IsUtf8Run}
 use Rattle.vte_core.specs.machine.Scans.{IsRange}
@@ -20,10 +20,10 @@ use Rattle.vte_core.specs.Stream.{added}
 use Rattle.vte_core.specs.Text.{EndsRun}
 
 -- The state is neither in a text nor in data.
-abbrev pub IsOutside : State → Type 0
-IsOutside (Text _) = ⊥
-IsOutside DeviceData = ⊥
-IsOutside _ = ⊤
+abbrev pub IsOutsideTextAndData : State → Type 0
+IsOutsideTextAndData (Text _) = ⊥
+IsOutsideTextAndData DeviceData = ⊥
+IsOutsideTextAndData _ = ⊤
 
 -- A byte is read in a sequence or a string, and isn't put.
 abbrev pub IsQuietIn : State → ℕ → Type 0

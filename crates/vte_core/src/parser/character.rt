@@ -154,7 +154,7 @@ impl<B: Buffer> Machine<B> {
             return next + 2;
         }
         if G::IN_RUNS {
-            let end = looks.find_run_end_for(performer, input, next + 3);
+            let end = looks.find_run_end_of(performer, input, next + 3);
             looks.tell_text(performer, input, from, end);
             return end;
         }

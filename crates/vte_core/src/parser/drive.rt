@@ -1,6 +1,6 @@
 //! The loop over the bytes of a call.
 ghost use Rattle.std.specs.Prelude.{◌≡◌, ◌<◌, true, List, ℕ, length, IfErr, IfOk};
-ghost use Rattle.vte_core.specs.machine.Prelude.{Advances, Costs, HasReadUnder, IsOutside, IsSettled, MayReadAt, Moves, NoCharacterStops, ReadsUpTo, Refuses, ReadsUntilRefused, Spends, StandsAt, TellsQuietly, chunk_call};
+ghost use Rattle.vte_core.specs.machine.Prelude.{Advances, Costs, HasReadUnder, IsOutsideTextAndData, IsSettled, MayReadAt, Moves, NoCharacterStops, ReadsUpTo, Refuses, ReadsUntilRefused, Spends, StandsAt, TellsQuietly, chunk_call};
 ghost use Rattle.vte_core.specs.machine.Prelude.{chunk_call, read_count};
 
 use crate::buffer::Buffer;
@@ -82,7 +82,7 @@ impl<B: Buffer> Machine<B> {
         requires settled { IsSettled self.old.state }
         requires no_stop { G.IN_RUNS ≡ true → MAY_STOP ≡ true
             → NoCharacterStops P.keeps P.step P.is_terminated }
-        ensures advances { Advances (IsOutside self.old.state)
+        ensures advances { Advances (IsOutsideTextAndData self.old.state)
             (chunk_call MAY_STOP P.step P.is_terminated B.limit input.entry.bytes.now)
             (P.value_of performer.old) (P.value_of performer.new) from (read_count result) self.old
             self.new }

@@ -44,7 +44,7 @@ impl<A: Allocator + Clone> Clone for LongParser<A> {
                 collected: self.machine.collected.clone()?,
                 command: self.machine.command.clone()?,
             },
-            looks: Looks::unlimited(),
+            looks: Looks::for_unlimited(),
         })
     }
 }
@@ -57,7 +57,7 @@ impl<A: Allocator> LongParser<A> {
     {
         LongParser {
             machine: Machine::new(Vec::new(alloc)),
-            looks: Looks::unlimited(),
+            looks: Looks::for_unlimited(),
         }
     }
 

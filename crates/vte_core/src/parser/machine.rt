@@ -33,11 +33,11 @@ impl<B: Buffer> Machine<B> {
     /// Returns whether data bytes are in no piece of the operating system command that is open, or
     /// else ended last.
     pub(crate) fn command_lost_data(&self) -> bool
-        ensures lost { result ≡ self.now.command.dropped }
+        ensures lost { result ≡ self.now.command.lost }
         ensures open { (stream : List ℕ) → HasReadUnder B.limit self.now stream
             → SaysLoss (outcome B.limit stream).left result }
     {
-        self.command.has_dropped()
+        self.command.has_lost_data()
     }
 
     /// Returns whether a character or a sequence is unfinished.

@@ -2,7 +2,7 @@
 ghost use Rattle.std.specs.Prelude.{None, IfOk, IfErr};
 ghost use Rattle.vte.specs.LongProcessor.{HasParsedAndHoldsLong};
 ghost use Rattle.vte.specs.Memory.{LacksMemoryForSome};
-ghost use Rattle.vte.specs.Processor.{State, meaning};
+ghost use Rattle.vte.specs.Processor.{State, meaning_of};
 ghost use Rattle.vte.specs.ProcessorCalls.{HasParsedAndHolds, IsAt, Replays};
 ghost use Rattle.vte.specs.Refusal.{ReplayedUntil, left_by};
 ghost use Rattle.vte_core.specs.Stream.{usual_limit};
@@ -40,7 +40,7 @@ pub fn replay<H: Handler, T: Timeout + Drop, A: Allocator>(
     handler: &mut H,
     steps: &[Step<'_>],
 )
-    ensures { Replays (meaning usual_limit H.step T.set T.clear T.allows)
+    ensures { Replays (meaning_of usual_limit H.step T.set T.clear T.allows)
         (HasParsedAndHolds T.value_of processor.old) (HasParsedAndHolds T.value_of processor.new)
         (H.value_of handler.old) (H.value_of handler.new) steps.now }
 {
@@ -60,13 +60,13 @@ pub fn replay_long<H: Handler, T: Timeout + Drop, A: Allocator>(
     steps: &[Step<'_>],
 ) -> Result<(), RefusedStep>
     ensures replays { IfOk result
-        (λ all. Replays (meaning None H.step T.set T.clear T.allows)
+        (λ all. Replays (meaning_of None H.step T.set T.clear T.allows)
         (HasParsedAndHoldsLong T.value_of processor.old)
         (HasParsedAndHoldsLong T.value_of processor.new)
         (H.value_of handler.old) (H.value_of handler.new) steps.now) }
     ensures refuses { IfErr result (λ refused. (state : State H.Value T.Value)
         → IsAt (HasParsedAndHoldsLong T.value_of processor.old) (H.value_of handler.old) state →
-        ReplayedUntil (meaning None H.step T.set T.clear T.allows) state steps.now refused
+        ReplayedUntil (meaning_of None H.step T.set T.clear T.allows) state steps.now refused
         (IsAt (HasParsedAndHoldsLong T.value_of processor.new) (H.value_of handler.new))) }
     ensures lacks { IfErr result
         (λ refused. LacksMemoryForSome processor.new (left_by steps.now refused)) }

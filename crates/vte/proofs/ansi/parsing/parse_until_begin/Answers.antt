@@ -1,6 +1,6 @@
 -- An early stop reads the front up to the begin of an update (`updates/Fronts`), and what was lent comes back with its
 -- calls.
-use Rattle.vte.proofs.Common.{drop, length, refl, meaning, begin_front}
+use Rattle.vte.proofs.Common.{drop, length, refl, meaning_of, begin_front}
 use Rattle.vte.proofs.performing.Parsed.{given_back, stops_at_front, stop_performs, stop_stream, stop_terminated}
 use Rattle.vte.proofs.performing.Rooms.{front_fits}
 use Rattle.vte.proofs.turns.EachOnce.{front_rest}
@@ -8,7 +8,7 @@ use Rattle.vte.proofs.ansi.parsing.parse_until_begin.Goals as goal
 
 pub returns-clause-stops : goal.returns-clause-stops
 returns-clause-stops g c = λ s n ready.
-    let m = meaning g.P.EventParser.limit g.H.Handler.step g.T.Timeout.set g.T.Timeout.clear g.T.Timeout.allows in
+    let m = meaning_of g.P.EventParser.limit g.H.Handler.step g.T.Timeout.set g.T.Timeout.clear g.T.Timeout.allows in
     let bytes = c.args.bytes.now in
     let front = begin_front g.P.EventParser.limit s.parsed bytes in
     let p = c.advance_until_begin-read.ensures.stops s.parsed n ready.is_parsed.has_read ready.room in

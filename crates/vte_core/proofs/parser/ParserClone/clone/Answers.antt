@@ -10,11 +10,11 @@ returns g c =
     let items : SameItems c.args.self.now.machine.command c.restore.new.self = record {
       bytes = search rules;
       ends = search rules;
-      dropped = search rules;
+      lost = search rules;
     } in
     record {
       cases = record {
         reads = reads_cloned _ _ _ refl same items;
-        lost = items.dropped;
+        lost = items.lost;
       };
     }

@@ -1,11 +1,11 @@
 -- The slices so far begin no update, and are parsed. Each has at least one byte, so the loop reads all.
-use Rattle.vte.proofs.Common.{◌<◌, ◌≤◌, length, meaning, EngineIsAt, of_engine, EngineIsAtKeeping, IsOpenAt, State}
+use Rattle.vte.proofs.Common.{◌<◌, ◌≤◌, length, meaning_of, EngineIsAt, engine_meaning, EngineIsAtKeeping, IsOpenAt, State}
 use Rattle.vte.proofs.ansi.engine.Engine.open.Given as goal
 
 abbrev pub invariant-loop-slice : goal.invariant-loop-slice
 invariant-loop-slice g l =
-    let m = meaning g.P.EventParser.limit g.H.Handler.step g.T.Timeout.set g.T.Timeout.clear g.T.Timeout.allows in
-    let w = of_engine g.P.EventParser.limit g.P.EventParser.reading g.B.TextBuffer.room g.T.Timeout.value_of in
+    let m = meaning_of g.P.EventParser.limit g.H.Handler.step g.T.Timeout.set g.T.Timeout.clear g.T.Timeout.allows in
+    let w = engine_meaning g.P.EventParser.limit g.P.EventParser.reading g.B.TextBuffer.room g.T.Timeout.value_of in
     record {
       within : l.read ≤ length l.bytes;
       some : l._slice < length l.bytes → l.read < length l.bytes;

@@ -1,12 +1,12 @@
 -- The turns so far have led to a state in which the processor stands. Each reads a byte or more.
-use Rattle.vte.proofs.Common.{◌<◌, ◌≤◌, length, meaning, EngineIsAt, of_engine, EngineIsAtKeeping, State}
+use Rattle.vte.proofs.Common.{◌<◌, ◌≤◌, length, meaning_of, EngineIsAt, engine_meaning, EngineIsAtKeeping, State}
 use Rattle.vte.proofs.turns.ToCalls.{HasReached}
 use Rattle.vte.proofs.ansi.engine.Engine.read.Given as goal
 
 abbrev pub invariant-loop-turn : goal.invariant-loop-turn
 invariant-loop-turn g l =
-    let m = meaning g.P.EventParser.limit g.H.Handler.step g.T.Timeout.set g.T.Timeout.clear g.T.Timeout.allows in
-    let w = of_engine g.P.EventParser.limit g.P.EventParser.reading g.B.TextBuffer.room g.T.Timeout.value_of in
+    let m = meaning_of g.P.EventParser.limit g.H.Handler.step g.T.Timeout.set g.T.Timeout.clear g.T.Timeout.allows in
+    let w = engine_meaning g.P.EventParser.limit g.P.EventParser.reading g.B.TextBuffer.room g.T.Timeout.value_of in
     record {
       within : l.read ≤ length l.bytes;
       some : l._turn < length l.bytes → l.read < length l.bytes;

@@ -1,7 +1,7 @@
 -- By the timeout's answer: the bytes are held while an update is pending and there is room. Otherwise it is stopped if
 -- it is pending or bytes are held, and the turn is an open one.
 use Rattle.vte.proofs.Common.{◌≡◌, ◌<◌, length, refl, sym, ◌∙◌, arith, nat_tests, nat_le, most_held, held_of, inr, true, false, and-false, ◌+◌}
-use Rattle.vte.proofs.Common.{meaning, of_engine, EngineIsAtKeeping}
+use Rattle.vte.proofs.Common.{meaning_of, engine_meaning, EngineIsAtKeeping}
 use Rattle.vte.proofs.turns.Kinds.{is_held, is_stopped, stop_if_due}
 use Rattle.vte.proofs.turns.Slices.{halted_nothing}
 use Rattle.vte.proofs.turns.ToCalls.{after-next, ends_turn, kept-next, next-at, stops-next, turned_hold}
@@ -22,8 +22,8 @@ returns-clause-turned g c = λ s at.
       -- No update is pending.
       | else-pending-via-else-pending w ↦ rw w.if-pending.false refl
     ] in
-    let m = meaning g.P.EventParser.limit g.H.Handler.step g.T.Timeout.set g.T.Timeout.clear g.T.Timeout.allows in
-    let w = of_engine g.P.EventParser.limit g.P.EventParser.reading g.B.TextBuffer.room g.T.Timeout.value_of in
+    let m = meaning_of g.P.EventParser.limit g.H.Handler.step g.T.Timeout.set g.T.Timeout.clear g.T.Timeout.allows in
+    let w = engine_meaning g.P.EventParser.limit g.P.EventParser.reading g.B.TextBuffer.room g.T.Timeout.value_of in
     let here : EngineIsAtKeeping w c.args.self.now c.if-pending-2.self (g.H.Handler.value_of c.if-pending-2.handler)
     (stop_if_due m pending s) = elim c.if-pending-2.branch [
       -- Stopped first.

@@ -1,11 +1,11 @@
 -- The older bytes have no end of an update, so the search over the last seven of them and the new ones finds what the
 -- whole hold has (`find_release`).
-use Rattle.vte.proofs.Common.{ℕ, List, refl, rules, ◌≡◌, ◌++◌, ◌-◌, ◌∙◌, ap, length, length-append, length-drop, drop, take, take_all, arith, Adds, IsEnd, held_of}
+use Rattle.vte.proofs.Common.{ℕ, List, refl, rules, ◌≡◌, ◌++◌, ◌-◌, ◌∙◌, ap, length, length-append, length-drop, drop, take, take_all, arith, Adds, IsHeldTail, held_of}
 use Rattle.vte.proofs.updates.Sequences.{stays_held, stays-is}
 use Rattle.vte.proofs.ansi.hold.Hold.add.Goals as goal
 
 is_end : {bytes old more : List ℕ} {start len : ℕ} → bytes ≡ old ++ more → len ≡ length old → start ≡ len - 7
-    → IsEnd old more (take (length bytes - start) (drop start bytes)) start
+    → IsHeldTail old more (take (length bytes - start) (drop start bytes)) start
 is_end {bytes} {start} is from position =
     record {
       start_is = position ∙ ap (λ n. n - 7) from;

@@ -1,10 +1,10 @@
 -- After some of the steps there is a run of these, and the processor stands at its end.
-use Rattle.vte.proofs.Common.{take, meaning, HasParsedAndHolds, IsAt, Replayed, State, usual_limit}
+use Rattle.vte.proofs.Common.{take, meaning_of, HasParsedAndHolds, IsAt, Replayed, State, usual_limit}
 use Rattle.vte.proofs.ansi.laws.replays.replay.Given as goal
 
 abbrev pub invariant-loop-step : goal.invariant-loop-step
 invariant-loop-step g l =
-    let m = meaning usual_limit g.H.Handler.step g.T.Timeout.set g.T.Timeout.clear g.T.Timeout.allows in
+    let m = meaning_of usual_limit g.H.Handler.step g.T.Timeout.set g.T.Timeout.clear g.T.Timeout.allows in
     (s : State g.H.Handler.Value g.T.Timeout.Value)
     → IsAt (HasParsedAndHolds g.T.Timeout.value_of l.initial.processor) (g.H.Handler.value_of l.initial.handler) s
     → Replayed m s (take l.step-index l.steps)

@@ -11,7 +11,7 @@ returns g c =
     record {
       cases = record {
         reads = reads_cloned _ _ _ refl same items;
-        lost = items.dropped;
+        lost = items.lost;
         memory = c.in_ok-clone-2.ensures.cases.1;
       };
     }

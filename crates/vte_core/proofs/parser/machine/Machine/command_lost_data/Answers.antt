@@ -1,7 +1,7 @@
 -- Data of a command were dropped if the store says so: by the state, and so the place, of the parser.
 use Rattle.vte_core.proofs.Common.{ℕ, Option, List, [], ◌∷◌, sym, subst, Machine, State, SystemCommand, Stands, StandsBy, Place, InText, InSystemCommand, HoldsItems, SaysLoss, left_at}
 use Rattle.vte_core.proofs.fields.PlaceOfState.{stands-place}
-use Rattle.vte_core.proofs.fields.StoreLemmas.{drops_held}
+use Rattle.vte_core.proofs.fields.StoreLemmas.{loses_held}
 use Rattle.vte_core.proofs.streams.After.{after-left}
 use Rattle.vte_core.proofs.parser.machine.Machine.command_lost_data.Goals as goal
 
@@ -11,11 +11,11 @@ by_state limit SystemCommand parser items s = s
 by_state limit _ parser items s = absurd s
 
 by_place : {B : Type 0} (limit : Option ℕ) (parser : Machine B) (place : Place)
-    → Stands limit parser place → SaysLoss (left_at limit place) parser.command.dropped
+    → Stands limit parser place → SaysLoss (left_at limit place) parser.command.lost
 by_place limit parser (InText []) s = tt
 by_place limit parser (InText (a ∷ u)) s = tt
 by_place limit parser (InSystemCommand items) s =
-    sym (drops_held limit parser.command items (by_state limit parser.state parser items s.by))
+    sym (loses_held limit parser.command items (by_state limit parser.state parser items s.by))
 by_place limit parser _ s = tt
 
 pub returns-clause-open : goal.returns-clause-open
@@ -23,5 +23,5 @@ returns-clause-open g c = λ stream h.
     let parser = c.args.self.now in
     let limit = g.B.Buffer.limit in
     let left = after-left limit stream h.place h.is_after (stands-place parser h.place h.stands) in
-    subst (λ left. SaysLoss left c.has_dropped.result) (sym left)
-    (subst (SaysLoss (left_at limit h.place)) (sym c.has_dropped.ensures) (by_place limit parser h.place h.stands))
+    subst (λ left. SaysLoss left c.has_lost_data.result) (sym left)
+    (subst (SaysLoss (left_at limit h.place)) (sym c.has_lost_data.ensures) (by_place limit parser h.place h.stands))

@@ -2,7 +2,7 @@
 use Rattle.vte_core.proofs.Common.{[], ◌∷◌, refl, ap, ◌∙◌, rules, Hook, head_of, sequence_event, InData, InIgnoredString}
 use Rattle.vte_core.proofs.bytes.ClassCases.{final}
 use Rattle.vte_core.proofs.fields.HeadSteps.{dispatched-ready, head-holds, ill_shaped-now}
-use Rattle.vte_core.proofs.places.PlaceLeads.{device-well_shaped, device-malformed}
+use Rattle.vte_core.proofs.places.PlaceLeads.{device-well_shaped, device-ill_shaped}
 use Rattle.vte_core.proofs.parser.machine.Machine.hook.Goals as goal
 
 -- A malformed head.
@@ -14,7 +14,7 @@ returns-in-IllShaped-clause-takes g c = λ head s.
       next = InIgnoredString;
       performed = refl;
       stands = record { by = tt };
-      leads = device-malformed _ head _ (final _ c.requires) ill;
+      leads = device-ill_shaped _ head _ (final _ c.requires) ill;
     }
 
 -- A whole one.

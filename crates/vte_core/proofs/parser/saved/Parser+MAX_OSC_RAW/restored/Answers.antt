@@ -12,5 +12,5 @@ returns c = λ stream h. h.reads (record c.new-parser.result { machine = _ }) (r
   joined = refl;
   bytes = search rules;
   ends = search rules;
-  dropped = search rules;
+  lost = search rules;
 })

@@ -13,6 +13,6 @@ returns c = λ stream h. reads_saved _ c.args.self.now.machine (record {
   joined = search rules;
   bytes = search rules;
   ends = search rules;
-  dropped = search rules;
+  lost = search rules;
   are_ends = search rules;
 }) stream h

@@ -3,7 +3,7 @@ use Rattle.vte_core.proofs.Common.{arith, subst, sym, ◌∙◌, slice_index, Is
 use Rattle.vte_core.proofs.bytes.EachLemmas.{each-one, each-both}
 use Rattle.vte_core.proofs.bytes.Printable.{printed-is, run-none, run-ascii}
 use Rattle.vte_core.proofs.bytes.SearchLemmas.{scans-run}
-use Rattle.vte_core.proofs.scan.Looks.find_end_before.Goals as goal
+use Rattle.vte_core.proofs.scan.Looks.find_end_up_to.Goals as goal
 
 pub loop-end-init : goal.loop-end-init
 loop-end-init g c = record {

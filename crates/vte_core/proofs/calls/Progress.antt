@@ -49,7 +49,7 @@ module _ (limit : Option ℕ) (stream bytes : List ℕ) (i j : ℕ) (further : i
       let all : here ++ stretch ≡ stream ++ take j bytes =
       append_assoc stream (take i bytes) stretch ∙ ap (λ x. stream ++ x) (sym (stretch-ends bytes i j further)) in
       subst (λ s. IsAfter limit s next) all
-          (after_from limit here stretch next (breaks_at stream bytes i) stretch-breaks a)
+      (after_from limit here stretch next (breaks_at stream bytes i) stretch-breaks a)
 
   pub stretch-added : added limit stream (take j bytes)
       ≡ told_before limit stream bytes i ++ added limit (stream_at stream bytes i) stretch

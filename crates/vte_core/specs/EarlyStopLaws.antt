@@ -1,6 +1,6 @@
 -- Laws of early stops, which functions of `laws` state as contracts.
 use Rattle.std.specs.Prelude.{◌≡◌, ◌⊎◌, ℕ, ◌<◌, ◌≤◌, List, [], ◌++◌, length, drop, Option}
-use Rattle.vte_core.specs.Brief.{IsBrief}
+use Rattle.vte_core.specs.EventBounds.{IsBrief}
 use Rattle.vte_core.specs.EarlyStop.{IsStart, told_before, stream_at}
 use Rattle.vte_core.specs.Event.{Event}
 use Rattle.vte_core.specs.Stream.{added}

@@ -1,6 +1,6 @@
 -- The timeout was set this many times.
 use Rattle.vte.proofs.Common.{◌≡◌, set_times, timeout_meaning}
-use Rattle.vte.proofs.ansi.engine.set_timeout.Given as goal
+use Rattle.vte.proofs.ansi.engine.set_timeout_times.Given as goal
 
 abbrev pub invariant-loop-time : goal.invariant-loop-time
 invariant-loop-time g l =

@@ -12,10 +12,10 @@ from_first passes [] = []
 from_first passes (b ∷ bytes) = if passes b then b ∷ bytes else from_first passes bytes
 
 -- Both parts.
-pub record FirstCut : Type 0 where
+pub record CutInTwo : Type 0 where
   pub inside : List ℕ
   pub rest : List ℕ
 
-abbrev pub cut_before : (ℕ → Bool) → List ℕ → FirstCut
+abbrev pub cut_before : (ℕ → Bool) → List ℕ → CutInTwo
 cut_before passes bytes =
     record { inside = before_first passes bytes; rest = from_first passes bytes }

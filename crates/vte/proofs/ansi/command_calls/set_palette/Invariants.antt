@@ -1,6 +1,6 @@
 -- The entries that are left give what all give.
 use Rattle.vte.proofs.Common.{◌≡◌, length, map, palette_entries_calls, after}
-use Rattle.vte.proofs.ansi.command_calls.set_colors.Given as goal
+use Rattle.vte.proofs.ansi.command_calls.set_palette.Given as goal
 
 abbrev pub invariant-loop-left : goal.invariant-loop-left
 invariant-loop-left g l =

@@ -1,16 +1,16 @@
 -- Changes of modes: SM, RM, DECSET and DECRST.
 use Rattle.std.specs.Prelude.{ℕ, List, map}
-use Rattle.vte.specs.declared.ansi.control_calls.Change.{Change}
-use Rattle.vte.specs.declared.ansi.control_calls.Change.TheVariants as change
+use Rattle.vte.specs.declared.ansi.control_calls.ModeChange.{ModeChange}
+use Rattle.vte.specs.declared.ansi.control_calls.ModeChange.TheVariants as change
 use Rattle.vte_handler.specs.Call.{Call}
 use Rattle.vte_handler.specs.Call as call
 use Rattle.vte_types.specs.Mode.{mode_of, private_mode_of}
 
-abbrev pub change_call : Change → ℕ → Call
+abbrev pub change_call : ModeChange → ℕ → Call
 change_call change.Set number = call.SetMode (mode_of number)
 change_call change.Reset number = call.UnsetMode (mode_of number)
 change_call change.SetPrivate number = call.SetPrivateMode (private_mode_of number)
 change_call change.ResetPrivate number = call.UnsetPrivateMode (private_mode_of number)
 
-abbrev pub change_calls : Change → List ℕ → List Call
+abbrev pub change_calls : ModeChange → List ℕ → List Call
 change_calls which numbers = map (λ number. change_call which number) numbers

@@ -89,14 +89,15 @@ pub(crate) fn is_head(byte: u8) -> bool
     byte >= 0x20 && byte < 0x40
 }
 
-/// Returns whether a byte ends a head: 40..7E.
+/// Returns whether a byte is the final byte of a control sequence or of a device control string's
+/// head: 40..7E.
 pub(crate) fn is_final(byte: u8) -> bool
     ensures { result ≡ is_final (class_of byte) }
 {
     byte >= 0x40 && byte < 0x7f
 }
 
-/// Returns whether a byte ends an escape sequence: 30..7E.
+/// Returns whether a byte is the final byte of an escape sequence: 30..7E.
 pub(crate) fn dispatches_escape(byte: u8) -> bool
     ensures { result ≡ dispatches_escape (class_of byte) }
 {

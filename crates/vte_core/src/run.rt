@@ -1,7 +1,7 @@
 //! Where a run of printed text ends. `scan/taken.rt` has the runs that callers take.
 //!
-//! A word is eight bytes. None is tried before a run has begun with single bytes, so that no byte
-//! is read often.
+//! A word is eight bytes. No word is tried before a run has begun with single bytes, so that no
+//! byte is read often.
 ghost use Rattle.std.specs.Prelude.{◌≡◌, ◌+◌, ◌*◌, ◌<◌, ◌≤◌, ◌↔◌, true, false, None, MatchOption, IfSome, IsTrue, length, slice_index};
 ghost use Rattle.vte_core.specs.machine.Prelude.{ArePrinted, EndsRun, IsPrinted, IsRange, IsRun, Scans, TakesFew, is_in, looked, from_to};
 
@@ -237,8 +237,8 @@ impl<B> Looks<B> {
     {
         let mut end = from;
         while let Some(word) = self.get_block::<8>(input, end) {
-            if let Some(place) = first_unprinted(&word) {
-                return end + place;
+            if let Some(position) = first_unprinted(&word) {
+                return end + position;
             }
             end += 8;
         }
@@ -250,7 +250,7 @@ impl<B> Looks<B> {
 #[inline(always)]
 fn first_unprinted(word: &[u8; 8]) -> Option<usize>
     ensures { MatchOption result (ArePrinted word.now 0 8)
-        (λ place. (place < 8) × ArePrinted word.now 0 place) }
+        (λ position. (position < 8) × ArePrinted word.now 0 position) }
 {
     // Bit 7 of each eight marks a byte: from 80 on it is set, and below 20 it is after a
     // subtraction of 20. What that borrows from the next byte may mark a space there.

@@ -3,8 +3,8 @@
 //! Nothing else reads a byte of a call or tells a performer an event: an [`Input`] has no other way
 //! to its bytes, and a [`CountedPerform`] takes events with the count alone. Bytes leave it one by
 //! one, in blocks, as a copy in a buffer, or as text or data: for a performer, or in a [`Run`] for
-//! the caller. A function generic in the buffer `B` can't make a `Looks<B>`: only `limited` and
-//! `unlimited` do. So it can't lose a look.
+//! the caller. A function generic in the buffer `B` can't make a `Looks<B>`: only `for_limited` and
+//! `for_unlimited` do. So it can't put a fresh count in the place of one.
 ghost use Rattle.std.specs.Prelude.{◌≡◌, ◌+◌, ◌-◌, ◌<◌, ◌≤◌, ℕ, [], ◌∷◌, ◌++◌, false, length, drop, map, take, slice_index, vec_capacity, MatchOption, IsUtf8};
 ghost use Rattle.vte_core.specs.machine.Prelude.{AreOfKind, ArePut, IsRange, IsRun, IsTaken, PrintsRun, Put, Tells, after, character_event, is_in, looked, malformed_event, from_to};
 
@@ -104,23 +104,23 @@ impl<'a, B> Input<'a, B> {
     }
 
     /// Returns the run that stands at a position, whose bytes were looked at.
-    pub(crate) fn take_run(self, place: RunRange) -> Run<'a>
-        requires range { IsRange self.bytes.now place.start place.end }
-        requires kind { AreOfKind place.kind
-            (take (place.end - place.start) (drop place.start self.bytes.now)) }
-        ensures start { result.start ≡ place.start }
-        ensures end { result.end ≡ place.end }
-        ensures taken { IsTaken place.kind
-            (take (place.end - place.start) (drop place.start self.entry.bytes.now)) result.taken }
+    pub(crate) fn take_run(self, range: RunRange) -> Run<'a>
+        requires range { IsRange self.bytes.now range.start range.end }
+        requires kind { AreOfKind range.kind
+            (take (range.end - range.start) (drop range.start self.bytes.now)) }
+        ensures start { result.start ≡ range.start }
+        ensures end { result.end ≡ range.end }
+        ensures taken { IsTaken range.kind
+            (take (range.end - range.start) (drop range.start self.entry.bytes.now)) result.taken }
     {
-        let taken = match place.kind {
-            RunKind::OfText => Taken::Text(self.text(place.start, place.end)),
-            RunKind::OfData => Taken::Data(self.data(place.start, place.end)),
+        let taken = match range.kind {
+            RunKind::OfText => Taken::Text(self.text(range.start, range.end)),
+            RunKind::OfData => Taken::Data(self.data(range.start, range.end)),
             RunKind::Empty => Taken::Nothing,
         };
         Run {
-            start: place.start,
-            end: place.end,
+            start: range.start,
+            end: range.end,
             taken,
         }
     }

@@ -49,25 +49,25 @@ stops-later limit p f rest (position ∷ positions) all is (from, order) =
 
 -- ---- from a state to the end of a run
 
-module _ {V W : Type 0} (m : Meaning V W) (u : State V W) where
+module _ {V W : Type 0} (m : Meaning V W) (end : State V W) where
   -- what the handler is still told if bytes were parsed, with these stops, and its value is this
   pub record HasStillToTell (parsed stops : List ℕ) (value : V) : Type 0 where
     pub more : List ℕ
-    pub parsed_is : u.parsed ≡ parsed ++ more
+    pub parsed_is : end.parsed ≡ parsed ++ more
     pub positions : List ℕ
-    pub stops_are : u.stops ≡ stops ++ positions
-    pub in_order : AreInOrder (length parsed) positions (length u.parsed)
-    pub told : u.handler ≡ after m.step value (calls_with_stops m.limit u.parsed (length parsed) positions)
+    pub stops_are : end.stops ≡ stops ++ positions
+    pub in_order : AreInOrder (length parsed) positions (length end.parsed)
+    pub told : end.handler ≡ after m.step value (calls_with_stops m.limit end.parsed (length parsed) positions)
 
   abbrev TellsAt : State V W → Type 0
   TellsAt t = HasStillToTell t.parsed t.stops t.handler
 
-  tells-nothing : TellsAt u
+  tells-nothing : TellsAt end
   tells-nothing = record {
     more = [];
-    parsed_is = sym (append-nil u.parsed);
+    parsed_is = sym (append-nil end.parsed);
     positions = [];
-    stops_are = sym (append-nil u.stops);
+    stops_are = sym (append-nil end.stops);
     in_order = omega arith;
     told = rw between_none refl;
   }
@@ -80,7 +80,7 @@ module _ {V W : Type 0} (m : Meaning V W) (u : State V W) where
     positions = e.positions;
     stops_are = e.stops_are;
     in_order = order_sooner p f e.positions _ e.in_order;
-    told = rw (stops-later m.limit p f e.more e.positions u.parsed e.parsed_is e.in_order, after-append) e.told;
+    told = rw (stops-later m.limit p f e.more e.positions end.parsed e.parsed_is e.in_order, after-append) e.told;
   }
 
   tells-stop : (t : State V W) → TellsAt (stop m t) → TellsAt t
@@ -122,7 +122,7 @@ module _ {V W : Type 0} (m : Meaning V W) (u : State V W) where
   tells-advances t v (b ∷ r) (turns pending allowed more) e =
       tells-turn pending t (b ∷ r) (tells-advances _ v _ more e)
 
-  pub tells-replay : (t : State V W) (steps : List Step) → TakesSteps m t steps u → TellsAt t
+  pub tells-replay : (t : State V W) (steps : List Step) → TakesSteps m t steps end → TellsAt t
   tells-replay t [] same = rw same tells-nothing
   tells-replay t (Advance bytes ∷ steps) (next, (a, r)) = tells-advances t next bytes.now a (tells-replay next steps r)
   tells-replay t (StopSync ∷ steps) r = tells-stop t (tells-replay (stop m t) steps r)

@@ -42,15 +42,16 @@ module _ {V W : Type 0} (m : Meaning V W) where
   ]
 
 -- the hold has the new bytes, and the timeout was set as often as they begin updates
-module _ {P B T A V W : Type 0} {w : EngineMeaning P B T W} (m : Meaning V W) {s : State V W} {more : List ℕ}
+module _ {P B T A V W : Type 0} {parts : EngineMeaning P B T W} (m : Meaning V W) {s : State V W} {more : List ℕ}
     {old : Engine P B T A} {hold : Hold A} {timeout : T} {begins : ℕ} {value : V}
-    (at : EngineIsAt w old value s) (added : IsAdded s.held more hold begins)
-    (is_set : w.timeout_of timeout ≡ set_times m.timeout begins (w.timeout_of old.state.timeout))
-    (room : w.reading.has_memory old.parser (w.room_of old.state.text) s.parsed (length s.held + length more)) where
+    (at : EngineIsAt parts old value s) (added : IsAdded s.held more hold begins)
+    (is_set : parts.timeout_of timeout ≡ set_times m.timeout begins (parts.timeout_of old.state.timeout))
+    (room : parts.reading.has_memory old.parser (parts.room_of old.state.text) s.parsed
+    (length s.held + length more)) where
   abbrev set : Engine P B T A
   set = record old { hold = hold; state = record old.state { timeout = timeout } }
 
-  extended : IsParsed w set.parser set.state value (extend m s more)
+  extended : IsParsed parts set.parser set.state value (extend m s more)
   extended = record {
     has_read = at.stands.has_read;
     last = at.stands.last;
@@ -60,13 +61,13 @@ module _ {P B T A V W : Type 0} {w : EngineMeaning P B T W} (m : Meaning V W) {s
 
   -- the released bytes are parsed, and the others stay held, with memory to parse them
   pub turned_cut : {last : Engine P B T A} {next : V} → 0 < length (held_of hold)
-      → ((t : State V W) (n : ℕ) → IsParsed w set.parser set.state value t
+      → ((t : State V W) (n : ℕ) → IsParsed parts set.parser set.state value t
       → (0 < length (released_of hold)
-      → w.reading.has_memory set.parser (w.room_of set.state.text) t.parsed (length (released_of hold) + n))
-      → IsParsedKeeping w set.parser set.state last.parser last.state next (parse m t (released_of hold)))
-      → ((t : State V W) (n : ℕ) → IsParsedWithRoom w set.parser set.state value t (length (released_of hold) + n)
-      → w.reading.has_memory last.parser (w.room_of last.state.text) (t.parsed ++ released_of hold) n)
-      → last.hold ≡ hold → EngineIsAtKeeping w old last next (hold_turn m s more)
+      → parts.reading.has_memory set.parser (parts.room_of set.state.text) t.parsed (length (released_of hold) + n))
+      → IsParsedKeeping parts set.parser set.state last.parser last.state next (parse m t (released_of hold)))
+      → ((t : State V W) (n : ℕ) → IsParsedWithRoom parts set.parser set.state value t (length (released_of hold) + n)
+      → parts.reading.has_memory last.parser (parts.room_of last.state.text) (t.parsed ++ released_of hold) n)
+      → last.hold ≡ hold → EngineIsAtKeeping parts old last next (hold_turn m s more)
   turned_cut {last} {next} some parses leaves kept =
       let t = extend m s more in
       let all = s.held ++ more in
@@ -79,11 +80,12 @@ module _ {P B T A V W : Type 0} {w : EngineMeaning P B T W} (m : Meaning V W) {s
             (stays_held all).suffix,
         length-append s.held more,
       )) in
-      let ready : w.reading.has_memory set.parser (w.room_of set.state.text) s.parsed (length (released_of hold) + rest)
+      let ready : parts.reading.has_memory set.parser (parts.room_of set.state.text) s.parsed
+      (length (released_of hold) + rest)
       =
       rw sum room in
       let there = parses t rest extended (λ some. ready) in
-      let parsed : IsParsed w last.parser last.state next
+      let parsed : IsParsed parts last.parser last.state next
       (parse m t (take (length all - length (still_held all)) all)) =
       rw added.released_is at there.is_parsed in
       rw (holds_some m s more (rw added.held_is at some)) (record {
@@ -105,11 +107,12 @@ module _ {P B T A V W : Type 0} {w : EngineMeaning P B T W} (m : Meaning V W) {s
 
   -- the update is stopped
   pub turned_stop : {last : Engine P B T A} {next : V} → 0 < length more → length (held_of hold) ≡ 0
-      → ((t : State V W) (n : ℕ) → IsParsed w set.parser set.state value t → released_of hold ≡ t.held
+      → ((t : State V W) (n : ℕ) → IsParsed parts set.parser set.state value t → released_of hold ≡ t.held
       → held_of hold ≡ []
-      → (0 < length t.held → w.reading.has_memory set.parser (w.room_of set.state.text) t.parsed (length t.held + n))
-      → EngineIsAtKeeping w set last next (stop m t))
-      → EngineIsAtKeeping w old last next (hold_turn m s more)
+      → (0 < length t.held → parts.reading.has_memory set.parser (parts.room_of set.state.text) t.parsed
+      (length t.held + n))
+      → EngineIsAtKeeping parts set last next (stop m t))
+      → EngineIsAtKeeping parts old last next (hold_turn m s more)
   turned_stop {last} {next} some is stops =
       let all = s.held ++ more in
       let none : held_of hold ≡ [] = nil_from_length (held_of hold) is in
@@ -117,7 +120,7 @@ module _ {P B T A V W : Type 0} {w : EngineMeaning P B T W} (m : Meaning V W) {s
       let whole : released_of hold ≡ all =
       added.released_is ∙ rw nothing (take_all (length all - 0) all (omega arith)) in
       let sum : length all + 0 ≡ length s.held + length more = omega (arith, length-append s.held more) in
-      let there : EngineIsAtKeeping w set last next (stop m (extend m s more)) =
+      let there : EngineIsAtKeeping parts set last next (stop m (extend m s more)) =
       stops (extend m s more) 0 extended whole none (λ some. rw sum room) in
       rw (holds_none m s more (omega (arith, some, length-append s.held more)) nothing)
       (record { are_at = there.are_at; memory = there.memory })

@@ -10,61 +10,64 @@ use Rattle.vte.proofs.turns.Kinds.{halts_open, is_held, stop_if_due, turn_holds,
 use Rattle.vte.proofs.turns.Slices.{all_taken, halts, one_taken, some_grow, some_on, some_well, taken_on}
 
 -- an engine stands where its parts do
-module _ {P B T A V W : Type 0} {w : EngineMeaning P B T W} {engine : Engine P B T A} {value : V} {s : State V W} where
-  pub parts-at : EngineIsAt w engine value s → IsParsed w engine.parser engine.state value s
-  parts-at at = record {
-    has_read = at.stands.has_read;
-    last = at.stands.last;
-    timeout_is = at.stands.timeout_is;
-    handler_is = at.handler_is;
-  }
+module _ {P B T A V W : Type 0} {parts : EngineMeaning P B T W} {engine : Engine P B T A} {value : V} {s : State V W}
+  where
+    pub parts-at : EngineIsAt parts engine value s → IsParsed parts engine.parser engine.state value s
+    parts-at at = record {
+      has_read = at.stands.has_read;
+      last = at.stands.last;
+      timeout_is = at.stands.timeout_is;
+      handler_is = at.handler_is;
+    }
 
-  -- if they hold nothing
-  pub at-parts : IsParsed w engine.parser engine.state value s → held_of engine.hold ≡ s.held → s.held ≡ []
-      → EngineIsAt w engine value s
-  at-parts parsed holds none = record {
-    stands =
-        record {
-          has_read = parsed.has_read;
-          last = parsed.last;
-          timeout_is = parsed.timeout_is;
-          holds = holds;
-          has_memory = λ some. absurd (omega (arith, some, ap length none));
-        };
-    handler_is = parsed.handler_is;
-  }
+    -- if they hold nothing
+    pub at-parts : IsParsed parts engine.parser engine.state value s → held_of engine.hold ≡ s.held → s.held ≡ []
+        → EngineIsAt parts engine value s
+    at-parts parsed holds none = record {
+      stands =
+          record {
+            has_read = parsed.has_read;
+            last = parsed.last;
+            timeout_is = parsed.timeout_is;
+            holds = holds;
+            has_memory = λ some. absurd (omega (arith, some, ap length none));
+          };
+      handler_is = parsed.handler_is;
+    }
 
 -- turns that go on, with the memory that was there before
-module _ {P B T A V W : Type 0} {w : EngineMeaning P B T W} {value : V} {s : State V W} where
-  pub next-at : {engine : Engine P B T A} → EngineIsAt w engine value s → EngineIsAtKeeping w engine engine value s
+module _ {P B T A V W : Type 0} {parts : EngineMeaning P B T W} {value : V} {s : State V W} where
+  pub next-at : {engine : Engine P B T A} → EngineIsAt parts engine value s
+      → EngineIsAtKeeping parts engine engine value s
   next-at at = record { are_at = at; memory = λ stream count had. had }
 
-  pub after-next : {old mid new : Engine P B T A} → KeepsMemory (EngineHasMemory w old) (EngineHasMemory w mid)
-      → EngineIsAtKeeping w mid new value s → EngineIsAtKeeping w old new value s
+  pub after-next : {old mid new : Engine P B T A} → KeepsMemory (EngineHasMemory parts old) (EngineHasMemory parts mid)
+      → EngineIsAtKeeping parts mid new value s → EngineIsAtKeeping parts old new value s
   after-next keeps next =
       record { are_at = next.are_at; memory = λ stream count had. next.memory stream count (keeps stream count had) }
 
   -- they stand where they stood, and the handler is the same
-  pub kept-next : {old mid new : Engine P B T A} {more : ℕ} {result : Bool} → EngineReserves w mid new more result
-      → EngineIsAtKeeping w old mid value s → EngineIsAtKeeping w old new value s
+  pub kept-next : {old mid new : Engine P B T A} {more : ℕ} {result : Bool} → EngineReserves parts mid new more result
+      → EngineIsAtKeeping parts old mid value s → EngineIsAtKeeping parts old new value s
   kept-next r at = record {
     are_at = record { stands = r.same s.parsed s.held s.timeout at.are_at.stands; handler_is = at.are_at.handler_is };
     memory = λ stream count had. r.memory stream count (at.memory stream count had);
   }
 
 -- a slice is parsed with the memory that was taken for it
-module _ {P B T A V W : Type 0} {w : EngineMeaning P B T W} {m : Meaning V W} {s : State V W} {bytes slice : List ℕ}
+module _ {P B T A V W : Type 0} {parts : EngineMeaning P B T W} {m : Meaning V W} {s : State V W} {bytes slice : List ℕ}
     {read count n : ℕ} {b : Bool}
     {first old taken : Engine P B T A} {parser : P} {state : PerformerState T B} {before value : V} where
-  pub slice_parsed : IsOpenAt m s bytes read (EngineIsAtKeeping w first old before)
-      → EngineReserves w old taken count true
+  pub slice_parsed : IsOpenAt m s bytes read (EngineIsAtKeeping parts first old before)
+      → EngineReserves parts old taken count true
       → length slice ≡ count → s.held ≡ []
-      → ((t : State V W) (k : ℕ) → IsParsedWithRoom w taken.parser taken.state before t (length slice + k)
-      → IsAtBegin m t slice n b (IsParsedKeeping w taken.parser taken.state parser state value))
+      → ((t : State V W) (k : ℕ) → IsParsedWithRoom parts taken.parser taken.state before t (length slice + k)
+      → IsAtBegin m t slice n b (IsParsedKeeping parts taken.parser taken.state parser state value))
       → IsAtBegin m (parse m s (take read bytes)) slice n b
-      (EngineIsAtKeeping w first (record taken { parser = parser; state = state }) value)
+      (EngineIsAtKeeping parts first (record taken { parser = parser; state = state }) value)
   slice_parsed o reserved size none parses =
-      let here : EngineIsAtKeeping w first taken before (parse m s (take read bytes)) = kept-next reserved o.is_at in
+      let here : EngineIsAtKeeping parts first taken before
+      (parse m s (take read bytes)) = kept-next reserved o.is_at in
       let all : length slice + 0 ≡ length s.held + count = omega (arith, size, ap length none) in
       let p =
       parses (parse m s (take read bytes)) 0
@@ -81,28 +84,29 @@ module _ {P B T A V W : Type 0} {w : EngineMeaning P B T W} {m : Meaning V W} {s
       }
 
 -- after a stop
-pub stops_update : {P B T A V W : Type 0} {w : EngineMeaning P B T W} {m : Meaning V W} {old mid new : Engine P B T A}
-    {before value : V} → KeepsMemory (EngineHasMemory w old) (EngineHasMemory w mid)
-    → ((s : State V W) → EngineIsAt w old before s → EngineIsAtKeeping w mid new value (stop m s))
-    → EngineStops w m old new before value
+pub stops_update : {P B T A V W : Type 0} {parts : EngineMeaning P B T W} {m : Meaning V W}
+    {old mid new : Engine P B T A}
+    {before value : V} → KeepsMemory (EngineHasMemory parts old) (EngineHasMemory parts mid)
+    → ((s : State V W) → EngineIsAt parts old before s → EngineIsAtKeeping parts mid new value (stop m s))
+    → EngineStops parts m old new before value
 stops_update {m} keeps ends = record {
   stops = λ s at. (ends s at).are_at;
   memory = λ s at stream count had. (ends s at).memory stream count (keeps stream count had);
 }
 
-pub stops-next : {P B T A V W : Type 0} {w : EngineMeaning P B T W} {m : Meaning V W} {old new : Engine P B T A}
-    {before value : V} {s : State V W} → EngineStops w m old new before value
-    → EngineIsAt w old before s → EngineIsAtKeeping w old new value (stop m s)
+pub stops-next : {P B T A V W : Type 0} {parts : EngineMeaning P B T W} {m : Meaning V W} {old new : Engine P B T A}
+    {before value : V} {s : State V W} → EngineStops parts m old new before value
+    → EngineIsAt parts old before s → EngineIsAtKeeping parts old new value (stop m s)
 stops-next stopped at = record { are_at = stopped.stops _ at; memory = stopped.memory _ at }
 
 -- a turn that parses bytes, after a stop if need be
-pub ends_turn : {P B T A V W : Type 0} {w : EngineMeaning P B T W} {m : Meaning V W} {old mid new : Engine P B T A}
+pub ends_turn : {P B T A V W : Type 0} {parts : EngineMeaning P B T W} {m : Meaning V W} {old mid new : Engine P B T A}
     {value : V} {s : State V W} {bytes : List ℕ} (pending : Bool)
     → m.timeout.allows s.timeout pending → is_held pending s bytes ≡ false
-    → KeepsMemory (EngineHasMemory w old) (EngineHasMemory w mid) → (result : Result ℕ Refused)
+    → KeepsMemory (EngineHasMemory parts old) (EngineHasMemory parts mid) → (result : Result ℕ Refused)
     → MatchResult result (λ read. read ≤ length bytes) (λ refused. refused.read < length bytes)
-    → EndsOpen m (stop_if_due m pending s) bytes result (EngineIsAtKeeping w mid new value)
-    → EndsTurn m s bytes result (EngineIsAtKeeping w old new value)
+    → EndsOpen m (stop_if_due m pending s) bytes result (EngineIsAtKeeping parts mid new value)
+    → EndsTurn m s bytes result (EngineIsAtKeeping parts old new value)
 ends_turn {m} {s} {bytes} pending allowed parses keeps (Ok read) less e = record {
   turned =
       record {
@@ -161,22 +165,24 @@ module _ {V W : Type 0} (m : Meaning V W) (s : State V W) (bytes : List ℕ) whe
   pub reaches-nothing : {IsThere : State V W → Type 0} → IsThere s → HasReached 0 0 IsThere
   reaches-nothing at = record { here = s; enough = omega arith; takes = done; is_at = at }
 
-  pub reaches-more : {P B T A : Type 0} {w : EngineMeaning P B T W} {first mid new : Engine P B T A} {before value : V}
+  pub reaches-more : {P B T A : Type 0} {parts : EngineMeaning P B T W} {first mid new : Engine P B T A}
+      {before value : V}
       {count read n : ℕ}
-      → (r : HasReached count read (EngineIsAtKeeping w first mid before)) → read < length bytes
-      → Turned m r.here (take (length bytes - read) (drop read bytes)) n (EngineIsAtKeeping w mid new value)
-      → HasReached (count + 1) (read + n) (EngineIsAtKeeping w first new value)
-  reaches-more {count} {read} {n} r some u =
+      → (r : HasReached count read (EngineIsAtKeeping parts first mid before)) → read < length bytes
+      → Turned m r.here (take (length bytes - read) (drop read bytes)) n (EngineIsAtKeeping parts mid new value)
+      → HasReached (count + 1) (read + n) (EngineIsAtKeeping parts first new value)
+  reaches-more {count} {read} {n} r some turned =
       let slice = take (length bytes - read) (drop read bytes) in
       let is : slice ≡ drop read bytes = rest_is bytes read (omega arith) in
       let left : 0 < length slice = rw (is, length-drop read bytes) (omega arith) in
-      let rest : (turn m u.pending r.here slice).rest ≡ drop (read + n) bytes =
-      u.rest ∙ rw (is, drop-drop n read bytes) in
+      let rest : (turn m turned.pending r.here slice).rest ≡ drop (read + n) bytes =
+      turned.rest ∙ rw (is, drop-drop n read bytes) in
       record {
-        here = (turn m u.pending r.here slice).state;
-        enough = omega (arith, r.enough, u.progress left);
-        takes = rw rest at (taken_on m s r.here _ bytes slice _ (rw is r.takes) (one_taken m u.pending left u.allowed));
-        is_at = after-next r.is_at.memory u.is_at;
+        here = (turn m turned.pending r.here slice).state;
+        enough = omega (arith, r.enough, turned.progress left);
+        takes = rw rest at
+            (taken_on m s r.here _ bytes slice _ (rw is r.takes) (one_taken m turned.pending left turned.allowed));
+        is_at = after-next r.is_at.memory turned.is_at;
       }
 
   taken : {read : ℕ} {IsThere : State V W → Type 0} (t : State V W) → TakesSome m s bytes t (drop read bytes)
@@ -197,11 +203,12 @@ module _ {V W : Type 0} (m : Meaning V W) (s : State V W) (bytes : List ℕ) whe
   has_taken r = taken r.here (between r.takes) r.is_at
 
   -- a turn was refused memory
-  pub has_halted : {P B T A : Type 0} {w : EngineMeaning P B T W} {first mid new : Engine P B T A} {before value : V}
+  pub has_halted : {P B T A : Type 0} {parts : EngineMeaning P B T W} {first mid new : Engine P B T A}
+      {before value : V}
       {count read n : ℕ}
-      → (r : HasReached count read (EngineIsAtKeeping w first mid before)) → read ≤ length bytes
-      → Halted m r.here (take (length bytes - read) (drop read bytes)) n (EngineIsAtKeeping w mid new value)
-      → HasTaken m s bytes (read + n) (EngineIsAtKeeping w first new value)
+      → (r : HasReached count read (EngineIsAtKeeping parts first mid before)) → read ≤ length bytes
+      → Halted m r.here (take (length bytes - read) (drop read bytes)) n (EngineIsAtKeeping parts mid new value)
+      → HasTaken m s bytes (read + n) (EngineIsAtKeeping parts first new value)
   has_halted {read} {n} r inside h =
       let slice = take (length bytes - read) (drop read bytes) in
       let is : slice ≡ drop read bytes = rest_is bytes read inside in
@@ -233,18 +240,19 @@ module _ {V W : Type 0} {m : Meaning V W} {s : State V W} {bytes : List ℕ} {re
         is_at = follows h.next h.is_at;
       }
 
-  taken-at : {P B T A : Type 0} {w : EngineMeaning P B T W} {old new : Engine P B T A} {value : V}
-      → HasTaken m s bytes read (EngineIsAtKeeping w old new value) → HasTaken m s bytes read (EngineIsAt w new value)
+  taken-at : {P B T A : Type 0} {parts : EngineMeaning P B T W} {old new : Engine P B T A} {value : V}
+      → HasTaken m s bytes read (EngineIsAtKeeping parts old new value)
+      → HasTaken m s bytes read (EngineIsAt parts new value)
   taken-at = taken-to (λ t next. next.are_at)
 
 -- what a call ensures by its turns
-module _ {P B T A V W : Type 0} {w : EngineMeaning P B T W} {m : Meaning V W} {old new : Engine P B T A}
+module _ {P B T A V W : Type 0} {parts : EngineMeaning P B T W} {m : Meaning V W} {old new : Engine P B T A}
     {before value : V} (bytes : List ℕ) where
   pub all_read : {count read : ℕ}
-      → ((s : State V W) → EngineIsAt w old before s
-      → HasReached m s bytes count read (EngineIsAtKeeping w old new value))
-      → ((s : State V W) → EngineIsAt w old before s → read ≡ length bytes)
-      → EngineReads w m old new before value bytes (Ok tt)
+      → ((s : State V W) → EngineIsAt parts old before s
+      → HasReached m s bytes count read (EngineIsAtKeeping parts old new value))
+      → ((s : State V W) → EngineIsAt parts old before s → read ≡ length bytes)
+      → EngineReads parts m old new before value bytes (Ok tt)
   all_read reaches is = record {
     takes = λ s at. rw (is s at) at (taken-at (has_taken m s bytes (reaches s at)));
     within = tt;
@@ -253,10 +261,10 @@ module _ {P B T A V W : Type 0} {w : EngineMeaning P B T W} {m : Meaning V W} {o
   }
 
   pub read_until : {refused : Refused}
-      → ((s : State V W) → EngineIsAt w old before s
-      → HasTaken m s bytes refused.read (EngineIsAtKeeping w old new value))
-      → refused.read < length bytes → EngineLacksMemory w new (length bytes - refused.read)
-      → EngineReads w m old new before value bytes (Err refused)
+      → ((s : State V W) → EngineIsAt parts old before s
+      → HasTaken m s bytes refused.read (EngineIsAtKeeping parts old new value))
+      → refused.read < length bytes → EngineLacksMemory parts new (length bytes - refused.read)
+      → EngineReads parts m old new before value bytes (Err refused)
   read_until taken less lacks =
       record {
         takes = λ s at. taken-at (taken s at);

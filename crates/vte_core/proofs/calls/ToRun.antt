@@ -31,7 +31,7 @@ has-nowhere {limit} {bytes} {from} {place} {parser} within starts ends kind =
     ap (λ n. take n (drop place.start bytes))
     (let e : place.end - place.start ≡ 0 = omega (arith, starts, ends) in e) in
     record {
-      range = record { in_order = omega (arith, starts, ends); within = omega (arith, within, ends) };
+      is_range = record { in_order = omega (arith, starts, ends); within = omega (arith, within, ends) };
       kind = rw kind tt;
       whole = rw kind (starts ∙ sym ends);
       adds = λ stream h. rw (kind, none) (added-nothing limit stream);
@@ -66,7 +66,7 @@ has-run {limit} {bytes} {place} {parser} here is only reads range kind whole =
     let these : List ℕ = bytes_at bytes place in
     let events : List Event = kind_events place.kind these in
     record {
-      range = range;
+      is_range = range;
       kind = kind;
       whole = whole;
       adds =
@@ -206,17 +206,17 @@ takes-run : {B : Type 0} {limit : Option ℕ} {bytes : List ℕ} {place : RunRan
     → HasRun limit bytes place parser
     → IsTaken place.kind (bytes_at bytes place) taken → TakesRun bytes place.end (bytes_at bytes place) place.kind taken
 takes-run {bytes} {place} taken h is =
-    takes bytes place place.kind taken is h.kind (size_at bytes place h.range) h.whole
+    takes bytes place place.kind taken is h.kind (size_at bytes place h.is_range) h.whole
 
 stands-run : {B : Type 0} {limit : Option ℕ} {bytes : List ℕ} {run : Run} {place : RunRange} {parser : Machine B}
     → HasRun limit bytes place parser → run.start ≡ place.start
     → run.end ≡ place.end → IsTaken place.kind (bytes_at bytes place) run.taken → IsRunIn bytes run
 stands-run {bytes} {run} {place} h starts ends taken =
     let these = takes-run run.taken h taken in
-    let size = size_at bytes place h.range in
+    let size = size_at bytes place h.is_range in
     record {
-      end = rw (these.are, size, starts, ends) (omega (arith, h.range.in_order));
-      within = rw ends h.range.within;
+      end = rw (these.are, size, starts, ends) (omega (arith, h.is_range.in_order));
+      within = rw ends h.is_range.within;
       is = rw (these.are, size, starts) refl;
       whole = rw ends these.whole;
     }
@@ -234,7 +234,7 @@ module _ {V B : Type 0} {call : ChunkCall V} {old new : V} (run : Run) {place : 
         comes =
             λ stream h.
             rw starts
-            (ends-comes does (omega (arith, c.has.range.in_order, c.has.range.within)) (c.stands_at stream h));
+            (ends-comes does (omega (arith, c.has.is_range.in_order, c.has.is_range.within)) (c.stands_at stream h));
         adds = λ stream h. rw (starts, these.are, these.events) (c.has.adds _ (ends-reads (c.stands_at stream h)));
         may_go_on = λ some. c.may_go_on (omega (arith, some, starts, ends));
         stops = λ none left. c.stops (omega (arith, none, starts, ends)) (omega (arith, left, starts));

@@ -48,11 +48,16 @@ pub record Steps (limit : Option ℕ) (place : Place) (b : ℕ) : Type 0 where
   pub told : List Event
   pub next : Place
   pub is_place : IsPlace next
+  -- for `after-reads`
   pub reads : Reads limit place (b ∷ []) told next
+  -- for `laws::bytes_are_brief`
   pub brief : (size : Option ℕ) → FitsLeft size (left_at limit place) → IsBrief size told
+  -- for the size of a command without a limit
   pub grows : limit ≡ None → data_left (left_at limit next) ≤ data_left (left_at limit place) + 1
+  -- for early stops: nothing is told where a character is left open
   pub leaves : LeavesOpen next told
   pub little : IsText place → breaks (open_at place) (b ∷ []) ≡ false → IsLittle next told
+  -- for `advance_to_run`
   pub quietly : IsQuiet place b → AreOthers told
 
 -- a step of a byte that is not ESC

@@ -30,7 +30,7 @@ pub record AddsCharacter (limit : Option ℕ) (stream begun bytes : List ℕ) (i
   pub are : All IsQuietEvent events ⊎ AreWhole begun bytes i events
 
 -- The call goes on to position j, in a text if bytes are left, and tells a character or none. At
--- place i a parser would stand inside the character that `begun` begins.
+-- position i a parser would stand inside the character that `begun` begins.
 pub record Completes {V B : Type 0} (call : ChunkCall V) (old new : V) (i j : ℕ)
     (begun : Unfinished) (next : Machine B) : Type 0 where
   pub stands_at : (value : V) (stream : List ℕ) (parser : Machine B) → parser.state ≡ Text begun

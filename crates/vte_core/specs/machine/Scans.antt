@@ -4,13 +4,13 @@ use Rattle.vte_core.specs.declared.scan.Looks.{Looks}
 use Rattle.vte_core.specs.Looks.{looked}
 use Rattle.vte_core.specs.machine.Each.{Each}
 
--- The places stand in order, and within the bytes.
+-- The positions stand in order, and within the bytes.
 pub record IsRange (bytes : List ℕ) (from to : ℕ) : Type 0 where
   pub in_order : from ≤ to
   pub within : to ≤ length bytes
 
--- A search from one place ends at another, takes at least one look for each byte between, and has
--- found out what these are.
+-- A search from one position ends at another, takes at least one look for each byte between, and
+-- has found out what these are.
 pub record Scans {B : Type 0} (Are : List ℕ → ℕ → ℕ → Type 0) (bytes : List ℕ) (from to : ℕ)
     (before after : Looks B) : Type 0 where
   pub low : from ≤ to
@@ -18,7 +18,7 @@ pub record Scans {B : Type 0} (Are : List ℕ → ℕ → ℕ → Type 0) (bytes
   pub are : Are bytes from to
   pub least : looked before + to ≤ looked after + from
 
--- A search from one place ends at another: at the first byte that `Is` doesn't hold of, or with
+-- A search from one position ends at another: at the first byte that `Is` doesn't hold of, or with
 -- the bytes. It looks once at each byte up to there, and at the byte there.
 pub record FindsEnd {B : Type 0} (Is : ℕ → Type 0) (bytes : List ℕ) (from to : ℕ)
     (before after : Looks B) : Type 0 where

@@ -31,9 +31,9 @@ IsQuietIn (Text _) b = ⊥
 IsQuietIn DeviceData b = is_device_data (class_of b) ≡ false
 IsQuietIn _ b = ⊤
 
--- The bytes that stand at the place.
+-- The bytes of the range.
 abbrev pub bytes_at : List ℕ → RunRange → List ℕ
-bytes_at bytes place = take (place.end - place.start) (drop place.start bytes)
+bytes_at bytes range = take (range.end - range.start) (drop range.start bytes)
 
 -- Text consists of characters, none of which is a control.
 abbrev pub AreOfKind : RunKind → List ℕ → Type 0
@@ -55,38 +55,38 @@ kind_events Empty bytes = []
 
 -- Nothing of the kind stands where the run ends. A run isn't empty.
 abbrev pub IsWholeAt : List ℕ → RunRange → RunKind → Type 0
-IsWholeAt bytes place OfText = (place.start < place.end) × EndsRun false bytes place.end
-IsWholeAt bytes place OfData =
-    (place.start < place.end) × (place.end < length bytes → IsPut (slice_index bytes place.end) → ⊥)
-IsWholeAt bytes place Empty = place.start ≡ place.end
+IsWholeAt bytes range OfText = (range.start < range.end) × EndsRun false bytes range.end
+IsWholeAt bytes range OfData =
+    (range.start < range.end) × (range.end < length bytes → IsPut (slice_index bytes range.end) → ⊥)
+IsWholeAt bytes range Empty = range.start ≡ range.end
 
 -- A run stands there, adds its events to what the parser has read, and leaves the parser as it is.
-pub record HasRun {B : Type 0} (limit : Option ℕ) (bytes : List ℕ) (place : RunRange)
+pub record HasRun {B : Type 0} (limit : Option ℕ) (bytes : List ℕ) (range : RunRange)
     (parser : Machine B) : Type 0 where
-  pub range : IsRange bytes place.start place.end
-  pub kind : AreOfKind place.kind (bytes_at bytes place)
-  pub whole : IsWholeAt bytes place place.kind
+  pub is_range : IsRange bytes range.start range.end
+  pub kind : AreOfKind range.kind (bytes_at bytes range)
+  pub whole : IsWholeAt bytes range range.kind
   pub adds : (stream : List ℕ) → HasReadUnder limit parser stream
-      → added limit stream (bytes_at bytes place) ≡ kind_events place.kind (bytes_at bytes place)
+      → added limit stream (bytes_at bytes range) ≡ kind_events range.kind (bytes_at bytes range)
   pub reads : (stream : List ℕ) → HasReadUnder limit parser stream
-      → HasReadUnder limit parser (stream ++ bytes_at bytes place)
+      → HasReadUnder limit parser (stream ++ bytes_at bytes range)
 
 -- The call came to a run, to its end or to a stop.
-pub record ComesToRun {V B : Type 0} (call : ChunkCall V) (old new : V) (place : RunRange)
+pub record ComesToRun {V B : Type 0} (call : ChunkCall V) (old new : V) (range : RunRange)
     (parser next : Machine B) : Type 0 where
-  pub has : HasRun call.limit call.bytes place next
+  pub has : HasRun call.limit call.bytes range next
   pub stands_at : (stream : List ℕ) → HasReadUnder call.limit parser stream
-      → StandsAt call old new stream place.start next
-  pub may_go_on : place.start < place.end → call.is_terminated new ≡ false
-  pub stops : place.end ≡ place.start → place.start < length call.bytes
+      → StandsAt call old new stream range.start next
+  pub may_go_on : range.start < range.end → call.is_terminated new ≡ false
+  pub stops : range.end ≡ range.start → range.start < length call.bytes
       → call.is_terminated new ≡ true
 
 -- How many bytes a call with this result performed.
 abbrev pub performed_up_to : Result RunRange Refused → ℕ
-performed_up_to (Ok place) = place.start
+performed_up_to (Ok range) = range.start
 performed_up_to (Err refused) = refused.read
 
 -- How many bytes a call with this result read.
 abbrev pub read_up_to : Result RunRange Refused → ℕ
-read_up_to (Ok place) = place.end
+read_up_to (Ok range) = range.end
 read_up_to (Err refused) = refused.read

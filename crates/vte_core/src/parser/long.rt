@@ -200,10 +200,10 @@ impl<A: Allocator> LongParser<A> {
             (P.value_of performer.new) bytes.now result self.old self.new }
     {
         let input = Input::new(bytes);
-        let place = self
+        let range = self
             .machine
             .drive_to_run(&mut self.looks, performer, input)?;
-        Ok(input.take_run(place))
+        Ok(input.take_run(range))
     }
 
     /// Returns whether a character or a sequence is unfinished.

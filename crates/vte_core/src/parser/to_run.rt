@@ -35,7 +35,7 @@ impl<const OSC_RAW_BUF_SIZE: usize> Parser<OSC_RAW_BUF_SIZE> {
     {
         let input = Input::new(bytes);
         match self.machine.drive_to_run(&mut self.looks, performer, input) {
-            Ok(place) => input.take_run(place),
+            Ok(range) => input.take_run(range),
             // Never: with a limit no memory is refused.
             Err(refused) => input.take_run(RunRange::empty(refused.read)),
         }
@@ -52,9 +52,9 @@ impl<B: Buffer> Machine<B> {
         input: Input<'_, B>,
     ) -> Result<RunRange, Refused>
         ensures comes { IfOk result
-            (λ place. ComesToRun
+            (λ range. ComesToRun
             (chunk_call true P.step P.is_terminated B.limit input.entry.bytes.now)
-            (P.value_of performer.old) (P.value_of performer.new) place self.old self.new) }
+            (P.value_of performer.old) (P.value_of performer.new) range self.old self.new) }
         ensures refuses { IfErr result
             (λ refused. ReadsUntilRefused
             (chunk_call true P.step P.is_terminated B.limit input.entry.bytes.now)

@@ -1,7 +1,7 @@
 //! Searches for the byte that ends data, a text or a string.
 //!
-//! Ignored strings may hold megabytes, so blocks are taken. None is tried before a string has begun
-//! with single bytes, so that no byte is read often.
+//! Ignored strings may hold megabytes, so blocks are taken. No block is tried before a string has
+//! begun with single bytes, so that no byte is read often.
 ghost use Rattle.std.specs.Prelude.{◌≡◌, ◌≢◌, ◌+◌, ◌*◌, ◌<◌, ◌≤◌, ℕ, IsTrue, true, length, min, slice_index};
 ghost use Rattle.vte_core.specs.machine.Prelude.{AreIgnored, FindsEnd, IsCommandData, IsPut, IsRange, Scans, class_of, ends_all, looked};
 

@@ -85,7 +85,7 @@ impl<const OSC_RAW_BUF_SIZE: usize> Parser<OSC_RAW_BUF_SIZE> {
     /// Reads bytes up to a run of text, or of data of a device control string, and the run itself,
     /// which it returns instead of performing it.
     ///
-    /// A caller can take text from its own input in this way, with its place and without a copy:
+    /// A caller can take text from its own input in this way, with its position and without a copy:
     ///
     /// ```
     /// # use vte::{Parser, Perform, Taken};

@@ -1,8 +1,8 @@
 // Written by tools/erase from crates/vte_core/src/run.rt: edit that one.
 //! Where a run of printed text ends. `scan/taken.rt` has the runs that callers take.
 //!
-//! A word is eight bytes. None is tried before a run has begun with single bytes, so that no byte
-//! is read often.
+//! A word is eight bytes. No word is tried before a run has begun with single bytes, so that no
+//! byte is read often.
 
 use crate::proved::vte_core::automaton::skip_run_blocks;
 use crate::proved::vte_core::class::is_layout;
@@ -13,7 +13,7 @@ use crate::proved::vte_core::utf8::{
 };
 
 /// Longer runs go on in blocks.
-const LONG: usize = 48;
+const SHORT_RUN: usize = 48;
 
 /// Returns whether printed ASCII begins a run at a position: four bytes of it, of which the
 /// first was looked at, and `next` too.
@@ -52,7 +52,7 @@ pub(crate) fn find_run_end_at_lead<P: PerformAs<G>, G: Grain>(
         Some(second) if is_continuation(second) => match get(input, from + 2) {
             Some(third) if first < 0xe0 => {
                 if is_lead(third) && is_printed_pair(first, second) {
-                    find_run_end_for(performer, input, from + 2)
+                    find_run_end_of(performer, input, from + 2)
                 } else {
                     from
                 }
@@ -60,7 +60,7 @@ pub(crate) fn find_run_end_at_lead<P: PerformAs<G>, G: Grain>(
             Some(third)
                 if first < 0xf0 && is_continuation(third) && may_begin_three(first, second) =>
             {
-                find_run_end_for(performer, input, from + 3)
+                find_run_end_of(performer, input, from + 3)
             }
             _ => from,
         },
@@ -70,7 +70,7 @@ pub(crate) fn find_run_end_at_lead<P: PerformAs<G>, G: Grain>(
 
 /// Finds where the run ends that has come to a position, for a performer.
 #[inline(never)]
-pub(crate) fn find_run_end_for<P: PerformAs<G>, G: Grain>(
+pub(crate) fn find_run_end_of<P: PerformAs<G>, G: Grain>(
     performer: &P,
     input: &[u8],
     from: usize,
@@ -82,18 +82,18 @@ pub(crate) fn find_run_end_for<P: PerformAs<G>, G: Grain>(
 /// don't end it.
 #[inline(always)]
 pub(crate) fn find_run_end(input: &[u8], from: usize, keeps: bool) -> usize {
-    let to = input.len().min(from + LONG);
-    let end = find_end_before(input, from, to, keeps);
+    let to = input.len().min(from + SHORT_RUN);
+    let end = find_end_up_to(input, from, to, keeps);
     if end < to || end == input.len() {
         end
     } else {
-        find_long_run_end(input, end, keeps)
+        find_run_end_by_blocks(input, end, keeps)
     }
 }
 
 /// Finds where the run ends that has come to a position, or where it comes to or past another.
 #[inline(always)]
-fn find_end_before(input: &[u8], from: usize, to: usize, keeps: bool) -> usize {
+fn find_end_up_to(input: &[u8], from: usize, to: usize, keeps: bool) -> usize {
     let mut end = from;
     while end < to {
         let byte = input[end];
@@ -111,9 +111,9 @@ fn find_end_before(input: &[u8], from: usize, to: usize, keeps: bool) -> usize {
 
 /// Finds where a long run ends that has come to a position.
 #[inline(never)]
-fn find_long_run_end(input: &[u8], from: usize, keeps: bool) -> usize {
+fn find_run_end_by_blocks(input: &[u8], from: usize, keeps: bool) -> usize {
     let end = skip_run_blocks(input, from, keeps);
-    find_end_before(input, end, input.len(), keeps)
+    find_end_up_to(input, end, input.len(), keeps)
 }
 
 /// Finds where the character ends that stands at a position and is no printed ASCII, if a run
@@ -163,8 +163,8 @@ fn find_ascii_end(input: &[u8], from: usize) -> usize {
 fn find_end_by_words(input: &[u8], from: usize) -> usize {
     let mut end = from;
     while let Some(word) = get_block::<8>(input, end) {
-        if let Some(place) = first_unprinted(&word) {
-            return end + place;
+        if let Some(position) = first_unprinted(&word) {
+            return end + position;
         }
         end += 8;
     }

@@ -39,15 +39,15 @@ pub(crate) fn data(input: &[u8], from: usize, to: usize) -> &[u8] {
 }
 
 /// Returns the run that stands at a position, whose bytes were looked at.
-pub(crate) fn take_run(input: &[u8], place: RunRange) -> Run<'_> {
-    let taken = match place.kind {
-        RunKind::OfText => Taken::Text(text(input, place.start, place.end)),
-        RunKind::OfData => Taken::Data(data(input, place.start, place.end)),
+pub(crate) fn take_run(input: &[u8], range: RunRange) -> Run<'_> {
+    let taken = match range.kind {
+        RunKind::OfText => Taken::Text(text(input, range.start, range.end)),
+        RunKind::OfData => Taken::Data(data(input, range.start, range.end)),
         RunKind::Empty => Taken::Nothing,
     };
     Run {
-        start: place.start,
-        end: place.end,
+        start: range.start,
+        end: range.end,
         taken,
     }
 }

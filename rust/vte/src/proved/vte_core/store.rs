@@ -19,7 +19,7 @@ pub(crate) struct Store<B: Buffer> {
     // the ends of the first 16 pieces in them
     ends: ArrayVec<usize, MOST_PIECES>,
     // whether data bytes were dropped
-    dropped: bool,
+    lost: bool,
 }
 
 impl<B: Buffer> Store<B> {
@@ -27,19 +27,19 @@ impl<B: Buffer> Store<B> {
         Store {
             bytes,
             ends: ArrayVec::new(),
-            dropped: false,
+            lost: false,
         }
     }
 
     pub(crate) fn clear(&mut self) {
         self.ends = ArrayVec::new();
         self.bytes.clear();
-        self.dropped = false;
+        self.lost = false;
     }
 
     /// Returns whether data bytes were dropped.
-    pub(crate) fn has_dropped(&self) -> bool {
-        self.dropped
+    pub(crate) fn has_lost_data(&self) -> bool {
+        self.lost
     }
 
     /// Takes memory for this many more data bytes, and returns whether it is there.
@@ -67,7 +67,7 @@ impl<B: Buffer> Store<B> {
         if !self.ends.is_full() {
             self.bytes.append(input, from, to);
         }
-        self.dropped |= self.bytes.bytes().len() - before < to - from;
+        self.lost |= self.bytes.bytes().len() - before < to - from;
     }
 
     /// Dispatches the command with its pieces.
@@ -106,11 +106,11 @@ impl<const N: usize> Store<ArrayVec<u8, N>> {
     /// Returns the data bytes, the ends of the first 16 pieces in them, and whether data bytes were
     /// dropped.
     pub(crate) fn parts(&self) -> (&[u8], &[usize], bool) {
-        (self.bytes.as_slice(), self.ends.as_slice(), self.dropped)
+        (self.bytes.as_slice(), self.ends.as_slice(), self.lost)
     }
 
     /// Holds these parts instead, without the ends if they can't be ends of pieces.
-    pub(crate) fn restore(&mut self, bytes: &[u8], ends: &[usize], dropped: bool) {
+    pub(crate) fn restore(&mut self, bytes: &[u8], ends: &[usize], lost: bool) {
         self.ends = ArrayVec::new();
         self.bytes.clear();
         // They fit.
@@ -118,7 +118,7 @@ impl<const N: usize> Store<ArrayVec<u8, N>> {
         if are_piece_ends(ends, bytes.len()) {
             let _ = self.ends.try_extend_from_slice(ends);
         }
-        self.dropped = dropped;
+        self.lost = lost;
     }
 }
 

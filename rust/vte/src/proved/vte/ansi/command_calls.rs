@@ -24,7 +24,7 @@ pub(crate) fn perform_system_command<H: Handler, B: TextBuffer>(
         let terminator = if bell_terminated { "\x07" } else { "\x1b\\" };
         match *first {
             b"0" | b"2" => perform_title(handler, text, texts),
-            b"4" => set_colors(handler, texts, terminator),
+            b"4" => set_palette(handler, texts, terminator),
             b"8" => set_link(handler, text, texts),
             b"10" => set_dynamic_colors(handler, 10, texts, terminator),
             b"11" => set_dynamic_colors(handler, 11, texts, terminator),
@@ -78,7 +78,7 @@ fn set_palette_entry<H: Handler>(handler: &mut H, index: &[u8], color: &[u8], te
 }
 
 /// Sets colours of the palette, or asks for them: 4. Each index is followed by its colour.
-fn set_colors<H: Handler>(handler: &mut H, texts: &[&[u8]], terminator: &str) {
+fn set_palette<H: Handler>(handler: &mut H, texts: &[&[u8]], terminator: &str) {
     if texts.len() % 2 != 0 {
         return;
     }

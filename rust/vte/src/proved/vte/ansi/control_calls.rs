@@ -37,7 +37,7 @@ pub(crate) fn perform_control<H: InputAs<G>, G>(
                 handler.set_tabs(8);
             }
         }
-        ([b'?'], 'l') => change_modes(handler, params, Change::ResetPrivate),
+        ([b'?'], 'l') => change_modes(handler, params, ModeChange::ResetPrivate),
         ([b'$'], 'p') => handler.report_mode(Mode::new(numbers.next_or(0))),
         ([b'?', b'$'], 'p') => handler.report_private_mode(PrivateMode::new(numbers.next_or(0))),
         ([b' '], 'q') => set_cursor_style(handler, numbers.next_or(0)),
@@ -112,8 +112,8 @@ fn perform_plain<H: InputAs<G>, G>(
         's' => handler.save_cursor_position(),
         'u' => handler.restore_cursor_position(),
         'm' => perform_attributes(handler, params),
-        'h' => change_modes(handler, params, Change::Set),
-        'l' => change_modes(handler, params, Change::Reset),
+        'h' => change_modes(handler, params, ModeChange::Set),
+        'l' => change_modes(handler, params, ModeChange::Reset),
         'n' => handler.device_status(usize::from(numbers.next_or(0))),
         't' => operate_window(handler, numbers.next_or(1)),
         _ => {}
@@ -194,7 +194,7 @@ fn set_cursor_style<H: Handler>(handler: &mut H, number: u16) {
 
 /// What happens to modes.
 #[derive(Clone, Copy)]
-pub(crate) enum Change {
+pub(crate) enum ModeChange {
     Set,
     Reset,
     SetPrivate,
@@ -202,18 +202,18 @@ pub(crate) enum Change {
 }
 
 /// Changes the modes that the first numbers of the groups name.
-fn change_modes<H: Handler>(handler: &mut H, params: &Params, change: Change) {
+fn change_modes<H: Handler>(handler: &mut H, params: &Params, change: ModeChange) {
     for group in params {
         change_mode(handler, change, first_number(group));
     }
 }
 
 /// Changes one mode.
-pub(crate) fn change_mode<H: Handler>(handler: &mut H, change: Change, number: u16) {
+pub(crate) fn change_mode<H: Handler>(handler: &mut H, change: ModeChange, number: u16) {
     match change {
-        Change::Set => handler.set_mode(Mode::new(number)),
-        Change::Reset => handler.unset_mode(Mode::new(number)),
-        Change::SetPrivate => handler.set_private_mode(PrivateMode::new(number)),
-        Change::ResetPrivate => handler.unset_private_mode(PrivateMode::new(number)),
+        ModeChange::Set => handler.set_mode(Mode::new(number)),
+        ModeChange::Reset => handler.unset_mode(Mode::new(number)),
+        ModeChange::SetPrivate => handler.set_private_mode(PrivateMode::new(number)),
+        ModeChange::ResetPrivate => handler.unset_private_mode(PrivateMode::new(number)),
     }
 }

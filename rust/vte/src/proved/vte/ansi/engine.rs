@@ -159,7 +159,7 @@ impl<P: EventParser, B: TextBuffer, T: Timeout> Engine<P, B, T> {
     #[inline]
     fn hold_bytes<H: Handler, G: ParseAs<H, T, P>>(&mut self, handler: &mut H, bytes: &[u8]) {
         let begins = self.hold.add(bytes);
-        set_timeout(&mut self.state.timeout, begins);
+        set_timeout_times(&mut self.state.timeout, begins);
         if self.hold.len() == 0 {
             self.end_update::<H, G>(handler);
         } else {
@@ -169,7 +169,7 @@ impl<P: EventParser, B: TextBuffer, T: Timeout> Engine<P, B, T> {
 }
 
 /// Sets the timeout this many times.
-fn set_timeout<T: Timeout>(timeout: &mut T, count: usize) {
+fn set_timeout_times<T: Timeout>(timeout: &mut T, count: usize) {
     for _time in 0..count {
         timeout.set_timeout(Duration::from_millis(UPDATE_TIMEOUT_MILLIS));
     }

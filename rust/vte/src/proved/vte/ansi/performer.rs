@@ -2,7 +2,7 @@
 //! The performer that calls a handler.
 
 use crate::proved::vte::ansi::command_calls::perform_system_command;
-use crate::proved::vte::ansi::control_calls::{change_mode, perform_control, Change};
+use crate::proved::vte::ansi::control_calls::{change_mode, perform_control, ModeChange};
 use crate::proved::vte::ansi::escape_calls::{perform_escape, perform_execute};
 use crate::proved::vte::ansi::input::InputAs;
 use crate::proved::vte::ansi::numbers::first_number;
@@ -112,7 +112,7 @@ impl<'s, 'h, H: Handler, T: Timeout, B: TextBuffer, G> Performer<'s, 'h, H, T, B
                 .set_timeout(Duration::from_millis(UPDATE_TIMEOUT_MILLIS));
             self.terminated = true;
         }
-        change_mode(self.handler, Change::SetPrivate, number);
+        change_mode(self.handler, ModeChange::SetPrivate, number);
     }
 }
 

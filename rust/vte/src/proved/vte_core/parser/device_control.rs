@@ -53,8 +53,9 @@ impl<B: Buffer> Machine<B> {
         self.state = State::DeviceData;
     }
 
-    /// Reads the data of a device control string, and the byte that ends them; for a performer that
-    /// takes slices, and that nobody asks, data up to a byte that isn't put, or that byte.
+    /// Reads the data of a device control string, and the byte that ends them. For a performer that
+    /// takes slices and is never asked, it reads either data up to a byte that isn't put, or such a
+    /// byte.
     pub(crate) fn read_device_data<P: PerformAs<G>, G: Grain, const MAY_STOP: bool>(
         &mut self,
         performer: &mut P,

@@ -140,8 +140,8 @@ impl LongParser {
         bytes: &'a [u8],
     ) -> Result<Run<'a>, Refused> {
         let input = bytes;
-        let place = self.machine.drive_to_run(performer, input)?;
-        Ok(take_run(input, place))
+        let range = self.machine.drive_to_run(performer, input)?;
+        Ok(take_run(input, range))
     }
 
     /// Returns whether a character or a sequence is unfinished.

@@ -27,7 +27,7 @@ impl<B: Buffer> Machine<B> {
     /// Returns whether data bytes are in no piece of the operating system command that is open, or
     /// else ended last.
     pub(crate) fn command_lost_data(&self) -> bool {
-        self.command.has_dropped()
+        self.command.has_lost_data()
     }
 
     /// Returns whether a character or a sequence is unfinished.

@@ -28,7 +28,7 @@ pub struct Saved {
     bytes: [u8; MAX_OSC_RAW],
     end_count: usize,
     ends: [usize; 16],
-    dropped: u8,
+    lost: u8,
     // the number of the state, and the bytes of an unfinished character
     state: [u8; 4],
 }
@@ -120,7 +120,7 @@ impl Saved {
             bytes: [0; MAX_OSC_RAW],
             end_count: 0,
             ends: [0; 16],
-            dropped: 0,
+            lost: 0,
             state: [0; 4],
         }
     }
@@ -139,10 +139,10 @@ impl Parser<MAX_OSC_RAW> {
                 saved.number_count = copy_to_front(numbers, &mut saved.numbers);
             }
             State::SystemCommand => {
-                let (bytes, ends, dropped) = machine.command.parts();
+                let (bytes, ends, lost) = machine.command.parts();
                 saved.byte_count = copy_to_front(bytes, &mut saved.bytes);
                 saved.end_count = copy_to_front(ends, &mut saved.ends);
-                saved.dropped = u8::from(dropped);
+                saved.lost = u8::from(lost);
             }
             _ => {}
         }
@@ -171,7 +171,7 @@ impl Parser<MAX_OSC_RAW> {
             State::SystemCommand => {
                 let bytes = first_elements(&saved.bytes, saved.byte_count);
                 let ends = first_elements(&saved.ends, saved.end_count);
-                machine.command.restore(bytes, ends, saved.dropped != 0);
+                machine.command.restore(bytes, ends, saved.lost != 0);
             }
             _ => {}
         }

@@ -42,7 +42,7 @@ impl<const OSC_RAW_BUF_SIZE: usize> Parser<OSC_RAW_BUF_SIZE> {
     ) -> Run<'a> {
         let input = bytes;
         match self.machine.drive_to_run(performer, input) {
-            Ok(place) => take_run(input, place),
+            Ok(range) => take_run(input, range),
             // Never: with a limit no memory is refused.
             Err(refused) => take_run(input, RunRange::empty(refused.read)),
         }

@@ -1,8 +1,8 @@
 // Written by tools/erase from crates/vte_core/src/scan/search.rt: edit that one.
 //! Searches for the byte that ends data, a text or a string.
 //!
-//! Ignored strings may hold megabytes, so blocks are taken. None is tried before a string has begun
-//! with single bytes, so that no byte is read often.
+//! Ignored strings may hold megabytes, so blocks are taken. No block is tried before a string has
+//! begun with single bytes, so that no byte is read often.
 
 use crate::prelude::memchr;
 use crate::proved::vte_core::class::{cannot_end, ends_all, is_device_data, ESCAPE};

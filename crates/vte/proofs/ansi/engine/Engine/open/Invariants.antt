@@ -5,12 +5,13 @@ use Rattle.vte.proofs.ansi.engine.Engine.open.Given as goal
 abbrev pub invariant-loop-slice : goal.invariant-loop-slice
 invariant-loop-slice g l =
     let m = meaning_of g.P.EventParser.limit g.H.Handler.step g.T.Timeout.set g.T.Timeout.clear g.T.Timeout.allows in
-    let w = engine_meaning g.P.EventParser.limit g.P.EventParser.reading g.B.TextBuffer.room g.T.Timeout.value_of in
+    let parts = engine_meaning g.P.EventParser.limit g.P.EventParser.reading g.B.TextBuffer.room g.T.Timeout.value_of in
     record {
       within : l.read ≤ length l.bytes;
       some : l._slice < length l.bytes → l.read < length l.bytes;
       reaches : (s : State g.H.Handler.Value g.T.Timeout.Value)
-          → EngineIsAt w l.initial.self (g.H.Handler.value_of l.initial.handler) s
+          → EngineIsAt parts l.initial.self (g.H.Handler.value_of l.initial.handler) s
           → (l._slice ≤ l.read)
-          × IsOpenAt m s l.bytes l.read (EngineIsAtKeeping w l.initial.self l.self (g.H.Handler.value_of l.handler));
+          × IsOpenAt m s l.bytes l.read
+          (EngineIsAtKeeping parts l.initial.self l.self (g.H.Handler.value_of l.handler));
     }

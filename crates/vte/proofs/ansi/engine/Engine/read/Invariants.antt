@@ -6,12 +6,12 @@ use Rattle.vte.proofs.ansi.engine.Engine.read.Given as goal
 abbrev pub invariant-loop-turn : goal.invariant-loop-turn
 invariant-loop-turn g l =
     let m = meaning_of g.P.EventParser.limit g.H.Handler.step g.T.Timeout.set g.T.Timeout.clear g.T.Timeout.allows in
-    let w = engine_meaning g.P.EventParser.limit g.P.EventParser.reading g.B.TextBuffer.room g.T.Timeout.value_of in
+    let parts = engine_meaning g.P.EventParser.limit g.P.EventParser.reading g.B.TextBuffer.room g.T.Timeout.value_of in
     record {
       within : l.read ≤ length l.bytes;
       some : l._turn < length l.bytes → l.read < length l.bytes;
       reaches : (s : State g.H.Handler.Value g.T.Timeout.Value)
-          → EngineIsAt w l.initial.self (g.H.Handler.value_of l.initial.handler) s
+          → EngineIsAt parts l.initial.self (g.H.Handler.value_of l.initial.handler) s
           → HasReached m s l.bytes l._turn l.read
-          (EngineIsAtKeeping w l.initial.self l.self (g.H.Handler.value_of l.handler));
+          (EngineIsAtKeeping parts l.initial.self l.self (g.H.Handler.value_of l.handler));
     }

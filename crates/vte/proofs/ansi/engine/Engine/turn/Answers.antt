@@ -23,8 +23,8 @@ returns-clause-turned g c = λ s at.
       | else-pending-via-else-pending w ↦ rw w.if-pending.false refl
     ] in
     let m = meaning_of g.P.EventParser.limit g.H.Handler.step g.T.Timeout.set g.T.Timeout.clear g.T.Timeout.allows in
-    let w = engine_meaning g.P.EventParser.limit g.P.EventParser.reading g.B.TextBuffer.room g.T.Timeout.value_of in
-    let here : EngineIsAtKeeping w c.args.self.now c.if-pending-2.self (g.H.Handler.value_of c.if-pending-2.handler)
+    let parts = engine_meaning g.P.EventParser.limit g.P.EventParser.reading g.B.TextBuffer.room g.T.Timeout.value_of in
+    let here : EngineIsAtKeeping parts c.args.self.now c.if-pending-2.self (g.H.Handler.value_of c.if-pending-2.handler)
     (stop_if_due m pending s) = elim c.if-pending-2.branch [
       -- Stopped first.
       | then-pending-2 w ↦

@@ -3,14 +3,14 @@ use Rattle.vte_core.proofs.Common.{Err, ap, ◌∙◌, err_from_is_err_and}
 use Rattle.vte_core.proofs.calls.Long.{to_run-read, to_run-refused}
 use Rattle.vte_core.proofs.parser.long.LongParser.advance_to_run.Goals as goal
 
-pub returns-in_err-place : goal.returns-in_err-place
-returns-in_err-place g c =
+pub returns-in_err-range : goal.returns-in_err-range
+returns-in_err-range g c =
     let e = err_from_is_err_and c.from_residual.result c.from_residual.ensures.1 in
-    let d = c.in_err-place.ensures in
+    let d = c.in_err-range.ensures in
     rw (e.1 ∙ ap Err e.2, ← c.new-input.ensures) (to_run-refused _ d.refuses d.costs d.quietly)
 
 pub returns : goal.returns
 returns g c =
-    let d = c.in_ok-place.ensures in
+    let d = c.in_ok-range.ensures in
     let t = c.take_run.ensures in
     rw (← c.new-input.ensures) (to_run-read _ d.comes t.start t.end t.taken d.costs d.quietly)

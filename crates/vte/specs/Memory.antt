@@ -10,7 +10,8 @@ use Rattle.vte.specs.declared.ansi.titles.TheConstants.{SEPARATORS}
 use Rattle.vte.specs.declared.ansi.engine.TheConstants.{SLICE}
 
 -- After the stream, the parser has memory for `count` bytes besides those of an open command. A
--- text that is joined from all of them fits into `size` bytes, and its size into 64 bits.
+-- text that is joined from all of them fits into `size` bytes, and its size into 64 bits. With 100
+-- bytes of an open command, 50 more need memory for 150, and a text of 166: 16 for separators.
 pub record HasRoom {A : Type 0} (parser : LongParser A) (size : ℕ) (stream : List ℕ)
     (count : ℕ) : Type 0 where
   pub kept : open_size stream + count ≤ memory_of parser

@@ -1,5 +1,11 @@
 -- What calls of a processor ensure: where it stands in what `Processor` defines, and how each call
 -- leads on from there.
+--
+-- Where a processor stands is a predicate, such as `HasParsedAndHolds T.value_of processor`: it is
+-- true of what was parsed, what is held, and the timeout's value. `IsAt` compares that and the
+-- handler's value with a state. The records below take such predicates, because they are true of
+-- both processors: `Stood` is the one before a call, `Stands` the one after it, and `IsThere` says
+-- `IsAt` of the latter.
 use Rattle.std.specs.Prelude.{◌≡◌, ℕ, List, ◌++◌, length, drop, [], ◌∷◌, Bool, false, ◌≤◌, None, ⊤}
 use Rattle.vte_core.specs.Parser.{HasRead}
 use Rattle.vte_core.specs.Stream.{events, usual_limit}

@@ -1,5 +1,8 @@
 -- What turns, a call and a list of calls have led to if memory is refused, which happens only to a
 -- `LongProcessor`.
+--
+-- The call has read bytes by whole turns, and the turn after them may have halted on the way
+-- (`TurnHalts`): together these are `TakesSome`. `HasTaken` says what is true then.
 use Rattle.std.specs.Prelude.{◌≡◌, ℕ, ◌-◌, ◌<◌, ◌++◌, Bool, List, [], ◌∷◌, length, take, drop}
 use Rattle.vte_core.specs.Stream.{added}
 use Rattle.vte.specs.BeginUpdate.{begin_count}

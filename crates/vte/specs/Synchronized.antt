@@ -4,17 +4,15 @@
 use Rattle.vte_handler.specs.Call.{Call, UnsetPrivateMode}
 use Rattle.vte_types.specs.declared.mode.NamedPrivateMode.TheVariants.{SyncUpdate}
 use Rattle.vte_types.specs.declared.mode.PrivateMode.TheVariants.{Named}
-use Rattle.std.specs.Prelude.{ℕ, ◌+◌, Bool, Option, None, List, [], ◌∷◌, length, if◌then◌else◌, is_some, nat_lt, unwrap_or}
+use Rattle.std.specs.Prelude.{ℕ, ◌+◌, Bool, Option, None, List, [], ◌∷◌, length, if◌then◌else◌, is_some, nat_lt, unwrap_or, codes}
 use Rattle.std.specs.Option.{option_map_or, option_or}
 use Rattle.vte_types.specs.Words.{after_word}
 
--- ESC [?2026h
 abbrev pub begin_update : List ℕ
-begin_update = 0x1b ∷ 0x5b ∷ 0x3f ∷ 0x32 ∷ 0x30 ∷ 0x32 ∷ 0x36 ∷ 0x68 ∷ []
+begin_update = codes "\u{1b}[?2026h"
 
--- ESC [?2026l
 abbrev pub end_update : List ℕ
-end_update = 0x1b ∷ 0x5b ∷ 0x3f ∷ 0x32 ∷ 0x30 ∷ 0x32 ∷ 0x36 ∷ 0x6c ∷ []
+end_update = codes "\u{1b}[?2026l"
 
 -- The text starts with the sequence.
 abbrev pub begins_with : List ℕ → List ℕ → Bool

@@ -13,6 +13,6 @@ loop-word-preserved g c =
 
 pub returns-in-Some-first_unprinted-clause-scans : goal.returns-in-Some-first_unprinted-clause-scans
 returns-in-Some-first_unprinted-clause-scans g c =
-    let place = c.in-Some-first_unprinted.ensures in
-    scans-block IsPrinted _ c.in-Some-first_unprinted.place c.loop-word.invariant.scans c.in-Some.ensures
-    (omega (arith, place.0)) place.1
+    let position = c.in-Some-first_unprinted.ensures in
+    scans-block IsPrinted _ c.in-Some-first_unprinted.position c.loop-word.invariant.scans c.in-Some.ensures
+    (omega (arith, position.0)) position.1

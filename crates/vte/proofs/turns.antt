@@ -1,7 +1,7 @@
 -- The turns of a call: from slices and holds to a turn, and from turns to what a processor ensures.
+pub mod Kinds
 pub mod EachOnce
 pub mod HoldFacts
-pub mod HoldTurns
-pub mod Kinds
 pub mod Slices
-pub mod ToCalls
+pub mod HoldTurns
+pub mod EngineTurns

@@ -24,16 +24,16 @@ pub record ReadColor : Type 0 where
 
 -- Too few components after a kind: either no number is left, or the next is above 255 and is used
 -- too.
-abbrev pub short_color : ℕ → List ℕ → ReadColor
-short_color found [] = record { color = None; used = found }
-short_color found (number ∷ numbers) = record { color = None; used = suc found }
+abbrev pub failed_reading : ℕ → List ℕ → ReadColor
+failed_reading found [] = record { color = None; used = found }
+failed_reading found (number ∷ numbers) = record { color = None; used = suc found }
 
 -- The components are the numbers up to 255 at the start, at most as many as the kind has.
 abbrev pub components_reading : ℕ → List ℕ → ReadColor
 components_reading count numbers =
     let components = take_while is_component (take count numbers) in
     if length components == count then record { color = color_of_numbers components; used = count }
-    else short_color (length components) (drop (length components) numbers)
+    else failed_reading (length components) (drop (length components) numbers)
 
 abbrev pub reading_of : Option ℕ → List ℕ → ReadColor
 reading_of None numbers = record { color = None; used = 0 }
@@ -51,7 +51,7 @@ color_reading (kind ∷ numbers) =
 
 -- The numbers after 38, 48 or 58 in one group. If there are more than four, the second, a colour
 -- space, is skipped.
-abbrev pub without_space : List ℕ → List ℕ
-without_space (kind ∷ space ∷ numbers) =
+abbrev pub without_color_space : List ℕ → List ℕ
+without_color_space (kind ∷ space ∷ numbers) =
     if nat_lt 2 (length numbers) then kind ∷ numbers else kind ∷ space ∷ numbers
-without_space numbers = numbers
+without_color_space numbers = numbers

@@ -142,8 +142,9 @@ command_rows =
 abbrev pub calls_by : List ℕ → List (List ℕ)
     → Option (List ℕ → List (List ℕ) → List Call) → List Call
 calls_by terminator texts None = []
-calls_by terminator texts (Some calls_of) = calls_of terminator texts
+calls_by terminator texts (Some row) = row terminator texts
 
+-- Each event has a piece at least.
 abbrev pub system_command_calls : List (List ℕ) → Bool → List Call
 system_command_calls [] bell = []
 system_command_calls (first ∷ texts) bell =

@@ -2,7 +2,7 @@
 use Rattle.std.specs.Prelude.{ℕ, pos, List, [], ◌∷◌, if◌then◌else◌, ◌==◌, ◌&&◌, ◌-◌, Option, Some, None, drop, replicate, unwrap_or}
 use Rattle.vte.specs.declared.ansi.control_calls.ModeChange.TheVariants as change
 use Rattle.vte.specs.ModeChange.{change_calls}
-use Rattle.vte.specs.Numbers.{first_of, first_or, first_numbers, asks_other_keys}
+use Rattle.vte.specs.Numbers.{first_of, first_or, first_numbers, asks_for_modify_other_keys}
 use Rattle.vte.specs.Rendition.{attribute_calls}
 use Rattle.vte.specs.OptionalCalls.{for_both, for_some}
 use Rattle.vte_types.specs.Rows.{Row, entry_of}
@@ -100,7 +100,7 @@ module _ (last : Option ℕ) (groups : List (List ℕ)) where
       (0x6c, change_calls change.ResetPrivate (first_numbers groups)) ∷  -- l: DECRST
       (
         0x6d,
-        if asks_other_keys groups then call.ReportModifyOtherKeys ∷ []
+        if asks_for_modify_other_keys groups then call.ReportModifyOtherKeys ∷ []
             else [],
       ) ∷  -- m: XTQMODKEYS
       (0x75, call.ReportKeyboardMode ∷ []) ∷  -- u: kitty

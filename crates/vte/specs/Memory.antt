@@ -12,7 +12,7 @@ use Rattle.vte.specs.declared.ansi.engine.TheConstants.{SLICE}
 -- After the stream, the parser has memory for `count` bytes besides those of an open command. A
 -- text that is joined from all of them fits into `size` bytes, and its size into 64 bits. With 100
 -- bytes of an open command, 50 more need memory for 150, and a text of 166: 16 for separators.
-pub record HasRoom {A : Type 0} (parser : LongParser A) (size : ℕ) (stream : List ℕ)
+pub record ParserHasMemory {A : Type 0} (parser : LongParser A) (size : ℕ) (stream : List ℕ)
     (count : ℕ) : Type 0 where
   pub kept : open_size stream + count ≤ memory_of parser
   pub joined : open_size stream + count + SEPARATORS ≤ size
@@ -26,7 +26,7 @@ timeout_long processor = processor.engine.state.timeout
 
 -- After the stream, the processor has memory for `count` more bytes.
 abbrev pub HasMemory : {T A : Type 0} → LongProcessor T A → (stream : List ℕ) → (count : ℕ) → Type 0
-HasMemory processor = HasRoom processor.engine.parser processor.engine.state.text.size
+HasMemory processor = ParserHasMemory processor.engine.parser processor.engine.state.text.size
 
 -- Memory that was there stays.
 abbrev pub KeepsMemory : (had has : List ℕ → ℕ → Type 0) → Type 0

@@ -20,9 +20,9 @@ first_or default [] = default
 first_or default (number ∷ numbers) = if number == 0 then default else number
 
 -- XTQMODKEYS asks for the other keys: the first group is just the number 4.
-abbrev pub asks_other_keys : List (List ℕ) → Bool
-asks_other_keys ((number ∷ []) ∷ groups) = number == 4
-asks_other_keys _ = false
+abbrev pub asks_for_modify_other_keys : List (List ℕ) → Bool
+asks_for_modify_other_keys ((number ∷ []) ∷ groups) = number == 4
+asks_for_modify_other_keys _ = false
 
 -- `number` with more decimal digits after it, or none if it exceeds 255 or a byte isn't a digit.
 abbrev pub number_from : ℕ → List ℕ → Option ℕ

@@ -9,7 +9,7 @@ use Rattle.vte_handler.specs.Handler.{after}
 use Rattle.vte_handler.specs.Timeout.{TimeoutMeaning, timeout_meaning, AllowsOnly, IsSteady}
 use Rattle.vte.specs.BeginUpdate.{begin_count}
 use Rattle.vte.specs.Calls.{calls_beyond}
-use Rattle.vte.specs.Synchronized.{held_begin_count, last_part, update_ended, begin_update, begins_with, after_last_end, from_begin}
+use Rattle.vte.specs.Synchronized.{begins_ending_in_last, last_part, update_ended, begin_update, begins_with, after_last_end, from_begin}
 use Rattle.vte.specs.declared.ansi.laws.replays.Step.{Step}
 use Rattle.vte.specs.declared.ansi.laws.replays.Step.TheVariants.{Advance, StopSync}
 
@@ -115,7 +115,7 @@ module _ {V W : Type 0} (meaning : Meaning V W) where
   abbrev pub extend : State V W → List ℕ → State V W
   extend state bytes =
       let all = state.held ++ bytes in
-      let begins = held_begin_count (length bytes) (last_part all) in
+      let begins = begins_ending_in_last (length bytes) (last_part all) in
       record state { held = all; timeout = set_times meaning.timeout begins state.timeout }
 
   -- Bytes at the end of the hold are kept, and those before them parsed. If none are kept, the

@@ -102,8 +102,8 @@ AreAdvances (StopSync ∷ steps) = ⊥
 -- the processor and the handler stood before, `Stands` and `new` where they stand now.
 pub record ParsesAll {V W : Type 0} (meaning : Meaning V W) (Stood Stands : Standing W)
     (old new : V) (bytes : List ℕ) : Type 0 where
-  -- If the handler was as after the calls of the stream, from the value with which it started, it
-  -- is as after those of both. Of an empty stream that is so with its value before the call.
+  -- If the handler was as after the calls of the stream, from the value `start` on, it is as after
+  -- those of both. For a new processor take the value before the call as `start`.
   pub follows : (start : V) (stream : List ℕ) → HasParsedAll Stood stream
       → old ≡ after meaning.step start (calls (events meaning.limit stream))
       → new ≡ after meaning.step start (calls (events meaning.limit (stream ++ bytes)))

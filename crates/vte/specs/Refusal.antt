@@ -2,7 +2,7 @@
 -- `LongProcessor`.
 --
 -- The call has read bytes by whole turns, and the turn after them may have halted on the way
--- (`TurnHalts`): together these are `TakesSome`. `HasTaken` says what is true then.
+-- (`TurnHalts`): together these are `TakesTurnsOrHalts`. `HasTaken` says what is true then.
 use Rattle.std.specs.Prelude.{◌≡◌, ℕ, ◌-◌, ◌<◌, ◌++◌, Bool, List, [], ◌∷◌, length, take, drop}
 use Rattle.vte_core.specs.Stream.{added}
 use Rattle.vte.specs.BeginUpdate.{begin_count}
@@ -36,12 +36,14 @@ module _ {V W : Type 0} (meaning : Meaning V W) where
       KindHalts (kind_of pending (length state.held) (length bytes)) state bytes
 
   -- Turns of a call, after which a further one may have been refused memory on the way.
-  pub data TakesSome (state : State V W) (bytes : List ℕ) (next : State V W)
+  pub data TakesTurnsOrHalts (state : State V W) (bytes : List ℕ) (next : State V W)
       (left : List ℕ) : Type 0 where
-    between : TakesTurns meaning state bytes next left → TakesSome state bytes next left
-    within : {reached : State V W} {rest : List ℕ} → TakesTurns meaning state bytes reached rest
+    between_turns : TakesTurns meaning state bytes next left
+        → TakesTurnsOrHalts state bytes next left
+    inside_turn : {reached : State V W} {rest : List ℕ}
+        → TakesTurns meaning state bytes reached rest
         → (pending : Bool) → meaning.timeout.allows reached.timeout pending
-        → TurnHalts pending reached rest next left → TakesSome state bytes next left
+        → TurnHalts pending reached rest next left → TakesTurnsOrHalts state bytes next left
 
   -- A call has read `read` of its bytes, by turns, of which the last may have been refused memory
   -- on the way, and is at the state to which they led. Each byte that was read is parsed or held,
@@ -49,7 +51,7 @@ module _ {V W : Type 0} (meaning : Meaning V W) where
   pub record HasTaken (state : State V W) (bytes : List ℕ) (read : ℕ)
       (IsThere : State V W → Type 0) : Type 0 where
     pub next : State V W
-    pub takes : TakesSome state bytes next (drop read bytes)
+    pub takes : TakesTurnsOrHalts state bytes next (drop read bytes)
     pub each_once : all_bytes next ≡ all_bytes state ++ take read bytes
     pub holds_well : HoldsWellAt meaning state → HoldsWellAt meaning next
     pub is_at : IsThere next

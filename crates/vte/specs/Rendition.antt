@@ -1,6 +1,6 @@
 -- Select graphic rendition: the attributes of groups (ECMA-48, section 8.3.117; xterm).
 use Rattle.std.specs.Prelude.{ℕ, List, [], ◌∷◌, ◌++◌, map, if◌then◌else◌, ◌==◌, Option, Some, None, suc, zero, option_map, option_to_list, unwrap_or}
-use Rattle.vte.specs.ColorReading.{ReadColor, color_reading, without_space}
+use Rattle.vte.specs.ColorReading.{ReadColor, color_reading, without_color_space}
 use Rattle.vte.specs.Numbers.{first_numbers}
 use Rattle.vte_types.specs.Rows.{Row, entry_of}
 use Rattle.vte_handler.specs.Call.{Call, TerminalAttribute}
@@ -118,7 +118,7 @@ underline_of _ = attr.Underline
 -- A group of several numbers.
 abbrev pub joined_rendition : ℕ → List ℕ → Option (Color → Attr) → Rendition
 joined_rendition number numbers (Some with_color) =
-    attribute_alone (option_map with_color (color_reading (without_space numbers)).color)
+    attribute_alone (option_map with_color (color_reading (without_color_space numbers)).color)
 joined_rendition number numbers None =
     if number == 4 then attribute_alone (Some (underline_of numbers)) else attribute_alone None
 

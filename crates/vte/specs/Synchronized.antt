@@ -31,12 +31,12 @@ from_begin (byte ∷ text) =
 
 -- How many begin-updates have their last byte among the last n bytes of the text: of
 -- `ESC [?2026h b`, one among the last two, and none in the last one.
-abbrev pub held_begin_count : ℕ → List ℕ → ℕ
-held_begin_count count [] = 0
-held_begin_count count (byte ∷ text) =
+abbrev pub begins_ending_in_last : ℕ → List ℕ → ℕ
+begins_ending_in_last count [] = 0
+begins_ending_in_last count (byte ∷ text) =
     option_map_or (λ rest. if nat_lt (length rest) count then 1 else 0)
     (after_word begin_update (byte ∷ text)) 0
-    + held_begin_count count text
+    + begins_ending_in_last count text
 
 -- The part of a text in which begin-updates count: what follows the last end-update or, without
 -- one, all of it.

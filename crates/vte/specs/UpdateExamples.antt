@@ -14,8 +14,8 @@ use Rattle.vte_core.specs.Stream.{usual_limit}
 
 -- The handler's value is the list of its calls; the timeout is pending from when it is set until it
 -- is cleared.
-abbrev pub plain_meaning : Meaning (List Call) Bool
-plain_meaning = record {
+abbrev pub recording_meaning : Meaning (List Call) Bool
+recording_meaning = record {
   limit = usual_limit;
   step = λ told call. told ++ call ∷ [];
   timeout =
@@ -37,33 +37,34 @@ abbrev pub with_turns : ℕ → PlainState → List ℕ → PlainState
 with_turns zero state bytes = state
 with_turns (suc count) state [] = state
 with_turns (suc count) state (byte ∷ bytes) =
-    let taken = turn plain_meaning state.timeout state (byte ∷ bytes) in
+    let taken = turn recording_meaning state.timeout state (byte ∷ bytes) in
     with_turns count taken.state taken.rest
 
 -- Calls of `advance` with these bytes, or of `stop_sync`. A turn reads at least one byte.
-abbrev pub led_by : PlainState → List (Option (List ℕ)) → PlainState
-led_by state [] = state
-led_by state (Some bytes ∷ acts) = led_by (with_turns (length bytes) state bytes) acts
-led_by state (None ∷ acts) = led_by (stop plain_meaning state) acts
+abbrev pub state_after_calls : PlainState → List (Option (List ℕ)) → PlainState
+state_after_calls state [] = state
+state_after_calls state (Some bytes ∷ acts) = state_after_calls
+    (with_turns (length bytes) state bytes) acts
+state_after_calls state (None ∷ acts) = state_after_calls (stop recording_meaning state) acts
 
 -- What the handler has received, and what is held.
-pub record Led : Type 0 where
+pub record ToldAndHeld : Type 0 where
   pub told : List Call
   pub held : List ℕ
 
 pub record UpdateExample : Type 0 where
   pub acts : List (Option (List ℕ))
-  pub led : Led
+  pub led : ToldAndHeld
 
 abbrev pub leads : List (Option (List ℕ)) → List Call → List ℕ → UpdateExample
 leads acts told held = record { acts = acts; led = record { told = told; held = held } }
 
-abbrev pub led_of : PlainState → Led
+abbrev pub led_of : PlainState → ToldAndHeld
 led_of state = record { told = state.handler; held = state.held }
 
 abbrev pub AreLed : List UpdateExample → Type 0
 AreLed examples =
-    map (λ example. led_of (led_by start example.acts)) examples
+    map (λ example. led_of (state_after_calls start example.acts)) examples
     ≡ map (λ example. example.led) examples
 
 abbrev pub update_begun : Call
@@ -117,6 +118,6 @@ update_examples =
 -- although bytes are held.
 abbrev pub expired_example : Type 0
 expired_example =
-    (turn plain_meaning false (led_by start (Some (begin_update ++ codes "x") ∷ []))
+    (turn recording_meaning false (state_after_calls start (Some (begin_update ++ codes "x") ∷ []))
     (codes "y")).state.handler
     ≡ update_begun ∷ Input 0x78 ∷ update_ended ∷ Input 0x79 ∷ []

@@ -1,8 +1,9 @@
 -- What private functions of a processor promise each other. Callers need none of it.
+-- In reading order.
+pub mod Texts
 pub mod ColorReader
-pub mod Engine
-pub mod Hold
-pub mod Meanings
 pub mod Performer
 pub mod Performing
-pub mod Texts
+pub mod Meanings
+pub mod Hold
+pub mod Engine

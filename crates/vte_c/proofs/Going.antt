@@ -7,7 +7,7 @@ use Rattle.vte_c.proofs.Common.{has, if◌then◌else◌, inl, inr, is_full, is_
 use Rattle.vte_c.proofs.Common.{nat_tests, refl, replacement, reported, resumed, run_events, run_kind, run_record, stream_at, subst, sym, take, told_before, true, with_event}
 use Rattle.vte_c.proofs.Common.{with_items, with_run, with_taken, with_wanted, zero-add, ℕ, ◌++◌, ◌+◌, ◌-◌, ◌<◌, ◌∙◌, ◌∷◌, ◌≡◌, ◌≤◌}
 use Rattle.vte_core.proofs.streams.After.{added-nothing}
-use Rattle.vte_core.specs.AdvanceToRun.{IsWhole, ReturnsRun, run_bytes, run_events as returned_events, taken_bytes}
+use Rattle.vte_core.specs.AdvanceToRun.{IsLongestRun, ReturnsRun, run_bytes, run_events as returned_events, taken_bytes}
 use Rattle.vte_core.specs.declared.scan.taken.Run.{Run as Returned}
 use Rattle.vte_core.specs.declared.scan.taken.Taken.{Taken}
 use Rattle.vte_core.specs.declared.scan.taken.Taken.TheVariants.{Text, Data, Nothing}
@@ -197,7 +197,7 @@ gone-then a free within b =
 -- ---- a call of the parser, and the run that it returned
 
 -- A run that has no bytes isn't there.
-no_run : (bytes : List ℕ) (end : ℕ) (taken : Taken) → IsWhole bytes end taken → length (taken_bytes taken) ≡ 0
+no_run : (bytes : List ℕ) (end : ℕ) (taken : Taken) → IsLongestRun bytes end taken → length (taken_bytes taken) ≡ 0
     → (room : Room) (start : ℕ)
     → with_taken room start taken ≡ resumed room
 no_run bytes end (Text text) whole none room start = absurd (omega (arith, whole.0, none))
@@ -231,7 +231,7 @@ module _ (old mid new : Room) (since bytes : List ℕ) (from : ℕ) (run : Retur
       (record { within = within; some = some; is = rw here plain }) (rw here (r.adds since before ∙ same)) in
       rw r.stands.end (goes-then (rw same_room at call) open_room within (rw here at more))
 
-  goes-taken : (taken : Taken) → run.taken ≡ taken → AreCharacters taken → IsWhole (drop from bytes) run.end taken
+  goes-taken : (taken : Taken) → run.taken ≡ taken → AreCharacters taken → IsLongestRun (drop from bytes) run.end taken
       → new ≡ with_taken mid (from + run.start) taken
       → ReadsOn old new since (after_call ++ run_bytes run) bytes from run.end
   goes-taken (Text text) is utf8 whole written =

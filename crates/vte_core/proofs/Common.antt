@@ -20,11 +20,11 @@ pub use Rattle.std.specs.Str.{IsAscii, IsUtf8, chars}
 pub use Rattle.vte_core.specs.Body.{body_rest, sequence_outcome}
 unfoldable pub use Rattle.vte_core.specs.Body.{body_outcome}
 pub use Rattle.vte_core.specs.EventBounds.{FitsStore, IsBounded, IsBrief, IsExecuted, IsPrintable, IsShort}
-pub use Rattle.vte_core.specs.Class.{AreInClass, Cancel, Class, Colon, Control, Delete, Digit, Final, High, Intermediate, Marker, Semicolon, dispatches_escape, ends_all, ends_head, is_cancel, IsPut, is_control, is_device_data, is_final, is_head, is_intermediate, is_key, is_marker, is_parameter_text}
+pub use Rattle.vte_core.specs.Class.{AreInClass, Cancel, Class, Colon, Control, Delete, Digit, Final, High, Intermediate, Marker, Semicolon, dispatches_escape, ends_all, ends_head, is_cancel, IsPut, is_plain_control, is_device_data, is_final, is_head, is_intermediate, is_key, is_marker, is_parameter_text}
 unfoldable pub use Rattle.vte_core.specs.Class.{class_of}
 unfoldable pub use Rattle.vte_core.specs.ControlSequence.{control_sequence_end, control_sequence_outcome}
-pub use Rattle.vte_core.specs.DeviceControl.{ends_data}
-unfoldable pub use Rattle.vte_core.specs.DeviceControl.{data_outcome, device_control_end, device_control_outcome}
+pub use Rattle.vte_core.specs.DeviceControl.{ends_device_data}
+unfoldable pub use Rattle.vte_core.specs.DeviceControl.{device_data_outcome, device_control_end, device_control_outcome}
 pub use Rattle.vte_core.specs.EarlyStop.{ComesTo, IsStart, NoCharacterStops, StopsExactly, breaks}
 unfoldable pub use Rattle.vte_core.specs.EarlyStop.{breaks_at, stream_at, told_before}
 unfoldable pub use Rattle.vte_core.specs.Escape.{escape_outcome}
@@ -35,7 +35,7 @@ pub use Rattle.vte_core.specs.Intermediates.{are_too_many, first_two}
 pub use Rattle.vte_core.specs.Key.{EscapeSequence, Key}
 unfoldable pub use Rattle.vte_core.specs.Key.{key_of}
 pub use Rattle.vte_core.specs.Laws.{AreParameters, CountsData, DispatchesShown}
-pub use Rattle.vte_core.specs.LongParser.{MeetsData, data_left, open_size, read_count}
+pub use Rattle.vte_core.specs.LongParser.{MeetsData, open_data_count, open_size, read_count}
 pub use Rattle.vte_core.specs.Looks.{looked}
 pub use Rattle.vte_core.specs.Quiet.{AddsQuietly, IsQuietEvent, PrintsNoAscii, TellsQuietly}
 pub use Rattle.vte_core.specs.Outcome.{SaysLoss, NothingToClose, ToClose, CharacterToClose, CommandToClose, Outcome, events_before_escape, closing_events, leaves, tell, open_bytes}
@@ -52,8 +52,8 @@ unfoldable pub use Rattle.vte_core.specs.Text.{character_event, executed_events,
 pub use Rattle.vte_core.specs.Utf8.{Range, allowed_length, is_in, scalar_of, segments, segments_after, from_to, rows_after_bytes, rows_after_byte, is_complete}
 unfoldable pub use Rattle.vte_core.specs.Utf8.{trailing_count, is_truncated, is_well_formed, utf8_rows}
 pub use Rattle.vte_core.specs.declared.head.Collected.{Collected}
-pub use Rattle.vte_core.specs.declared.head.HeadPart.{HeadPart}
-pub use Rattle.vte_core.specs.declared.head.HeadPart.TheVariants.{Entry, IllShaped, Intermediates, Parameters}
+pub use Rattle.vte_core.specs.declared.head.HeadProgress.{HeadProgress}
+pub use Rattle.vte_core.specs.declared.head.HeadProgress.TheVariants.{Entry, IllShaped, Intermediates, Parameters}
 pub use Rattle.vte_core.specs.declared.parser.State.{State}
 pub use Rattle.vte_core.specs.declared.parser.State.TheVariants.{ControlSequence, DeviceControl, DeviceData, Escape, EscapeIntermediate, IgnoredString, SystemCommand, Text}
 pub use Rattle.vte_core.specs.declared.parser.machine.Machine.{Machine}
@@ -62,13 +62,13 @@ pub use Rattle.vte_core.specs.declared.utf8.Unfinished.{Unfinished}
 pub use Rattle.vte_core.specs.declared.utf8.Unfinished.TheVariants.{Nothing, One, Three, Two}
 pub use Rattle.vte_core.specs.machine.Data.{AreIgnored, ArePut, IsIgnored}
 pub use Rattle.vte_core.specs.machine.Leads.{Leads, Reads}
-pub use Rattle.vte_core.specs.machine.Moves.{Spends}
+pub use Rattle.vte_core.specs.machine.MovesWithin.{SpendsWithin}
 pub use Rattle.vte_core.specs.machine.ParserFields.{CountsNumbers, HoldsIntermediates, HoldsHead, HasReadUnder, IsMarker, KeepsIntermediates, KeepsNumbers, numbers_from, HoldsNumbers, Stands, StandsBy, StandsInHead, StaysIllShaped}
-pub use Rattle.vte_core.specs.machine.Place.{AtEscape, InControlSequence, InData, InDeviceControl, InEscape, InIgnoredString, InSystemCommand, InText, IsAfter, IsSettledPlace, Place, closing_events_at, left_at, rest_outcome}
+pub use Rattle.vte_core.specs.machine.Place.{AtEscape, InControlSequence, InDeviceData, InDeviceControl, InEscape, InIgnoredString, InSystemCommand, InText, IsAfter, IsSettledPlace, Place, closing_events_at, left_at, rest_outcome}
 unfoldable pub use Rattle.vte_core.specs.machine.Place.{outcome_from}
 pub use Rattle.vte_core.specs.machine.Progress.{Advances, ChunkCall, chunk_call, ProgressAt, ProgressInside, IsRefusedInCommand, IsSettled, MayGoOn, ReadsUpTo, ReadsUntilRefused, StandsAt, StandsInside}
 pub use Rattle.vte_core.specs.machine.Reading.{ReadsHead}
-pub use Rattle.vte_core.specs.machine.TextRun.{ArePrinted, IsUtf8Run, IsPrinted, IsRun, PrintsRun}
+pub use Rattle.vte_core.specs.machine.TextRun.{ArePrintedAscii, IsUtf8Run, IsPrintedAscii, IsRun, PrintsRun}
 pub use Rattle.vte_core.specs.machine.Scans.{IsRange, Scans}
 pub use Rattle.vte_core.specs.machine.Store.{Stored, HoldsItems, PiecesEnd, SameItems, cut_data, cut_pieces, ends_after, fitting, pieces_from}
 pub use Rattle.vte_core.specs.machine.Takes.{TakesBytes, TakesByte}
@@ -78,10 +78,10 @@ unfoldable pub use Rattle.vte_core.specs.machine.Unfinished.{second_range}
 -- ---- words of proofs alone
 
 -- At most one short event.
-abbrev pub IsTiny : List Event → Type 0
-IsTiny [] = Unit {0}
-IsTiny (event ∷ []) = IsShort event
-IsTiny _ = ⊥
+abbrev pub IsAtMostOneShort : List Event → Type 0
+IsAtMostOneShort [] = Unit {0}
+IsAtMostOneShort (event ∷ []) = IsShort event
+IsAtMostOneShort _ = ⊥
 
 -- The bytes of the unfinished character at a place.
 abbrev pub open_at : Place → List ℕ
@@ -92,6 +92,6 @@ open_at _ = []
 abbrev pub events_from : Option ℕ → Place → List ℕ → List Event
 events_from limit place more = (outcome_from limit place more).told
 
--- How far a head has been read after numbers that stand from one place to another.
-abbrev pub part_after : HeadPart → ℕ → ℕ → HeadPart
+-- How far a head has been read after numbers that stand from one position to another.
+abbrev pub part_after : HeadProgress → ℕ → ℕ → HeadProgress
 part_after reached from to = if from == to then reached else Parameters

@@ -4,10 +4,10 @@
 pub mod Common
 -- From a byte to its class, and from bytes to UTF-8 and to texts cut at a byte.
 pub mod bytes
--- From a text to its division, which is std's too.
-pub mod dividing
 -- From a text or head to what it gives, by its definition alone, and to what is told where a character breaks.
 pub mod shapes
+-- From a text to its division, which is std's too.
+pub mod dividing
 -- From the parser's fields to its place (`stands-by`, `stands-in`), and how a byte changes them.
 pub mod fields
 -- From a byte at a place to its events and the next place: `PlaceLeads` by cases, `steps` for all bytes.

@@ -1,5 +1,5 @@
 -- The automaton that reads printed text: what each of its states says of the bytes so far.
-pub mod Begins
-pub mod Readings
-pub mod Scanned
 pub mod Steps
+pub mod Begins
+pub mod Scanned
+pub mod Readings

@@ -1,11 +1,11 @@
--- How a call goes on, from one place of its bytes to the next.
+-- How a call goes on, from one position to the next.
 
--- The place of a state, and what is told from place to place.
+-- The place of a state, and what is told from position to position.
 pub mod States
 pub mod Progress
 pub mod AddedEvents
 -- Any stretch of a call: where it starts and ends, and how stretches and bytes compose.
-pub mod Ends
+pub mod CallEnds
 pub mod Stretches
 pub mod Arms
 -- Text: a byte between characters, the bytes inside one, and runs.

@@ -34,19 +34,19 @@ run_events run = taken_events run.taken
 
 -- A text has a character and no control, and no character that is printed follows. Data have a
 -- byte, and no byte that is put follows.
-abbrev pub IsWhole : List ℕ → ℕ → Taken → Type 0
-IsWhole bytes end (Text text) =
+abbrev pub IsLongestRun : List ℕ → ℕ → Taken → Type 0
+IsLongestRun bytes end (Text text) =
     (0 < length text.now) × HasNoControls text.now × EndsRun false bytes end
-IsWhole bytes end (Data those) =
+IsLongestRun bytes end (Data those) =
     (0 < length those.now) × (end < length bytes → IsPut (slice_index bytes end) → ⊥)
-IsWhole bytes end Nothing = ⊤
+IsLongestRun bytes end Nothing = ⊤
 
 -- The run stands in the bytes at its position.
 pub record IsRunIn (bytes : List ℕ) (run : Run) : Type 0 where
   pub end : run.end ≡ run.start + length (run_bytes run)
   pub within : run.end ≤ length bytes
   pub is : run_bytes run ≡ take (length (run_bytes run)) (drop run.start bytes)
-  pub whole : IsWhole bytes run.end run.taken
+  pub whole : IsLongestRun bytes run.end run.taken
 
 -- A call returned the run. `HasReadBefore` says which streams the parser had read.
 pub record ReturnsRun {V : Type 0} (step : V → Event → V) (is_terminated : V → Bool) (old new : V)

@@ -43,9 +43,9 @@ class_of b =
     else High
 
 -- C0 except CAN, SUB and ESC
-abbrev pub is_control : Class → Bool
-is_control Control = true
-is_control _ = false
+abbrev pub is_plain_control : Class → Bool
+is_plain_control Control = true
+is_plain_control _ = false
 
 -- CAN and SUB
 abbrev pub is_cancel : Class → Bool

@@ -5,7 +5,7 @@ use Rattle.vte_core.specs.Class.{class_of, is_cancel, is_device_data, ends_head}
 use Rattle.vte_core.specs.Event.{Event, Execute, Hook, Put, Unhook}
 use Rattle.vte_core.specs.Head.{head_of, head_bytes, is_well_shaped, sequence_event}
 use Rattle.vte_core.specs.IgnoredString.{ignored_string_outcome}
-use Rattle.vte_core.specs.Outcome.{Outcome, NothingToClose, DataToClose, leaves, tell}
+use Rattle.vte_core.specs.Outcome.{Outcome, NothingToClose, DeviceDataToClose, leaves, tell}
 use Rattle.vte_core.specs.CutBefore.{cut_before}
 use Rattle.vte_core.specs.Text.{text_outcome}
 
@@ -14,24 +14,25 @@ use Rattle.vte_core.specs.Text.{text_outcome}
 abbrev pub string_terminator : ℕ
 string_terminator = 0x9c
 
-abbrev pub ends_data : ℕ → Bool
-ends_data b = is_cancel (class_of b) || b == string_terminator
+abbrev pub ends_device_data : ℕ → Bool
+ends_device_data b = is_cancel (class_of b) || b == string_terminator
 
 -- ST unhooks. CAN and SUB unhook and are executed.
-abbrev pub data_end : ℕ → List Event
-data_end end = if is_cancel (class_of end) then Unhook ∷ Execute end ∷ [] else Unhook ∷ []
+abbrev pub device_data_end : ℕ → List Event
+device_data_end end = if is_cancel (class_of end) then Unhook ∷ Execute end ∷ [] else Unhook ∷ []
 
 -- The end of the data, and the text that follows it. Without an end the data stay open.
-abbrev pub data_rest : List ℕ → Outcome
-data_rest [] = leaves DataToClose
-data_rest (end ∷ text) = tell (data_end end) (text_outcome text)
+abbrev pub device_data_rest : List ℕ → Outcome
+device_data_rest [] = leaves DeviceDataToClose
+device_data_rest (end ∷ text) = tell (device_data_end end) (text_outcome text)
 
 -- The data of a hooked string end at the first 9C, CAN or SUB. C0 and 20..7E are put, and the rest
 -- is dropped.
-unfoldable pub data_outcome : List ℕ → Outcome
-data_outcome bytes =
-    let cut = cut_before ends_data bytes in
-    tell (map Put (filter (λ b. is_device_data (class_of b)) cut.inside)) (data_rest cut.rest)
+unfoldable pub device_data_outcome : List ℕ → Outcome
+device_data_outcome bytes =
+    let cut = cut_before ends_device_data bytes in
+    tell (map Put (filter (λ b. is_device_data (class_of b)) cut.inside))
+    (device_data_rest cut.rest)
 
 -- CAN and SUB are executed. A final byte hooks if the head is well shaped; otherwise the string is
 -- ignored.
@@ -39,7 +40,7 @@ unfoldable pub device_control_end : List ℕ → ℕ → List ℕ → Outcome
 device_control_end head end bytes =
     if is_cancel (class_of end) then tell (Execute end ∷ []) (text_outcome bytes)
     else if is_well_shaped (head_of head)
-    then tell (sequence_event Hook (head_of head) end ∷ []) (data_outcome bytes)
+    then tell (sequence_event Hook (head_of head) end ∷ []) (device_data_outcome bytes)
     else ignored_string_outcome bytes
 
 -- The end of the head, and the bytes that follow it. Without an end nothing is left open.

@@ -47,12 +47,12 @@ read_count (Ok read) = read
 read_count (Err refused) = refused.read
 
 -- How many data bytes the open operating system command has in its first 16 pieces.
-abbrev pub data_left : ToClose → ℕ
-data_left (CommandToClose pieces lost) = length (concat pieces)
-data_left _ = 0
+abbrev pub open_data_count : ToClose → ℕ
+open_data_count (CommandToClose pieces lost) = length (concat pieces)
+open_data_count _ = 0
 
 abbrev pub open_size : List ℕ → ℕ
-open_size stream = data_left (outcome None stream).left
+open_size stream = open_data_count (outcome None stream).left
 
 -- If an operating system command is open, as many bytes are stored as its first 16 pieces have.
 abbrev pub StoresPieces : {A : Type 0} → LongParser A → List ℕ → Type 0

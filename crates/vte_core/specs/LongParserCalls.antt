@@ -14,7 +14,7 @@ use Rattle.vte_core.specs.Stream.{added}
 
 -- A call read n of its bytes. A parser that had read `stream` has then read `later stream`. If
 -- memory is refused, the call ends there.
-pub record ReadsAtCost {A Answer : Type 0} (rate : ℕ) (bytes : List ℕ)
+pub record ContinuesLong {A Answer : Type 0} (rate : ℕ) (bytes : List ℕ)
     (result : Result Answer Refused) (n : ℕ) (later : List ℕ → List ℕ)
     (parser next : LongParser A) : Type 0 where
   pub reads : (stream : List ℕ) → HasReadLong parser stream → HasReadLong next (later stream)
@@ -55,7 +55,7 @@ pub record ReadsBytesLong {V A : Type 0} (step : V → Event → V) (old new : V
   pub performs : (stream : List ℕ) → HasReadLong parser stream
       → new ≡ after step old (added None stream (bytes_read result bytes))
   -- The parser has then read these bytes too.
-  pub goes_on : ReadsAtCost 5 bytes result (length (bytes_read result bytes))
+  pub goes_on : ContinuesLong 5 bytes result (length (bytes_read result bytes))
       (λ stream. stream ++ bytes_read result bytes) parser next
 
 -- `advance_until_terminated` and `advance_text_until_terminated` of a `LongParser`
@@ -70,13 +70,13 @@ pub record ReadsUntilTerminatedLong {V A : Type 0} (step : V → Event → V) (i
   -- If memory is refused, it ends before that.
   pub refuses : PassesLong step is_terminated old new (HasReadLong parser) bytes result
   -- The parser goes on after the bytes read.
-  pub goes_on : ReadsAtCost 5 bytes result (read_count result)
+  pub goes_on : ContinuesLong 5 bytes result (read_count result)
       (λ stream. stream_at stream bytes (read_count result)) parser next
 
 -- What a parser has read after `advance_to_run`: the run too.
-abbrev pub read_to_run : Result Run Refused → List ℕ → List ℕ → List ℕ
-read_to_run (Ok run) stream bytes = stream_at stream bytes run.start ++ run_bytes run
-read_to_run (Err refused) stream bytes = stream_at stream bytes refused.read
+abbrev pub stream_after_run : Result Run Refused → List ℕ → List ℕ → List ℕ
+stream_after_run (Ok run) stream bytes = stream_at stream bytes run.start ++ run_bytes run
+stream_after_run (Err refused) stream bytes = stream_at stream bytes refused.read
 
 -- How many bytes a call of `advance_to_run` read, with the run.
 abbrev pub run_count : Result Run Refused → ℕ
@@ -98,5 +98,5 @@ pub record ReadsToRunLong {V A : Type 0} (step : V → Event → V) (is_terminat
   pub quietly : (stream : List ℕ) → HasReadLong parser stream
       → TellsQuietly None stream bytes (performed_count result)
   -- The parser goes on after what was read.
-  pub goes_on : ReadsAtCost 7 bytes result (run_count result)
-      (λ stream. read_to_run result stream bytes) parser next
+  pub goes_on : ContinuesLong 7 bytes result (run_count result)
+      (λ stream. stream_after_run result stream bytes) parser next

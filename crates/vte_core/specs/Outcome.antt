@@ -8,7 +8,7 @@ pub data ToClose : Type 0 where
   -- these bytes of an unfinished character
   CharacterToClose : List ℕ → ToClose
   -- the data of a hooked device control string
-  DataToClose : ToClose
+  DeviceDataToClose : ToClose
   -- an operating system command with these pieces, and whether data bytes of it are in none
   CommandToClose : List (List ℕ) → Bool → ToClose
 
@@ -16,7 +16,7 @@ pub data ToClose : Type 0 where
 abbrev pub closing_events : ToClose → List Event
 closing_events NothingToClose = []
 closing_events (CharacterToClose bytes) = Print replacement ∷ []
-closing_events DataToClose = Unhook ∷ []
+closing_events DeviceDataToClose = Unhook ∷ []
 closing_events (CommandToClose pieces lost) = OscDispatch pieces false ∷ []
 
 -- If a command is open, the flag says whether data bytes of it are in no piece.

@@ -22,7 +22,7 @@ PrintsNoAscii _ = ⊤
 pub record TellsQuietly (limit : Option ℕ) (stream bytes : List ℕ) (n : ℕ) : Type 0 where
   pub quietly : open_end stream ≡ [] → All IsQuietEvent (told_before limit stream bytes n)
   -- The character that an earlier call began isn't ASCII.
-  pub opened : All PrintsNoAscii (told_before limit stream bytes n)
+  pub no_ascii : All PrintsNoAscii (told_before limit stream bytes n)
 
 -- What is told between two positions of a call belongs into no run.
 pub record AddsQuietly (limit : Option ℕ) (stream bytes : List ℕ) (i j : ℕ) : Type 0 where

@@ -2,7 +2,7 @@
 use Rattle.std.specs.Prelude.{◌≡◌, ℕ, ◌+◌, ◌≤◌, Bool, true, false, not, ◌&&◌, ◌||◌, List, [], ◌∷◌, length, map, take, drop, if◌then◌else◌, ◌==◌, nat_lt, nat_le}
 use Rattle.std.specs.List.{All, filter}
 use Rattle.std.specs.Str.{chars}
-use Rattle.vte_core.specs.Class.{class_of, is_control}
+use Rattle.vte_core.specs.Class.{class_of, is_plain_control}
 use Rattle.vte_core.specs.Event.{Event, Print, Execute, replacement}
 use Rattle.vte_core.specs.Outcome.{Outcome, NothingToClose, CharacterToClose, leaves, tell}
 use Rattle.vte_core.specs.Utf8.{is_well_formed, is_truncated, scalar_of, segments}
@@ -68,4 +68,4 @@ text_outcome text = segments_outcome (segments text)
 
 -- The bytes in C0 are executed, and the rest is dropped.
 unfoldable pub executed_events : List ℕ → List Event
-executed_events bytes = map Execute (filter (λ b. is_control (class_of b)) bytes)
+executed_events bytes = map Execute (filter (λ b. is_plain_control (class_of b)) bytes)

@@ -2,13 +2,13 @@
 #![tactic(auto, unfolding(crate::specs::Class::class_of))]
 
 ghost use Rattle.std.specs.Prelude.{◌≡◌, ◌-◌, ◌<◌, ◌≤◌, ◌↔◌, true, false, IsTrue, MatchOption};
-ghost use Rattle.vte_core.specs.machine.Prelude.{IsCommandData, begins_ignored_string, class_of, dispatches_escape, ends_all, is_control, is_device_data, is_final, is_head, is_intermediate, is_layout, is_parameter_text, is_separator};
+ghost use Rattle.vte_core.specs.machine.Prelude.{IsCommandData, begins_ignored_string, class_of, dispatches_escape, ends_all, is_plain_control, is_device_data, is_final, is_head, is_intermediate, is_layout, is_parameter_text, is_separator};
 
 pub(crate) const ESCAPE: u8 = 0x1b;
 
 /// Returns whether a byte is one of C0 that is executed: 00..17, 19 and 1C..1F.
-pub(crate) fn is_control(byte: u8) -> bool
-    ensures { result ≡ is_control (class_of byte) }
+pub(crate) fn is_plain_control(byte: u8) -> bool
+    ensures { result ≡ is_plain_control (class_of byte) }
 {
     byte < 0x20 && byte != 0x18 && byte != 0x1a && byte != ESCAPE
 }
@@ -39,7 +39,7 @@ pub(crate) fn cannot_end(byte: u8) -> bool
 pub(crate) fn is_device_data(byte: u8) -> bool
     ensures { result ≡ is_device_data (class_of byte) }
 {
-    (byte >= 0x20 && byte < 0x7f) || is_control(byte)
+    (byte >= 0x20 && byte < 0x7f) || is_plain_control(byte)
 }
 
 /// Returns whether a byte is one of the data of an operating system command: 20 and up, but `;`.

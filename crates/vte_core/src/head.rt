@@ -11,7 +11,7 @@ use arrayvec::ArrayVec;
 
 /// How far a head has been read.
 #[derive(Clone, Copy)]
-pub(crate) enum HeadPart {
+pub(crate) enum HeadProgress {
     /// None of it.
     Entry,
     /// A marker or a parameter was last.
@@ -22,19 +22,19 @@ pub(crate) enum HeadPart {
     IllShaped,
 }
 
-impl HeadPart {
+impl HeadProgress {
     /// Returns whether a digit or a separator may come next.
     pub(crate) fn may_have_parameters(self) -> bool
-        ensures { IsTrue result ↔ ((self ≡ HeadPart.Entry) ⊎ (self ≡ HeadPart.Parameters)) }
+        ensures { IsTrue result ↔ ((self ≡ HeadProgress.Entry) ⊎ (self ≡ HeadProgress.Parameters)) }
     {
-        matches!(self, HeadPart::Entry | HeadPart::Parameters)
+        matches!(self, HeadProgress::Entry | HeadProgress::Parameters)
     }
 }
 
 /// How far a head has been read, and up to which position. The byte there was looked at.
 #[derive(Clone, Copy)]
 pub(crate) struct HeadEnd {
-    pub(crate) part: HeadPart,
+    pub(crate) part: HeadProgress,
     pub(crate) position: usize,
     pub(crate) next: Option<u8>,
 }
@@ -45,7 +45,7 @@ pub(crate) struct Collected {
     // the first two, a marker among them
     pub(crate) intermediates: ArrayVec<u8, 2>,
     // whether there were more
-    pub(crate) too_many: bool,
+    pub(crate) too_many_intermediates: bool,
     // the first 32 numbers, without the one that is being read
     pub(crate) params: Params,
     // the number that is being read, and whether it stands after a colon
@@ -60,7 +60,7 @@ impl Collected {
     {
         Collected {
             intermediates: ArrayVec::new(),
-            too_many: false,
+            too_many_intermediates: false,
             params: Params::new(),
             number: 0,
             joined: false,
@@ -72,12 +72,12 @@ impl Collected {
         ensures { HoldsIntermediates self.new [] }
     {
         self.intermediates = ArrayVec::new();
-        self.too_many = false;
+        self.too_many_intermediates = false;
     }
 
     /// Forgets the numbers, before a head. The ESC before it has forgotten the intermediates.
     pub(crate) fn begin_head(&mut self)
-        ensures { HoldsIntermediates self.old [] → HoldsHead self.new HeadPart.Entry [] }
+        ensures { HoldsIntermediates self.old [] → HoldsHead self.new HeadProgress.Entry [] }
     {
         self.params.clear();
         self.number = 0;
@@ -91,7 +91,7 @@ impl Collected {
         ensures numbers { KeepsNumbers self.old self.new }
     {
         if self.intermediates.try_push(byte).is_err() {
-            self.too_many = true;
+            self.too_many_intermediates = true;
         }
     }
 
@@ -112,26 +112,26 @@ impl Collected {
     /// Collects an intermediate or a marker, or finds the head malformed. Returns how far the head
     /// has been read then.
     #[inline(always)]
-    fn collect_head_byte(&mut self, part: HeadPart, byte: u8) -> HeadPart
+    fn collect_head_byte(&mut self, part: HeadProgress, byte: u8) -> HeadProgress
         requires is { is_head (class_of byte) ≡ true }
-        requires no_number { (part ≡ HeadPart.Entry) ⊎ (part ≡ HeadPart.Parameters)
+        requires no_number { (part ≡ HeadProgress.Entry) ⊎ (part ≡ HeadProgress.Parameters)
             → is_parameter_text (class_of byte) ≡ false }
         ensures { (head : List ℕ) → StandsInHead self.old part head
             → StandsInHead self.new result (head ++ byte ∷ []) }
     {
-        if let HeadPart::IllShaped = part {
-            return HeadPart::IllShaped;
+        if let HeadProgress::IllShaped = part {
+            return HeadProgress::IllShaped;
         }
         if is_intermediate(byte) {
             self.collect(byte);
-            return HeadPart::Intermediates;
+            return HeadProgress::Intermediates;
         }
         // A marker stands only at the beginning.
-        if let HeadPart::Entry = part {
+        if let HeadProgress::Entry = part {
             self.collect(byte);
-            return HeadPart::Parameters;
+            return HeadProgress::Parameters;
         }
-        HeadPart::IllShaped
+        HeadProgress::IllShaped
     }
 
     /// Reads the digits at a position of a head, if any, and the separators too if there may be
@@ -140,17 +140,17 @@ impl Collected {
     pub(crate) fn read_numbers<B>(
         &mut self,
         looks: &mut Looks<B>,
-        reached: HeadPart,
+        reached: HeadProgress,
         several: bool,
         input: Input<'_, B>,
         from: usize,
     ) -> HeadEnd
         requires in_order { from ≤ length input.bytes.now }
-        requires may { reached ≡ HeadPart.Entry ⊎ reached ≡ HeadPart.Parameters }
+        requires may { reached ≡ HeadProgress.Entry ⊎ reached ≡ HeadProgress.Parameters }
         ensures reads { ReadsHeadUpTo input.entry.bytes.now from reached result self.old self.new }
         ensures progress { several ≡ true → from < length input.entry.bytes.now
             → is_parameter_text (class_of (slice_index input.entry.bytes.now from)) ≡ true
-            → (from < result.position) × (result.part ≡ HeadPart.Parameters) }
+            → (from < result.position) × (result.part ≡ HeadProgress.Parameters) }
         ensures count { looked looks.new + from
             ≡ looked looks.old + min (result.position + 1) (length input.entry.bytes.now) }
     {
@@ -178,7 +178,7 @@ impl Collected {
         let part = if from == position {
             reached
         } else {
-            HeadPart::Parameters
+            HeadProgress::Parameters
         };
         HeadEnd {
             part,
@@ -192,7 +192,7 @@ impl Collected {
     pub(crate) fn read_head<B>(
         &mut self,
         looks: &mut Looks<B>,
-        reached: HeadPart,
+        reached: HeadProgress,
         input: Input<'_, B>,
         from: usize,
     ) -> HeadEnd
@@ -217,7 +217,7 @@ impl Collected {
             if is_parameter_text(byte) && part.may_have_parameters() {
                 let numbers = self.read_numbers(looks, part, true, input, position);
                 // As a constant, because the loop over numbers is longer with `numbers.part`.
-                part = HeadPart::Parameters;
+                part = HeadProgress::Parameters;
                 position = numbers.position;
             } else {
                 part = self.collect_head_byte(part, byte);
@@ -235,10 +235,10 @@ impl Collected {
     /// or intermediates.
     #[inline(always)]
     pub(crate) fn end_head(&mut self) -> bool
-        ensures { (part : HeadPart) (head : List ℕ) → HoldsHead self.old part head
+        ensures { (part : HeadProgress) (head : List ℕ) → HoldsHead self.old part head
             → IsReady self.new result head }
     {
         let too_many_numbers = self.settle_number(self.number);
-        self.too_many || too_many_numbers
+        self.too_many_intermediates || too_many_numbers
     }
 }

@@ -22,7 +22,7 @@ mod system_command;
 mod text;
 mod to_run;
 
-use crate::head::HeadPart;
+use crate::head::HeadProgress;
 use crate::perform::{Perform, PerformText, PerformThroughText};
 use crate::scan::{CountedPerform, Grain, InRuns, Input, Looks, Singly};
 use crate::utf8::Unfinished;
@@ -47,9 +47,9 @@ pub(crate) enum State {
     /// After ESC and an intermediate.
     EscapeIntermediate,
     /// In the head of a control sequence.
-    ControlSequence(HeadPart),
+    ControlSequence(HeadProgress),
     /// In the head of a device control string.
-    DeviceControl(HeadPart),
+    DeviceControl(HeadProgress),
     /// In the data of a device control string.
     DeviceData,
     /// In an operating system command.

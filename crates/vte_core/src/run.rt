@@ -3,7 +3,7 @@
 //! A word is eight bytes. No word is tried before a run has begun with single bytes, so that no
 //! byte is read often.
 ghost use Rattle.std.specs.Prelude.{◌≡◌, ◌+◌, ◌*◌, ◌<◌, ◌≤◌, ◌↔◌, true, false, None, MatchOption, IfSome, IsTrue, length, slice_index};
-ghost use Rattle.vte_core.specs.machine.Prelude.{ArePrinted, EndsRun, IsPrinted, IsRange, IsRun, Scans, TakesFew, is_in, looked, from_to};
+ghost use Rattle.vte_core.specs.machine.Prelude.{ArePrintedAscii, EndsRun, IsPrintedAscii, IsRange, IsRun, Scans, TakesFew, is_in, looked, from_to};
 
 use crate::class::is_layout;
 use crate::scan::{CountedPerform, Grain, Input, Looks};
@@ -19,12 +19,12 @@ impl<B> Looks<B> {
     #[inline(always)]
     pub(crate) fn begins_ascii(&mut self, input: Input<'_, B>, at: usize, next: Option<u8>) -> bool
         requires within { at < length input.bytes.now }
-        requires printed { IsPrinted (slice_index input.bytes.now at) }
+        requires printed { IsPrintedAscii (slice_index input.bytes.now at) }
         requires next { IfSome next
             (λ byte. (at + 1 < length input.bytes.now)
             × (byte ≡ slice_index input.bytes.now (at + 1))) }
         ensures within { result ≡ true → at + 4 ≤ length input.entry.bytes.now }
-        ensures printed { result ≡ true → ArePrinted input.entry.bytes.now at (at + 4) }
+        ensures printed { result ≡ true → ArePrintedAscii input.entry.bytes.now at (at + 4) }
         ensures few { TakesFew 2 self.old self.new }
     {
         matches!(next, Some(second) if is_printed_ascii(second))
@@ -41,7 +41,7 @@ impl<B> Looks<B> {
         from: usize,
     ) -> usize
         requires within { from + 4 ≤ length input.bytes.now }
-        requires printed { ArePrinted input.bytes.now from (from + 4) }
+        requires printed { ArePrintedAscii input.bytes.now from (from + 4) }
         ensures progress { from < result }
         ensures high { result ≤ length input.entry.bytes.now }
         ensures run { IsRun P.keeps input.entry.bytes.now from result }
@@ -215,7 +215,7 @@ impl<B> Looks<B> {
     #[inline(always)]
     fn find_ascii_end(&mut self, input: Input<'_, B>, from: usize) -> usize
         requires { from ≤ length input.bytes.now }
-        ensures scans { Scans ArePrinted input.entry.bytes.now from result self.old self.new }
+        ensures scans { Scans ArePrintedAscii input.entry.bytes.now from result self.old self.new }
         ensures count { 3 * looked self.new + 11 * from ≤ 3 * looked self.old + 11 * result + 8 }
     {
         match self.get(input, from) {
@@ -232,7 +232,7 @@ impl<B> Looks<B> {
     #[inline(always)]
     fn find_end_by_words(&mut self, input: Input<'_, B>, from: usize) -> usize
         requires { from ≤ length input.bytes.now }
-        ensures scans { Scans ArePrinted input.entry.bytes.now from result self.old self.new }
+        ensures scans { Scans ArePrintedAscii input.entry.bytes.now from result self.old self.new }
         ensures count { looked self.new + from ≤ looked self.old + result + 8 }
     {
         let mut end = from;
@@ -249,8 +249,8 @@ impl<B> Looks<B> {
 /// Returns the position of the first of eight bytes that is no printed ASCII.
 #[inline(always)]
 fn first_unprinted(word: &[u8; 8]) -> Option<usize>
-    ensures { MatchOption result (ArePrinted word.now 0 8)
-        (λ position. (position < 8) × ArePrinted word.now 0 position) }
+    ensures { MatchOption result (ArePrintedAscii word.now 0 8)
+        (λ position. (position < 8) × ArePrintedAscii word.now 0 position) }
 {
     // Bit 7 of each eight marks a byte: from 80 on it is set, and below 20 it is after a
     // subtraction of 20. What that borrows from the next byte may mark a space there.

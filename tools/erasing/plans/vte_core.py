@@ -11,7 +11,7 @@ OWN_OR_ANSI = f'any({OWN}, feature = "ansi")'
 
 # Why `unsafe` is right, said where it stands; tests run with the assertions.
 OF_THREE = """\
-// SAFETY: the masks leave at most FFFF. Callers have tested `may_begin_three`, by which the
+// SAFETY: the remainders leave at most FFFF. Callers have tested `may_begin_three`, by which the
 // number is no surrogate's, D800 to DFFF.
 debug_assert!(may_begin_three(first, second) && is_continuation(third));
 """

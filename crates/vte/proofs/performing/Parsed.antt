@@ -3,7 +3,7 @@
 use Rattle.vte.proofs.Common.{◌≡◌, ℕ, ◌+◌, ◌<◌, inl, inr, Bool, false, ◌||◌, nat_lt, All, List, [], ◌∷◌, ◌++◌, length, take, refl, ap, sym, ◌∙◌, arith, or-false}
 use Rattle.vte.proofs.Common.{cases_lt, false≢true, nat_tests, All-head, All-tail, told_before, stream_at, StopsExactly, Event, added, events, starts-settled, stream_at-settled, told-settled, events_grow}
 use Rattle.vte.proofs.Common.{after, PerformerState, begin_count, begins_in_event, calls_of, calls_from, last_printed_after, last_printed, last_printed_from, performer_value, Meaning, set_times, FitsText, PerformerValue}
-use Rattle.vte.proofs.Common.{with_event, engine_meaning, IsParsed, IsParsedKeeping, KeepsMemory, State, parse, begin_front, ParserMeaning}
+use Rattle.vte.proofs.Common.{with_event, engine_meaning, ArePartsAt, ArePartsAtKeeping, KeepsMemory, State, parse, begin_front, ParserMeaning}
 use Rattle.vte_core.specs.Perform.{after as performed}
 use Rattle.vte.specs.declared.ansi.performer.Performer.{Performer}
 use Rattle.vte.proofs.performing.CallLists.{after-append, added_calls-events, last-append, set_times-add}
@@ -60,13 +60,14 @@ module _ {H T B G V W : Type 0} (handler_of : H → V) (timeout_of : T → W) (r
   room_back = rw is_state (ap (λ lent. lent.room) all_made)
 
   pub given_back : {P : Type 0} {reading : ParserMeaning P} {parser next : P} {lent : PerformerState T B} {value : V}
-      {handler : H} → IsParsed (engine_meaning m.limit reading room_of timeout_of) parser lent value s
+      {handler : H} → ArePartsAt (engine_meaning m.limit reading room_of timeout_of) parser lent value s
       → old.last ≡ lent.preceding_char → old.timeout ≡ timeout_of lent.timeout → old.handler ≡ value
       → old.room ≡ room_of lent.text
       → reading.has_read next (s.parsed ++ f)
       → (old.handler_name ≡ new.handler.ghost_name → handler ≡ new.handler.now)
       → ((size : ℕ) → KeepsMemory (reading.has_memory parser size) (reading.has_memory next size))
-      → IsParsedKeeping (engine_meaning m.limit reading room_of timeout_of) parser lent next state (handler_of handler)
+      → ArePartsAtKeeping (engine_meaning m.limit reading room_of timeout_of) parser lent next state
+      (handler_of handler)
       (parse m s f)
   given_back {lent} at at_last at_timeout at_handler at_room read back_handler keeps =
       let all = all_made in

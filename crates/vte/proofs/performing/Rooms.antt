@@ -2,7 +2,7 @@
 -- was stored and read, nor more separators than 16; so the contracts of both parsers become those of one.
 use Rattle.vte.proofs.Common.{◌≡◌, ℕ, ◌+◌, ◌≤◌, true, All, Option, Some, None, List, [], ◌∷◌, ◌++◌, length, Result, Ok, Err, refl, arith, concat, take-append_seam, usual_limit}
 use Rattle.vte.proofs.Common.{false≢true, nat_tests, All-cons, All-drop, All-head, All-nil, All-tail, All-take, Event, OscDispatch}
-use Rattle.vte.proofs.Common.{added, events, LongParser, Refused, added_both, counts_data, events_are_bounded, PerformsAll, PerformsUntilStop, FitsText, PerformerValue, HasRoom, KeepsMemory, fits_room, limited_meaning}
+use Rattle.vte.proofs.Common.{added, events, LongParser, Refused, added_both, counts_data, events_are_bounded, PerformsAll, PerformsUntilStop, FitsText, PerformerValue, ParserHasMemory, KeepsMemory, fits_room, limited_meaning}
 use Rattle.vte.proofs.Common.{long_meaning}
 use Rattle.vte_core.specs.EventBounds.{IsBounded}
 use Rattle.vte_core.specs.LongParserCalls.{ReadsBytesLong, ReadsUntilTerminatedLong}
@@ -83,7 +83,7 @@ module _ {V W : Type 0} {step : PerformerValue V W → Event → PerformerValue 
 
 -- memory that is there stays
 pub keeps_room : {A : Type 0} {parser next : LongParser A} {size room : ℕ} → memory_of parser ≤ memory_of next
-    → size ≤ room → KeepsMemory (HasRoom parser size) (HasRoom next room)
+    → size ≤ room → KeepsMemory (ParserHasMemory parser size) (ParserHasMemory next room)
 keeps_room more larger =
     λ stream count had. record {
       kept = omega (arith, had.kept, more);
@@ -92,7 +92,7 @@ keeps_room more larger =
     }
 
 module _ {A : Type 0} {parser : LongParser A} {size : ℕ} (stream bytes : List ℕ) (n : ℕ)
-    (room : HasRoom parser size stream (length bytes + n)) where
+    (room : ParserHasMemory parser size stream (length bytes + n)) where
   enough : open_size stream + length bytes ≤ memory_of parser
   enough = omega (arith, room.kept)
 
@@ -101,7 +101,7 @@ module _ {A : Type 0} {parser : LongParser A} {size : ℕ} (stream bytes : List 
       events_fit size (open_size stream + length bytes) (added None stream bytes) (omega (arith, room.joined))
       (let counts = counts_data stream bytes in counts.told)
 
-  room_left : (next : LongParser A) → memory_of parser ≤ memory_of next → HasRoom next size (stream ++ bytes) n
+  room_left : (next : LongParser A) → memory_of parser ≤ memory_of next → ParserHasMemory next size (stream ++ bytes) n
   room_left next kept =
       let counts = counts_data stream bytes in
       record {

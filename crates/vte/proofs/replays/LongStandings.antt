@@ -3,7 +3,7 @@
 -- turn by turn.
 use Rattle.vte.proofs.Common.{◌≡◌, ℕ, ◌+◌, ◌-◌, ◌<◌, List, ◌++◌, length, Result, Ok, Err, refl, ap, arith, length-append, Refused, LongParser, counts_data}
 use Rattle.vte.proofs.Common.{AdvancesLong, Bor, Meaning, IsAt, HasMemory, HasParsedAndHoldsLong, HasTaken, Reserves, StopsSyncLong, EngineLacksMemory, EngineReads, EngineReserves, EngineStandsAt, EngineStops, State, Bool, stop, drop, length-drop, unlimited}
-use Rattle.vte.proofs.turns.ToCalls.{taken-to}
+use Rattle.vte.proofs.turns.EngineTurns.{taken-to}
 use Rattle.vte.proofs.replays.Standings.{reads_in_turns}
 use Rattle.vte.specs.declared.ansi.long_processor.LongProcessor.{LongProcessor}
 use Rattle.vte.proofs.turns.Slices.{some_grow}

@@ -1,5 +1,5 @@
--- With a timeout that is never pending nothing is ever held, so a run has no stops and its calls are those of the
--- whole stream. By induction over turns: each one is open, and ends with nothing held.
+-- With a timeout that is never pending nothing is ever held, so a list of calls has no stops, and makes the calls of
+-- the whole stream. By induction over turns: each one is open, and ends with nothing held.
 use Rattle.vte.proofs.Common.{◌≡◌, ℕ, true, false, List, [], ◌∷◌, ◌++◌, refl, ap, sym, ◌∙◌, Bor, append-nil, events, after, Step, Advance, StopSync, added_calls, calls}
 use Rattle.vte.proofs.Common.{Meaning, Advanced, HasParsedAll, IsAt, Replayed, Replays, TakesSteps, Standing, given_bytes, State, TakesAllTurns, done, turns, turn}
 use Rattle.vte.specs.ProcessorCalls.{AreAdvances, IsNeverPending, ParsesAll}
@@ -86,7 +86,7 @@ module _ {V W : Type 0} (m : Meaning V W) {Stood Stands : Standing W} {old new :
       → Replays m Stood Stands old new steps
   replays_all steps told = record { told = told; plain = plain_calls steps told }
 
-  -- a call is a run of one step
+  -- a call is a list of one
   pub plain_call : (bytes : Bor (List ℕ))
       → ((s : State V W) → IsAt Stood old s → Advanced m s bytes.now (IsAt Stands new))
       → IsNeverPending m.timeout.allows → ParsesAll m Stood Stands old new bytes.now

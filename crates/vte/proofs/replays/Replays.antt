@@ -13,7 +13,7 @@ pub first_lacks : {i : ℕ} {bytes : Bor (List ℕ)} (lacks : ℕ → Type 0) (s
     → lacks (length bytes.now - read) → lacks (left_of_first (drop i steps) read)
 first_lacks {i} lacks steps d read inside is lacking = rw (drop_more steps i d inside, is) lacking
 
--- ---- for a timeout that is steady, a run is a function of the calls
+-- ---- for a timeout that is steady, a list of calls leads to one state
 
 module _ {V W : Type 0} (m : Meaning V W) (steady : IsSteady m.timeout) where
   answers_alone : (s : State V W) (a b : Bool) → HoldsWellAt m s → m.timeout.allows s.timeout a
@@ -47,7 +47,7 @@ module _ {V W : Type 0} (m : Meaning V W) where
       [] a h)
   replay_well s t (StopSync ∷ steps) r h = replay_well (stop m s) t steps r (stop_well m s)
 
-  -- a run goes on with further steps
+  -- a list of calls goes on with further ones
   replay_on : (s t u : State V W) (steps more : List Step) → TakesSteps m s steps t → TakesSteps m t more u
       → TakesSteps m s (steps ++ more) u
   replay_on s t u [] more same r = rw same r
@@ -74,7 +74,7 @@ module _ {V W : Type 0} (m : Meaning V W) where
         is_at = at;
       }
 
-  -- a call of `advance` is a run
+  -- a call of `advance` is such a list
   pub advance_runs : (s : State V W) (bytes : Bor (List ℕ)) {IsThere : State V W → Type 0}
       → Advanced m s bytes.now IsThere → Replayed m s (Advance bytes ∷ []) IsThere
   advance_runs s bytes a = replayed s a.next (Advance bytes ∷ []) (a.next, (a.advances, refl)) a.is_at

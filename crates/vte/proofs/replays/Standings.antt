@@ -4,7 +4,7 @@ use Rattle.vte.proofs.Common.{Advanced, HasParsedAndHolds, HasTaken, IsAt, Reads
 use Rattle.vte.proofs.Common.{◌≡◌, refl, limited_meaning, engine_meaning}
 use Rattle.vte_core.specs.declared.parser.Parser.{Parser}
 use Rattle.vte.proofs.replays.PlainReplays.{plain_call}
-use Rattle.vte.proofs.turns.ToCalls.{has_advanced, taken-to}
+use Rattle.vte.proofs.turns.EngineTurns.{has_advanced, taken-to}
 use Rattle.vte.specs.declared.ansi.processor.Processor.{Processor}
 use Rattle.vte.specs.declared.ansi.titles.TheConstants.{TEXT_ROOM}
 

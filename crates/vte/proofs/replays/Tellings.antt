@@ -1,6 +1,6 @@
--- What a handler receives in a run, from a state on: first by what is done there, then by the rest of the run. By
--- induction over the run; the calls before a stop are those of the bytes up to it, and positions of later stops only
--- grow.
+-- What a handler receives in a list of calls, from a state on: first by what is done there, then by the rest of the
+-- list. By induction over the list; the calls before a stop are those of the bytes up to it, and positions of later
+-- stops only grow.
 use Rattle.vte.proofs.Common.{◌≡◌, ◌≤◌, ℕ, ◌+◌, ◌-◌, inl, inr, Bool, Option, List, [], ◌∷◌, ◌++◌, length, take, refl, ap, sym, ◌∙◌, arith}
 use Rattle.vte.proofs.Common.{append_assoc, length-append, cases_Bool, append-nil, drop_all, take-append-add, take-append_seam, take_all, after, Step, Advance, StopSync, added_calls, Meaning}
 use Rattle.vte.proofs.Common.{TakesSteps, calls_beyond, after_last_end, from_begin, hold_turn, AreInOrder, calls, calls_between, calls_with_stops, events}
@@ -47,7 +47,7 @@ stops-later limit p f rest [] all is from = rw is (between-append limit p f rest
 stops-later limit p f rest (position ∷ positions) all is (from, order) =
     rw (is, between-append limit p f rest position from) (append_assoc (added_calls limit p f) _ _)
 
--- ---- from a state to the end of a run
+-- ---- from a state to the end of a list of calls
 
 module _ {V W : Type 0} (m : Meaning V W) (end : State V W) where
   -- what the handler is still told if bytes were parsed, with these stops, and its value is this

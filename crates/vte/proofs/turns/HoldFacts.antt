@@ -3,7 +3,7 @@
 use Rattle.vte.proofs.Common.{◌≡◌, ℕ, zero, suc, ◌-◌, ◌<◌, ◌≤◌, inl, inr, Bool, true, false, List, [], ◌∷◌, ◌++◌, length, take, refl, sym}
 use Rattle.vte.proofs.Common.{length-append, arith, cases_Bool, cases_lt, false≢true, nat_tests, added}
 use Rattle.vte.proofs.Common.{TimeoutMeaning, AllowsOnly, IsSteady, begin_count, IsOutsideUpdate, IsInsideUpdate, Meaning, set_times}
-use Rattle.vte.proofs.Common.{update_nanos, HoldsWellAt, begin_update, held_begin_count, after_last_end, from_begin, last_part, State, TakesTurns, stop, begin_front, open_turn, release}
+use Rattle.vte.proofs.Common.{update_nanos, HoldsWellAt, begin_update, begins_ending_in_last, after_last_end, from_begin, last_part, State, TakesTurns, stop, begin_front, open_turn, release}
 use Rattle.vte.proofs.Common.{extend, hold_turn, turn, done, turns, most_held, ap, append-nil}
 use Rattle.vte.proofs.turns.EachOnce.{stop_if_due_none}
 use Rattle.vte.proofs.updates.Fronts.{is_front}
@@ -101,7 +101,8 @@ module _ {V W : Type 0} (m : Meaning V W) where
       let inside : IsSteady m.timeout
       → IsInsideUpdate m.limit m.timeout s.parsed (s.held ++ r) (extend m s r).timeout =
       λ k. (let i = inside_of s h allowed k in record {
-        pending = still_pending m.timeout k (held_begin_count (length r) (last_part (s.held ++ r))) s.timeout i.pending;
+        pending = still_pending m.timeout k (begins_ending_in_last (length r) (last_part (s.held
+            ++ r))) s.timeout i.pending;
         begun = elim i.begun [ inl p ↦ inl p | inr b ↦ inr (begins_with-append begin_update s.held r b) ];
       }) in
       elim (cases_Option (after_last_end (s.held ++ r))) [

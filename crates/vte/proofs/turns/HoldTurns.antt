@@ -1,7 +1,7 @@
 -- A hold turn by its parts: bytes join the hold, the timeout is set as often as they begin updates, and what the hold
 -- releases is parsed.
 use Rattle.vte.proofs.Common.{◌≡◌, ℕ, ◌+◌, ◌-◌, ◌<◌, List, [], ◌∷◌, ◌++◌, length, length-append, length-take, take, refl, sym, ◌∙◌, arith, take_all, Engine, IsAdded}
-use Rattle.vte.proofs.Common.{held_of, released_of, still_held, Meaning, set_times, EngineIsAt, EngineMeaning, EngineIsAtKeeping, IsParsed, IsParsedKeeping, IsParsedWithRoom, State, after_last_end, extend, from_begin, hold_turn, release}
+use Rattle.vte.proofs.Common.{held_of, released_of, still_held, Meaning, set_times, EngineIsAt, EngineMeaning, EngineIsAtKeeping, ArePartsAt, ArePartsAtKeeping, ArePartsAtWithMemory, State, after_last_end, extend, from_begin, hold_turn, release}
 use Rattle.vte.proofs.Common.{ap, inl, inr, parse, stop, with_held}
 use Rattle.std.proofs.lemmas.List.{nil_from_length}
 use Rattle.vte.proofs.turns.Kinds.{holds_all, holds_rest}
@@ -51,7 +51,7 @@ module _ {P B T A V W : Type 0} {parts : EngineMeaning P B T W} (m : Meaning V W
   abbrev set : Engine P B T A
   set = record old { hold = hold; state = record old.state { timeout = timeout } }
 
-  extended : IsParsed parts set.parser set.state value (extend m s more)
+  extended : ArePartsAt parts set.parser set.state value (extend m s more)
   extended = record {
     has_read = at.stands.has_read;
     last = at.stands.last;
@@ -61,11 +61,12 @@ module _ {P B T A V W : Type 0} {parts : EngineMeaning P B T W} (m : Meaning V W
 
   -- the released bytes are parsed, and the others stay held, with memory to parse them
   pub turned_cut : {last : Engine P B T A} {next : V} → 0 < length (held_of hold)
-      → ((t : State V W) (n : ℕ) → IsParsed parts set.parser set.state value t
+      → ((t : State V W) (n : ℕ) → ArePartsAt parts set.parser set.state value t
       → (0 < length (released_of hold)
       → parts.reading.has_memory set.parser (parts.room_of set.state.text) t.parsed (length (released_of hold) + n))
-      → IsParsedKeeping parts set.parser set.state last.parser last.state next (parse m t (released_of hold)))
-      → ((t : State V W) (n : ℕ) → IsParsedWithRoom parts set.parser set.state value t (length (released_of hold) + n)
+      → ArePartsAtKeeping parts set.parser set.state last.parser last.state next (parse m t (released_of hold)))
+      → ((t : State V W) (n : ℕ) → ArePartsAtWithMemory parts set.parser set.state value t
+      (length (released_of hold) + n)
       → parts.reading.has_memory last.parser (parts.room_of last.state.text) (t.parsed ++ released_of hold) n)
       → last.hold ≡ hold → EngineIsAtKeeping parts old last next (hold_turn m s more)
   turned_cut {last} {next} some parses leaves kept =
@@ -85,7 +86,7 @@ module _ {P B T A V W : Type 0} {parts : EngineMeaning P B T W} (m : Meaning V W
       =
       rw sum room in
       let there = parses t rest extended (λ some. ready) in
-      let parsed : IsParsed parts last.parser last.state next
+      let parsed : ArePartsAt parts last.parser last.state next
       (parse m t (take (length all - length (still_held all)) all)) =
       rw added.released_is at there.is_parsed in
       rw (holds_some m s more (rw added.held_is at some)) (record {
@@ -107,7 +108,7 @@ module _ {P B T A V W : Type 0} {parts : EngineMeaning P B T W} (m : Meaning V W
 
   -- the update is stopped
   pub turned_stop : {last : Engine P B T A} {next : V} → 0 < length more → length (held_of hold) ≡ 0
-      → ((t : State V W) (n : ℕ) → IsParsed parts set.parser set.state value t → released_of hold ≡ t.held
+      → ((t : State V W) (n : ℕ) → ArePartsAt parts set.parser set.state value t → released_of hold ≡ t.held
       → held_of hold ≡ []
       → (0 < length t.held → parts.reading.has_memory set.parser (parts.room_of set.state.text) t.parsed
       (length t.held + n))

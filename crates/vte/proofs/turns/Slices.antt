@@ -3,8 +3,8 @@
 -- came.
 use Rattle.vte.proofs.Common.{◌≡◌, ℕ, ◌+◌, ◌-◌, ◌<◌, ◌≤◌, inl, Bool, true, false, nat_lt, List, [], ◌∷◌, ◌++◌, length, take, drop, refl, ap, sym, subst}
 use Rattle.vte.proofs.Common.{◌∙◌, arith, length-append, length-drop, append_assoc, drop-append-add, take-add, nat_tests, append-nil, drop_all, length-take-le}
-use Rattle.vte.proofs.Common.{take-append-drop, take_all, take_at, added, IsSteady, begin_count, IsOutsideUpdate, Meaning, HoldsWellAt, Halted, IsAtBegin, IsOpenAt, Opened}
-use Rattle.vte.proofs.Common.{TakesAllTurns, OpenTurn, OpenTurnHalts, State, TakesSome, TakesTurns, begin_front, between, done, kind_of, open_turn, parse, turn, turns, within}
+use Rattle.vte.proofs.Common.{take-append-drop, take_all, take_at, added, IsSteady, begin_count, IsOutsideUpdate, Meaning, HoldsWellAt, Halted, HasParsedFront, HasParsedWithoutBegin, Opened}
+use Rattle.vte.proofs.Common.{TakesAllTurns, OpenTurn, OpenTurnHalts, State, TakesTurnsOrHalts, TakesTurns, begin_front, between_turns, done, kind_of, open_turn, parse, turn, turns, inside_turn}
 use Rattle.vte.proofs.performing.CallLists.{after-append, added_calls-append, added_calls-nothing, set_times-add}
 use Rattle.vte.proofs.turns.EachOnce.{Progresses, grows_on, stop_if_due_grows, stop_if_due_none, parse_grows, turns_grow}
 use Rattle.vte.proofs.updates.Fronts.{begins_in, front_after, front_is_all, front_of_more, front_some, none_begin, none_begin_in}
@@ -48,7 +48,7 @@ module _ {V W : Type 0} (m : Meaning V W) where
 
 -- where no update begins in bytes, they are their own front
 module _ {V W : Type 0} {m : Meaning V W} {s : State V W} {bytes : List ℕ} {n : ℕ} {b : Bool} {IsThere : State V W
-    → Type 0} (at : IsAtBegin m s bytes n b IsThere) (whole : b ≡ false) where
+    → Type 0} (at : HasParsedFront m s bytes n b IsThere) (whole : b ≡ false) where
   none_begins : begin_count (added m.limit s.parsed (begin_front m.limit s.parsed bytes)) ≡ 0
   none_begins =
       let test : nat_lt 0 (begin_count (added m.limit s.parsed (begin_front m.limit s.parsed bytes))) ≡ false =
@@ -61,10 +61,11 @@ module _ {V W : Type 0} {m : Meaning V W} {s : State V W} {bytes : List ℕ} {n 
   begin-whole = at.count ∙ ap length front_whole
 
 module _ {V W : Type 0} (m : Meaning V W) (s : State V W) (bytes : List ℕ) where
-  pub open-nothing : {IsThere : State V W → Type 0} → IsThere s → IsOpenAt m s bytes 0 IsThere
+  pub open-nothing : {IsThere : State V W → Type 0} → IsThere s → HasParsedWithoutBegin m s bytes 0 IsThere
   open-nothing at = record { none_begin = none_begin m.limit s.parsed; is_at = rw (parse-nothing m s) at }
 
-  pub open-all : {read : ℕ} {IsThere : State V W → Type 0} → IsOpenAt m s bytes read IsThere → length bytes ≤ read
+  pub open-all : {read : ℕ} {IsThere : State V W → Type 0} → HasParsedWithoutBegin m s bytes read IsThere
+      → length bytes ≤ read
       → Opened m s bytes read IsThere
   open-all {read} o all =
       let whole = take_all read bytes all in
@@ -80,8 +81,9 @@ module _ {V W : Type 0} (m : Meaning V W) (s : State V W) (bytes : List ℕ) whe
 
   -- a slice in which no update begins is parsed whole
   pub open-more : {slice : List ℕ} {read n : ℕ} {b : Bool} {old new : State V W → Type 0} (k : ℕ)
-      → IsOpenAt m s bytes read old → slice ≡ take k (drop read bytes)
-      → IsAtBegin m (parse m s (take read bytes)) slice n b new → b ≡ false → IsOpenAt m s bytes (read + n) new
+      → HasParsedWithoutBegin m s bytes read old → slice ≡ take k (drop read bytes)
+      → HasParsedFront m (parse m s (take read bytes)) slice n b new → b ≡ false
+      → HasParsedWithoutBegin m s bytes (read + n) new
   open-more {slice} {read} {n} k o is at uncut =
       let all = front_whole at uncut in
       let zero : begin_count (added m.limit (s.parsed ++ take read bytes) slice) ≡ 0 =
@@ -99,8 +101,8 @@ module _ {V W : Type 0} (m : Meaning V W) (s : State V W) (bytes : List ℕ) whe
 
   -- an update begins in the slice
   pub open-ends : {slice : List ℕ} {read n : ℕ} {b : Bool} {old new : State V W → Type 0} (k : ℕ)
-      → IsOpenAt m s bytes read old → read ≤ length bytes
-      → slice ≡ take k (drop read bytes) → IsAtBegin m (parse m s (take read bytes)) slice n b new → b ≡ true
+      → HasParsedWithoutBegin m s bytes read old → read ≤ length bytes
+      → slice ≡ take k (drop read bytes) → HasParsedFront m (parse m s (take read bytes)) slice n b new → b ≡ true
       → Opened m s bytes (read + n) new
   open-ends {slice} {read} {n} k o inside is at begun =
       let front = begin_front m.limit (s.parsed ++ take read bytes) slice in
@@ -124,7 +126,8 @@ module _ {V W : Type 0} (m : Meaning V W) (s : State V W) (bytes : List ℕ) whe
         is_at = rw (all, ← parse-append m s (take read bytes) front) at.is_at;
       }
 
-  pub halts : {read : ℕ} {IsThere : State V W → Type 0} → IsOpenAt m s bytes read IsThere → read < length bytes
+  pub halts : {read : ℕ} {IsThere : State V W → Type 0} → HasParsedWithoutBegin m s bytes read IsThere
+      → read < length bytes
       → OpenTurnHalts m s bytes (parse m s (take read bytes)) (drop read bytes)
   halts {read} o less = record {
     front = take read bytes;
@@ -138,7 +141,7 @@ module _ {V W : Type 0} (m : Meaning V W) (s : State V W) (bytes : List ℕ) whe
 
 pub halted_nothing : {V W : Type 0} (m : Meaning V W) {s : State V W} {bytes : List ℕ} {IsThere : State V W → Type 0}
     → IsThere s → Halted m s bytes 0 IsThere
-halted_nothing m {s} at = record { next = s; takes = between done; is_at = at }
+halted_nothing m {s} at = record { next = s; takes = between_turns done; is_at = at }
 
 -- ---- turns of a call, and one after them that is refused memory
 
@@ -156,16 +159,17 @@ module _ {V W : Type 0} (m : Meaning V W) where
   taken_on s t u (b ∷ bytes) left rest (turns pending allowed first) more =
       turns pending allowed (taken_on _ t u _ left rest first more)
 
-  pub some_on : (s t u : State V W) (bytes left rest : List ℕ) → TakesTurns m s bytes t left → TakesSome m t left u rest
-      → TakesSome m s bytes u rest
-  some_on s t u bytes left rest first (between more) = between (taken_on s t u bytes left rest first more)
-  some_on s t u bytes left rest first (within more pending allowed halts) =
-      within (taken_on s t _ bytes left _ first more) pending allowed halts
+  pub some_on : (s t u : State V W) (bytes left rest : List ℕ) → TakesTurns m s bytes t left
+      → TakesTurnsOrHalts m t left u rest
+      → TakesTurnsOrHalts m s bytes u rest
+  some_on s t u bytes left rest first (between_turns more) = between_turns (taken_on s t u bytes left rest first more)
+  some_on s t u bytes left rest first (inside_turn more pending allowed halts) =
+      inside_turn (taken_on s t _ bytes left _ first more) pending allowed halts
 
   -- where nothing is left, no turn was refused memory
-  pub all_taken : (s t : State V W) (bytes : List ℕ) → TakesSome m s bytes t [] → TakesTurns m s bytes t []
-  all_taken s t bytes (between taken) = taken
-  all_taken s t bytes (within {reached = u} {rest} taken pending allowed halts) =
+  pub all_taken : (s t : State V W) (bytes : List ℕ) → TakesTurnsOrHalts m s bytes t [] → TakesTurns m s bytes t []
+  all_taken s t bytes (between_turns taken) = taken
+  all_taken s t bytes (inside_turn {reached = u} {rest} taken pending allowed halts) =
       absurd (omega (arith, (opens_first m pending u t rest [] halts).1.some_left))
 
   -- ---- what is parsed and held then
@@ -177,9 +181,10 @@ module _ {V W : Type 0} (m : Meaning V W) where
       (grows_on (stop_if_due_grows m pending s bytes)
       (parse_grows m (stop_if_due m pending s) h.front left bytes (stop_if_due_none m pending s) h.bytes_are))
 
-  pub some_grow : (s t : State V W) (bytes left : List ℕ) → TakesSome m s bytes t left → Progresses s t bytes left
-  some_grow s t bytes left (between taken) = turns_grow m s t bytes left taken
-  some_grow s t bytes left (within {reached = u} {rest} taken pending allowed halts) =
+  pub some_grow : (s t : State V W) (bytes left : List ℕ) → TakesTurnsOrHalts m s bytes t left
+      → Progresses s t bytes left
+  some_grow s t bytes left (between_turns taken) = turns_grow m s t bytes left taken
+  some_grow s t bytes left (inside_turn {reached = u} {rest} taken pending allowed halts) =
       grows_on (turns_grow m s u bytes rest taken)
       (turn_halts_grow pending u t rest left (opens_first m pending u t rest left halts))
 
@@ -194,10 +199,10 @@ module _ {V W : Type 0} (m : Meaning V W) where
       → OpensAndHalts m pending s bytes t left → t.held ≡ []
   turn_halts_held pending s t bytes left (parses, h) = ap (λ t. t.held) h.state_is ∙ stop_if_due_none m pending s
 
-  pub some_well : (s t : State V W) (bytes left : List ℕ) → TakesSome m s bytes t left → HoldsWellAt m s
+  pub some_well : (s t : State V W) (bytes left : List ℕ) → TakesTurnsOrHalts m s bytes t left → HoldsWellAt m s
       → HoldsWellAt m t
-  some_well s t bytes left (between taken) well = taken_well m s t bytes left taken well
-  some_well s t bytes left (within {reached = u} {rest} taken pending allowed halts) well =
+  some_well s t bytes left (between_turns taken) well = taken_well m s t bytes left taken well
+  some_well s t bytes left (inside_turn {reached = u} {rest} taken pending allowed halts) well =
       let opens = opens_first m pending u t rest left halts in
       let nothing = turn_halts_held pending u t rest left opens in
       record {
@@ -231,9 +236,9 @@ module _ {V W : Type 0} (m : Meaning V W) where
       (subst (λ x. TakesTurns m x.state x.rest end []) same more)
 
   pub goes_on : (s t end : State V W) (bytes left : List ℕ) → IsSteady m.timeout → HoldsWellAt m s
-      → TakesSome m s bytes t left → TakesAllTurns m t left end → TakesAllTurns m s bytes end
-  goes_on s t end bytes left steady well (between taken) more = taken_on s t end bytes left [] taken more
-  goes_on s t end bytes left steady well (within {reached = u} {rest} taken pending allowed halts) more =
+      → TakesTurnsOrHalts m s bytes t left → TakesAllTurns m t left end → TakesAllTurns m s bytes end
+  goes_on s t end bytes left steady well (between_turns taken) more = taken_on s t end bytes left [] taken more
+  goes_on s t end bytes left steady well (inside_turn {reached = u} {rest} taken pending allowed halts) more =
       let opens = opens_first m pending u t rest left halts in
       let out = turn_halts_outside pending u t rest left steady (taken_well m s u bytes rest taken well) allowed opens
       in

@@ -2,10 +2,10 @@
 -- unread starts. Only a position with ESC can change it, and the older bytes matter only by their last seven.
 use Rattle.vte.proofs.Common.{◌≡◌, ℕ, zero, suc, ◌+◌, ◌-◌, ◌<◌, ◌≤◌, inl, inr, true, false, eqb, Some, None, List, [], ◌∷◌, length, drop, take, get_or, refl}
 use Rattle.vte.proofs.Common.{ap, ◌∙◌, add-zero, length-drop, arith, cases_Bool, nat_tests, drop_all, drop_more, get_or-drop, get_or-take, length-take-le, take_all, ◌++◌}
-use Rattle.vte.proofs.Common.{IsHeldTail, drop-drop, length-append, Adds, after_word, begin_update, end_update, held_begin_count, begins_with, after_last_end, from_begin}
+use Rattle.vte.proofs.Common.{IsHeldTail, drop-drop, length-append, Adds, after_word, begin_update, end_update, begins_ending_in_last, begins_with, after_last_end, from_begin}
 use Rattle.std.specs.Prelude.{nat_lt}
 use Rattle.memchr.specs.Find.{NoneAfter, Nowhere, Passes, is_byte}
-use Rattle.vte.proofs.updates.Sequences.{after_whole, held_begin_count-tail, begins_is, begins_long, after_last_end-tail, end_skipped, not_further, not_some}
+use Rattle.vte.proofs.updates.Sequences.{after_whole, begins_ending_in_last-tail, begins_is, begins_long, after_last_end-tail, end_skipped, not_further, not_some}
 
 -- no update begins or ends with the sequence at this position
 record IsNeither (text : List ℕ) (position : ℕ) : Type 0 where
@@ -72,7 +72,7 @@ begins_one text e = rw (begins_is begin_update text e) refl
 pub record HasSeen (text : List ℕ) (new unread begin begins : ℕ) : Type 0 where
   pub no_end : after_last_end (drop unread text) ≡ None
   pub begin_is : begin ≡ length text - length (from_begin (drop unread text))
-  pub begins_are : begins ≡ held_begin_count new (drop unread text)
+  pub begins_are : begins ≡ begins_ending_in_last new (drop unread text)
 
 -- ---- one position more
 
@@ -231,6 +231,6 @@ module _ {held more text : List ℕ} {start : ℕ} (e : IsHeldTail held more tex
       let tail : drop start all ≡ drop (length held - 7) all = rw e.start_is in
       let no_end : after_last_end all ≡ None = cc (tail, after_last_end-tail held more none, rest.no_end) in
       record {
-        begins = rw no_end (cc (tail, rest.begins_are, held_begin_count-tail (length more) held more refl));
+        begins = rw no_end (cc (tail, rest.begins_are, begins_ending_in_last-tail (length more) held more refl));
         released = rw no_end (omega arith);
       }

@@ -2,7 +2,7 @@
 -- overlap; without an end-update in the older bytes, their last seven decide as all of them would.
 use Rattle.vte.proofs.Common.{◌≡◌, ℕ, zero, suc, ◌+◌, ◌-◌, ◌≤◌, inl, inr, ◌⊎◌, true, false, Option, Some, None, List, [], ◌∷◌, ◌++◌, length, drop, refl, ap}
 use Rattle.vte.proofs.Common.{zero-add, length-append, length-drop, arith, cases_Bool, cases_lt, nat_tests, drop-drop, after_word, begin_update, end_update, begins_with, after_last_end, from_begin}
-use Rattle.vte.proofs.Common.{held_begin_count, still_held, sym, ◌<◌}
+use Rattle.vte.proofs.Common.{begins_ending_in_last, still_held, sym, ◌<◌}
 use Rattle.std.specs.Prelude.{is_some, nat_lt}
 
 -- an `Option` by cases, for `elim`
@@ -51,7 +51,8 @@ begins_with-append sequence text more e = grind (arith, begins_long sequence tex
 
 -- no update begins inside an end-update
 pub end_skipped : (n b : ℕ) (text : List ℕ) → begins_with end_update (b ∷ text) ≡ true
-    → (from_begin text ≡ from_begin (drop 7 text)) × (held_begin_count n text ≡ held_begin_count n (drop 7 text))
+    → (from_begin text ≡ from_begin (drop 7 text))
+    × (begins_ending_in_last n text ≡ begins_ending_in_last n (drop 7 text))
 end_skipped n b text e = let is = ap (drop 1) (begins_is end_update (b ∷ text) e) in rw is (grind arith)
 
 -- ---- a part at the end of a text
@@ -162,16 +163,16 @@ after_last_end-tail (b ∷ old) more none = elim (cases_lt (length old) 7) [
 
 -- A begin-update ends among the last n bytes only if it begins among these and the seven before
 -- them.
-pub held_begin_count-tail : (n : ℕ) (old more : List ℕ) → length more ≡ n
-    → held_begin_count n (old ++ more) ≡ held_begin_count n (drop (length old - 7) (old ++ more))
-held_begin_count-tail n [] more is = refl
-held_begin_count-tail n (b ∷ old) more is = elim (cases_lt (length old) 7) [
+pub begins_ending_in_last-tail : (n : ℕ) (old more : List ℕ) → length more ≡ n
+    → begins_ending_in_last n (old ++ more) ≡ begins_ending_in_last n (drop (length old - 7) (old ++ more))
+begins_ending_in_last-tail n [] more is = refl
+begins_ending_in_last-tail n (b ∷ old) more is = elim (cases_lt (length old) 7) [
   | inl few ↦ let e : suc (length old) - 7 ≡ 0 = omega arith in rw e
   | inr many ↦
       let e : suc (length old) - 7 ≡ suc (length old - 7) = omega arith in
       let far : nat_lt (length (drop 7 (old ++ more))) n ≡ false =
       rw (length-drop, length-append) (grind (arith, nat_tests)) in
-      let tail = held_begin_count-tail n old more is in
+      let tail = begins_ending_in_last-tail n old more is in
       rw e (elim (cases_Bool (begins_with begin_update (b ∷ (old ++ more)))) [
         | inl here ↦ rw (after_whole begin_update (b ∷ (old ++ more)) here, far, zero-add) tail
         | inr other ↦ rw (not_some _ other, zero-add) tail

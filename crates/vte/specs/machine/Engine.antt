@@ -8,7 +8,7 @@ use Rattle.vte.specs.LongProcessor.{read_of}
 use Rattle.vte.specs.Memory.{KeepsMemory}
 use Rattle.vte.specs.Processor.{Meaning, State, begin_front, most_held, open_turn, parse, turn}
 use Rattle.vte.specs.ProcessorCalls.{IsAt, StopsSync, held_of}
-use Rattle.vte.specs.Refusal.{HasTaken, TakesSome}
+use Rattle.vte.specs.Refusal.{HasTaken, TakesTurnsOrHalts}
 use Rattle.vte.specs.machine.Meanings.{EngineMeaning}
 use Rattle.vte.specs.declared.ansi.performer.PerformerState.{PerformerState}
 use Rattle.vte.specs.declared.ansi.engine.TheConstants.{SLICE}
@@ -67,24 +67,24 @@ pub record EngineReads {P B T A V W : Type 0} (parts : EngineMeaning P B T W)
       → KeepsMemory (EngineHasMemory parts engine) (EngineHasMemory parts next)
 
 -- The parser, the state lent to it and the handler's value are as the state says, whatever is held.
-pub record IsParsed {P B T V W : Type 0} (parts : EngineMeaning P B T W) (parser : P)
+pub record ArePartsAt {P B T V W : Type 0} (parts : EngineMeaning P B T W) (parser : P)
     (lent : PerformerState T B) (value : V) (state : State V W) : Type 0 where
   pub has_read : parts.reading.has_read parser state.parsed
   pub last : lent.preceding_char ≡ last_printed (events parts.limit state.parsed)
   pub timeout_is : parts.timeout_of lent.timeout ≡ state.timeout
   pub handler_is : value ≡ state.handler
 
--- `IsParsed`, and there is memory for `count` bytes.
-pub record IsParsedWithRoom {P B T V W : Type 0} (parts : EngineMeaning P B T W) (parser : P)
+-- `ArePartsAt`, and there is memory for `count` bytes.
+pub record ArePartsAtWithMemory {P B T V W : Type 0} (parts : EngineMeaning P B T W) (parser : P)
     (lent : PerformerState T B) (value : V) (state : State V W) (count : ℕ) : Type 0 where
-  pub is_parsed : IsParsed parts parser lent value state
+  pub is_parsed : ArePartsAt parts parser lent value state
   pub room : parts.reading.has_memory parser (parts.room_of lent.text) state.parsed count
 
--- `IsParsed`, with the memory that was there before.
-pub record IsParsedKeeping {P B T V W : Type 0} (parts : EngineMeaning P B T W) (parser : P)
+-- `ArePartsAt`, with the memory that was there before.
+pub record ArePartsAtKeeping {P B T V W : Type 0} (parts : EngineMeaning P B T W) (parser : P)
     (lent : PerformerState T B) (next : P) (back : PerformerState T B)
     (value : V) (state : State V W) : Type 0 where
-  pub is_parsed : IsParsed parts next back value state
+  pub is_parsed : ArePartsAt parts next back value state
   pub memory : KeepsMemory (parts.reading.has_memory parser (parts.room_of lent.text))
       (parts.reading.has_memory next (parts.room_of back.text))
 
@@ -111,7 +111,7 @@ LeadOn parts engine next old new ends =
 module _ {V W : Type 0} (meaning : Meaning V W) (state : State V W) (bytes : List ℕ) where
   -- The first `read` bytes were parsed: those up to the one that begins an update, or all if none
   -- begins.
-  pub record IsAtBegin (read : ℕ) (begins : Bool) (IsThere : State V W → Type 0) : Type 0 where
+  pub record HasParsedFront (read : ℕ) (begins : Bool) (IsThere : State V W → Type 0) : Type 0 where
     pub count : read ≡ length (begin_front meaning.limit state.parsed bytes)
     pub begins_is : let front = begin_front meaning.limit state.parsed bytes in
         begins ≡ nat_lt 0 (begin_count (added meaning.limit state.parsed front))
@@ -133,14 +133,14 @@ module _ {V W : Type 0} (meaning : Meaning V W) (state : State V W) (bytes : Lis
     pub is_at : IsThere (open_turn meaning state bytes).state
 
   -- An open turn has parsed the first `read` bytes, and no update begins in them.
-  pub record IsOpenAt (read : ℕ) (IsThere : State V W → Type 0) : Type 0 where
+  pub record HasParsedWithoutBegin (read : ℕ) (IsThere : State V W → Type 0) : Type 0 where
     pub none_begin : begin_count (added meaning.limit state.parsed (take read bytes)) ≡ 0
     pub is_at : IsThere (parse meaning state (take read bytes))
 
   -- A turn that was refused memory has read `read` bytes.
   pub record Halted (read : ℕ) (IsThere : State V W → Type 0) : Type 0 where
     pub next : State V W
-    pub takes : TakesSome meaning state bytes next (drop read bytes)
+    pub takes : TakesTurnsOrHalts meaning state bytes next (drop read bytes)
     pub is_at : IsThere next
 
   -- How a turn ends, if memory for it may be refused.
@@ -151,4 +151,4 @@ module _ {V W : Type 0} (meaning : Meaning V W) (state : State V W) (bytes : Lis
   -- How an open turn ends, if memory for it may be refused.
   pub record EndsOpen (result : Result ℕ Refused) (IsThere : State V W → Type 0) : Type 0 where
     pub opened : IfOk result (λ read. Opened read IsThere)
-    pub halted : IfErr result (λ refused. IsOpenAt refused.read IsThere)
+    pub halted : IfErr result (λ refused. HasParsedWithoutBegin refused.read IsThere)

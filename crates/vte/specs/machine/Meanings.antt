@@ -6,7 +6,7 @@ use Rattle.vte_core.specs.LongParser.{HasReadLong}
 use Rattle.vte_core.specs.Parser.{HasRead}
 use Rattle.vte_core.specs.declared.parser.Parser.{Parser}
 use Rattle.vte_core.specs.declared.parser.long.LongParser.{LongParser}
-use Rattle.vte.specs.Memory.{HasRoom}
+use Rattle.vte.specs.Memory.{ParserHasMemory}
 use Rattle.vte.specs.declared.ansi.growing_text.GrowingText.{GrowingText}
 use Rattle.vte.specs.declared.ansi.titles.TheConstants.{TEXT_ROOM}
 
@@ -24,7 +24,7 @@ limited_meaning = record {
 }
 
 abbrev pub long_meaning : {A : Type 0} → ParserMeaning (LongParser A)
-long_meaning = record { has_read = HasReadLong; has_memory = HasRoom }
+long_meaning = record { has_read = HasReadLong; has_memory = ParserHasMemory }
 
 -- The parser, with its limit, the buffer for texts and the timeout.
 pub record EngineMeaning (P B T W : Type 0) : Type 1 where

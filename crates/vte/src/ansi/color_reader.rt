@@ -1,6 +1,6 @@
 //! Colours of numbers, read from any iterator of them.
 ghost use Rattle.std.specs.Prelude.{◌≡◌, drop, map};
-ghost use Rattle.vte.specs.ColorReading.{color_reading, kind_reading, without_space};
+ghost use Rattle.vte.specs.ColorReading.{color_reading, kind_reading, without_color_space};
 ghost use Rattle.vte.specs.machine.ColorReader.{component_at_front};
 
 use crate::ansi::numbers::NumberIterator;
@@ -36,7 +36,7 @@ pub(crate) fn read_color<I: NumberIterator>(kind: u16, numbers: &mut I) -> Optio
 /// Reads a colour after 38, 48 or 58 in one group.
 #[tactic(auto, using(crate::proofs::ColorReadings::themselves))]
 pub(crate) fn read_joined(numbers: &[u16]) -> Option<Color>
-    ensures { result ≡ (color_reading (without_space numbers.now)).color }
+    ensures { result ≡ (color_reading (without_color_space numbers.now)).color }
 {
     let (kind, mut left) = numbers.split_first()?;
     if left.len() > 3 {

@@ -5,7 +5,7 @@ ghost use Rattle.vte.specs.machine.Meanings.{engine_meaning};
 ghost use Rattle.vte.specs.ProcessorCalls.{held_of};
 ghost use Rattle.vte.specs.machine.Hold.{released_of};
 ghost use Rattle.vte.specs.Processor.{State, hold_turn, meaning_of, most_held, parse, set_times, stop};
-ghost use Rattle.vte.specs.machine.Engine.{EngineIsAtKeeping, EndsOpen, EndsTurn, IsParsed, IsParsedKeeping, IsParsedWithRoom, LeadOn, EngineLacksMemory, EngineReads, EngineReserves, EngineStandsAt, EngineStops};
+ghost use Rattle.vte.specs.machine.Engine.{EngineIsAtKeeping, EndsOpen, EndsTurn, ArePartsAt, ArePartsAtKeeping, ArePartsAtWithMemory, LeadOn, EngineLacksMemory, EngineReads, EngineReserves, EngineStandsAt, EngineStops};
 ghost use Rattle.vte_handler.specs.Timeout.{timeout_meaning};
 
 use crate::ansi::hold::{Hold, MOST_HELD};
@@ -104,7 +104,7 @@ impl<P: EventParser + Drop, B: TextBuffer + Drop, T: Timeout + Drop, A: Allocato
     /// update has ended.
     fn end_update<H: Handler, G: ParseAs<H, T, P>>(&mut self, handler: &mut H)
         ensures stops { (s : State H.Value T.Value) (n : ℕ)
-            → IsParsed (engine_meaning P.limit P.reading B.room T.value_of) self.old.parser
+            → ArePartsAt (engine_meaning P.limit P.reading B.room T.value_of) self.old.parser
             self.old.state (H.value_of handler.old) s →
             released_of self.old.hold ≡ s.held → held_of self.old.hold ≡ []
             → (0 < length s.held
@@ -122,18 +122,18 @@ impl<P: EventParser + Drop, B: TextBuffer + Drop, T: Timeout + Drop, A: Allocato
     /// Parses the released bytes.
     fn parse_released<H: Handler, G: ParseAs<H, T, P>>(&mut self, handler: &mut H)
         ensures parsed { (s : State H.Value T.Value) (n : ℕ)
-            → IsParsed (engine_meaning P.limit P.reading B.room T.value_of) self.old.parser
+            → ArePartsAt (engine_meaning P.limit P.reading B.room T.value_of) self.old.parser
             self.old.state (H.value_of handler.old) s →
             (0 < length (released_of self.old.hold)
             → P.reading.has_memory self.old.parser (B.room self.old.state.text) s.parsed
             (length (released_of self.old.hold) + n)) →
-            IsParsedKeeping
+            ArePartsAtKeeping
             (engine_meaning P.limit P.reading B.room T.value_of) self.old.parser self.old.state
             self.new.parser self.new.state (H.value_of handler.new)
             (parse (meaning_of P.limit H.step T.set T.clear T.allows) s
             (released_of self.old.hold)) }
         ensures room { (s : State H.Value T.Value) (n : ℕ) →
-            IsParsedWithRoom
+            ArePartsAtWithMemory
             (engine_meaning P.limit P.reading B.room T.value_of) self.old.parser self.old.state
             (H.value_of handler.old) s (length (released_of self.old.hold) + n) →
             P.reading.has_memory self.new.parser (B.room self.new.state.text)
@@ -177,7 +177,7 @@ impl<P: EventParser + Drop, B: TextBuffer + Drop, T: Timeout + Drop, A: Allocato
         if pending || self.hold.len() > 0 {
             self.stop::<H, G>(handler);
         }
-        self.open::<H, G>(handler, bytes)
+        self.take_open_turn::<H, G>(handler, bytes)
     }
 
     /// Returns whether there is room to hold this many more bytes.
@@ -189,7 +189,7 @@ impl<P: EventParser + Drop, B: TextBuffer + Drop, T: Timeout + Drop, A: Allocato
 
     /// Parses bytes up to the one that begins an update, a slice at a time, and returns how many.
     /// Memory is taken before each slice.
-    fn open<H: Handler, G: ParseAs<H, T, P>>(
+    fn take_open_turn<H: Handler, G: ParseAs<H, T, P>>(
         &mut self,
         handler: &mut H,
         bytes: &[u8],

@@ -20,6 +20,7 @@ pub(crate) struct Hold<A: Allocator> {
     bytes: Vec<u8, A>,
     released: usize,
     ghost within: { released ≤ length bytes.items },
+    // `by` proves that it has one proof at most, as the kit asks of such a condition.
     ghost no_end: { after_last_end (drop released bytes.items) ≡ None } by { Prim.hlevel props },
     ghost fits: { length (drop released bytes.items) ≤ most_held },
     // The memory never grows.

@@ -4,7 +4,7 @@ ghost use Rattle.std.specs.Prelude.{◌≡◌, ◌≤◌, ◌+◌, ◌++◌, ℕ
 ghost use Rattle.vte.specs.machine.Performing.{PerformsAll, PerformsUntilStop, performer_value};
 ghost use Rattle.vte.specs.Processor.{State, meaning_of, parse};
 ghost use Rattle.vte.specs.machine.Performer.{with_event};
-ghost use Rattle.vte.specs.machine.Engine.{IsAtBegin, IsParsedKeeping, IsParsedWithRoom};
+ghost use Rattle.vte.specs.machine.Engine.{HasParsedFront, ArePartsAtKeeping, ArePartsAtWithMemory};
 ghost use Rattle.vte.specs.machine.Meanings.{ParserMeaning, engine_meaning, limited_meaning};
 ghost use Rattle.vte.specs.Memory.{KeepsMemory};
 ghost use Rattle.vte_handler.specs.Timeout.{timeout_meaning};
@@ -132,16 +132,16 @@ pub(crate) fn parse_all<
     G: ParseAs<H, T, P>,
 >(parser: &mut P, state: &mut PerformerState<T, B>, handler: &mut H, bytes: &[u8])
     ensures parsed { (s : State H.Value T.Value) (n : ℕ)
-        → IsParsedWithRoom (engine_meaning P.limit P.reading B.room T.value_of) parser.old state.old
-        (H.value_of handler.old) s (length bytes.now + n) →
-        IsParsedKeeping
+        → ArePartsAtWithMemory (engine_meaning P.limit P.reading B.room T.value_of) parser.old
+        state.old (H.value_of handler.old) s (length bytes.now + n) →
+        ArePartsAtKeeping
         (engine_meaning P.limit P.reading B.room T.value_of) parser.old state.old parser.new
         state.new
         (H.value_of handler.new)
         (parse (meaning_of P.limit H.step T.set T.clear T.allows) s bytes.now) }
     ensures room { (s : State H.Value T.Value) (n : ℕ)
-        → IsParsedWithRoom (engine_meaning P.limit P.reading B.room T.value_of) parser.old state.old
-        (H.value_of handler.old) s (length bytes.now + n) →
+        → ArePartsAtWithMemory (engine_meaning P.limit P.reading B.room T.value_of) parser.old
+        state.old (H.value_of handler.old) s (length bytes.now + n) →
         P.reading.has_memory parser.new (B.room state.new.text) (s.parsed ++ bytes.now) n }
 {
     let mut performer = Performer {
@@ -164,10 +164,10 @@ pub(crate) fn parse_until_begin<
 >(parser: &mut P, state: &mut PerformerState<T, B>, handler: &mut H, bytes: &[u8]) -> (usize, bool)
     ensures within { result.0 ≤ length bytes.now }
     ensures stops { (s : State H.Value T.Value) (n : ℕ)
-        → IsParsedWithRoom (engine_meaning P.limit P.reading B.room T.value_of) parser.old state.old
-        (H.value_of handler.old) s (length bytes.now + n) →
-        IsAtBegin (meaning_of P.limit H.step T.set T.clear T.allows) s bytes.now result.0 result.1
-        (IsParsedKeeping
+        → ArePartsAtWithMemory (engine_meaning P.limit P.reading B.room T.value_of) parser.old
+        state.old (H.value_of handler.old) s (length bytes.now + n) →
+        HasParsedFront (meaning_of P.limit H.step T.set T.clear T.allows) s bytes.now result.0
+        result.1 (ArePartsAtKeeping
         (engine_meaning P.limit P.reading B.room T.value_of) parser.old state.old parser.new
         state.new
         (H.value_of handler.new)) }

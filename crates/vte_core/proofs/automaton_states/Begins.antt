@@ -1,5 +1,5 @@
 -- What a first byte begins: nothing, or a character with these ranges to come, as the rows of UTF-8 say.
-use Rattle.vte_core.proofs.Common.{List, [], arith, inl, inr, refl, subst, sym, true, ℕ, ◌∙◌, ◌∷◌, ◌≡◌, ◌≢◌, ◌≤◌, and_parts, cases_Bool, cases_eq, cases_lt, false≢true, nat_tests, Range, is_in, from_to, rows_after_byte, utf8_rows, second_range, IsPrinted, IsUtf8Run, is_layout}
+use Rattle.vte_core.proofs.Common.{List, [], arith, inl, inr, refl, subst, sym, true, ℕ, ◌∙◌, ◌∷◌, ◌≡◌, ◌≢◌, ◌≤◌, and_parts, cases_Bool, cases_eq, cases_lt, false≢true, nat_tests, Range, is_in, from_to, rows_after_byte, utf8_rows, second_range, IsPrintedAscii, IsUtf8Run, is_layout}
 use Rattle.vte_core.proofs.bytes.EachLemmas.{each-one}
 use Rattle.vte_core.proofs.bytes.FirstBytes.{fits, tests_row, tests_two}
 use Rattle.vte_core.proofs.bytes.Scalars.{in_range-bounds}
@@ -50,7 +50,7 @@ begins b =
           | inr other ↦ fails (grind (arith, nat_tests))
         ]
         | inr printed ↦
-            prints (run-ascii true (b ∷ []) 0 1 (each-one IsPrinted (b ∷ []) 0 (printed, ascii)))
+            prints (run-ascii true (b ∷ []) 0 1 (each-one IsPrintedAscii (b ∷ []) 0 (printed, ascii)))
             (grind (arith, nat_tests))
       ]
       | inr from_80 ↦ elim (cases_lt b 0xc2) [

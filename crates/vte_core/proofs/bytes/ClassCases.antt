@@ -1,5 +1,5 @@
 -- What the tests of a byte's class say together. All by cases of the class, of which most are absurd.
-use Rattle.vte_core.proofs.Common.{◌≡◌, ℕ, true, false, eqb, refl, arith, nat_tests, Class, Control, Cancel, Intermediate, Digit, Colon, Semicolon, Marker, Final, Delete, High, class_of, is_cancel, is_control, is_device_data, is_final, is_head, is_intermediate, dispatches_escape, ends_all, ends_data, IsCommandData, Bool, List, [], ◌∷◌, ◌++◌, is_parameter_text, ends_head, AreInClass}
+use Rattle.vte_core.proofs.Common.{◌≡◌, ℕ, true, false, eqb, refl, arith, nat_tests, Class, Control, Cancel, Intermediate, Digit, Colon, Semicolon, Marker, Final, Delete, High, class_of, is_cancel, is_plain_control, is_device_data, is_final, is_head, is_intermediate, dispatches_escape, ends_all, ends_device_data, IsCommandData, Bool, List, [], ◌∷◌, ◌++◌, is_parameter_text, ends_head, AreInClass}
 use Rattle.vte_core.specs.Class.{Escape}
 use Rattle.vte_core.proofs.bytes.PlainKeys.{is_dropped, is_dropped_in_head}
 
@@ -12,7 +12,7 @@ AreInClass-append has (b ∷ front) rest are more = (are.0, AreInClass-append ha
 
 -- ---- one class each
 
-pub control : (k : Class) → is_control k ≡ true → k ≡ Control
+pub control : (k : Class) → is_plain_control k ≡ true → k ≡ Control
 control Control h = refl
 control _ h = cc
 
@@ -60,7 +60,7 @@ ends_not_cancel _ h = refl
 
 -- ---- bytes of a head
 
-pub head_is_no_control : (k : Class) → is_head k ≡ true → is_control k ≡ false
+pub head_is_no_control : (k : Class) → is_head k ≡ true → is_plain_control k ≡ false
 head_is_no_control Control h = cc
 head_is_no_control _ h = refl
 
@@ -86,14 +86,15 @@ left_dispatches Marker h i = refl
 left_dispatches _ h i = cc
 
 -- after 20..7E, CAN, SUB, ESC and C0: DEL and 80..FF
-pub left_is_dropped : (k : Class) → is_head k ≡ false → is_final k ≡ false → ends_all k ≡ false → is_control k ≡ false
+pub left_is_dropped : (k : Class) → is_head k ≡ false → is_final k ≡ false → ends_all k ≡ false
+    → is_plain_control k ≡ false
     → is_dropped k ≡ true
 left_is_dropped Delete h f e c = refl
 left_is_dropped High h f e c = refl
 left_is_dropped _ h f e c = cc
 
 pub left_of_intermediates : (k : Class) → is_intermediate k ≡ false → dispatches_escape k ≡ false → ends_all k ≡ false
-    → is_control k ≡ false → is_dropped k ≡ true
+    → is_plain_control k ≡ false → is_dropped k ≡ true
 left_of_intermediates Delete i d e c = refl
 left_of_intermediates High i d e c = refl
 left_of_intermediates _ i d e c = cc
@@ -107,7 +108,7 @@ left_in_head High h f e = refl
 left_in_head _ h f e = cc
 
 -- what ends no data of a device control string
-pub ends_no_data : (b : ℕ) → ends_all (class_of b) ≡ false → (b ≡ 0x9c → ⊥) → ends_data b ≡ false
+pub ends_no_data : (b : ℕ) → ends_all (class_of b) ≡ false → (b ≡ 0x9c → ⊥) → ends_device_data b ≡ false
 ends_no_data b e n =
     let no : eqb b 0x9c ≡ false = grind (arith, nat_tests) in
     rw (ends_not_cancel (class_of b) e, no) refl

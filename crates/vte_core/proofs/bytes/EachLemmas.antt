@@ -1,5 +1,5 @@
--- What holds of each byte between two places: of one byte, of two stretches joined, of a block. By cases of where a
--- place lies.
+-- What holds of each byte between two positions: of one byte, of two stretches joined, of a block. By cases of where
+-- a position lies.
 use Rattle.vte_core.proofs.Common.{◌≡◌, ℕ, ◌+◌, ◌-◌, ◌<◌, ◌≤◌, inl, inr, List, [], ◌∷◌, length, take, drop, get_or, refl, ap, subst, ◌∙◌, arith, cases_lt, drop_more, take_rest, slice_index}
 use Rattle.std.proofs.lemmas.List.{length-drop, length-take}
 use Rattle.std.proofs.lemmas.Simd.{get_or-chunk}
@@ -27,7 +27,7 @@ pub each-next : (holds : ℕ → Type 0) (bytes : List ℕ) (from end b : ℕ) �
 each-next holds bytes from end b all is one =
     each-both holds bytes from end (end + 1) all (each-one holds bytes end (subst holds is one))
 
--- the first bytes of what stands at a place
+-- the first bytes of what stands at a position
 pub front-block : (bytes block : List ℕ) (from n : ℕ) → from ≤ length bytes
     → IsFirstChunk (take (length bytes - from) (drop from bytes)) block n
     → (from + n ≤ length bytes) × (block ≡ take n (drop from bytes))

@@ -6,7 +6,7 @@ use Rattle.std.proofs.lemmas.Nat.{and_le_r, le_bytes_8}
 use Rattle.std.proofs.lemmas.Nat.Bits.{bit_at_and, bit_at_or, bit_at-lt}
 use Rattle.std.specs.Int.{bit_at, from_le_bytes, to_le_bytes}
 use Rattle.std.specs.Prelude.{bit_and, bit_or}
-use Rattle.vte_core.specs.machine.TextRun.{IsPrinted, ArePrinted}
+use Rattle.vte_core.specs.machine.TextRun.{IsPrintedAscii, ArePrintedAscii}
 
 -- 0x20 is subtracted from each byte: 0xdfdfdfdfdfdfdfe0 is 2 ^ 64 - 0x2020202020202020
 abbrev pub less : ℕ → ℕ
@@ -24,7 +24,7 @@ mask_at k low = eqb-true _ _ (agree_below_at (λ k. nat_eq (bit_at mask (8 * k +
 
 -- a byte at whose bit 7 neither number has a 1
 byte : (word k : ℕ) → word < 2 ^ 64 → k < 8 → bit_at (less word) (8 * k + 7) ≡ 0
-    → bit_at word (8 * k + 7) ≡ 0 → IsPrinted (get_or (to_le_bytes w64 word) k 0)
+    → bit_at word (8 * k + 7) ≡ 0 → IsPrintedAscii (get_or (to_le_bytes w64 word) k 0)
 byte word zero fits low x y = (omega (arith, fits, x, y), omega (arith, fits, x, y))
 byte word (suc zero) fits low x y = (omega (arith, fits, x, y), omega (arith, fits, x, y))
 byte word (suc (suc zero)) fits low x y = (omega (arith, fits, x, y), omega (arith, fits, x, y))
@@ -43,13 +43,13 @@ marks-fit word = omega (arith, and_le_r (bit_or (less word) word) mask)
 pub front-printed : (bytes : List ℕ) (word n : ℕ) → ((i : ℕ) → get_or bytes i 0 < 256) → length bytes ≡ 8
     → word < 2 ^ 64
     → word ≡ from_le_bytes w64 bytes → n ≤ 8 → ((i : ℕ) → i < 8 * n → bit_at (marks_of word) i ≡ 0)
-    → ArePrinted bytes 0 n
+    → ArePrintedAscii bytes 0 n
 front-printed bytes word n are long fits is most zeros k _ few =
     let low : k < 8 = omega (arith, few, most) in
     let e = zeros (8 * k + 7) (omega (arith, few)) in
     let either = bit_at_or (less word) word (8 * k + 7) in
     let both = bit_at_and (bit_or (less word) word) mask (8 * k + 7) in
     let small = bit_at-lt (bit_or (less word) word) (8 * k + 7) in
-    subst IsPrinted (ap (λ x. get_or x k 0) (le_bytes_8 bytes word long are is))
+    subst IsPrintedAscii (ap (λ x. get_or x k 0) (le_bytes_8 bytes word long are is))
     (byte word k fits low (omega (arith, e, both, either, small, mask_at k low))
     (omega (arith, e, both, either, small, mask_at k low)))

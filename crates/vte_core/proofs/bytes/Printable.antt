@@ -1,6 +1,6 @@
 -- The text of runs: bytes of ASCII, or a character, are well-formed text whose events are theirs, and two runs one
 -- after another are a run. By induction over the bytes.
-use Rattle.vte_core.proofs.Common.{◌≡◌, ℕ, ◌+◌, ◌-◌, ◌<◌, ◌≤◌, Bool, true, false, ◌&&◌, not, List, [], ◌∷◌, ◌++◌, map, length, get_or, take, drop, refl, sym, ap, subst, ◌∙◌, arith, and_right, nat_tests, get_or-drop, All-append, All-nil, All-cons, All, slice_index, IsAscii, chars, Print, IsPrinted, ArePrinted, IsUtf8Run, IsRun, from_to, append-nil, encode, IsScalar, after, Event, is_in}
+use Rattle.vte_core.proofs.Common.{◌≡◌, ℕ, ◌+◌, ◌-◌, ◌<◌, ◌≤◌, Bool, true, false, ◌&&◌, not, List, [], ◌∷◌, ◌++◌, map, length, get_or, take, drop, refl, sym, ap, subst, ◌∙◌, arith, and_right, nat_tests, get_or-drop, All-append, All-nil, All-cons, All, slice_index, IsAscii, chars, Print, IsPrintedAscii, ArePrintedAscii, IsUtf8Run, IsRun, from_to, append-nil, encode, IsScalar, after, Event, is_in}
 use Rattle.vte_core.proofs.Common.{is_control_character, is_layout, StaysInRun, run_event}
 use Rattle.std.proofs.Common.{take-add}
 use Rattle.vte_core.proofs.bytes.EachLemmas.{one_byte}
@@ -22,20 +22,20 @@ no_control-stays keeps c e = and_right (not (keeps && is_layout c)) (is_control_
 pub layout-stays : (c : ℕ) → is_layout c ≡ true → StaysInRun true c
 layout-stays c e = rw e refl
 
-pub layout-is_control : (c : ℕ) → is_layout c ≡ true → is_control_character c ≡ true
-layout-is_control c e = grind (arith, nat_tests)
+pub layout-is_plain_control : (c : ℕ) → is_layout c ≡ true → is_control_character c ≡ true
+layout-is_plain_control c e = grind (arith, nat_tests)
 
 pub layout-is_ascii : (c : ℕ) → is_layout c ≡ true → c < 0x80
 layout-is_ascii c e = grind (arith, nat_tests)
 
-no_layout : (b : ℕ) → IsPrinted b → is_layout b ≡ false
+no_layout : (b : ℕ) → IsPrintedAscii b → is_layout b ≡ false
 no_layout b p = let low = p.0 in let high = p.1 in grind (arith, nat_tests)
 
-pub printed-event : (keeps : Bool) (b : ℕ) → IsPrinted b → run_event keeps b ≡ Print b
+pub printed-event : (keeps : Bool) (b : ℕ) → IsPrintedAscii b → run_event keeps b ≡ Print b
 printed-event false b p = refl
 printed-event true b p = rw (no_layout b p) refl
 
-plain-stays : (keeps : Bool) (b : ℕ) → IsPrinted b → StaysInRun keeps b
+plain-stays : (keeps : Bool) (b : ℕ) → IsPrintedAscii b → StaysInRun keeps b
 plain-stays keeps b p =
     let low = p.0 in let high = p.1 in no_control-stays keeps b (grind (arith, nat_tests))
 
@@ -49,11 +49,12 @@ run_of_ascii keeps bytes a stay =
       plain = subst (All (StaysInRun keeps)) (sym (chars-IsAscii bytes a)) stay;
     }
 
-pub printable-ascii : (keeps : Bool) (bytes : List ℕ) (n : ℕ) → ArePrinted bytes 0 n → IsUtf8Run keeps (take n bytes)
+pub printable-ascii : (keeps : Bool) (bytes : List ℕ) (n : ℕ) → ArePrintedAscii bytes 0 n
+    → IsUtf8Run keeps (take n bytes)
 printable-ascii keeps bytes n are =
-    let printed : (k : ℕ) → k < length (take n bytes) → IsPrinted (get_or (take n bytes) k 0) = λ k l.
+    let printed : (k : ℕ) → k < length (take n bytes) → IsPrintedAscii (get_or (take n bytes) k 0) = λ k l.
     let below : k < n = omega (arith, l, length-take n bytes) in
-    subst IsPrinted (sym (get_or-take n bytes k 0 below)) (are k (omega arith) below) in
+    subst IsPrintedAscii (sym (get_or-take n bytes k 0 below)) (are k (omega arith) below) in
     run_of_ascii keeps (take n bytes)
     (IsAscii-from_reads (take n bytes) (length (take n bytes)) (omega arith) (λ k l. (printed k l).1))
     (All-from_get_or (StaysInRun keeps) (take n bytes) 0 (λ k l. plain-stays keeps _ (printed k l)))
@@ -91,14 +92,14 @@ pub after_character : {V : Type 0} (keeps : Bool) (step : V → Event → V) (ol
 after_character keeps step old c is = ap (λ cs. after step old (map (run_event keeps) cs)) (chars_encode c is)
 
 pub no_control_event : (keeps : Bool) (c : ℕ) → is_control_character c ≡ false → run_event keeps c ≡ Print c
-no_control_event keeps c e = grind (arith, nat_tests, layout-is_control c)
+no_control_event keeps c e = grind (arith, nat_tests, layout-is_plain_control c)
 
 -- ---- runs among the bytes
 
-pub printed-is : (b : ℕ) → is_in (from_to 0x20 0x7f) b ≡ true → IsPrinted b
+pub printed-is : (b : ℕ) → is_in (from_to 0x20 0x7f) b ≡ true → IsPrintedAscii b
 printed-is b e = grind (arith, nat_tests)
 
-pub chars-one : (bytes : List ℕ) (from b : ℕ) → from < length bytes → b ≡ slice_index bytes from → IsPrinted b
+pub chars-one : (bytes : List ℕ) (from b : ℕ) → from < length bytes → b ≡ slice_index bytes from → IsPrintedAscii b
     → chars (take (from + 1 - from) (drop from bytes)) ≡ b ∷ []
 chars-one bytes from b within is printed =
     ap chars (one_byte bytes from b within is) ∙ chars-IsAscii (b ∷ []) (IsAscii-cons b [] printed.1 IsAscii-nil)
@@ -117,9 +118,10 @@ run-none keeps bytes from =
     subst (λ n. IsUtf8Run keeps (take n (drop from bytes))) (let e : 0 ≡ from - from = omega arith in e)
     (printable-nil keeps)
 
-pub run-ascii : (keeps : Bool) (bytes : List ℕ) (from to : ℕ) → ArePrinted bytes from to → IsRun keeps bytes from to
+pub run-ascii : (keeps : Bool) (bytes : List ℕ) (from to : ℕ) → ArePrintedAscii bytes from to
+    → IsRun keeps bytes from to
 run-ascii keeps bytes from to are = printable-ascii keeps (drop from bytes) (to - from) (λ k low high.
-    subst IsPrinted (sym (get_or-drop from bytes k 0)) (are (from + k) (omega arith) (omega (arith, high))))
+    subst IsPrintedAscii (sym (get_or-drop from bytes k 0)) (are (from + k) (omega arith) (omega (arith, high))))
 
 pub run-append : (keeps : Bool) (bytes : List ℕ) (i j k : ℕ) → i ≤ j → j ≤ k → IsRun keeps bytes i j
     → IsRun keeps bytes j k → IsRun keeps bytes i k

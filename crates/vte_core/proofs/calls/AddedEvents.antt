@@ -1,14 +1,14 @@
--- What is told from place to place. A call is followed with a performer that keeps all events; so what any performer
--- receives is a function of the bytes, and a stretch that tells no run is known by its events.
+-- What is told from position to position. A call is followed with a performer that keeps all events; so what any
+-- performer receives is a function of the bytes, and a stretch that tells no run is known by its events.
 use Rattle.vte_core.proofs.Common.{◌≡◌, ℕ, ◌+◌, ◌-◌, ◌<◌, inl, inr, false, Option, List, [], ◌∷◌, ◌++◌, length, take, refl, ap, sym, ◌∙◌, append_assoc, append-nil, arith, cases_Bool, slice_index, false≢true, All, All-append, All-cons, All-nil, Event, Print, replacement, after, added, told_before, stream_at, breaks_at, State, Text, DeviceData, Machine, StandsBy, StandsAt, StandsInside, Reads, ChunkCall, chunk_call}
-use Rattle.vte_core.proofs.Common.{Place, InText, InData, IsAfter, AddsQuietly, IsQuietEvent}
+use Rattle.vte_core.proofs.Common.{Place, InText, InDeviceData, IsAfter, AddsQuietly, IsQuietEvent}
 use Rattle.vte_core.specs.machine.Completes.{AddsCharacter}
 use Rattle.vte_core.specs.machine.Progress.{HasProgress}
 use Rattle.vte_core.specs.machine.ToRun.{IsQuietIn}
 use Rattle.vte_core.proofs.calls.Progress.{stretch-added}
 use Rattle.vte_core.proofs.fields.PlaceOfState.{IsPlace}
 use Rattle.vte_core.proofs.places.PlaceSteps.{steps}
-use Rattle.vte_core.proofs.places.TextSteps.{AreOthers, IsQuiet}
+use Rattle.vte_core.proofs.places.TextSteps.{AreQuietEvents, IsQuietAt}
 use Rattle.vte_core.proofs.shapes.Told.{told-settled, told-broken}
 use Rattle.vte_core.proofs.bytes.EachLemmas.{one_byte}
 use Rattle.vte_core.proofs.streams.After.{added-reads}
@@ -55,18 +55,18 @@ added-inside s = kept-is s.has_come
 
 -- ---- a byte outside of text and data
 
-all_others : (events : List Event) → AreOthers events → All IsQuietEvent events
+all_others : (events : List Event) → AreQuietEvents events → All IsQuietEvent events
 all_others [] are = All-nil IsQuietEvent
 all_others (event ∷ []) are = All-cons IsQuietEvent event [] are (All-nil IsQuietEvent)
 all_others (event ∷ next ∷ events) are = All-cons IsQuietEvent event (next ∷ events) are.0
     (all_others (next ∷ events) are.1)
 
 pub quiet-place : {B : Type 0} (limit : Option ℕ) (state : State) (parser : Machine B) (place : Place) (b : ℕ)
-    → IsQuietIn state b → StandsBy limit state parser place → IsQuiet place b
+    → IsQuietIn state b → StandsBy limit state parser place → IsQuietAt place b
 quiet-place limit (Text u) parser place b quiet s = absurd quiet
-quiet-place limit DeviceData parser InData b quiet s = quiet
+quiet-place limit DeviceData parser InDeviceData b quiet s = quiet
 quiet-place limit _ parser (InText u) b quiet s = absurd s
-quiet-place limit _ parser InData b quiet s = absurd s
+quiet-place limit _ parser InDeviceData b quiet s = absurd s
 quiet-place limit _ parser _ b quiet s = tt
 
 -- ---- what is told between two places
@@ -119,7 +119,7 @@ module _ {limit : Option ℕ} {stream bytes : List ℕ} {i : ℕ} where
 
   pub adds-quiet : {b : ℕ} {place : Place} → i < length bytes
       → b ≡ slice_index bytes i → IsAfter limit (stream_at stream bytes i) place
-      → IsPlace place → IsQuiet place b → AddsQuietly limit stream bytes i (i + 1)
+      → IsPlace place → IsQuietAt place b → AddsQuietly limit stream bytes i (i + 1)
   adds-quiet {b} {place} within is a is_place quiet =
       let s = steps limit place b is_place in
       adds-reads within is a s.reads s.is_place (all_others s.told (s.quietly quiet))

@@ -1,6 +1,6 @@
 -- A byte that a state's function reads: the state says at which place the parser is, so what the byte does after that
 -- place is what the function must have done.
-use Rattle.vte_core.proofs.Common.{◌≡◌, ℕ, ◌+◌, ◌<◌, false, Option, List, [], ◌∷◌, sym, subst, length, slice_index, class_of, ends_all, Machine, State, Escape, EscapeIntermediate, DeviceData, SystemCommand, IgnoredString, Event, Advances, MayGoOn, IsSettled, Leads, Reads, HoldsIntermediates, Stands, StandsBy, TakesBytes, Place, AtEscape, InEscape, InData, InSystemCommand, InIgnoredString, IsSettledPlace, closing_events_at, HoldsItems, TakesByte, ChunkCall}
+use Rattle.vte_core.proofs.Common.{◌≡◌, ℕ, ◌+◌, ◌<◌, false, Option, List, [], ◌∷◌, sym, subst, length, slice_index, class_of, ends_all, Machine, State, Escape, EscapeIntermediate, DeviceData, SystemCommand, IgnoredString, Event, Advances, MayGoOn, IsSettled, Leads, Reads, HoldsIntermediates, Stands, StandsBy, TakesBytes, Place, AtEscape, InEscape, InDeviceData, InSystemCommand, InIgnoredString, IsSettledPlace, closing_events_at, HoldsItems, TakesByte, ChunkCall}
 use Rattle.vte_core.proofs.Common.{after, escape}
 use Rattle.vte_core.proofs.calls.Stretches.{advances-byte, advances-if}
 use Rattle.vte_core.specs.machine.ToRun.{IsQuietIn}
@@ -66,9 +66,10 @@ module _ {V B : Type 0} {step : V → Event → V} {old new : V} {limit : Option
   in_escape takes (InEscape ints) s = takes ints s
   in_escape takes _ s = absurd s
 
-  pub in_data : TakesByte step old new limit InData b next → (place : Place) → StandsBy limit DeviceData parser place
+  pub in_data : TakesByte step old new limit InDeviceData b next → (place : Place)
+      → StandsBy limit DeviceData parser place
       → TakesByte step old new limit place b next
-  in_data takes InData s = takes
+  in_data takes InDeviceData s = takes
   in_data takes _ s = absurd s
 
   pub in_system_command : ((items : List ℕ) → HoldsItems limit parser.command items

@@ -2,7 +2,7 @@
 -- stretches of which each tells none.
 use Rattle.vte_core.proofs.Common.{◌≡◌, ℕ, inl, inr, Option, List, [], ◌++◌, ap, sym, subst, ◌∙◌, All, All-append, All-nil, Event, Machine, HasReadUnder, IsSettled, told_before, open_end, AddsQuietly, IsQuietEvent, TellsQuietly, PrintsNoAscii}
 use Rattle.vte_core.specs.machine.Completes.{AddsCharacter}
-use Rattle.vte_core.proofs.calls.Ends.{starts-at}
+use Rattle.vte_core.proofs.calls.CallEnds.{starts-at}
 use Rattle.vte_core.proofs.calls.AddedEvents.{keeping, told-at}
 use Rattle.vte_core.proofs.streams.After.{added-nothing}
 use Rattle.vte_core.proofs.streams.QuietEvents.{prints_no_ascii, prints_no_ascii-all, prints_no_ascii-character}
@@ -15,7 +15,7 @@ tells-nothing {limit} {stream} {bytes} settled h =
     told-at (starts-at {call = keeping limit bytes} settled h) in
     record {
       quietly = λ _. subst (All IsQuietEvent) none (All-nil IsQuietEvent);
-      opened = subst (All PrintsNoAscii) none (All-nil PrintsNoAscii);
+      no_ascii = subst (All PrintsNoAscii) none (All-nil PrintsNoAscii);
     }
 
 -- what an open character is
@@ -26,7 +26,7 @@ tells-open {limit} {stream} {bytes} {j} a opened =
     a.parts ∙ ap (λ (es : List Event). es ++ a.events) (added-nothing limit stream) in
     record {
       quietly = λ none. absurd (opened none);
-      opened = subst (All PrintsNoAscii) (sym all) (elim a.are [
+      no_ascii = subst (All PrintsNoAscii) (sym all) (elim a.are [
         | inl others ↦ prints_no_ascii-all a.events others
         | inr whole ↦
             subst (All PrintsNoAscii) (sym whole.same)
@@ -34,7 +34,7 @@ tells-open {limit} {stream} {bytes} {j} a opened =
       ]);
     }
 
--- what is told up to place i, and what follows up to place j
+-- what is told up to position i, and what follows up to position j
 pub tells-more : {limit : Option ℕ} {stream bytes : List ℕ} {i j : ℕ} → TellsQuietly limit stream bytes i
     → AddsQuietly limit stream bytes i j → TellsQuietly limit stream bytes j
 tells-more {limit} {stream} {bytes} {i} t a = record {
@@ -43,8 +43,8 @@ tells-more {limit} {stream} {bytes} {i} t a = record {
       subst (All IsQuietEvent) (sym a.parts)
       (All-append IsQuietEvent (told_before limit stream bytes i) a.events (t.quietly none)
       a.are);
-  opened =
+  no_ascii =
       subst (All PrintsNoAscii) (sym a.parts)
-      (All-append PrintsNoAscii (told_before limit stream bytes i) a.events t.opened
+      (All-append PrintsNoAscii (told_before limit stream bytes i) a.events t.no_ascii
       (prints_no_ascii-all a.events a.are));
 }

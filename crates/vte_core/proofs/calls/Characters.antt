@@ -6,13 +6,13 @@ use Rattle.vte_core.specs.declared.utf8.Carried.TheVariants.{Unfinished as Still
 use Rattle.vte_core.proofs.bytes.CarriedLemmas.{second_open, third_open}
 use Rattle.vte_core.specs.machine.Completes.{Completes}
 use Rattle.vte_core.proofs.calls.InsideCharacters.{carried-broken, carried-more, carried-whole, in_text, inside-open, inside-same, some, truncated-some}
-use Rattle.vte_core.proofs.calls.Ends.{inside-all, inside-moved}
+use Rattle.vte_core.proofs.calls.CallEnds.{inside-all, inside-moved}
 use Rattle.vte_core.proofs.streams.QuietEvents.{longer}
 use Rattle.vte_core.proofs.calls.AddedEvents.{added-inside, keeps-inside, told-at, keeping}
 use Rattle.vte_core.proofs.streams.Performing.{open_truncated}
 use Rattle.std.proofs.lemmas.List.{drop-drop}
 
--- the bytes of a character, with those at a place
+-- the bytes of a character, with those at a position
 bytes_more : (bytes : List ℕ) (i j n m : ℕ) (begun : List ℕ) {u : List ℕ} → j ≡ i + n
     → u ≡ begun ++ take n (drop i bytes)
     → u ++ take m (drop j bytes) ≡ begun ++ take (n + m) (drop i bytes)
@@ -30,7 +30,7 @@ byte_more bytes i n begun {j} {u} within far is are =
     ap (λ (x : List ℕ). u ++ x) (ap (λ (x : ℕ). x ∷ []) is ∙ sym (ap (take 1) (drop_more bytes j 0 within)))
     ∙ bytes_more bytes i j n 1 begun far are
 
--- From place i, inside a character of the bytes `begun`, a call has come to place j, inside one of
+-- From position i, inside a character of the bytes `begun`, a call has come to position j, inside one of
 -- the bytes `u`, and told nothing.
 pub record GoesOn {V B : Type 0} (call : ChunkCall V) (value : V) (i j : ℕ) (begun u : Unfinished)
     (next : Machine B) : Type 0 where

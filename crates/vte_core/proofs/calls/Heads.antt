@@ -1,11 +1,11 @@
 -- The bytes of a head: a function that reads several of them goes on by each. `ReadsHeadUpTo` says which, without the
 -- performer, which learns of a head only at its end; both shapes share it.
 use Rattle.vte_core.specs.machine.ToRun.{IsQuietIn}
-use Rattle.vte_core.proofs.Common.{◌≡◌, ℕ, zero, suc, ◌+◌, ◌-◌, ◌<◌, ◌≤◌, ◌⊎◌, inr, eqb, Option, List, [], ◌∷◌, ◌++◌, Bool, true, false, length, take, drop, refl, sym, subst, append_assoc, arith, nat_tests, append-nil, drop-drop, drop_more, take-add, slice_index, MatchOption, class_of, is_head, is_parameter_text, AreInClass, Collected, HeadPart, Entry, Parameters, Machine, State, ControlSequence, DeviceControl, Event, ChunkCall, Leads, CountsNumbers, KeepsIntermediates, Stands, StandsBy, StandsInHead, Place, InControlSequence, InDeviceControl, IsSettledPlace, Advances, ProgressAt, StandsAt, IsSettled, MayGoOn, TakesBytes, TakesByte, ends_all, part_after, ReadsHead, Some, None, false≢true}
+use Rattle.vte_core.proofs.Common.{◌≡◌, ℕ, zero, suc, ◌+◌, ◌-◌, ◌<◌, ◌≤◌, ◌⊎◌, inr, eqb, Option, List, [], ◌∷◌, ◌++◌, Bool, true, false, length, take, drop, refl, sym, subst, append_assoc, arith, nat_tests, append-nil, drop-drop, drop_more, take-add, slice_index, MatchOption, class_of, is_head, is_parameter_text, AreInClass, Collected, HeadProgress, Entry, Parameters, Machine, State, ControlSequence, DeviceControl, Event, ChunkCall, Leads, CountsNumbers, KeepsIntermediates, Stands, StandsBy, StandsInHead, Place, InControlSequence, InDeviceControl, IsSettledPlace, Advances, ProgressAt, StandsAt, IsSettled, MayGoOn, TakesBytes, TakesByte, ends_all, part_after, ReadsHead, Some, None, false≢true}
 use Rattle.vte_core.proofs.bytes.ClassCases.{head_ends_nothing, AreInClass-append, parameter_is_head}
 use Rattle.vte_core.proofs.calls.Progress.{come-settled, come-byte}
 use Rattle.vte_core.proofs.calls.Arms.{performs-in}
-use Rattle.vte_core.proofs.calls.Ends.{settled-by}
+use Rattle.vte_core.proofs.calls.CallEnds.{settled-by}
 use Rattle.vte_core.proofs.calls.Stretches.{advances-byte, advances-when, advances-then}
 use Rattle.vte_core.proofs.fields.HeadSteps.{holds-parameter}
 use Rattle.vte_core.proofs.fields.PlaceOfState.{IsPlace, stands-in}
@@ -23,13 +23,13 @@ between-then bytes i j k low high =
     let here : i + (j - i) ≡ j = omega (arith, low) in
     rw (whole, take-add (j - i) (k - j) (drop i bytes), drop-drop (j - i) i bytes, here) refl
 
-pub reads-nothing : {bytes : List ℕ} {i : ℕ} {part : HeadPart} {held : Collected} → i ≤ length bytes
+pub reads-nothing : {bytes : List ℕ} {i : ℕ} {part : HeadProgress} {held : Collected} → i ≤ length bytes
     → ReadsHead bytes i i part part held held
 reads-nothing {bytes} {i} {part} {held} within =
     let none : i - i ≡ 0 = omega arith in
     record { low = omega arith; high = within; are = rw none tt; stands = λ head s. rw (none, append-nil head) s }
 
-pub reads-then : {bytes : List ℕ} {i j k : ℕ} {reached part next : HeadPart} {old mid new : Collected}
+pub reads-then : {bytes : List ℕ} {i j k : ℕ} {reached part next : HeadProgress} {old mid new : Collected}
     → ReadsHead bytes i j reached part old mid → ReadsHead bytes j k part next mid new
     → ReadsHead bytes i k reached next old new
 reads-then {bytes} {i} {j} {k} a b =
@@ -43,7 +43,7 @@ reads-then {bytes} {i} {j} {k} a b =
           (b.stands _ (a.stands head s));
     }
 
-pub reads-head_byte : {bytes : List ℕ} {i b : ℕ} {part next : HeadPart} {old new : Collected} → i < length bytes
+pub reads-head_byte : {bytes : List ℕ} {i b : ℕ} {part next : HeadProgress} {old new : Collected} → i < length bytes
     → b ≡ slice_index bytes i → is_head (class_of b) ≡ true
     → ((head : List ℕ) → StandsInHead old part head → StandsInHead new next (head ++ b ∷ []))
     → ReadsHead bytes i (i + 1) part next old new
@@ -63,13 +63,13 @@ at-none B (Some b) n all = absurd (n b refl)
 
 -- ---- numbers
 
-pub part_after-none : (reached : HeadPart) (from to : ℕ) → from ≡ to → part_after reached from to ≡ reached
+pub part_after-none : (reached : HeadProgress) (from to : ℕ) → from ≡ to → part_after reached from to ≡ reached
 part_after-none reached from to is = let same : eqb from to ≡ true = grind (arith, nat_tests) in rw same refl
 
-pub part_after-more : (reached : HeadPart) (from to : ℕ) → from < to → part_after reached from to ≡ Parameters
+pub part_after-more : (reached : HeadProgress) (from to : ℕ) → from < to → part_after reached from to ≡ Parameters
 part_after-more reached from to more = let other : eqb from to ≡ false = grind (arith, nat_tests) in rw other refl
 
-part_after-may : (reached : HeadPart) (from to : ℕ) → (reached ≡ Entry) ⊎ (reached ≡ Parameters)
+part_after-may : (reached : HeadProgress) (from to : ℕ) → (reached ≡ Entry) ⊎ (reached ≡ Parameters)
     → (part_after reached from to ≡ Entry) ⊎ (part_after reached from to ≡ Parameters)
 part_after-may reached from to may = by_test (eqb from to) refl
   where
@@ -79,7 +79,7 @@ part_after-may reached from to may = by_test (eqb from to) refl
     by_test false e = inr (rw e refl)
 
 -- a digit or a separator
-pub reads-parameter : {bytes : List ℕ} {from i b : ℕ} {reached : HeadPart} {first old new : Collected}
+pub reads-parameter : {bytes : List ℕ} {from i b : ℕ} {reached : HeadProgress} {first old new : Collected}
     → (reached ≡ Entry) ⊎ (reached ≡ Parameters)
     → i < length bytes → b ≡ slice_index bytes i → is_parameter_text (class_of b) ≡ true → KeepsIntermediates old new
     → ((text : List ℕ) → CountsNumbers old text → CountsNumbers new (text ++ b ∷ []))
@@ -97,7 +97,7 @@ pub data Shape : Type 0 where
   ControlHead : Shape
   DeviceHead : Shape
 
-abbrev pub state_of : Shape → HeadPart → State
+abbrev pub state_of : Shape → HeadProgress → State
 state_of ControlHead part = ControlSequence part
 state_of DeviceHead part = DeviceControl part
 
@@ -105,12 +105,12 @@ abbrev pub in_head : Shape → List ℕ → Place
 in_head ControlHead head = InControlSequence head
 in_head DeviceHead head = InDeviceControl head
 
-record InHeadAt (shape : Shape) (held : Collected) (part : HeadPart) (place : Place) : Type 0 where
+record InHeadAt (shape : Shape) (held : Collected) (part : HeadProgress) (place : Place) : Type 0 where
   head : List ℕ
   same : place ≡ in_head shape head
   stands : StandsInHead held part head
 
-place_in : {B : Type 0} (shape : Shape) (limit : Option ℕ) (part : HeadPart) (parser : Machine B) (place : Place)
+place_in : {B : Type 0} (shape : Shape) (limit : Option ℕ) (part : HeadProgress) (parser : Machine B) (place : Place)
     → StandsBy limit (state_of shape part) parser place
     → InHeadAt shape parser.collected part place
 place_in ControlHead limit part parser (InControlSequence head) s = record { head = head; same = refl; stands = s }
@@ -118,7 +118,7 @@ place_in ControlHead limit part parser _ s = absurd s
 place_in DeviceHead limit part parser (InDeviceControl head) s = record { head = head; same = refl; stands = s }
 place_in DeviceHead limit part parser _ s = absurd s
 
-stands_in : {B : Type 0} (shape : Shape) (limit : Option ℕ) (part : HeadPart) (parser : Machine B) (head : List ℕ)
+stands_in : {B : Type 0} (shape : Shape) (limit : Option ℕ) (part : HeadProgress) (parser : Machine B) (head : List ℕ)
     → parser.state ≡ state_of shape part
     → StandsInHead parser.collected part head → Stands limit parser (in_head shape head)
 stands_in ControlHead limit part parser head e s = record { by = rw e s }
@@ -137,11 +137,11 @@ is_between : (shape : Shape) (head : List ℕ) → IsSettledPlace (in_head shape
 is_between ControlHead head = tt
 is_between DeviceHead head = tt
 
-quiet_head : (shape : Shape) (part : HeadPart) (b : ℕ) → IsQuietIn (state_of shape part) b
+quiet_head : (shape : Shape) (part : HeadProgress) (b : ℕ) → IsQuietIn (state_of shape part) b
 quiet_head ControlHead part b = tt
 quiet_head DeviceHead part b = tt
 
-settled : (shape : Shape) (part : HeadPart) → IsSettled (state_of shape part)
+settled : (shape : Shape) (part : HeadProgress) → IsSettled (state_of shape part)
 settled ControlHead part = tt
 settled DeviceHead part = tt
 
@@ -169,7 +169,7 @@ module _ {V : Type 0} {call : ChunkCall V} where
       rw (far, cut) (rw (append_assoc head (b ∷ []) (take n (drop (i + 1) call.bytes))) at rest)
 
   -- the bytes of a part of a head
-  stands-head : {B : Type 0} {old value : V} {stream : List ℕ} {i j : ℕ} {reached part : HeadPart}
+  stands-head : {B : Type 0} {old value : V} {stream : List ℕ} {i j : ℕ} {reached part : HeadProgress}
       {parser next : Machine B} (shape : Shape) → parser.state ≡ state_of shape reached
       → ReadsHead call.bytes i j reached part parser.collected next.collected → MayGoOn call value
       → next.state ≡ state_of shape part → StandsAt call old value stream i parser
@@ -189,7 +189,7 @@ module _ {V : Type 0} {call : ChunkCall V} where
       }
 
 module _ {V : Type 0} {call : ChunkCall V} where
-  pub advances-head : {quiet B : Type 0} {value : V} {i j : ℕ} {reached part : HeadPart} {parser next : Machine B}
+  pub advances-head : {quiet B : Type 0} {value : V} {i j : ℕ} {reached part : HeadProgress} {parser next : Machine B}
       (shape : Shape) → parser.state ≡ state_of shape reached
       → ReadsHead call.bytes i j reached part parser.collected next.collected → MayGoOn call value
       → next.state ≡ state_of shape part → Advances quiet call value value i j parser next
@@ -202,7 +202,8 @@ module _ {V : Type 0} {call : ChunkCall V} where
   }
 
   -- a part of a head and a byte after it, of which the caller says what it does there
-  pub advances-past : {quiet B : Type 0} {old new : V} {i j b : ℕ} {reached part : HeadPart} {parser next : Machine B}
+  pub advances-past : {quiet B : Type 0} {old new : V} {i j b : ℕ} {reached part : HeadProgress}
+      {parser next : Machine B}
       {held : Collected} (shape : Shape) → parser.state ≡ state_of shape reached
       → ReadsHead call.bytes i j reached part parser.collected held
       → (j < length call.bytes) × (b ≡ slice_index call.bytes j) → MayGoOn call old
@@ -217,7 +218,7 @@ module _ {V : Type 0} {call : ChunkCall V} where
 
 -- a byte other than CAN, SUB and ESC there
 pub performs-head : {V B : Type 0} {step : V → Event → V} {old new : V} {limit : Option ℕ} {b : ℕ}
-    {parser next : Machine B} (shape : Shape) (part : HeadPart)
+    {parser next : Machine B} (shape : Shape) (part : HeadProgress)
     → parser.state ≡ state_of shape part → ends_all (class_of b) ≡ false
     → ((head : List ℕ) → StandsInHead parser.collected part head
     → TakesByte step old new limit (in_head shape head) b next)

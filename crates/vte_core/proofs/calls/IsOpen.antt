@@ -1,6 +1,6 @@
 -- Only between characters of a text does a parser go on as a new one: after every other place the digit 0 gives
 -- something else than after the empty stream.
-use Rattle.vte_core.proofs.Common.{◌≡◌, ◌≢◌, ℕ, Option, List, [], ◌∷◌, ◌++◌, refl, ap, sym, subst, ◌∙◌, arith, Digit, Machine, State, Text, Stands, StandsBy, HasReadUnder, Event, Print, replacement, Place, InText, AtEscape, InEscape, InControlSequence, InDeviceControl, InData, InSystemCommand, InIgnoredString, IsAfter, Leads, ◌≤◌, ◌<◌, true, false, eqb, EscapeSequence, Unfinished, class_of, escape, is_truncated, key_of}
+use Rattle.vte_core.proofs.Common.{◌≡◌, ◌≢◌, ℕ, Option, List, [], ◌∷◌, ◌++◌, refl, ap, sym, subst, ◌∙◌, arith, Digit, Machine, State, Text, Stands, StandsBy, HasReadUnder, Event, Print, replacement, Place, InText, AtEscape, InEscape, InControlSequence, InDeviceControl, InDeviceData, InSystemCommand, InIgnoredString, IsAfter, Leads, ◌≤◌, ◌<◌, true, false, eqb, EscapeSequence, Unfinished, class_of, escape, is_truncated, key_of}
 use Rattle.vte_core.proofs.Common.{added, bytes_of, events_from}
 use Rattle.vte_core.proofs.bytes.FirstBytes.{ascii_breaks}
 use Rattle.vte_core.proofs.fields.PlaceOfState.{IsPlace, stands-place}
@@ -59,7 +59,7 @@ not_alone limit stream (InControlSequence head) b d is a other = λ alone.
     let e = sym alone ∙ gives limit stream d a (control-head limit head b (rw d.class refl)) tt in cc
 not_alone limit stream (InDeviceControl head) b d is a other = λ alone.
     let e = sym alone ∙ gives limit stream d a (device-head limit head b (rw d.class refl)) tt in cc
-not_alone limit stream InData b d is a other = λ alone.
+not_alone limit stream InDeviceData b d is a other = λ alone.
     let e = sym alone ∙ gives limit stream d a (data-put limit b (rw d.class refl)) tt in cc
 not_alone limit stream (InSystemCommand items) b d is a other = λ alone.
     let e = sym alone ∙ gives limit stream d a (command-item limit items b d.low) tt in cc

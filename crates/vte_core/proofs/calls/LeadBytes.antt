@@ -4,7 +4,7 @@ use Rattle.vte_core.proofs.Common.{◌+◌, ◌<◌, ◌≤◌, ◌≡◌, ◌�
 use Rattle.vte_core.proofs.Common.{All, IsQuietEvent, false≢true, subst}
 use Rattle.vte_core.specs.machine.Prelude.{Completes, MayReadByte}
 use Rattle.vte_core.proofs.bytes.CarriedLemmas.{first_truncated}
-use Rattle.vte_core.proofs.calls.Ends.{settled-by}
+use Rattle.vte_core.proofs.calls.CallEnds.{settled-by}
 use Rattle.vte_core.proofs.calls.Stretches.{reads-byte_at}
 use Rattle.vte_core.proofs.streams.QuietEvents.{other_control}
 use Rattle.vte_core.proofs.calls.AddedEvents.{added-inside, adds-character, keep, keeps-at, keeping}

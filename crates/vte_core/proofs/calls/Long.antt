@@ -1,16 +1,16 @@
 -- What a call without a limit ensures, refused memory or not: the facts that `drive` ensures, put into each contract.
 use Rattle.vte_core.specs.declared.scan.taken.Run.{Run}
 use Rattle.vte_core.specs.declared.scan.taken.RunRange.{RunRange}
-use Rattle.vte_core.specs.LongParserCalls.{ReadsToRunLong, ReadsAtCost, PassesLong, ReadsBytesLong, ReadsUntilTerminatedLong}
+use Rattle.vte_core.specs.LongParserCalls.{ReadsToRunLong, ContinuesLong, PassesLong, ReadsBytesLong, ReadsUntilTerminatedLong}
 use Rattle.vte_core.specs.machine.ToRun.{ComesToRun, IsTaken, bytes_at}
 use Rattle.vte_core.proofs.Common.{◌≡◌, TellsQuietly, ℕ, ◌+◌, ◌*◌, ◌≤◌, Bool, List, None, length, Result, Ok, Err, IfErr, IfOk, IfErr-weaker, IfOk-weaker, refl, arith, rules, false, read_count, ReadsUpTo, Event, Machine, HasReadUnder, ReadsUntilRefused, true, Refused, chunk_call}
 use Rattle.vte_core.proofs.calls.ToRun.{reads-run, returns-run}
 use Rattle.vte_core.specs.declared.parser.long.LongParser.{LongParser}
 use Rattle.vte_core.specs.LongParser.{HasReadLong, memory_of}
-use Rattle.vte_core.specs.machine.Moves.{Costs}
+use Rattle.vte_core.specs.machine.MovesWithin.{Costs}
 use Rattle.vte_core.specs.Looks.{looks_long}
 use Rattle.vte_core.proofs.calls.Refusals.{by_count, inside-reads, meets_data, never_refused, ok_only, refuses-inside, stores_pieces}
-use Rattle.vte_core.proofs.calls.Ends.{ends-performs, ends-reads, ends-reads_all, ends-stops}
+use Rattle.vte_core.proofs.calls.CallEnds.{ends-performs, ends-reads, ends-reads_all, ends-stops}
 use Rattle.vte_core.proofs.calls.States.{reads-all}
 
 pub goes-on : {A V Answer : Type 0} (may_stop : Bool) (step : V → Event → V) (is_terminated : V → Bool) (old new : V)
@@ -21,7 +21,7 @@ pub goes-on : {A V Answer : Type 0} (may_stop : Bool) (step : V → Event → V)
     parser.machine next.machine)
     → memory_of parser ≤ memory_of next → looks_long next ≤ looks_long parser + rate * length bytes + 8
     → IfOk result (λ _. looks_long next ≤ looks_long parser + rate * n + 8) → looks_long parser + n ≤ looks_long next
-    → ReadsAtCost rate bytes result n later parser next
+    → ContinuesLong rate bytes result n later parser next
 goes-on may_stop step is_terminated old new result reads refuses memory count paid least = record {
   reads = reads;
   stores = λ stream h. stores_pieces _ _ (reads stream h);

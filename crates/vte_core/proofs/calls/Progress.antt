@@ -1,5 +1,5 @@
--- How a call comes from one place to the next, to its end, or to a stop. A stretch of bytes that leads to a place adds
--- its events to those told so far; at starts among them a call that may stop may stop.
+-- How a call comes from one position to the next, to its end, or to a stop. A stretch of bytes that leads to a place
+-- adds its events to those told so far; at starts among them a call that may stop may stop.
 --
 -- `come-nowhere`: the start of a call
 -- `come-byte`: past a byte before which the call may stop; `come-carried`: past one inside a character
@@ -18,7 +18,7 @@ use Rattle.vte_core.proofs.shapes.Told.{breaks_at-all, breaks_at-settled, breaks
 use Rattle.vte_core.proofs.bytes.EachLemmas.{one_byte}
 use Rattle.vte_core.proofs.stops.Units.{added_from, after_from, breaks_there, goes_on_from}
 
--- ---- the bytes of a call from one place to the next
+-- ---- the bytes of a call from one position to the next
 
 stretch-ends : (bytes : List ℕ) (i j : ℕ) → i < j → take j bytes ≡ take i bytes ++ take (j - i) (drop i bytes)
 stretch-ends bytes i j further =

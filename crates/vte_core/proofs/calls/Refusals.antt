@@ -1,6 +1,6 @@
 -- What a call without a limit stores, and where it stops for lack of memory. What is stored of an open command is said
 -- of its place, so it holds of every parser that is at one.
-use Rattle.vte_core.proofs.Common.{◌≡◌, ℕ, ◌+◌, ◌≤◌, Bool, None, List, [], ◌∷◌, ◌++◌, length, take, Result, Ok, Err, IfErr, IfOk, IsOk, refl, ap, sym, subst, ◌∙◌, length-take, IsAfter, arith, concat, slice_index, Machine, MeetsData, data_left, open_size, read_count, State, SystemCommand, ProgressAt, IsRefusedInCommand, ReadsUntilRefused, StandsInside, HasReadUnder, Stands, StandsBy, Place, InSystemCommand, InText, ChunkCall}
+use Rattle.vte_core.proofs.Common.{◌≡◌, ℕ, ◌+◌, ◌≤◌, Bool, None, List, [], ◌∷◌, ◌++◌, length, take, Result, Ok, Err, IfErr, IfOk, IsOk, refl, ap, sym, subst, ◌∙◌, length-take, IsAfter, arith, concat, slice_index, Machine, MeetsData, open_data_count, open_size, read_count, State, SystemCommand, ProgressAt, IsRefusedInCommand, ReadsUntilRefused, StandsInside, HasReadUnder, Stands, StandsBy, Place, InSystemCommand, InText, ChunkCall}
 use Rattle.vte_core.proofs.Common.{left_at, Stored, HoldsItems, ToClose, CommandToClose, loses_data, outcome, pieces_of, Refused}
 use Rattle.vte_core.proofs.calls.States.{reads-item}
 use Rattle.vte_core.proofs.calls.Progress.{come-command}
@@ -82,7 +82,7 @@ pub stored_is_open : {B : Type 0} (parser : Machine B) (stream : List ℕ) → p
 stored_is_open parser stream e h =
     let k = in_command parser h.place e h.stands in
     pieces_stored None parser.command k.items k.keeps
-    ∙ sym (ap data_left (left_here parser stream h ∙ ap (left_at None) k.same))
+    ∙ sym (ap open_data_count (left_here parser stream h ∙ ap (left_at None) k.same))
 
 is_command : {B : Type 0} (state : State) (parser : Machine B) (items : List ℕ)
     → StandsBy None state parser (InSystemCommand items) → state ≡ SystemCommand
@@ -109,11 +109,11 @@ pub stores_pieces : {B : Type 0} (parser : Machine B) (stream : List ℕ) → Ha
     → (pieces : List (List ℕ)) (lost : Bool)
     → (outcome None stream).left ≡ CommandToClose pieces lost → length parser.command.bytes ≡ length (concat pieces)
 stores_pieces parser stream h pieces lost open_command =
-    stored_is_open parser stream (in_state parser stream h pieces lost open_command) h ∙ ap data_left open_command
+    stored_is_open parser stream (in_state parser stream h pieces lost open_command) h ∙ ap open_data_count open_command
 
 by_left : (left : ToClose) (n : ℕ)
     → ((pieces : List (List ℕ)) (lost : Bool) → left ≡ CommandToClose pieces lost → n ≡ length (concat pieces))
-    → data_left left ≤ n
+    → open_data_count left ≤ n
 by_left (CommandToClose pieces lost) n stored = omega (arith, stored pieces lost refl)
 by_left _ n stored = omega arith
 

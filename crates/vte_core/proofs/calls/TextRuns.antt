@@ -1,18 +1,18 @@
 -- What a run of text does to a call's progress: its characters one by one do the same. By induction over the
 -- characters, and for the performer by its contract over the whole run.
-use Rattle.vte_core.proofs.Common.{cases_Bool, inl, inr, Bool, List, Option, [], ap, arith, drop, false, length, map, refl, subst, sym, take, true, ℕ, ◌++◌, ◌+◌, ◌-◌, ◌<◌, ◌∙◌, ◌∷◌, ◌≡◌, ◌≢◌, ◌≤◌, encode, false≢true, append-nil, take-append-drop, All-append, All-head, All-nil, All-tail, All, slice_index, breaks_at, stream_at, told_before, Event, Print, replacement, after, added, cut_at_escape, escape, with_bodies, events, ChunkCall, run_event, character_event, is_control_character, malformed_event, text_outcome, Text, Machine, Nothing, Reads, Stands, InText, encodes, nat_tests, outcome_from, Advances, ProgressAt, MayGoOn, StandsAt, StandsInside, chars, IsUtf8, NoCharacterStops, IsUtf8Run, IsPrinted, PrintsRun, StaysInRun, ends_run}
+use Rattle.vte_core.proofs.Common.{cases_Bool, inl, inr, Bool, List, Option, [], ap, arith, drop, false, length, map, refl, subst, sym, take, true, ℕ, ◌++◌, ◌+◌, ◌-◌, ◌<◌, ◌∙◌, ◌∷◌, ◌≡◌, ◌≢◌, ◌≤◌, encode, false≢true, append-nil, take-append-drop, All-append, All-head, All-nil, All-tail, All, slice_index, breaks_at, stream_at, told_before, Event, Print, replacement, after, added, cut_at_escape, escape, with_bodies, events, ChunkCall, run_event, character_event, is_control_character, malformed_event, text_outcome, Text, Machine, Nothing, Reads, Stands, InText, encodes, nat_tests, outcome_from, Advances, ProgressAt, MayGoOn, StandsAt, StandsInside, chars, IsUtf8, NoCharacterStops, IsUtf8Run, IsPrintedAscii, PrintsRun, StaysInRun, ends_run}
 use Rattle.std.proofs.lemmas.List.{take-take}
 use Rattle.std.proofs.lemmas.List.Elements.{All-from_get_or}
 use Rattle.std.proofs.lemmas.Str.{inside_one, encodes-chars, scalars-chars}
 use Rattle.vte_core.proofs.bytes.EachLemmas.{each-one}
-use Rattle.vte_core.proofs.bytes.Printable.{chars-one, layout-is_control, no_control_event, printed-event, run-ascii}
+use Rattle.vte_core.proofs.bytes.Printable.{chars-one, layout-is_plain_control, no_control_event, printed-event, run-ascii}
 use Rattle.vte_core.proofs.dividing.Utf8Agrees.{cut-text, text_outcome-encodes}
 use Rattle.vte_core.proofs.calls.Progress.{come-further, stretch-added}
 use Rattle.vte_core.proofs.streams.After.{added-reads}
 use Rattle.vte_core.proofs.shapes.Told.{told-settled, told-broken}
 use Rattle.vte_core.proofs.stops.Units.{added_both}
 use Rattle.vte_core.proofs.calls.States.{between_characters}
-use Rattle.vte_core.proofs.calls.Ends.{settled-by, settles}
+use Rattle.vte_core.proofs.calls.CallEnds.{settled-by, settles}
 use Rattle.vte_core.proofs.streams.Performing.{after-append}
 use Rattle.vte_core.proofs.shapes.OutcomeLemmas.{with_bodies-tell}
 use Rattle.vte_core.proofs.streams.StreamSteps.{told_by_stream}
@@ -39,7 +39,7 @@ told_as_characters limit text is none =
 
 plain-event : (keeps : Bool) (c : ℕ) → StaysInRun keeps c → character_event c ≡ run_event keeps c
 unfolding character_event
-plain-event keeps c plain = grind (arith, nat_tests, layout-is_control c)
+plain-event keeps c plain = grind (arith, nat_tests, layout-is_plain_control c)
 
 plain-events : (keeps : Bool) (cs : List ℕ) → All (StaysInRun keeps) cs
     → map character_event cs ≡ map (run_event keeps) cs
@@ -81,11 +81,12 @@ reads-text limit keeps run are =
 
 -- a run of one byte of ASCII
 pub prints-one : {V : Type 0} {keeps : Bool} {step : V → Event → V} {old new : V} {bytes : List ℕ} {from b c : ℕ}
-    → from < length bytes → b ≡ slice_index bytes from → IsPrinted b → c ≡ b
+    → from < length bytes → b ≡ slice_index bytes from → IsPrintedAscii b → c ≡ b
     → new ≡ step old (Print c) → PrintsRun keeps step old new bytes from (from + 1)
 prints-one {keeps} {step} {old} {bytes} {from}
     {b} within is printed same e = record {
-      run = run-ascii keeps bytes from (from + 1) (each-one IsPrinted bytes from (subst IsPrinted is printed));
+      run = run-ascii keeps bytes from (from + 1)
+          (each-one IsPrintedAscii bytes from (subst IsPrintedAscii is printed));
       printed = e ∙ ap (λ x. step old (Print x)) same
           ∙ ap (λ event. step old event) (sym (printed-event keeps b printed))
           ∙ ap (λ cs. after step old (map (run_event keeps) cs)) (sym (chars-one bytes from b within is printed));

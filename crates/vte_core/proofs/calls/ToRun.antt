@@ -1,10 +1,10 @@
 -- Runs that a caller takes from its own input: bytes that lead from the parser's place back to it, so the parser
 -- needn't change, and that no further printed character or data byte follows.
-use Rattle.vte_core.proofs.Common.{◌≡◌, ℕ, zero, suc, ◌+◌, ◌-◌, ◌<◌, ◌≤◌, false, true, Option, List, [], ◌∷◌, ◌++◌, drop, length, length-take, length-drop, map, take, refl, ap, sym, subst, ◌∙◌, arith, append-nil, drop_more, slice_index, Machine, DeviceData, Text, State, Nothing, class_of, stream_at, Event, Print, Put, Reads, Stands, StandsBy, HasReadUnder, Place, InData, InText, IsAfter, IsSettled, StandsAt, ChunkCall}
+use Rattle.vte_core.proofs.Common.{◌≡◌, ℕ, zero, suc, ◌+◌, ◌-◌, ◌<◌, ◌≤◌, false, true, Option, List, [], ◌∷◌, ◌++◌, drop, length, length-take, length-drop, map, take, refl, ap, sym, subst, ◌∙◌, arith, append-nil, drop_more, slice_index, Machine, DeviceData, Text, State, Nothing, class_of, stream_at, Event, Print, Put, Reads, Stands, StandsBy, HasReadUnder, Place, InDeviceData, InText, IsAfter, IsSettled, StandsAt, ChunkCall}
 use Rattle.vte_core.proofs.Common.{EndsRun, IsRun, chars, Unfinished, IsRange}
 use Rattle.vte_core.specs.machine.Prelude.{ArePut, AreOfKind, ComesToRun, IsOutsideTextAndData, IsPut, IsTaken}
 use Rattle.vte_core.specs.machine.ToRun.{HasRun, IsWholeAt, bytes_at, kind_events}
-use Rattle.vte_core.specs.AdvanceToRun.{IsRunIn, IsWhole, ReturnsRun, run_bytes, taken_bytes, taken_events}
+use Rattle.vte_core.specs.AdvanceToRun.{IsRunIn, IsLongestRun, ReturnsRun, run_bytes, taken_bytes, taken_events}
 use Rattle.vte_core.specs.declared.scan.taken.Run.{Run}
 use Rattle.vte_core.specs.declared.scan.taken.RunKind.{RunKind}
 use Rattle.vte_core.specs.declared.scan.taken.RunKind.TheVariants.{OfText, OfData, Empty}
@@ -13,7 +13,7 @@ use Rattle.vte_core.specs.declared.scan.taken.Taken.{Taken}
 use Rattle.vte_core.specs.declared.scan.taken.Taken.TheVariants.{Text as TakenText, Data, Nothing as TakenNothing}
 use Rattle.vte_core.specs.Text.{IsRunText}
 use Rattle.vte_core.proofs.bytes.ClassCases.{data_ends_nothing}
-use Rattle.vte_core.proofs.calls.Ends.{ends-comes, ends-reads}
+use Rattle.vte_core.proofs.calls.CallEnds.{ends-comes, ends-reads}
 use Rattle.vte_core.proofs.calls.States.{between_characters}
 use Rattle.vte_core.proofs.calls.TextRuns.{reads-text}
 use Rattle.vte_core.proofs.fields.PlaceOfState.{IsPlace, stands-in}
@@ -82,7 +82,7 @@ has-run {limit} {bytes} {place} {parser} here is only reads range kind whole =
       };
     }
 
--- the text that stands from one place to another
+-- the text that stands from one position to another
 pub has-text : {B : Type 0} {limit : Option ℕ} {bytes : List ℕ} {from end : ℕ} {parser : Machine B}
     → parser.state ≡ Text Nothing → from < end → end ≤ length bytes
     → IsRun false bytes from end → EndsRun false bytes end
@@ -95,20 +95,21 @@ has-text {limit} {bytes} {from} {end} {parser} between low high are ended =
 -- ---- data
 
 by_data : {B : Type 0} (limit : Option ℕ) (parser : Machine B) (place : Place) → StandsBy limit DeviceData parser place
-    → place ≡ InData
-by_data limit parser InData s = refl
+    → place ≡ InDeviceData
+by_data limit parser InDeviceData s = refl
 by_data limit parser _ s = absurd s
 
 reads-data : (limit : Option ℕ) (bytes : List ℕ) (n i : ℕ) → i + n ≤ length bytes → ArePut bytes i (i + n)
-    → Reads limit InData (take n (drop i bytes)) (map Put (take n (drop i bytes))) InData
-reads-data limit bytes zero i within are = reads-nothing limit InData
+    → Reads limit InDeviceData (take n (drop i bytes)) (map Put (take n (drop i bytes))) InDeviceData
+reads-data limit bytes zero i within are = reads-nothing limit InDeviceData
 reads-data limit bytes (suc n) i within are =
     let b : ℕ = slice_index bytes i in
     let here : i < length bytes = omega (arith, within) in
     let put = are i (omega arith) (omega arith) in
     let rest : List ℕ = take n (drop (i + 1) bytes) in
-    rw (drop_more bytes i 0 here) (reads-append limit InData InData InData (b ∷ []) rest (Put b ∷ []) (map Put rest)
-    (reads-byte limit InData InData b (Put b ∷ []) (no_escape b (data_ends_nothing (class_of b) put))
+    rw (drop_more bytes i 0 here)
+    (reads-append limit InDeviceData InDeviceData InDeviceData (b ∷ []) rest (Put b ∷ []) (map Put rest)
+    (reads-byte limit InDeviceData InDeviceData b (Put b ∷ []) (no_escape b (data_ends_nothing (class_of b) put))
     (data-put limit b put))
     (reads-data limit bytes n (i + 1) (omega (arith, within))
     (λ k low high. are k (omega (arith, low)) (omega (arith, high)))))
@@ -118,7 +119,7 @@ pub has-data : {B : Type 0} {limit : Option ℕ} {bytes : List ℕ} {from end : 
     → ArePut bytes from end → (end < length bytes → IsPut (slice_index bytes end) → ⊥)
     → HasRun limit bytes (record { start = from; end = end; kind = OfData }) parser
 has-data {limit} {bytes} {from} {end} {parser} begun low high are ended =
-    has-run InData tt (λ place s. by_data limit parser place (stands-in begun s))
+    has-run InDeviceData tt (λ place s. by_data limit parser place (stands-in begun s))
     (reads-data limit bytes (end - from) from (omega (arith, low, high))
     (λ k above below. are k above (omega (arith, low, below))))
     (record { in_order = omega (arith, low); within = high }) tt (low, ended)
@@ -168,7 +169,7 @@ module _ {V B : Type 0} {call : ChunkCall V} {old new : V} {place : RunRange} {b
 record TakesRun (bytes : List ℕ) (end : ℕ) (these : List ℕ) (kind : RunKind) (taken : Taken) : Type 0 where
   are : taken_bytes taken ≡ these
   events : taken_events taken ≡ kind_events kind these
-  whole : IsWhole bytes end taken
+  whole : IsLongestRun bytes end taken
 
 takes : (bytes : List ℕ) (place : RunRange) (kind : RunKind) (taken : Taken) → IsTaken kind (bytes_at bytes place) taken
     → AreOfKind kind (bytes_at bytes place)

@@ -1,5 +1,5 @@
 -- A machine with the state of another, what is collected there and its items has read the same: by cases of the state.
-use Rattle.vte_core.proofs.Common.{◌≡◌, Option, ℕ, List, [], sym, subst, Machine, State, Text, Escape, EscapeIntermediate, ControlSequence, DeviceControl, DeviceData, SystemCommand, IgnoredString, HoldsIntermediates, HasReadUnder, StandsBy, StandsInHead, Place, InText, AtEscape, InEscape, InControlSequence, InDeviceControl, InData, InSystemCommand, InIgnoredString, SameItems}
+use Rattle.vte_core.proofs.Common.{◌≡◌, Option, ℕ, List, [], sym, subst, Machine, State, Text, Escape, EscapeIntermediate, ControlSequence, DeviceControl, DeviceData, SystemCommand, IgnoredString, HoldsIntermediates, HasReadUnder, StandsBy, StandsInHead, Place, InText, AtEscape, InEscape, InControlSequence, InDeviceControl, InDeviceData, InSystemCommand, InIgnoredString, SameItems}
 use Rattle.vte_core.proofs.fields.PlaceOfState.{keeps-same, stands-by}
 
 by_clone : {B C : Type 0} (limit : Option ℕ) (state : State) (old : Machine B) (new : Machine C) (place : Place)
@@ -13,7 +13,7 @@ by_clone limit (ControlSequence part) old new (InControlSequence head) same item
     subst (λ collected. StandsInHead collected part head) (sym same) s
 by_clone limit (DeviceControl part) old new (InDeviceControl head) same items s =
     subst (λ collected. StandsInHead collected part head) (sym same) s
-by_clone limit DeviceData old new InData same items s = tt
+by_clone limit DeviceData old new InDeviceData same items s = tt
 by_clone limit SystemCommand old new (InSystemCommand command) same items s =
     keeps-same limit old.command new.command command items s
 by_clone limit IgnoredString old new InIgnoredString same items s = tt

@@ -1,7 +1,7 @@
 -- What one byte makes of the head that is held: by the part of the head that was reached and the byte's class.
 --
 -- `holds-X`: the head is held after X (`HoldsHead`); `malformed-X`, `ill_shaped-X`: it stays ill-shaped after X.
-use Rattle.vte_core.proofs.Common.{◌≡◌, ℕ, ◌⊎◌, inl, inr, Bool, true, false, ◌||◌, List, [], ◌∷◌, ◌++◌, length, refl, ap, ◌∙◌, append_assoc, arith, length-append, append-nil, Class, Intermediate, Marker, class_of, is_head, is_intermediate, is_marker, is_parameter_text, Collected, HeadPart, Entry, Parameters, Intermediates, IllShaped, Event, head_of, is_well_shaped, sequence_event, HoldsIntermediates, CountsNumbers, HoldsNumbers, HoldsHead}
+use Rattle.vte_core.proofs.Common.{◌≡◌, ℕ, ◌⊎◌, inl, inr, Bool, true, false, ◌||◌, List, [], ◌∷◌, ◌++◌, length, refl, ap, ◌∙◌, append_assoc, arith, length-append, append-nil, Class, Intermediate, Marker, class_of, is_head, is_intermediate, is_marker, is_parameter_text, Collected, HeadProgress, Entry, Parameters, Intermediates, IllShaped, Event, head_of, is_well_shaped, sequence_event, HoldsIntermediates, CountsNumbers, HoldsNumbers, HoldsHead}
 use Rattle.vte_core.proofs.Common.{KeepsNumbers, KeepsIntermediates, StandsInHead, StaysIllShaped}
 use Rattle.vte_core.specs.machine.Ready.{IsReady}
 use Rattle.vte_core.proofs.shapes.HeadLemmas.{begins-intermediates, head_of-parts, held-parts, held-well_shaped, list_all-not}
@@ -20,10 +20,14 @@ CountsNumbers-kept old new text k c = record {
 
 Holds-kept : (old new : Collected) (ints : List ℕ) → KeepsIntermediates old new → HoldsIntermediates old ints
     → HoldsIntermediates new ints
-Holds-kept old new ints k h = record { kept = cc; too_many = k.too_many ∙ h.too_many }
+Holds-kept old new ints k h = record {
+  kept = cc;
+  too_many_intermediates = k.too_many_intermediates
+      ∙ h.too_many_intermediates;
+}
 
 -- an intermediate, wherever the head has come
-pub holds-intermediate : (old new : Collected) (part : HeadPart) (head : List ℕ) (b : ℕ) → HoldsHead old part head
+pub holds-intermediate : (old new : Collected) (part : HeadProgress) (head : List ℕ) (b : ℕ) → HoldsHead old part head
     → class_of b ≡ Intermediate
     → KeepsNumbers old new → ((ints : List ℕ) → HoldsIntermediates old ints → HoldsIntermediates new (ints ++ b ∷ []))
     → HoldsHead new Intermediates (head ++ b ∷ [])
@@ -62,7 +66,8 @@ holds-marker old new head b h e k more =
     }
 
 -- a byte of the parameters
-after_no_intermediate : (old new : Collected) (part : HeadPart) (head : List ℕ) (b : ℕ) (h : HoldsHead old part head)
+after_no_intermediate : (old new : Collected) (part : HeadProgress) (head : List ℕ) (b : ℕ)
+    (h : HoldsHead old part head)
     → h.intermediates ≡ []
     → is_parameter_text (class_of b) ≡ true → KeepsIntermediates old new
     → ((text : List ℕ) → CountsNumbers old text → CountsNumbers new (text ++ b ∷ []))
@@ -83,7 +88,7 @@ after_no_intermediate old new part head b h none is k more =
     }
 
 -- no intermediate is held where the head may have parameters
-pub holds-parameter : (old new : Collected) (part : HeadPart) (head : List ℕ) (b : ℕ)
+pub holds-parameter : (old new : Collected) (part : HeadProgress) (head : List ℕ) (b : ℕ)
     → (part ≡ Entry) ⊎ (part ≡ Parameters) → StandsInHead old part head
     → is_parameter_text (class_of b) ≡ true → KeepsIntermediates old new
     → ((text : List ℕ) → CountsNumbers old text → CountsNumbers new (text ++ b ∷ []))
@@ -132,9 +137,10 @@ pub ill_shaped-now : (head : List ℕ) → StaysIllShaped head → is_well_shape
 ill_shaped-now head s = rw append-nil at (s.stays [])
 
 -- at the end of a head that is well shaped
-pub ready : (old new : Collected) (more ignored : Bool) (part : HeadPart) (head : List ℕ)
+pub ready : (old new : Collected) (more ignored : Bool) (part : HeadProgress) (head : List ℕ)
     → ((text : List ℕ) → CountsNumbers old text → HoldsNumbers new more text)
-    → KeepsIntermediates old new → HoldsHead old part head → ignored ≡ (new.too_many || more) → IsReady new ignored head
+    → KeepsIntermediates old new → HoldsHead old part head → ignored ≡ (new.too_many_intermediates || more)
+    → IsReady new ignored head
 ready old new more ignored part head settles k h is =
     let parts = held-parts h.marker h.parameters h.intermediates h.is_marker h.are_parameters h.are_intermediates in
     let s = settles h.parameters h.counts in
@@ -145,7 +151,7 @@ ready old new more ignored part head settles k h is =
           (held-well_shaped h.marker h.parameters h.intermediates h.is_marker h.are_parameters h.are_intermediates);
       groups = rw (h.shape, parts) s.groups;
       intermediates = rw (h.shape, parts) holds.kept;
-      ignore = is ∙ rw (h.shape, parts, holds.too_many, s.more) refl;
+      ignore = is ∙ rw (h.shape, parts, holds.too_many_intermediates, s.more) refl;
     }
 
 pub holds-nothing : (new : Collected) → HoldsIntermediates new [] → CountsNumbers new [] → HoldsHead new Entry []
@@ -169,7 +175,7 @@ left_is_marker Marker h p i = refl
 left_is_marker _ h p i = cc
 
 -- a marker that does not come first, or a digit or a separator that may not come next
-pub ill_shaped-late : (old : Collected) (part : HeadPart) (head : List ℕ) (b : ℕ) → StandsInHead old part head
+pub ill_shaped-late : (old : Collected) (part : HeadProgress) (head : List ℕ) (b : ℕ) → StandsInHead old part head
     → is_head (class_of b) ≡ true
     → is_intermediate (class_of b) ≡ false
     → ((part ≡ Entry) ⊎ (part ≡ Parameters) → is_parameter_text (class_of b) ≡ false)
@@ -187,7 +193,7 @@ pub dispatched-ready : (call : List (List ℕ) → List ℕ → Bool → ℕ →
 unfolding sequence_event
 dispatched-ready call held ignored head final f = rw (f.groups, f.intermediates, f.ignore) refl
 
-pub head-holds : (held : Collected) (part : HeadPart) (head : List ℕ) → (part ≡ IllShaped → ⊥)
+pub head-holds : (held : Collected) (part : HeadProgress) (head : List ℕ) → (part ≡ IllShaped → ⊥)
     → StandsInHead held part head → HoldsHead held part head
 head-holds held IllShaped head n s = absurd (n refl)
 head-holds held part head n s = s

@@ -1,5 +1,5 @@
 -- What is known of a parser that is at a place: by cases of its state, to each of which belongs one kind of place.
-use Rattle.vte_core.proofs.Common.{◌≡◌, ℕ, true, Option, List, [], ◌∷◌, ◌++◌, refl, ap, sym, subst, ◌∙◌, append-nil, Machine, State, Text, Escape, SystemCommand, body_outcome, data_outcome, executed_events, leaves, open_bytes, HoldsIntermediates, StandsBy, Stands, Place, InText, AtEscape, InSystemCommand, open_at, left_at, rest_outcome, outcome_from, events_from, IsSettledPlace, Stored, HoldsItems, SameItems, text_outcome, is_truncated, Nothing}
+use Rattle.vte_core.proofs.Common.{◌≡◌, ℕ, true, Option, List, [], ◌∷◌, ◌++◌, refl, ap, sym, subst, ◌∙◌, append-nil, Machine, State, Text, Escape, SystemCommand, body_outcome, device_data_outcome, executed_events, leaves, open_bytes, HoldsIntermediates, StandsBy, Stands, Place, InText, AtEscape, InSystemCommand, open_at, left_at, rest_outcome, outcome_from, events_from, IsSettledPlace, Stored, HoldsItems, SameItems, text_outcome, is_truncated, Nothing}
 use Rattle.vte_core.proofs.Common.{may_continue}
 use Rattle.vte_core.specs.IgnoredString.{ignored_string_outcome}
 use Rattle.vte_core.specs.machine.Place.{control_sequence_from, device_control_from, escape_from, system_command_from}
@@ -70,7 +70,7 @@ text_open limit (a ∷ u) o = rw append-nil (text_end (a ∷ u) o)
 -- nothing more tells nothing, and leaves open what is open at the place
 pub rest_outcome-nothing : (limit : Option ℕ) (place : Place) → IsPlace place
     → rest_outcome limit place [] ≡ leaves (left_at limit place)
-unfolding body_outcome executed_events escape_from control_sequence_from device_control_from data_outcome
+unfolding body_outcome executed_events escape_from control_sequence_from device_control_from device_data_outcome
     system_command_from ignored_string_outcome
 rest_outcome-nothing limit (InText u) is = text_open limit u is
 rest_outcome-nothing limit (InSystemCommand items) is = simp append-nil

@@ -1,5 +1,5 @@
 -- A machine that is made of what was saved of another is at the place where that one was: by cases of the state.
-use Rattle.vte_core.proofs.Common.{◌≡◌, ℕ, Option, List, take, arith, refl, subst, ◌∙◌, Machine, State, Text, Escape, EscapeIntermediate, ControlSequence, DeviceControl, DeviceData, SystemCommand, IgnoredString, HoldsIntermediates, HasReadUnder, StandsBy, StandsInHead, Place, InText, AtEscape, InEscape, InControlSequence, InDeviceControl, InData, InSystemCommand, InIgnoredString, SameItems}
+use Rattle.vte_core.proofs.Common.{◌≡◌, ℕ, Option, List, take, arith, refl, subst, ◌∙◌, Machine, State, Text, Escape, EscapeIntermediate, ControlSequence, DeviceControl, DeviceData, SystemCommand, IgnoredString, HoldsIntermediates, HasReadUnder, StandsBy, StandsInHead, Place, InText, AtEscape, InEscape, InControlSequence, InDeviceControl, InDeviceData, InSystemCommand, InIgnoredString, SameItems}
 use Rattle.vte_core.specs.declared.parser.saved.Saved.{Saved}
 use Rattle.vte_core.specs.machine.SavedLayout.{IsInHead, IsRestored, flag_of, state_bytes}
 use Rattle.vte_core.specs.machine.Groups.{AreParts}
@@ -12,7 +12,7 @@ use Rattle.vte_core.proofs.Common.{usual_limit}
 pub record HasSaved {B : Type 0} (saved : Saved) (machine : Machine B) : Type 0 where
   pub state : saved.state ≡ state_bytes machine.state
   pub intermediates : take saved.intermediate_count saved.intermediates ≡ machine.collected.intermediates.items
-  pub too_many : flag_of saved.too_many ≡ machine.collected.too_many
+  pub too_many_intermediates : flag_of saved.too_many_intermediates ≡ machine.collected.too_many_intermediates
   pub params : IsInHead machine.state
       → AreParts (take saved.group_count saved.lengths)
       (take saved.number_count saved.numbers) machine.collected.params
@@ -31,7 +31,7 @@ holds-saved : {B C : Type 0} {saved : Saved} {old : Machine B} {new : Machine C}
 holds-saved h r holds =
     record {
       kept = r.intermediates ∙ (h.intermediates ∙ holds.kept);
-      too_many = r.too_many ∙ (h.too_many ∙ holds.too_many);
+      too_many_intermediates = r.too_many_intermediates ∙ (h.too_many_intermediates ∙ holds.too_many_intermediates);
     }
 
 same_collected : {B C : Type 0} {saved : Saved} {old : Machine B} {new : Machine C} → HasSaved saved old
@@ -58,7 +58,7 @@ by_saved limit (ControlSequence part) old new (InControlSequence head) h r o n s
     subst (λ collected. StandsInHead collected part head) (same_collected h r (rw o tt) (rw n tt)) s
 by_saved limit (DeviceControl part) old new (InDeviceControl head) h r o n s =
     subst (λ collected. StandsInHead collected part head) (same_collected h r (rw o tt) (rw n tt)) s
-by_saved limit DeviceData old new InData h r o n s = tt
+by_saved limit DeviceData old new InDeviceData h r o n s = tt
 by_saved limit SystemCommand old new (InSystemCommand items) h r o n s =
     keeps-same limit old.command new.command items (same_items h r o n) s
 by_saved limit IgnoredString old new InIgnoredString h r o n s = tt

@@ -2,8 +2,8 @@
 -- definition of that shape alone.
 --
 -- A lemma is named by the place and what comes there, as `escape-end` for the end of a sequence right after ESC.
-use Rattle.vte_core.proofs.Common.{◌≡◌, ℕ, ◌≤◌, true, false, eqb, Option, List, [], ◌∷◌, ◌++◌, ap, sym, append_assoc, append-nil, arith, nat_tests, Class, Control, Intermediate, Delete, Digit, Colon, Semicolon, Marker, Final, High, dispatches_escape, class_of, is_cancel, is_device_data, is_head, EscapeSequence, key_of, body_outcome, control_sequence_end, control_sequence_outcome, data_outcome, device_control_end, ends_command}
-use Rattle.vte_core.proofs.Common.{ends_data, device_control_outcome, escape_outcome, executed_events, first_two, are_too_many, Execute, Hook, Put, Unhook, OscDispatch, CsiDispatch, EscDispatch, head_of, is_well_shaped, sequence_event, Leads, InText, AtEscape, InEscape, InControlSequence, InDeviceControl, InData, InSystemCommand, InIgnoredString, pieces_of, bell, system_command_outcome, text_outcome, character_event, Bool}
+use Rattle.vte_core.proofs.Common.{◌≡◌, ℕ, ◌≤◌, true, false, eqb, Option, List, [], ◌∷◌, ◌++◌, ap, sym, append_assoc, append-nil, arith, nat_tests, Class, Control, Intermediate, Delete, Digit, Colon, Semicolon, Marker, Final, High, dispatches_escape, class_of, is_cancel, is_device_data, is_head, EscapeSequence, key_of, body_outcome, control_sequence_end, control_sequence_outcome, device_data_outcome, device_control_end, ends_command}
+use Rattle.vte_core.proofs.Common.{ends_device_data, device_control_outcome, escape_outcome, executed_events, first_two, are_too_many, Execute, Hook, Put, Unhook, OscDispatch, CsiDispatch, EscDispatch, head_of, is_well_shaped, sequence_event, Leads, InText, AtEscape, InEscape, InControlSequence, InDeviceControl, InDeviceData, InSystemCommand, InIgnoredString, pieces_of, bell, system_command_outcome, text_outcome, character_event, Bool}
 use Rattle.vte_core.proofs.Common.{Place, refl, malformed_event, is_truncated, is_well_formed, scalar_of, nat_le}
 use Rattle.vte_core.specs.IgnoredString.{ignored_string_outcome}
 use Rattle.vte_core.specs.Key.{ControlSequence, DeviceControl, SystemCommand, IgnoredString, Key}
@@ -18,7 +18,7 @@ use Rattle.vte_core.proofs.shapes.TextLemmas.{text_lone, text_outcome-well_forme
 -- where they are dropped
 abbrev pub drops : Place → Bool
 drops (InText u) = false
-drops InData = false
+drops InDeviceData = false
 drops (InSystemCommand items) = false
 drops _ = true
 
@@ -26,7 +26,7 @@ pub byte-dropped : (limit : Option ℕ) (place : Place) (b : ℕ) (k : Class) �
     → is_dropped k ≡ true → Leads limit place b [] place
 unfolding body_outcome escape_from control_sequence_from device_control_from ignored_string_outcome executed_events
 byte-dropped limit (InText u) b k at e h = cc
-byte-dropped limit InData b k at e h = cc
+byte-dropped limit InDeviceData b k at e h = cc
 byte-dropped limit (InSystemCommand items) b k at e h = cc
 byte-dropped limit _ b Delete at e h = record { leads = λ rest. simp e }
 byte-dropped limit _ b High at e h = record { leads = λ rest. simp e }
@@ -143,7 +143,7 @@ device-head limit head b is = record { leads = λ rest. simp (is, head_is_no_end
 
 pub device-well_shaped : (limit : Option ℕ) (head : List ℕ) (b : ℕ) → class_of b ≡ Final
     → is_well_shaped (head_of head) ≡ true
-    → Leads limit (InDeviceControl head) b (sequence_event Hook (head_of head) b ∷ []) InData
+    → Leads limit (InDeviceControl head) b (sequence_event Hook (head_of head) b ∷ []) InDeviceData
 unfolding device_control_from device_control_end
 device-well_shaped limit head b e well = record { leads = λ rest. simp (e, append-nil, well) }
 
@@ -155,23 +155,23 @@ device-ill_shaped limit head b e ill = record { leads = λ rest. simp (e, append
 -- ---- in the data of a hooked string
 
 -- a byte of a class that is data does not end them
-data_is_no_end : (b : ℕ) → is_device_data (class_of b) ≡ true → ends_data b ≡ false
+data_is_no_end : (b : ℕ) → is_device_data (class_of b) ≡ true → ends_device_data b ≡ false
 unfolding class_of
 data_is_no_end b h = grind (arith, nat_tests)
 
 pub data-put : (limit : Option ℕ) (b : ℕ) → is_device_data (class_of b) ≡ true
-    → Leads limit InData b (Put b ∷ []) InData
-unfolding data_outcome
+    → Leads limit InDeviceData b (Put b ∷ []) InDeviceData
+unfolding device_data_outcome
 data-put limit b is = record { leads = λ rest. simp (is, data_is_no_end b is) }
 
-pub data-dropped : (limit : Option ℕ) (b : ℕ) → ends_data b ≡ false → is_device_data (class_of b) ≡ false
-    → Leads limit InData b [] InData
-unfolding data_outcome
+pub data-dropped : (limit : Option ℕ) (b : ℕ) → ends_device_data b ≡ false → is_device_data (class_of b) ≡ false
+    → Leads limit InDeviceData b [] InDeviceData
+unfolding device_data_outcome
 data-dropped limit b on none = record { leads = λ rest. simp (on, none) }
 
 pub data-terminator : (limit : Option ℕ) (b : ℕ) → class_of b ≡ High → eqb b 0x9c ≡ true
-    → Leads limit InData b (Unhook ∷ []) (InText [])
-unfolding data_outcome
+    → Leads limit InDeviceData b (Unhook ∷ []) (InText [])
+unfolding device_data_outcome
 data-terminator limit b e is = record { leads = λ rest. simp (e, is) }
 
 -- ---- in an operating system command

@@ -1,7 +1,7 @@
 -- After every place every byte reports at most two events, of which the second is short, and leads to a place
 -- (`steps`): by cases of the place and of the byte's class, each by a lemma of `PlaceLeads`.
-use Rattle.vte_core.proofs.Common.{◌≡◌, ℕ, inl, inr, false, eqb, Option, List, refl, arith, cases_Bool, nat_tests, Class, Control, Cancel, Intermediate, Final, Delete, High, class_of, ends_all, Key, EscapeSequence, key_of, IsBrief, Event, head_of, is_well_shaped, sequence_event, Leads, Place, InText, AtEscape, InEscape, InControlSequence, InDeviceControl, InData, InSystemCommand, InIgnoredString, closing_events_at, escape, bell, pieces_of}
-use Rattle.vte_core.proofs.Common.{kept_items, data_left, left_at, breaks, open_at, sym, false≢true, ◌∙◌, [], ◌∷◌, ◌++◌, Execute}
+use Rattle.vte_core.proofs.Common.{◌≡◌, ℕ, inl, inr, false, eqb, Option, List, refl, arith, cases_Bool, nat_tests, Class, Control, Cancel, Intermediate, Final, Delete, High, class_of, ends_all, Key, EscapeSequence, key_of, IsBrief, Event, head_of, is_well_shaped, sequence_event, Leads, Place, InText, AtEscape, InEscape, InControlSequence, InDeviceControl, InDeviceData, InSystemCommand, InIgnoredString, closing_events_at, escape, bell, pieces_of}
+use Rattle.vte_core.proofs.Common.{kept_items, open_data_count, left_at, breaks, open_at, sym, false≢true, ◌∙◌, [], ◌∷◌, ◌++◌, Execute}
 use Rattle.vte_core.proofs.bytes.FirstBytes.{Tests, ascii_breaks}
 use Rattle.vte_core.proofs.shapes.Told.{breaks-broken}
 use Rattle.vte_core.specs.Class.{Escape}
@@ -15,7 +15,7 @@ use Rattle.vte_core.proofs.places.PlaceLeads.{data-terminator, command-item, com
 use Rattle.vte_core.proofs.fields.PlaceOfState.{IsPlace}
 use Rattle.vte_core.proofs.fields.KeptItems.{few_pieces, pieces_push, some_pieces}
 use Rattle.vte_core.proofs.places.StreamLemmas.{reads-escape, no_escape, cancel_is_no_escape}
-use Rattle.vte_core.proofs.places.TextSteps.{AreOthers, FitsLeft, IsLittle, IsQuiet, IsText, Steps, leads_on, steps-text}
+use Rattle.vte_core.proofs.places.TextSteps.{AreQuietEvents, FitsLeft, IsLittle, IsQuietAt, IsText, Steps, leads_on, steps-text}
 
 abbrev IsOutsideText : Place → Type 0
 IsOutsideText (InText u) = ⊥
@@ -39,7 +39,7 @@ no_text (InText u) is text = is
 no_text _ is text = text
 
 nothing_open : (limit : Option ℕ) (place : Place) → HoldsNothing place
-    → (open_at place ≡ []) × (data_left (left_at limit place) ≡ 0) × IsPlace place
+    → (open_at place ≡ []) × (open_data_count (left_at limit place) ≡ 0) × IsPlace place
 unfolding pieces_of kept_items
 nothing_open limit (InText []) none = (refl, refl, refl)
 nothing_open limit (InText (a ∷ u)) none = absurd none
@@ -54,7 +54,7 @@ plain b k is no_end = no_escape b (rw is no_end)
 module _ {limit : Option ℕ} {place next : Place} {b : ℕ} where
   sequenced_by : {told : List Event} → eqb b escape ≡ false → Sequenced place next → Leads limit place b told next
       → ((size : Option ℕ) → FitsLeft size (left_at limit place) → IsBrief size told)
-      → (IsQuiet place b → AreOthers told) → Steps limit place b
+      → (IsQuietAt place b → AreQuietEvents told) → Steps limit place b
   sequenced_by other known leads =
       let none = nothing_open limit next known.1 in
       leads_on (λ text. absurd (no_text place known.0 text)) (inl none.0) (λ _. omega (arith, none.1)) other leads
@@ -64,7 +64,7 @@ module _ {limit : Option ℕ} {place next : Place} {b : ℕ} where
   sequenced : {told : List Event} {k : Class} → class_of b ≡ k → ends_all k ≡ false → Sequenced place next
       → Leads limit place b told next
       → ((size : Option ℕ) → FitsLeft size (left_at limit place) → IsBrief size told)
-      → (IsQuiet place b → AreOthers told) → Steps limit place b
+      → (IsQuietAt place b → AreQuietEvents told) → Steps limit place b
   sequenced is no_end = sequenced_by (plain _ _ is no_end)
 
   -- a byte that tells nothing
@@ -158,7 +158,7 @@ step-device limit head b k is no_end = silent is no_end outside (device-head lim
 delete_is_no_terminator : (b : ℕ) → Spans Delete b → eqb b 0x9c ≡ false
 delete_is_no_terminator b s = grind (arith, nat_tests)
 
-step-data : (limit : Option ℕ) (b : ℕ) (k : Class) → class_of b ≡ k → ends_all k ≡ false → Steps limit InData b
+step-data : (limit : Option ℕ) (b : ℕ) (k : Class) → class_of b ≡ k → ends_all k ≡ false → Steps limit InDeviceData b
 step-data limit b Delete is no_end =
     sequenced is no_end outside
     (data-dropped limit b (rw is (delete_is_no_terminator b (spans b Delete is))) (rw is refl)) (λ _ _. tt) (λ _. tt)
@@ -202,7 +202,7 @@ step-ordinary limit AtEscape b k placed is no_end = step-escape limit b k is no_
 step-ordinary limit (InEscape intermediates) b k placed is no_end = step-intermediate limit intermediates b k is no_end
 step-ordinary limit (InControlSequence head) b k placed is no_end = step-control limit head b k is no_end
 step-ordinary limit (InDeviceControl head) b k placed is no_end = step-device limit head b k is no_end
-step-ordinary limit InData b k placed is no_end = step-data limit b k is no_end
+step-ordinary limit InDeviceData b k placed is no_end = step-data limit b k is no_end
 step-ordinary limit (InSystemCommand items) b k placed is no_end = step-command limit items b k is no_end
 step-ordinary limit InIgnoredString b k placed is no_end =
     silent is no_end outside (ignored-more limit b (rw is (ends_not_cancel k no_end)))
@@ -216,17 +216,17 @@ escape_little limit (InText (a ∷ u)) is text unbroken =
     absurd (false≢true (sym unbroken ∙ breaks-broken (a ∷ u) escape is tests.is_whole tests.is_open))
 escape_little limit _ is text unbroken = absurd text
 
-closing_others : (limit : Option ℕ) (place : Place) (b : ℕ) → IsQuiet place b
-    → AreOthers (closing_events_at limit place)
+closing_others : (limit : Option ℕ) (place : Place) (b : ℕ) → IsQuietAt place b
+    → AreQuietEvents (closing_events_at limit place)
 closing_others limit (InText u) b quiet = absurd quiet
-closing_others limit InData b quiet = tt
+closing_others limit InDeviceData b quiet = tt
 closing_others limit (InSystemCommand items) b quiet = tt
 closing_others limit _ b quiet = tt
 
-cancel_others : (limit : Option ℕ) (place : Place) (b : ℕ) → IsQuiet place b
-    → AreOthers (closing_events_at limit place ++ Execute b ∷ [])
+cancel_others : (limit : Option ℕ) (place : Place) (b : ℕ) → IsQuietAt place b
+    → AreQuietEvents (closing_events_at limit place ++ Execute b ∷ [])
 cancel_others limit (InText u) b quiet = absurd quiet
-cancel_others limit InData b quiet = (tt, tt)
+cancel_others limit InDeviceData b quiet = (tt, tt)
 cancel_others limit (InSystemCommand items) b quiet = (tt, tt)
 cancel_others limit _ b quiet = tt
 

@@ -1,5 +1,5 @@
 -- What one byte reports in a text, whatever it is: by whether it ends, continues or breaks the open character.
-use Rattle.vte_core.proofs.Common.{◌≡◌, ℕ, ◌⊎◌, inl, inr, true, false, eqb, Option, List, [], ◌∷◌, ◌++◌, refl, ap, sym, subst, ◌∙◌, cases_Bool, false≢true, IsBrief, IsTiny, IsQuietEvent, class_of, is_device_data, Event, Print, ◌≤◌, ◌+◌, None, arith, FitsStore, ToClose, CommandToClose, data_left, left_at, replacement, tell, Place, InData, InText, breaks, open_at, escape, Leads, Reads, may_continue, is_truncated, is_well_formed}
+use Rattle.vte_core.proofs.Common.{◌≡◌, ℕ, ◌⊎◌, inl, inr, true, false, eqb, Option, List, [], ◌∷◌, ◌++◌, refl, ap, sym, subst, ◌∙◌, cases_Bool, false≢true, IsBrief, IsAtMostOneShort, IsQuietEvent, class_of, is_device_data, Event, Print, ◌≤◌, ◌+◌, None, arith, FitsStore, ToClose, CommandToClose, open_data_count, left_at, replacement, tell, Place, InDeviceData, InText, breaks, open_at, escape, Leads, Reads, may_continue, is_truncated, is_well_formed}
 use Rattle.vte_core.proofs.places.PlaceLeads.{text-unfinished, text-whole, text-lone}
 use Rattle.vte_core.proofs.shapes.TextLemmas.{text_broken}
 use Rattle.vte_core.proofs.places.BriefLemmas.{short-character, short-malformed, tiny_brief, tiny-both}
@@ -13,7 +13,7 @@ LeavesOpen next told = (open_at next ≡ []) ⊎ ((told ≡ []) ⊎ (told ≡ Pr
 
 -- nothing was told, or one short event after which no character is open
 abbrev pub IsLittle : Place → List Event → Type 0
-IsLittle next told = (told ≡ []) ⊎ ((open_at next ≡ []) × IsTiny told)
+IsLittle next told = (told ≡ []) ⊎ ((open_at next ≡ []) × IsAtMostOneShort told)
 
 abbrev pub IsText : Place → Type 0
 IsText (InText u) = Unit {0}
@@ -28,20 +28,20 @@ abbrev pub FitsLeft : Option ℕ → ToClose → Type 0
 FitsLeft size (CommandToClose pieces dropped) = FitsStore size pieces
 FitsLeft size _ = Unit {0}
 
-pub text_left : (limit : Option ℕ) (u : List ℕ) → data_left (left_at limit (InText u)) ≡ 0
+pub text_left : (limit : Option ℕ) (u : List ℕ) → open_data_count (left_at limit (InText u)) ≡ 0
 text_left limit [] = refl
 text_left limit (a ∷ u) = refl
 
 -- outside of a text, and of data that are put
-abbrev pub IsQuiet : Place → ℕ → Type 0
-IsQuiet (InText u) b = ⊥
-IsQuiet InData b = is_device_data (class_of b) ≡ false
-IsQuiet _ b = Unit {0}
+abbrev pub IsQuietAt : Place → ℕ → Type 0
+IsQuietAt (InText u) b = ⊥
+IsQuietAt InDeviceData b = is_device_data (class_of b) ≡ false
+IsQuietAt _ b = Unit {0}
 
-abbrev pub AreOthers : List Event → Type 0
-AreOthers [] = Unit {0}
-AreOthers (event ∷ []) = IsQuietEvent event
-AreOthers (event ∷ events) = IsQuietEvent event × AreOthers events
+abbrev pub AreQuietEvents : List Event → Type 0
+AreQuietEvents [] = Unit {0}
+AreQuietEvents (event ∷ []) = IsQuietEvent event
+AreQuietEvents (event ∷ events) = IsQuietEvent event × AreQuietEvents events
 
 -- what the byte tells after the place, and where it leads
 pub record Steps (limit : Option ℕ) (place : Place) (b : ℕ) : Type 0 where
@@ -53,19 +53,21 @@ pub record Steps (limit : Option ℕ) (place : Place) (b : ℕ) : Type 0 where
   -- for `laws::bytes_are_brief`
   pub brief : (size : Option ℕ) → FitsLeft size (left_at limit place) → IsBrief size told
   -- for the size of a command without a limit
-  pub grows : limit ≡ None → data_left (left_at limit next) ≤ data_left (left_at limit place) + 1
+  pub grows : limit ≡ None → open_data_count (left_at limit next) ≤ open_data_count (left_at limit place) + 1
   -- for early stops: nothing is told where a character is left open
   pub leaves : LeavesOpen next told
   pub little : IsText place → breaks (open_at place) (b ∷ []) ≡ false → IsLittle next told
   -- for `advance_to_run`
-  pub quietly : IsQuiet place b → AreOthers told
+  pub quietly : IsQuietAt place b → AreQuietEvents told
 
 -- a step of a byte that is not ESC
 pub leads_on : {limit : Option ℕ} {place next : Place} {b : ℕ} {told : List Event} → (IsText place → IsLittle next told)
     → LeavesOpen next told
-    → (limit ≡ None → data_left (left_at limit next) ≤ data_left (left_at limit place) + 1) → eqb b escape ≡ false
+    → (limit ≡ None → open_data_count (left_at limit next) ≤ open_data_count (left_at limit place) + 1)
+    → eqb b escape ≡ false
     → Leads limit place b told next → IsPlace next
-    → ((size : Option ℕ) → FitsLeft size (left_at limit place) → IsBrief size told) → (IsQuiet place b → AreOthers told)
+    → ((size : Option ℕ) → FitsLeft size (left_at limit place) → IsBrief size told)
+    → (IsQuietAt place b → AreQuietEvents told)
     → Steps limit place b
 leads_on {limit} {place} {next} {b} {told} little leaves grows e l is brief others = record {
   told = told;
@@ -79,8 +81,8 @@ leads_on {limit} {place} {next} {b} {told} little leaves grows e l is brief othe
   quietly = others;
 }
 
-tiny_of : (next : Place) (told : List Event) → IsLittle next told → IsTiny told
-tiny_of next told little = elim little [ inl nothing ↦ subst IsTiny (sym nothing) tt | inr closed ↦ closed.1 ]
+tiny_of : (next : Place) (told : List Event) → IsLittle next told → IsAtMostOneShort told
+tiny_of next told little = elim little [ inl nothing ↦ subst IsAtMostOneShort (sym nothing) tt | inr closed ↦ closed.1 ]
 
 leads_little : {limit : Option ℕ} {u v : List ℕ} {b : ℕ} {told : List Event} → IsLittle (InText v) told
     → eqb b escape ≡ false → Leads limit (InText u) b told (InText v)

@@ -1,6 +1,6 @@
 -- What is told before a position, and what goes on from there, is what the whole gives (`goes_on_from`); from one
 -- position to the next at most one unit is told. By what a byte does to an open character.
-use Rattle.vte_core.proofs.Common.{◌≡◌, ℕ, zero, suc, add-one, ◌+◌, ◌<◌, ◌≤◌, ◌⊎◌, inl, inr, Bool, true, false, if◌then◌else◌, Option, None, List, [], ◌∷◌, ◌++◌, length, take, drop, get_or, refl, ap, sym, subst, ◌∙◌, append_assoc, arith, drop-append_seam, cases_Bool, false≢true, append-nil, take_more, take-append-drop, IsBrief, IsTiny, breaks, breaks_at, told_before, stream_at, Event, Print, replacement, added, events}
+use Rattle.vte_core.proofs.Common.{◌≡◌, ℕ, zero, suc, add-one, ◌+◌, ◌<◌, ◌≤◌, ◌⊎◌, inl, inr, Bool, true, false, if◌then◌else◌, Option, None, List, [], ◌∷◌, ◌++◌, length, take, drop, get_or, refl, ap, sym, subst, ◌∙◌, append_assoc, arith, drop-append_seam, cases_Bool, false≢true, append-nil, take_more, take-append-drop, IsBrief, IsAtMostOneShort, breaks, breaks_at, told_before, stream_at, Event, Print, replacement, added, events}
 use Rattle.vte_core.proofs.Common.{open_end, open_at, Place, IsAfter, IsStart}
 use Rattle.vte_core.specs.EarlyStopLaws.{GoesOnFromPositions, AreToldAtStart, TellsUnits}
 use Rattle.vte_core.proofs.streams.After.{added-nothing, after-open_end}
@@ -15,7 +15,8 @@ use Rattle.vte_core.proofs.streams.StreamSteps.{adds, LeadsTo, leads_to, events_
 -- it tells at most a short event, and nothing if it leaves the character open
 abbrev TellsLittle : Option ℕ → List ℕ → ℕ → Type 0
 TellsLittle limit stream b =
-    IsTiny (added limit stream (b ∷ [])) × ((open_end (stream ++ b ∷ []) ≡ []) ⊎ (added limit stream (b ∷ []) ≡ []))
+    IsAtMostOneShort (added limit stream (b ∷ []))
+    × ((open_end (stream ++ b ∷ []) ≡ []) ⊎ (added limit stream (b ∷ []) ≡ []))
 
 tells_little : (limit : Option ℕ) (stream : List ℕ) (b : ℕ) → (open_end stream ≡ [] → ⊥)
     → breaks (open_end stream) (b ∷ []) ≡ false → TellsLittle limit stream b
@@ -44,7 +45,7 @@ added_both limit stream front rest =
     sym (drop-append_seam es (added limit stream (front ++ rest))) ∙ ap (drop (length es)) all
     ∙ drop-append_seam es (added limit stream front ++ added limit (stream ++ front) rest)
 
-replacement_tiny : IsTiny (Print replacement ∷ [])
+replacement_tiny : IsAtMostOneShort (Print replacement ∷ [])
 replacement_tiny = (refl, refl)
 
 -- the bytes after a front add what they add to its stream or, after a character that they break,
@@ -80,16 +81,16 @@ record Added (limit : Option ℕ) (stream bytes : List ℕ) (i : ℕ) : Type 0 w
   unit : List Event
   parts : added limit stream (take i bytes) ≡ before ++ unit
   brief : IsBrief limit unit
-  tiny : (open_end (stream ++ take i bytes) ≡ [] → ⊥) → IsTiny unit
+  tiny : (open_end (stream ++ take i bytes) ≡ [] → ⊥) → IsAtMostOneShort unit
   begun : (before ≡ []) ⊎ AreToldAtStart limit stream bytes i before
 
 opens_tiny : (limit : Option ℕ) (s : List ℕ) (b : ℕ) → (open_end (s ++ b ∷ []) ≡ [] → ⊥)
-    → IsTiny (added limit s (b ∷ []))
+    → IsAtMostOneShort (added limit s (b ∷ []))
 opens_tiny limit s b some = elim (opens_silently limit s b) [
   | inl none ↦ absurd (some none)
   | inr told ↦ elim told [
-    | inl nothing ↦ subst IsTiny (sym nothing) tt
-    | inr once ↦ subst IsTiny (sym once) replacement_tiny
+    | inl nothing ↦ subst IsAtMostOneShort (sym nothing) tt
+    | inr once ↦ subst IsAtMostOneShort (sym once) replacement_tiny
   ]
 ]
 

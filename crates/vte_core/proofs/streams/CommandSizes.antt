@@ -1,10 +1,10 @@
 -- How much data a command has that bytes dispatch or leave open, without a limit.
-use Rattle.vte_core.proofs.Common.{ℕ, ◌+◌, ◌≤◌, Some, None, List, ◌++◌, length, refl, ap, arith, CountsData, data_left, ToClose, CommandToClose, left_at}
+use Rattle.vte_core.proofs.Common.{ℕ, ◌+◌, ◌≤◌, Some, None, List, ◌++◌, length, refl, ap, arith, CountsData, open_data_count, ToClose, CommandToClose, left_at}
 use Rattle.vte_core.proofs.places.TextSteps.{FitsLeft}
 use Rattle.vte_core.proofs.streams.After.{added-reads, after-left, after-reads}
 use Rattle.vte_core.proofs.streams.StreamSteps.{arrives, leads_to, size_at}
 
-fits_by : (n : ℕ) (left : ToClose) → data_left left ≤ n → FitsLeft (Some n) left
+fits_by : (n : ℕ) (left : ToClose) → open_data_count left ≤ n → FitsLeft (Some n) left
 fits_by n (CommandToClose pieces lost) within = within
 fits_by n _ within = tt
 
@@ -13,9 +13,9 @@ counts_data stream bytes =
     let a = leads_to None stream in
     let c = arrives None (Some (size_at None a.place + length bytes)) a.place bytes a.is_place
     (λ place few. fits_by _ (left_at None place) (few refl)) in
-    let before = ap data_left (after-left None stream a.place a.is_after a.is_place) in
+    let before = ap open_data_count (after-left None stream a.place a.is_after a.is_place) in
     let later =
-    ap data_left
+    ap open_data_count
     (after-left None (stream ++ bytes) c.next
     (after-reads None stream bytes a.place c.next c.told a.is_after c.reads c.is_place) c.is_place) in
     record {

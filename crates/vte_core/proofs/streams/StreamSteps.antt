@@ -1,7 +1,7 @@
 -- A stream of any bytes, from its front: each byte leads from a place to a place (`arrives`), so what a stream gives
 -- stays as it is whatever follows, and it begins anew where all places lead to the same.
 use Rattle.vte_core.specs.Laws.{Resyncs, ResyncsAfter, Grows, OpensSilently}
-use Rattle.vte_core.proofs.Common.{◌≡◌, ℕ, ◌+◌, ◌≤◌, inl, inr, Option, None, List, [], ◌∷◌, ◌++◌, arith, data_left, drop, length, refl, ap, sym, ◌∙◌, append_assoc, All, All-append, All-cons, All-nil, Cancel, class_of, IsBounded, IsBrief, Event, Place, InText, AtEscape, open_at, events_from, IsAfter, added, events, open_end, escape, Reads, InSystemCommand, left_at}
+use Rattle.vte_core.proofs.Common.{◌≡◌, ℕ, ◌+◌, ◌≤◌, inl, inr, Option, None, List, [], ◌∷◌, ◌++◌, arith, open_data_count, drop, length, refl, ap, sym, ◌∙◌, append_assoc, All, All-append, All-cons, All-nil, Cancel, class_of, IsBounded, IsBrief, Event, Place, InText, AtEscape, open_at, events_from, IsAfter, added, events, open_end, escape, Reads, InSystemCommand, left_at}
 use Rattle.vte_core.proofs.places.BriefLemmas.{short_bounded}
 use Rattle.vte_core.proofs.places.CancelLemmas.{cancel}
 use Rattle.vte_core.proofs.streams.After.{added-after, added-reads, after-events, after-nothing, after-open_end, after-reads}
@@ -19,7 +19,7 @@ left_fits limit (InSystemCommand items) = pieces_fit limit items
 left_fits limit _ = tt
 
 abbrev pub size_at : Option ℕ → Place → ℕ
-size_at limit place = data_left (left_at limit place)
+size_at limit place = open_data_count (left_at limit place)
 
 -- the bytes tell events of a bounded size after the place, and lead to a next place
 pub record Arrives (limit size : Option ℕ) (place : Place) (bytes : List ℕ) : Type 0 where

@@ -15,7 +15,7 @@ use Rattle.vte_core.specs.Text.{character_event}
 use Rattle.vte_core.specs.Utf8.{is_well_formed, scalar_of}
 
 -- The one event is that of the character that `begun` and the bytes at position i form.
-pub record AreWhole (begun bytes : List ℕ) (i : ℕ) (events : List Event) : Type 0 where
+pub record IsOneCharacter (begun bytes : List ℕ) (i : ℕ) (events : List Event) : Type 0 where
   pub n : ℕ
   pub far : i + n ≤ length bytes
   pub well : is_well_formed (begun ++ take n (drop i bytes)) ≡ true
@@ -27,7 +27,7 @@ pub record AreWhole (begun bytes : List ℕ) (i : ℕ) (events : List Event) : T
 pub record AddsCharacter (limit : Option ℕ) (stream begun bytes : List ℕ) (i j : ℕ) : Type 0 where
   pub events : List Event
   pub parts : told_before limit stream bytes j ≡ added limit stream (take i bytes) ++ events
-  pub are : All IsQuietEvent events ⊎ AreWhole begun bytes i events
+  pub are : All IsQuietEvent events ⊎ IsOneCharacter begun bytes i events
 
 -- The call goes on to position j, in a text if bytes are left, and tells a character or none. At
 -- position i a parser would stand inside the character that `begun` begins.

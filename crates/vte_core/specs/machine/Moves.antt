@@ -15,7 +15,8 @@ use Rattle.vte_core.specs.machine.Progress.{ChunkCall, IsRefusedInCommand, IsSet
 -- The bounds of each state's function, which reads from position i to position j, and gives back no
 -- memory. It takes at least one look per byte and at most `rate`. The caller has taken `seen` of
 -- them: those at the first bytes, by which it chose this function.
-pub record Moves (rate seen : ℕ) {B : Type 0} (bytes : List ℕ) (i j : ℕ) (parser next : Machine B)
+pub record MovesWithin (rate seen : ℕ) {B : Type 0} (bytes : List ℕ) (i j : ℕ)
+    (parser next : Machine B)
     (before after : Looks B) : Type 0 where
   pub low : i ≤ j
   pub progress : i < length bytes → i < j
@@ -26,7 +27,7 @@ pub record Moves (rate seen : ℕ) {B : Type 0} (bytes : List ℕ) (i j : ℕ) (
 
 -- The same bounds for a function that may read nothing; `ahead` of its looks may be at bytes left
 -- unread.
-pub record Spends (rate seen ahead : ℕ) {B : Type 0} (bytes : List ℕ) (i j : ℕ)
+pub record SpendsWithin (rate seen ahead : ℕ) {B : Type 0} (bytes : List ℕ) (i j : ℕ)
     (parser next : Machine B) (before after : Looks B) : Type 0 where
   pub low : i ≤ j
   pub high : j ≤ length bytes

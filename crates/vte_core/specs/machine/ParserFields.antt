@@ -1,8 +1,8 @@
 -- The place at which a parser stands, and what it has read.
 use Rattle.std.specs.Prelude.{◌≡◌, ℕ, ◌<◌, Bool, true, false, if◌then◌else◌, Option, List, [], ◌∷◌, ◌++◌, length, take, ⊤}
 use Rattle.vte_core.specs.declared.head.Collected.{Collected}
-use Rattle.vte_core.specs.declared.head.HeadPart.{HeadPart}
-use Rattle.vte_core.specs.declared.head.HeadPart.TheVariants.{Entry, Parameters, Intermediates, IllShaped}
+use Rattle.vte_core.specs.declared.head.HeadProgress.{HeadProgress}
+use Rattle.vte_core.specs.declared.head.HeadProgress.TheVariants.{Entry, Parameters, Intermediates, IllShaped}
 use Rattle.vte_core.specs.declared.parser.machine.Machine.{Machine}
 use Rattle.vte_core.specs.declared.parser.State.{State}
 use Rattle.vte_core.specs.declared.parser.State.TheVariants.{Text, Escape, EscapeIntermediate, ControlSequence, DeviceControl, DeviceData, SystemCommand, IgnoredString}
@@ -10,14 +10,14 @@ use Rattle.vte_core.specs.Class.{is_intermediate, is_marker, is_parameter_text, 
 use Rattle.vte_core.specs.Intermediates.{first_two, are_too_many}
 use Rattle.vte_core.specs.Head.{head_of, is_well_shaped}
 use Rattle.vte_core.specs.Parameters.{Number, is_colon, is_separator, number_of, numbers, grouped, groups_of, has_too_many_numbers, most_numbers}
-use Rattle.vte_core.specs.machine.Place.{Place, InText, AtEscape, InEscape, InControlSequence, InDeviceControl, InData, InSystemCommand, InIgnoredString, IsAfter}
+use Rattle.vte_core.specs.machine.Place.{Place, InText, AtEscape, InEscape, InControlSequence, InDeviceControl, InDeviceData, InSystemCommand, InIgnoredString, IsAfter}
 use Rattle.vte_core.specs.machine.Store.{HoldsItems}
 use Rattle.vte_core.specs.machine.Unfinished.{bytes_of, may_continue}
 
 -- The first two intermediates are held, and whether there are more.
 pub record HoldsIntermediates (collected : Collected) (intermediates : List ℕ) : Type 0 where
   pub kept : collected.intermediates.items ≡ first_two intermediates
-  pub too_many : collected.too_many ≡ are_too_many intermediates
+  pub too_many_intermediates : collected.too_many_intermediates ≡ are_too_many intermediates
 
 -- The numbers of a text that continues these digits, whose number is joined or not.
 abbrev pub numbers_from : Bool → List ℕ → List ℕ → List Number
@@ -51,7 +51,7 @@ pub record KeepsNumbers (old new : Collected) : Type 0 where
 -- The held intermediates are the same.
 pub record KeepsIntermediates (old new : Collected) : Type 0 where
   pub intermediates : new.intermediates ≡ old.intermediates
-  pub too_many : new.too_many ≡ old.too_many
+  pub too_many_intermediates : new.too_many_intermediates ≡ old.too_many_intermediates
 
 -- One private marker, or none.
 abbrev pub IsMarker : List ℕ → Type 0
@@ -60,7 +60,7 @@ IsMarker (b ∷ []) = AreInClass is_marker (b ∷ [])
 IsMarker _ = ⊥
 
 -- How far a head with these parts has come.
-abbrev pub Reaches : HeadPart → List ℕ → List ℕ → List ℕ → Type 0
+abbrev pub Reaches : HeadProgress → List ℕ → List ℕ → List ℕ → Type 0
 Reaches Entry marker parameters intermediates =
     (marker ≡ []) × (parameters ≡ []) × (intermediates ≡ [])
 Reaches Parameters marker parameters intermediates =
@@ -69,7 +69,7 @@ Reaches Intermediates marker parameters intermediates = 0 < length intermediates
 Reaches IllShaped marker parameters intermediates = ⊥
 
 -- The head is well shaped so far, and its numbers and intermediates are held.
-pub record HoldsHead (collected : Collected) (part : HeadPart) (head : List ℕ) : Type 0 where
+pub record HoldsHead (collected : Collected) (part : HeadProgress) (head : List ℕ) : Type 0 where
   pub marker : List ℕ
   pub parameters : List ℕ
   pub intermediates : List ℕ
@@ -85,7 +85,7 @@ pub record HoldsHead (collected : Collected) (part : HeadPart) (head : List ℕ)
 pub record StaysIllShaped (head : List ℕ) : Type 0 where
   pub stays : (more : List ℕ) → is_well_shaped (head_of (head ++ more)) ≡ false
 
-abbrev pub StandsInHead : Collected → HeadPart → List ℕ → Type 0
+abbrev pub StandsInHead : Collected → HeadProgress → List ℕ → Type 0
 StandsInHead collected IllShaped head = StaysIllShaped head
 StandsInHead collected part head = HoldsHead collected part head
 
@@ -100,7 +100,7 @@ StandsBy limit (ControlSequence part) parser (InControlSequence head) =
     StandsInHead parser.collected part head
 StandsBy limit (DeviceControl part) parser (InDeviceControl head) =
     StandsInHead parser.collected part head
-StandsBy limit DeviceData parser InData = ⊤
+StandsBy limit DeviceData parser InDeviceData = ⊤
 StandsBy limit SystemCommand parser (InSystemCommand items) = HoldsItems limit parser.command items
 StandsBy limit IgnoredString parser InIgnoredString = ⊤
 StandsBy limit _ parser _ = ⊥

@@ -4,12 +4,12 @@ use Rattle.std.specs.List.{filter}
 use Rattle.vte_core.specs.Body.{body_outcome}
 use Rattle.vte_core.specs.Class.{class_of, ends_escape, ends_head, is_intermediate}
 use Rattle.vte_core.specs.ControlSequence.{control_sequence_rest}
-use Rattle.vte_core.specs.DeviceControl.{device_control_rest, data_outcome}
+use Rattle.vte_core.specs.DeviceControl.{device_control_rest, device_data_outcome}
 use Rattle.vte_core.specs.Escape.{escape_rest}
 use Rattle.vte_core.specs.Event.{Event}
 use Rattle.vte_core.specs.Head.{head_bytes}
 use Rattle.vte_core.specs.IgnoredString.{ignored_string_outcome}
-use Rattle.vte_core.specs.Outcome.{ToClose, NothingToClose, CharacterToClose, DataToClose, CommandToClose, Outcome, closing_events, tell}
+use Rattle.vte_core.specs.Outcome.{ToClose, NothingToClose, CharacterToClose, DeviceDataToClose, CommandToClose, Outcome, closing_events, tell}
 use Rattle.vte_core.specs.CutBefore.{cut_before}
 use Rattle.vte_core.specs.Stream.{cut_at_escape, events, outcome, with_bodies}
 use Rattle.vte_core.specs.SystemCommand.{loses_data, ends_command, items_of, pieces_of, system_command_rest}
@@ -27,7 +27,7 @@ pub data Place : Type 0 where
   -- after ESC P and this head
   InDeviceControl : List ℕ → Place
   -- in the data of a hooked device control string
-  InData : Place
+  InDeviceData : Place
   -- after ESC ] and these items
   InSystemCommand : List ℕ → Place
   -- in an ignored string
@@ -72,14 +72,14 @@ rest_outcome limit AtEscape rest = body_outcome limit rest
 rest_outcome limit (InEscape intermediates) rest = escape_from intermediates rest
 rest_outcome limit (InControlSequence head) rest = control_sequence_from head rest
 rest_outcome limit (InDeviceControl head) rest = device_control_from head rest
-rest_outcome limit InData rest = data_outcome rest
+rest_outcome limit InDeviceData rest = device_data_outcome rest
 rest_outcome limit (InSystemCommand items) rest = system_command_from limit items rest
 rest_outcome limit InIgnoredString rest = ignored_string_outcome rest
 
 -- What is open at the place.
 abbrev pub left_at : Option ℕ → Place → ToClose
 left_at limit (InText (a ∷ bytes)) = CharacterToClose (a ∷ bytes)
-left_at limit InData = DataToClose
+left_at limit InDeviceData = DeviceDataToClose
 left_at limit (InSystemCommand items) = CommandToClose (pieces_of limit items)
     (loses_data limit items)
 left_at limit _ = NothingToClose

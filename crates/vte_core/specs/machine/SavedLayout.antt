@@ -1,6 +1,6 @@
 -- A parser saved as plain data.
 use Rattle.std.specs.Prelude.{◌≡◌, ℕ, Bool, not, ◌==◌, List, [], ◌∷◌, take, replicate, ⊤}
-use Rattle.vte_core.specs.declared.head.HeadPart.TheVariants.{Entry, Parameters, Intermediates, IllShaped}
+use Rattle.vte_core.specs.declared.head.HeadProgress.TheVariants.{Entry, Parameters, Intermediates, IllShaped}
 use Rattle.vte_core.specs.declared.parser.machine.Machine.{Machine}
 use Rattle.vte_core.specs.declared.parser.State.{State}
 use Rattle.vte_core.specs.declared.parser.State.TheVariants.{Text, Escape, EscapeIntermediate, ControlSequence, DeviceControl, DeviceData, SystemCommand, IgnoredString}
@@ -44,7 +44,8 @@ pub record IsRestored {B : Type 0} (saved : Saved) (machine : Machine B) : Type 
   pub state : (state : State) → saved.state ≡ state_bytes state → machine.state ≡ state
   pub intermediates : machine.collected.intermediates.items
       ≡ take saved.intermediate_count saved.intermediates
-  pub too_many : machine.collected.too_many ≡ flag_of saved.too_many
+  pub too_many_intermediates : machine.collected.too_many_intermediates
+      ≡ flag_of saved.too_many_intermediates
   pub params : IsInHead machine.state → (groups : List (List ℕ))
       → AreParts (take saved.group_count saved.lengths)
       (take saved.number_count saved.numbers) groups
@@ -71,7 +72,7 @@ zeros = record {
   numbers = zeros_of 32;
   number = 0;
   joined = 0;
-  too_many = 0;
+  too_many_intermediates = 0;
   byte_count = 0;
   bytes = zeros_of 1024;
   end_count = 0;

@@ -7,12 +7,12 @@ use Rattle.vte_core.specs.Perform.{after}
 use Rattle.vte_core.specs.Text.{IsRunText, run_event}
 
 -- 20..7F. DEL is printed.
-abbrev pub IsPrinted : ℕ → Type 0
-IsPrinted b = (0x20 ≤ b) × (b < 0x80)
+abbrev pub IsPrintedAscii : ℕ → Type 0
+IsPrintedAscii b = (0x20 ≤ b) × (b < 0x80)
 
 -- From `from` up to `to` each byte is printed.
-abbrev pub ArePrinted : List ℕ → ℕ → ℕ → Type 0
-ArePrinted = Each IsPrinted
+abbrev pub ArePrintedAscii : List ℕ → ℕ → ℕ → Type 0
+ArePrintedAscii = Each IsPrintedAscii
 
 -- The bytes are characters, and none of these is a control, but for HT, LF and CR if it `keeps`
 -- these.

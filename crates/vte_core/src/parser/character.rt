@@ -1,6 +1,6 @@
 //! The bytes of a character after the first.
 ghost use Rattle.std.specs.Prelude.{◌≡◌, ◌≢◌, ◌+◌, ◌*◌, ◌<◌, ◌≤◌, false, true, [], length, slice_index};
-ghost use Rattle.vte_core.specs.machine.Prelude.{Advances, BeginsFour, BeginsThree, Completes, EndsRun, MayReadByte, Moves, NoCharacterStops, Nothing, One, Spends, Text, bytes_of, chunk_call, looked};
+ghost use Rattle.vte_core.specs.machine.Prelude.{Advances, BeginsFour, BeginsThree, Completes, EndsRun, MayReadByte, MovesWithin, NoCharacterStops, Nothing, One, SpendsWithin, Text, bytes_of, chunk_call, looked};
 
 use crate::buffer::Buffer;
 use crate::parser::{Machine, State};
@@ -34,7 +34,7 @@ impl<B: Buffer> Machine<B> {
             (chunk_call MAY_STOP P.step P.is_terminated B.limit input.entry.bytes.now)
             (P.value_of performer.old) (P.value_of performer.new) from result self.old self.new }
         ensures text { result < length input.entry.bytes.now → self.new.state ≡ Text Nothing }
-        ensures moves { Moves 5 1 input.entry.bytes.now from result self.old self.new
+        ensures moves { MovesWithin 5 1 input.entry.bytes.now from result self.old self.new
             looks.old looks.new }
         ensures spare { looked looks.new + 5 * from + 3 ≤ looked looks.old + 5 * result }
         ensures few { G.IN_RUNS ≡ false
@@ -79,7 +79,7 @@ impl<B: Buffer> Machine<B> {
         ensures completes { Completes
             (chunk_call MAY_STOP P.step P.is_terminated B.limit input.entry.bytes.now)
             (P.value_of performer.old) (P.value_of performer.new) from result (One first) self.new }
-        ensures spends { Spends 2 1 2 input.entry.bytes.now from result self.old self.new
+        ensures spends { SpendsWithin 2 1 2 input.entry.bytes.now from result self.old self.new
             looks.old looks.new }
     {
         if !may_begin_three(first, second) {
@@ -123,7 +123,7 @@ impl<B: Buffer> Machine<B> {
             (chunk_call MAY_STOP P.step P.is_terminated B.limit input.entry.bytes.now)
             (P.value_of performer.old) (P.value_of performer.new) from result self.old self.new }
         ensures text { result < length input.entry.bytes.now → self.new.state ≡ Text Nothing }
-        ensures moves { Moves 5 2 input.entry.bytes.now from result self.old self.new
+        ensures moves { MovesWithin 5 2 input.entry.bytes.now from result self.old self.new
             looks.old looks.new }
         ensures spare { looked looks.new + 5 * from + 4 ≤ looked looks.old + 5 * result }
         ensures few { G.IN_RUNS ≡ false
@@ -178,7 +178,7 @@ impl<B: Buffer> Machine<B> {
         ensures completes { Completes
             (chunk_call MAY_STOP P.step P.is_terminated B.limit input.entry.bytes.now)
             (P.value_of performer.old) (P.value_of performer.new) from result begun self.new }
-        ensures spends { Spends 2 0 2 input.entry.bytes.now from result self.old self.new
+        ensures spends { SpendsWithin 2 0 2 input.entry.bytes.now from result self.old self.new
             looks.old looks.new }
     {
         let mut unfinished = begun;

@@ -1,10 +1,10 @@
 //! Control sequences.
 ghost use Rattle.std.specs.Prelude.{◌≡◌, ◌+◌, ◌<◌, ◌^◌, ℕ, true, List, ⊤};
-ghost use Rattle.vte_core.specs.machine.Prelude.{Advances, CsiDispatch, Dispatches, HandlesByte, InControlSequence, MayRead, Moves, StandsInHead, TakesByte, chunk_call, class_of, is_final};
+ghost use Rattle.vte_core.specs.machine.Prelude.{Advances, CsiDispatch, Dispatches, HandlesByte, InControlSequence, MayRead, MovesWithin, StandsInHead, TakesByte, chunk_call, class_of, is_final};
 
 use crate::buffer::Buffer;
-use crate::class::{ends_all, is_control, is_final};
-use crate::head::HeadPart;
+use crate::class::{ends_all, is_final, is_plain_control};
+use crate::head::HeadProgress;
 use crate::parser::{Machine, State, Unfinished};
 use crate::scan::{CountedPerform, Grain, Input, Looks};
 
@@ -23,7 +23,7 @@ impl<B: Buffer> Machine<B> {
         looks: &mut Looks<B>,
         performer: &mut P,
         input: Input<'_, B>,
-        reached: HeadPart,
+        reached: HeadProgress,
         several: bool,
         from: usize,
     ) -> usize
@@ -32,7 +32,7 @@ impl<B: Buffer> Machine<B> {
         ensures advances { Advances ⊤
             (chunk_call MAY_STOP P.step P.is_terminated B.limit input.entry.bytes.now)
             (P.value_of performer.old) (P.value_of performer.new) from result self.old self.new }
-        ensures moves { Moves 5 0 input.entry.bytes.now from result self.old self.new
+        ensures moves { MovesWithin 5 0 input.entry.bytes.now from result self.old self.new
             looks.old looks.new }
     {
         if !reached.may_have_parameters() {
@@ -68,7 +68,7 @@ impl<B: Buffer> Machine<B> {
         looks: &mut Looks<B>,
         performer: &mut P,
         input: Input<'_, B>,
-        reached: HeadPart,
+        reached: HeadProgress,
         from: usize,
     ) -> usize
         requires { MayRead (chunk_call MAY_STOP P.step P.is_terminated B.limit input.bytes.now)
@@ -76,7 +76,7 @@ impl<B: Buffer> Machine<B> {
         ensures advances { Advances ⊤
             (chunk_call MAY_STOP P.step P.is_terminated B.limit input.entry.bytes.now)
             (P.value_of performer.old) (P.value_of performer.new) from result self.old self.new }
-        ensures moves { Moves 3 0 input.entry.bytes.now from result self.old self.new
+        ensures moves { MovesWithin 3 0 input.entry.bytes.now from result self.old self.new
             looks.old looks.new }
     {
         let head = self.collected.read_head(looks, reached, input, from);
@@ -87,7 +87,7 @@ impl<B: Buffer> Machine<B> {
             }
             if ends_all(byte) {
                 self.end_body(looks, performer, byte);
-            } else if is_control(byte) {
+            } else if is_plain_control(byte) {
                 performer.execute_control(looks, byte);
             }
             // DEL and 80..FF are dropped.
@@ -103,7 +103,7 @@ impl<B: Buffer> Machine<B> {
         &mut self,
         looks: &mut Looks<B>,
         performer: &mut P,
-        part: HeadPart,
+        part: HeadProgress,
         byte: u8,
         position: usize,
     ) -> usize
@@ -115,7 +115,7 @@ impl<B: Buffer> Machine<B> {
             (InControlSequence head) byte self.new }
         ensures handles { HandlesByte 1 self.old self.new looks.old looks.new }
     {
-        if let HeadPart::IllShaped = part {
+        if let HeadProgress::IllShaped = part {
             self.state = State::Text(Unfinished::Nothing);
             return position + 1;
         }

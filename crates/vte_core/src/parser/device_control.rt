@@ -1,10 +1,10 @@
 //! Device control strings.
 ghost use Rattle.std.specs.Prelude.{◌≡◌, ℕ, true, false, List, ⊤};
-ghost use Rattle.vte_core.specs.machine.Prelude.{Advances, DeviceData, HandlesByte, InDeviceControl, MayRead, MayReadByte, Moves, StandsInHead, TakesByte, chunk_call, class_of, is_device_data, is_final};
+ghost use Rattle.vte_core.specs.machine.Prelude.{Advances, DeviceData, HandlesByte, InDeviceControl, MayRead, MayReadByte, MovesWithin, StandsInHead, TakesByte, chunk_call, class_of, is_device_data, is_final};
 
 use crate::buffer::Buffer;
 use crate::class::{ends_all, is_device_data, is_final};
-use crate::head::HeadPart;
+use crate::head::HeadProgress;
 use crate::parser::{Machine, State, Unfinished};
 use crate::scan::{CountedPerform, Grain, Input, Looks};
 
@@ -19,7 +19,7 @@ impl<B: Buffer> Machine<B> {
         looks: &mut Looks<B>,
         performer: &mut P,
         input: Input<'_, B>,
-        reached: HeadPart,
+        reached: HeadProgress,
         from: usize,
     ) -> usize
         requires { MayRead (chunk_call MAY_STOP P.step P.is_terminated B.limit input.bytes.now)
@@ -27,7 +27,7 @@ impl<B: Buffer> Machine<B> {
         ensures advances { Advances ⊤
             (chunk_call MAY_STOP P.step P.is_terminated B.limit input.entry.bytes.now)
             (P.value_of performer.old) (P.value_of performer.new) from result self.old self.new }
-        ensures moves { Moves 5 0 input.entry.bytes.now from result self.old self.new
+        ensures moves { MovesWithin 5 0 input.entry.bytes.now from result self.old self.new
             looks.old looks.new }
     {
         let head = self.collected.read_head(looks, reached, input, from);
@@ -49,7 +49,7 @@ impl<B: Buffer> Machine<B> {
         &mut self,
         looks: &mut Looks<B>,
         performer: &mut P,
-        part: HeadPart,
+        part: HeadProgress,
         byte: u8,
     )
         requires { is_final (class_of byte) ≡ true }
@@ -58,7 +58,7 @@ impl<B: Buffer> Machine<B> {
             (InDeviceControl head) byte self.new }
         ensures handles { HandlesByte 1 self.old self.new looks.old looks.new }
     {
-        if let HeadPart::IllShaped = part {
+        if let HeadProgress::IllShaped = part {
             self.state = State::IgnoredString;
             return;
         }
@@ -82,7 +82,7 @@ impl<B: Buffer> Machine<B> {
         ensures advances { Advances ⊥
             (chunk_call MAY_STOP P.step P.is_terminated B.limit input.entry.bytes.now)
             (P.value_of performer.old) (P.value_of performer.new) from result self.old self.new }
-        ensures moves { Moves 5 0 input.entry.bytes.now from result self.old self.new
+        ensures moves { MovesWithin 5 0 input.entry.bytes.now from result self.old self.new
             looks.old looks.new }
     {
         for position in from..input.len() {
@@ -122,7 +122,7 @@ impl<B: Buffer> Machine<B> {
         ensures advances { Advances ⊤
             (chunk_call MAY_STOP P.step P.is_terminated B.limit input.entry.bytes.now)
             (P.value_of performer.old) (P.value_of performer.new) from result self.old self.new }
-        ensures moves { Moves 5 1 input.entry.bytes.now from result self.old self.new
+        ensures moves { MovesWithin 5 1 input.entry.bytes.now from result self.old self.new
             looks.old looks.new }
     {
         if ends_all(byte) {

@@ -1,6 +1,6 @@
 //! The loop over the bytes of a call.
 ghost use Rattle.std.specs.Prelude.{◌≡◌, ◌<◌, true, List, ℕ, length, IfErr, IfOk};
-ghost use Rattle.vte_core.specs.machine.Prelude.{Advances, Costs, HasReadUnder, IsOutsideTextAndData, IsSettled, MayReadAt, Moves, NoCharacterStops, ReadsUpTo, Refuses, ReadsUntilRefused, Spends, StandsAt, TellsQuietly, chunk_call};
+ghost use Rattle.vte_core.specs.machine.Prelude.{Advances, Costs, HasReadUnder, IsOutsideTextAndData, IsSettled, MayReadAt, MovesWithin, NoCharacterStops, ReadsUpTo, Refuses, ReadsUntilRefused, SpendsWithin, StandsAt, TellsQuietly, chunk_call};
 ghost use Rattle.vte_core.specs.machine.Prelude.{chunk_call, read_count};
 
 use crate::buffer::Buffer;
@@ -50,7 +50,7 @@ impl<B: Buffer> Machine<B> {
             StandsAt (chunk_call MAY_STOP P.step P.is_terminated B.limit input.entry.bytes.now)
             (P.value_of performer.old) (P.value_of performer.new) stream result self.new }
         ensures settled { result < length input.entry.bytes.now → IsSettled self.new.state }
-        ensures spends { Spends 2 0 2 input.entry.bytes.now 0 result self.old self.new
+        ensures spends { SpendsWithin 2 0 2 input.entry.bytes.now 0 result self.old self.new
             looks.old looks.new }
         ensures quietly { (stream : List ℕ) → HasReadUnder B.limit self.old stream
             → TellsQuietly B.limit stream input.entry.bytes.now result }
@@ -88,7 +88,7 @@ impl<B: Buffer> Machine<B> {
             self.new }
         ensures moves { IfOk result
             (λ read.
-            Moves 5 0 input.entry.bytes.now from read self.old self.new looks.old looks.new) }
+            MovesWithin 5 0 input.entry.bytes.now from read self.old self.new looks.old looks.new) }
         ensures refuses { IfErr result
             (λ refused.
             Refuses (chunk_call MAY_STOP P.step P.is_terminated B.limit input.entry.bytes.now)

@@ -1,6 +1,6 @@
 //! ESC, CAN and SUB, which end whatever is open, in every state.
 ghost use Rattle.std.specs.Prelude.{◌≡◌, true, [], ◌∷◌, ⊤};
-ghost use Rattle.vte_core.specs.machine.Prelude.{Advances, Escape, HandlesByte, IsSettledPlace, IsQuietIn, MayReadByte, Moves, TakesBytes, Place, Stands, TakesFew, after, chunk_call, class_of, closing_events_at, ends_all};
+ghost use Rattle.vte_core.specs.machine.Prelude.{Advances, Escape, HandlesByte, IsSettledPlace, IsQuietIn, MayReadByte, MovesWithin, TakesBytes, Place, Stands, TakesFew, after, chunk_call, class_of, closing_events_at, ends_all};
 
 use crate::buffer::Buffer;
 use crate::class::ESCAPE;
@@ -50,7 +50,7 @@ impl<B: Buffer> Machine<B> {
         ensures advances { Advances ⊤
             (chunk_call MAY_STOP P.step P.is_terminated B.limit input.entry.bytes.now)
             (P.value_of performer.old) (P.value_of performer.new) from result self.old self.new }
-        ensures moves { Moves 3 1 input.entry.bytes.now from result self.old self.new
+        ensures moves { MovesWithin 3 1 input.entry.bytes.now from result self.old self.new
             looks.old looks.new }
     {
         self.end_body(looks, performer, byte);

@@ -1,14 +1,14 @@
 //! Escape sequences, and what ESC begins.
 ghost use Rattle.std.specs.Prelude.{◌≡◌, ◌≢◌, ◌+◌, ◌*◌, ◌<◌, ◌≤◌, true, [], ◌∷◌, slice_index, ⊤};
-ghost use Rattle.vte_core.specs.machine.Prelude.{Advances, AtEscape, Dispatches, EscDispatch, Escape, EscapeIntermediate, HandlesByte, IsSettledPlace, MayRead, MayReadAt, Moves, Nothing, TakesBytes, Place, chunk_call};
+ghost use Rattle.vte_core.specs.machine.Prelude.{Advances, AtEscape, Dispatches, EscDispatch, Escape, EscapeIntermediate, HandlesByte, IsSettledPlace, MayRead, MayReadAt, MovesWithin, Nothing, TakesBytes, Place, chunk_call};
 ghost use Rattle.vte_core.specs.machine.Prelude.{Stands, TakesByte, Text, chunk_call, class_of, is_final, looked};
 
 use crate::buffer::Buffer;
 use crate::class::{
-    ESCAPE, begins_ignored_string, dispatches_escape, ends_all, is_control, is_final, is_head,
-    is_intermediate,
+    ESCAPE, begins_ignored_string, dispatches_escape, ends_all, is_final, is_head, is_intermediate,
+    is_plain_control,
 };
-use crate::head::HeadPart;
+use crate::head::HeadProgress;
 use crate::parser::{Machine, State, Unfinished};
 use crate::scan::{CountedPerform, Grain, Input, Looks};
 
@@ -30,7 +30,7 @@ impl<B: Buffer> Machine<B> {
         ensures advances { Advances ⊤
             (chunk_call MAY_STOP P.step P.is_terminated B.limit input.entry.bytes.now)
             (P.value_of performer.old) (P.value_of performer.new) from result self.old self.new }
-        ensures moves { Moves 5 1 input.entry.bytes.now from result self.old self.new
+        ensures moves { MovesWithin 5 1 input.entry.bytes.now from result self.old self.new
             looks.old looks.new }
         // The caller paid one look for ESC; the four others that a byte may cost are left for
         // `search_text`.
@@ -40,12 +40,12 @@ impl<B: Buffer> Machine<B> {
         let next = from + 1;
         if next < input.len() && looks.at(input, next) == b'[' {
             self.collected.begin_head();
-            self.state = State::ControlSequence(HeadPart::Entry);
+            self.state = State::ControlSequence(HeadProgress::Entry);
             return self.continue_control_sequence::<P, G, MAY_STOP>(
                 looks,
                 performer,
                 input,
-                HeadPart::Entry,
+                HeadProgress::Entry,
                 false,
                 next + 1,
             );
@@ -69,7 +69,7 @@ impl<B: Buffer> Machine<B> {
         ensures advances { Advances ⊤
             (chunk_call MAY_STOP P.step P.is_terminated B.limit input.entry.bytes.now)
             (P.value_of performer.old) (P.value_of performer.new) from result self.old self.new }
-        ensures moves { Moves 3 0 input.entry.bytes.now from result self.old self.new
+        ensures moves { MovesWithin 3 0 input.entry.bytes.now from result self.old self.new
             looks.old looks.new }
     {
         for position in from..input.len() {
@@ -78,12 +78,12 @@ impl<B: Buffer> Machine<B> {
             let next = position + 1;
             if byte == b'[' {
                 self.collected.begin_head();
-                self.state = State::ControlSequence(HeadPart::Entry);
+                self.state = State::ControlSequence(HeadProgress::Entry);
                 return self.read_control_sequence::<P, G, MAY_STOP>(
                     looks,
                     performer,
                     input,
-                    HeadPart::Entry,
+                    HeadProgress::Entry,
                     next,
                 );
             }
@@ -120,7 +120,7 @@ impl<B: Buffer> Machine<B> {
             self.dispatch_escape(looks, performer, byte);
         } else if ends_all(byte) {
             self.end_body(looks, performer, byte);
-        } else if is_control(byte) {
+        } else if is_plain_control(byte) {
             performer.execute_control(looks, byte);
         }
         // DEL and 80..FF are dropped.
@@ -144,7 +144,7 @@ impl<B: Buffer> Machine<B> {
     {
         if byte == b'P' {
             self.collected.begin_head();
-            self.state = State::DeviceControl(HeadPart::Entry);
+            self.state = State::DeviceControl(HeadProgress::Entry);
         } else if byte == b']' {
             self.command.clear();
             self.state = State::SystemCommand;
@@ -168,7 +168,7 @@ impl<B: Buffer> Machine<B> {
         ensures advances { Advances ⊤
             (chunk_call MAY_STOP P.step P.is_terminated B.limit input.entry.bytes.now)
             (P.value_of performer.old) (P.value_of performer.new) from result self.old self.new }
-        ensures moves { Moves 5 0 input.entry.bytes.now from result self.old self.new
+        ensures moves { MovesWithin 5 0 input.entry.bytes.now from result self.old self.new
             looks.old looks.new }
     {
         for position in from..input.len() {
@@ -181,7 +181,7 @@ impl<B: Buffer> Machine<B> {
             } else if ends_all(byte) {
                 self.end_body(looks, performer, byte);
                 return position + 1;
-            } else if is_control(byte) {
+            } else if is_plain_control(byte) {
                 performer.execute_control(looks, byte);
                 return position + 1;
             }
@@ -198,8 +198,8 @@ impl<B: Buffer> Machine<B> {
         byte: u8,
     )
         ensures { Dispatches P.step (P.value_of performer.old) (P.value_of performer.new)
-            (EscDispatch self.old.collected.intermediates.items self.old.collected.too_many byte)
-            self.old self.new looks.old looks.new }
+            (EscDispatch self.old.collected.intermediates.items
+            self.old.collected.too_many_intermediates byte) self.old self.new looks.old looks.new }
     {
         performer.esc_dispatch(looks, &self.collected, byte);
         self.state = State::Text(Unfinished::Nothing);

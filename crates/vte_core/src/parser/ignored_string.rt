@@ -1,6 +1,6 @@
 //! Ignored strings: SOS, PM, APC, and device control strings with a malformed head.
 ghost use Rattle.std.specs.Prelude.{⊤};
-ghost use Rattle.vte_core.specs.machine.Prelude.{Advances, IgnoredString, MayReadAt, Moves, chunk_call};
+ghost use Rattle.vte_core.specs.machine.Prelude.{Advances, IgnoredString, MayReadAt, MovesWithin, chunk_call};
 
 use crate::buffer::Buffer;
 use crate::parser::machine::Machine;
@@ -20,7 +20,7 @@ impl<B: Buffer> Machine<B> {
         ensures advances { Advances ⊤
             (chunk_call MAY_STOP P.step P.is_terminated B.limit input.entry.bytes.now)
             (P.value_of performer.old) (P.value_of performer.new) from result self.old self.new }
-        ensures moves { Moves 5 0 input.entry.bytes.now from result self.old self.new
+        ensures moves { MovesWithin 5 0 input.entry.bytes.now from result self.old self.new
             looks.old looks.new }
     {
         let end = looks.find_string_end(input, from);

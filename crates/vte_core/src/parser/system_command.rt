@@ -1,6 +1,6 @@
 //! Operating system commands.
 ghost use Rattle.std.specs.Prelude.{IfErr, IfOk, ⊤};
-ghost use Rattle.vte_core.specs.machine.Prelude.{Advances, MayReadAt, Moves, Refuses, SystemCommand, chunk_call, read_count};
+ghost use Rattle.vte_core.specs.machine.Prelude.{Advances, MayReadAt, MovesWithin, Refuses, SystemCommand, chunk_call, read_count};
 
 use crate::buffer::Buffer;
 use crate::class::ends_all;
@@ -27,14 +27,14 @@ impl<B: Buffer> Machine<B> {
             self.new }
         ensures moves { IfOk result
             (λ read.
-            Moves 5 0 input.entry.bytes.now from read self.old self.new looks.old looks.new) }
+            MovesWithin 5 0 input.entry.bytes.now from read self.old self.new looks.old looks.new) }
         ensures refuses { IfErr result
             (λ refused.
             Refuses (chunk_call MAY_STOP P.step P.is_terminated B.limit input.entry.bytes.now)
             (P.value_of performer.new) from refused.read self.old self.new looks.old looks.new) }
     {
         let end = looks.find_command_data_end(input, from);
-        if !self.command.make_room(end - from) {
+        if !self.command.take_memory(end - from) {
             return Err(Refused { read: from });
         }
         self.command.push_data(looks, input, from, end);

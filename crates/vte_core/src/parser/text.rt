@@ -1,6 +1,6 @@
 //! Text: characters, runs of them, and malformed sequences.
 ghost use Rattle.std.specs.Prelude.{◌≡◌, ◌+◌, ◌*◌, ◌<◌, ◌≤◌, false, true, IfSome, length, slice_index};
-ghost use Rattle.vte_core.specs.machine.Prelude.{Advances, IsPrinted, MayReadAt, MayReadByte, Moves, NoCharacterStops, Nothing, PrintsRun, Text, chunk_call, looked};
+ghost use Rattle.vte_core.specs.machine.Prelude.{Advances, IsPrintedAscii, MayReadAt, MayReadByte, MovesWithin, NoCharacterStops, Nothing, PrintsRun, Text, chunk_call, looked};
 
 use crate::buffer::Buffer;
 use crate::class::ESCAPE;
@@ -31,12 +31,12 @@ fn print_ascii<B, P: CountedPerform<B, G>, G: Grain>(
 ) -> AsciiRun
     requires within { from < length input.bytes.now }
     requires is { first ≡ slice_index input.bytes.now from }
-    requires printed { IsPrinted first }
+    requires printed { IsPrintedAscii first }
     ensures prints { PrintsRun P.keeps P.step (P.value_of performer.old)
         (P.value_of performer.new) input.entry.bytes.now from result.end }
     ensures next { IfSome result.next (λ byte. (result.end < length input.entry.bytes.now)
         × (byte ≡ slice_index input.entry.bytes.now result.end)) }
-    ensures other { IfSome result.next (λ byte. IsPrinted byte → ⊥) }
+    ensures other { IfSome result.next (λ byte. IsPrintedAscii byte → ⊥) }
     ensures progress { from < result.end }
     ensures high { result.end ≤ length input.entry.bytes.now }
     ensures count { looked looks.new + 5 * from + 1 ≤ looked looks.old + 5 * result.end }
@@ -73,7 +73,7 @@ impl<B: Buffer> Machine<B> {
         ensures advances { Advances ⊥
             (chunk_call MAY_STOP P.step P.is_terminated B.limit input.entry.bytes.now)
             (P.value_of performer.old) (P.value_of performer.new) from result self.old self.new }
-        ensures moves { Moves 5 0 input.entry.bytes.now from result self.old self.new
+        ensures moves { MovesWithin 5 0 input.entry.bytes.now from result self.old self.new
             looks.old looks.new }
     {
         let mut position = from;
@@ -167,7 +167,7 @@ impl<B: Buffer> Machine<B> {
             (chunk_call MAY_STOP P.step P.is_terminated B.limit input.entry.bytes.now)
             (P.value_of performer.old) (P.value_of performer.new) from result self.old self.new }
         ensures text { result < length input.entry.bytes.now → self.new.state ≡ Text Nothing }
-        ensures moves { Moves 5 1 input.entry.bytes.now from result self.old self.new
+        ensures moves { MovesWithin 5 1 input.entry.bytes.now from result self.old self.new
             looks.old looks.new }
     {
         let end = looks.find_run_end_at_lead(performer, input, from, first);

@@ -1,7 +1,7 @@
 //! Runs of text and data in the input, for callers that take them from there.
 ghost use Rattle.std.specs.Prelude.{◌≡◌, ◌+◌, ◌*◌, ◌≤◌, true, false, ℕ, List, IfErr, IfOk, ⊤};
 ghost use Rattle.vte_core.specs.AdvanceToRun.{ReadsToRun};
-ghost use Rattle.vte_core.specs.machine.Prelude.{Advances, ComesToRun, Costs, EndsRun, HasReadUnder, MayReadAt, Moves, Nothing, ReadsUntilRefused, TellsQuietly, Text, chunk_call, looked, read_up_to, performed_up_to};
+ghost use Rattle.vte_core.specs.machine.Prelude.{Advances, ComesToRun, Costs, EndsRun, HasReadUnder, MayReadAt, MovesWithin, Nothing, ReadsUntilRefused, TellsQuietly, Text, chunk_call, looked, read_up_to, performed_up_to};
 
 use crate::buffer::Buffer;
 use crate::class::ESCAPE;
@@ -112,7 +112,7 @@ impl<B: Buffer> Machine<B> {
         ensures advances { Advances ⊤
             (chunk_call true P.step P.is_terminated B.limit input.entry.bytes.now)
             (P.value_of performer.old) (P.value_of performer.new) from result self.old self.new }
-        ensures moves { Moves 7 0 input.entry.bytes.now from result self.old self.new
+        ensures moves { MovesWithin 7 0 input.entry.bytes.now from result self.old self.new
             looks.old looks.new }
         ensures spare { looked looks.new + 7 * from + 4 ≤ looked looks.old + 7 * result }
     {

@@ -66,7 +66,8 @@ pub(crate) trait CountedPerform<B, G> {
 
     fn esc_dispatch(&mut self, looks: &mut Looks<B>, held: &Collected, byte: u8)
         ensures { Tells step (value_of self.old) (value_of self.new)
-            (EscDispatch held.now.intermediates.items held.now.too_many byte) looks.old looks.new };
+            (EscDispatch held.now.intermediates.items held.now.too_many_intermediates byte)
+            looks.old looks.new };
 
     fn terminated(&self) -> bool
         ensures { result ≡ is_terminated (value_of self.now) };
@@ -148,7 +149,7 @@ impl<P: PerformAs<G>, B, G> CountedPerform<B, G> for P {
     fn esc_dispatch(&mut self, looks: &mut Looks<B>, held: &Collected, byte: u8) {
         looks.add(1);
         let intermediates = held.intermediates.as_slice();
-        Perform::esc_dispatch(self, intermediates, held.too_many, byte);
+        Perform::esc_dispatch(self, intermediates, held.too_many_intermediates, byte);
     }
 
     #[inline(always)]

@@ -4,7 +4,7 @@
 pub(crate) const ESCAPE: u8 = 0x1b;
 
 /// Returns whether a byte is one of C0 that is executed: 00..17, 19 and 1C..1F.
-pub(crate) fn is_control(byte: u8) -> bool {
+pub(crate) fn is_plain_control(byte: u8) -> bool {
     byte < 0x20 && byte != 0x18 && byte != 0x1a && byte != ESCAPE
 }
 
@@ -26,7 +26,7 @@ pub(crate) fn cannot_end(byte: u8) -> bool {
 
 /// Returns whether a byte is one of the data of a device control string: C0 and 20..7E.
 pub(crate) fn is_device_data(byte: u8) -> bool {
-    (byte >= 0x20 && byte < 0x7f) || is_control(byte)
+    (byte >= 0x20 && byte < 0x7f) || is_plain_control(byte)
 }
 
 /// Returns whether a byte is an intermediate 20..2F.

@@ -10,7 +10,7 @@ use crate::proved::vte_core::params::Params;
 
 /// How far a head has been read.
 #[derive(Clone, Copy)]
-pub(crate) enum HeadPart {
+pub(crate) enum HeadProgress {
     /// None of it.
     Entry,
     /// A marker or a parameter was last.
@@ -21,17 +21,17 @@ pub(crate) enum HeadPart {
     IllShaped,
 }
 
-impl HeadPart {
+impl HeadProgress {
     /// Returns whether a digit or a separator may come next.
     pub(crate) fn may_have_parameters(self) -> bool {
-        matches!(self, HeadPart::Entry | HeadPart::Parameters)
+        matches!(self, HeadProgress::Entry | HeadProgress::Parameters)
     }
 }
 
 /// How far a head has been read, and up to which position. The byte there was looked at.
 #[derive(Clone, Copy)]
 pub(crate) struct HeadEnd {
-    pub(crate) part: HeadPart,
+    pub(crate) part: HeadProgress,
     pub(crate) position: usize,
     pub(crate) next: Option<u8>,
 }
@@ -42,7 +42,7 @@ pub(crate) struct Collected {
     // the first two, a marker among them
     pub(crate) intermediates: ArrayVec<u8, 2>,
     // whether there were more
-    pub(crate) too_many: bool,
+    pub(crate) too_many_intermediates: bool,
     // the first 32 numbers, without the one that is being read
     pub(crate) params: Params,
     // the number that is being read, and whether it stands after a colon
@@ -55,7 +55,7 @@ impl Collected {
     pub(crate) fn new() -> Self {
         Collected {
             intermediates: ArrayVec::new(),
-            too_many: false,
+            too_many_intermediates: false,
             params: Params::new(),
             number: 0,
             joined: false,
@@ -65,7 +65,7 @@ impl Collected {
     /// Forgets the intermediates.
     pub(crate) fn begin_escape(&mut self) {
         self.intermediates = ArrayVec::new();
-        self.too_many = false;
+        self.too_many_intermediates = false;
     }
 
     /// Forgets the numbers, before a head. The ESC before it has forgotten the intermediates.
@@ -78,7 +78,7 @@ impl Collected {
     /// Collects an intermediate or a marker.
     pub(crate) fn collect(&mut self, byte: u8) {
         if self.intermediates.try_push(byte).is_err() {
-            self.too_many = true;
+            self.too_many_intermediates = true;
         }
     }
 
@@ -95,20 +95,20 @@ impl Collected {
     /// Collects an intermediate or a marker, or finds the head malformed. Returns how far the head
     /// has been read then.
     #[inline(always)]
-    fn collect_head_byte(&mut self, part: HeadPart, byte: u8) -> HeadPart {
-        if let HeadPart::IllShaped = part {
-            return HeadPart::IllShaped;
+    fn collect_head_byte(&mut self, part: HeadProgress, byte: u8) -> HeadProgress {
+        if let HeadProgress::IllShaped = part {
+            return HeadProgress::IllShaped;
         }
         if is_intermediate(byte) {
             self.collect(byte);
-            return HeadPart::Intermediates;
+            return HeadProgress::Intermediates;
         }
         // A marker stands only at the beginning.
-        if let HeadPart::Entry = part {
+        if let HeadProgress::Entry = part {
             self.collect(byte);
-            return HeadPart::Parameters;
+            return HeadProgress::Parameters;
         }
-        HeadPart::IllShaped
+        HeadProgress::IllShaped
     }
 
     /// Reads the digits at a position of a head, if any, and the separators too if there may be
@@ -116,7 +116,7 @@ impl Collected {
     #[inline(always)]
     pub(crate) fn read_numbers(
         &mut self,
-        reached: HeadPart,
+        reached: HeadProgress,
         several: bool,
         input: &[u8],
         from: usize,
@@ -145,7 +145,7 @@ impl Collected {
         let part = if from == position {
             reached
         } else {
-            HeadPart::Parameters
+            HeadProgress::Parameters
         };
         HeadEnd {
             part,
@@ -156,7 +156,12 @@ impl Collected {
 
     /// Reads a head, which has come so far, up to the first byte that isn't part of it.
     #[inline(always)]
-    pub(crate) fn read_head(&mut self, reached: HeadPart, input: &[u8], from: usize) -> HeadEnd {
+    pub(crate) fn read_head(
+        &mut self,
+        reached: HeadProgress,
+        input: &[u8],
+        from: usize,
+    ) -> HeadEnd {
         let mut part = reached;
         let mut position = from;
         let mut next = None;
@@ -169,7 +174,7 @@ impl Collected {
             if is_parameter_text(byte) && part.may_have_parameters() {
                 let numbers = self.read_numbers(part, true, input, position);
                 // As a constant, because the loop over numbers is longer with `numbers.part`.
-                part = HeadPart::Parameters;
+                part = HeadProgress::Parameters;
                 position = numbers.position;
             } else {
                 part = self.collect_head_byte(part, byte);
@@ -188,6 +193,6 @@ impl Collected {
     #[inline(always)]
     pub(crate) fn end_head(&mut self) -> bool {
         let too_many_numbers = self.settle_number(self.number);
-        self.too_many || too_many_numbers
+        self.too_many_intermediates || too_many_numbers
     }
 }

@@ -19,7 +19,7 @@ mod text;
 mod to_run;
 
 use crate::adapter::array_vec::ArrayVec;
-use crate::proved::vte_core::head::HeadPart;
+use crate::proved::vte_core::head::HeadProgress;
 use crate::proved::vte_core::perform::{Perform, PerformText};
 use crate::proved::vte_core::scan::grain::PerformAs;
 use crate::proved::vte_core::scan::{Grain, InRuns, Singly};
@@ -45,9 +45,9 @@ pub(crate) enum State {
     /// After ESC and an intermediate.
     EscapeIntermediate,
     /// In the head of a control sequence.
-    ControlSequence(HeadPart),
+    ControlSequence(HeadProgress),
     /// In the head of a device control string.
-    DeviceControl(HeadPart),
+    DeviceControl(HeadProgress),
     /// In the data of a device control string.
     DeviceData,
     /// In an operating system command.

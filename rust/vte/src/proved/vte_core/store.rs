@@ -49,7 +49,7 @@ impl<B: Buffer> Store<B> {
 
     /// Takes memory for this many more data bytes, unless they are dropped because 16 pieces have
     /// ended. Returns whether it is there.
-    pub(crate) fn make_room(&mut self, more: usize) -> bool {
+    pub(crate) fn take_memory(&mut self, more: usize) -> bool {
         self.ends.is_full() || self.reserve(more)
     }
 

@@ -6,5 +6,5 @@ use Rattle.vte_core.proofs.head.Collected.begin_head.Goals as goal
 
 pub returns : goal.returns
 returns c =
-    λ holds. holds-nothing _ (record { kept = holds.kept; too_many = holds.too_many })
+    λ holds. holds-nothing _ (record { kept = holds.kept; too_many_intermediates = holds.too_many_intermediates })
     (counts-nothing _ c.clear.ensures refl refl)

@@ -30,7 +30,7 @@ loop-position-preserved g c =
             let is = rw w.in-Some.is at c.digit_of.ensures in
             rw (w.self-is, w.number-is)
             (reads-parameter c.requires.may (omega arith) c.at-byte.ensures.value is.3
-            (record { intermediates = refl; too_many = refl })
+            (record { intermediates = refl; too_many_intermediates = refl })
             (λ text k.
             counts-digit (with_open_number held c.loop-position.number)
             (with_open_number held w.min-number.result) text c.at-byte.result k is.0 is.1 refl refl
@@ -42,7 +42,11 @@ loop-position-preserved g c =
             let is = w.if-is_separator.true in
             rw (w.self-is, w.number-is)
             (reads-parameter c.requires.may (omega arith) c.at-byte.ensures.value (separator.parameter is)
-            (record { intermediates = settled.keeps.intermediates; too_many = settled.keeps.too_many })
+            (record {
+              intermediates = settled.keeps.intermediates;
+              too_many_intermediates =
+                  settled.keeps.too_many_intermediates;
+            })
             (λ text k. counts-separator _ _ _ _ text c.at-byte.result k (settled.settles text k)
             (sym separator.value ∙ is) refl refl refl) v.reads)
       ];

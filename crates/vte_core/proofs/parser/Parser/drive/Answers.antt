@@ -1,7 +1,7 @@
 -- With a limit nothing is refused. A call that never stops reads all bytes; one that stops says where.
 use Rattle.vte_core.proofs.Common.{sym, ◌∙◌, arith, rules}
 use Rattle.vte_core.proofs.calls.States.{reads-all}
-use Rattle.vte_core.proofs.calls.Ends.{ends-performs, ends-reads, ends-reads_all, ends-stops}
+use Rattle.vte_core.proofs.calls.CallEnds.{ends-performs, ends-reads, ends-reads_all, ends-stops}
 use Rattle.vte_core.proofs.parser.Parser.drive.Goals as goal
 
 pub returns-in-Ok-clause-all : goal.returns-in-Ok-clause-all

@@ -1,5 +1,5 @@
 -- The first byte, the ASCII after it and what follows are one run (`run-append`).
-use Rattle.vte_core.proofs.Common.{arith, IsPrinted}
+use Rattle.vte_core.proofs.Common.{arith, IsPrintedAscii}
 use Rattle.vte_core.proofs.bytes.EachLemmas.{each-both}
 use Rattle.vte_core.proofs.bytes.Printable.{run-ascii, run-append}
 use Rattle.vte_core.proofs.scan.Looks.find_ascii_run_end.Goals as goal
@@ -10,5 +10,5 @@ returns-clause-run g c =
     let rest = c.find_run_end.ensures in
     run-append g.P.CountedPerform.keeps c.args.input.bytes.now c.args.from c.find_end_by_words-end.result
     c.find_run_end.result (omega (arith, ascii.scans.low)) rest.scans.low
-    (run-ascii g.P.CountedPerform.keeps _ _ _ (each-both IsPrinted _ _ _ _ c.requires.printed ascii.scans.are))
+    (run-ascii g.P.CountedPerform.keeps _ _ _ (each-both IsPrintedAscii _ _ _ _ c.requires.printed ascii.scans.are))
     (rw c.keeps_layout.ensures at rest.scans.are)

@@ -1,10 +1,10 @@
 -- All bytes so far are printed ASCII, with one look for each.
-use Rattle.vte_core.proofs.Common.{length, ◌+◌, ◌-◌, ◌≡◌, looked, ArePrinted, Scans}
+use Rattle.vte_core.proofs.Common.{length, ◌+◌, ◌-◌, ◌≡◌, looked, ArePrintedAscii, Scans}
 use Rattle.vte_core.proofs.scan.Looks.find_end_by_words.Given as goal
 
 abbrev pub invariant-loop-word : goal.invariant-loop-word
 invariant-loop-word g l = record {
-  scans : Scans ArePrinted l.input.bytes.now l.from l.end l.initial.self l.self;
+  scans : Scans ArePrintedAscii l.input.bytes.now l.from l.end l.initial.self l.self;
   count : looked l.self + l.from ≡ looked l.initial.self + l.end;
 }
 

@@ -1,5 +1,5 @@
 -- Each round adds ASCII, or one character that is longer or a kept control, to the run (`scans-run`).
-use Rattle.vte_core.proofs.Common.{arith, subst, sym, ◌∙◌, slice_index, IsPrinted}
+use Rattle.vte_core.proofs.Common.{arith, subst, sym, ◌∙◌, slice_index, IsPrintedAscii}
 use Rattle.vte_core.proofs.bytes.EachLemmas.{each-one, each-both}
 use Rattle.vte_core.proofs.bytes.Printable.{printed-is, run-none, run-ascii}
 use Rattle.vte_core.proofs.bytes.SearchLemmas.{scans-run}
@@ -23,7 +23,7 @@ loop-end-preserved-then-is_printed_ascii g c =
     let v = c.loop-end.invariant in
     let bytes = c.args.input.bytes.now in
     let ascii = c.find_ascii_end-end.ensures in
-    let printed : IsPrinted (slice_index bytes c.loop-end.end) = subst IsPrinted c.at-byte.ensures.value
+    let printed : IsPrintedAscii (slice_index bytes c.loop-end.end) = subst IsPrintedAscii c.at-byte.ensures.value
     (printed-is c.at-byte.result (sym c.is_printed_ascii.ensures ∙ c.if-is_printed_ascii.true)) in
     record {
       scans = scans-run v.scans (record {
@@ -31,7 +31,7 @@ loop-end-preserved-then-is_printed_ascii g c =
         high = ascii.scans.high;
         are =
             run-ascii _ _ _ _
-            (each-both IsPrinted _ _ _ _ (each-one IsPrinted bytes c.loop-end.end printed) ascii.scans.are);
+            (each-both IsPrintedAscii _ _ _ _ (each-one IsPrintedAscii bytes c.loop-end.end printed) ascii.scans.are);
         least = omega (arith, ascii.scans.least, c.at-byte.ensures.count);
       });
       count = omega (arith, v.count, ascii.count, c.at-byte.ensures.count);

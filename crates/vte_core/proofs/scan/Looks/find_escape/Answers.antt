@@ -1,4 +1,4 @@
--- The search of std, in the rest of the bytes from a place on: no byte before what it finds is ESC.
+-- The search of std, in the rest of the bytes from a position on: no byte before what it finds is ESC.
 use Rattle.vte_core.proofs.Common.{◌≡◌, ℕ, ◌+◌, ◌-◌, List, refl, sym, eqb-true, length, take, drop, get_or, ap, ◌∙◌, arith, nat_tests, get_or-drop, take_rest, rules}
 use Rattle.vte_core.proofs.scan.Looks.find_escape.Goals as goal
 

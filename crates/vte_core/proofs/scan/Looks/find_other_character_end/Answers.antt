@@ -2,7 +2,7 @@
 -- (`run-*`), or it ends. It ends (`ends-*`) if the byte is single, the bytes end too soon, or a byte does not fit: each
 -- test that fails excludes the character that would stand there.
 use Rattle.vte_core.proofs.Common.{◌≡◌, true, refl, sym, ap, ◌∙◌, arith, false≢true, slice_index, is_in, is_layout, second_range, from_to}
-use Rattle.vte_core.proofs.bytes.Ends.{ends-single, ends-long, ends-two, ends-three, ends-four}
+use Rattle.vte_core.proofs.bytes.RunEnds.{ends-single, ends-long, ends-two, ends-three, ends-four}
 use Rattle.vte_core.proofs.bytes.Printable.{run-layout}
 use Rattle.vte_core.proofs.bytes.Scalars.{in_range-bounds}
 use Rattle.vte_core.proofs.dividing.PrintableCharacters.{run-two, run-three, run-four}

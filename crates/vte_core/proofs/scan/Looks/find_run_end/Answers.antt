@@ -1,6 +1,6 @@
 -- A short search first. If the run goes on where that ends, the long one continues it.
 use Rattle.vte_core.proofs.Common.{◌≡◌, sym, ◌∙◌, arith, eqb-true}
-use Rattle.vte_core.proofs.bytes.Ends.{ends-all}
+use Rattle.vte_core.proofs.bytes.RunEnds.{ends-all}
 use Rattle.vte_core.proofs.bytes.SearchLemmas.{scans-run}
 use Rattle.vte_core.proofs.scan.Looks.find_run_end.Goals.{then-end-to, else-end-to}
 use Rattle.vte_core.proofs.scan.Looks.find_run_end.Goals as goal

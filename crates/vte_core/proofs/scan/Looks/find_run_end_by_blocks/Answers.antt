@@ -1,6 +1,6 @@
 -- Whole blocks first, then the bytes after them: together they are one run.
 use Rattle.vte_core.proofs.Common.{arith, inl, inr, cases_lt, length}
-use Rattle.vte_core.proofs.bytes.Ends.{ends-all}
+use Rattle.vte_core.proofs.bytes.RunEnds.{ends-all}
 use Rattle.vte_core.proofs.bytes.SearchLemmas.{scans-run}
 use Rattle.vte_core.proofs.scan.Looks.find_run_end_by_blocks.Goals as goal
 

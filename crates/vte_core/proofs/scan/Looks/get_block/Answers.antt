@@ -1,4 +1,4 @@
--- The block is the front of the bytes from a place on.
+-- The block is the front of the bytes from a position on.
 use Rattle.vte_core.proofs.bytes.EachLemmas.{front-block}
 use Rattle.vte_core.proofs.scan.Looks.get_block.Goals as goal
 

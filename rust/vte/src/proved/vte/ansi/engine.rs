@@ -112,7 +112,7 @@ impl<P: EventParser, B: TextBuffer, T: Timeout> Engine<P, B, T> {
         if pending || self.hold.len() > 0 {
             self.stop::<H, G>(handler);
         }
-        self.open::<H, G>(handler, bytes)
+        self.take_open_turn::<H, G>(handler, bytes)
     }
 
     /// Returns whether there is room to hold this many more bytes.
@@ -122,7 +122,7 @@ impl<P: EventParser, B: TextBuffer, T: Timeout> Engine<P, B, T> {
 
     /// Parses bytes up to the one that begins an update, a slice at a time, and returns how many.
     /// Memory is taken before each slice.
-    fn open<H: Handler, G: ParseAs<H, T, P>>(
+    fn take_open_turn<H: Handler, G: ParseAs<H, T, P>>(
         &mut self,
         handler: &mut H,
         bytes: &[u8],

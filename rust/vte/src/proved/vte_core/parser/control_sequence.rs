@@ -2,8 +2,8 @@
 //! Control sequences.
 
 use crate::proved::vte_core::buffer::Buffer;
-use crate::proved::vte_core::class::{ends_all, is_control, is_final};
-use crate::proved::vte_core::head::HeadPart;
+use crate::proved::vte_core::class::{ends_all, is_final, is_plain_control};
+use crate::proved::vte_core::head::HeadProgress;
 use crate::proved::vte_core::parser::{Machine, State, Unfinished};
 use crate::proved::vte_core::scan::grain::PerformAs;
 use crate::proved::vte_core::scan::Grain;
@@ -18,7 +18,7 @@ impl<B: Buffer> Machine<B> {
         &mut self,
         performer: &mut P,
         input: &[u8],
-        reached: HeadPart,
+        reached: HeadProgress,
         several: bool,
         from: usize,
     ) -> usize {
@@ -44,7 +44,7 @@ impl<B: Buffer> Machine<B> {
         &mut self,
         performer: &mut P,
         input: &[u8],
-        reached: HeadPart,
+        reached: HeadProgress,
         from: usize,
     ) -> usize {
         let head = self.collected.read_head(reached, input, from);
@@ -55,7 +55,7 @@ impl<B: Buffer> Machine<B> {
             }
             if ends_all(byte) {
                 self.end_body(performer, byte);
-            } else if is_control(byte) {
+            } else if is_plain_control(byte) {
                 performer.execute_control(byte);
             }
             // DEL and 80..FF are dropped.
@@ -70,11 +70,11 @@ impl<B: Buffer> Machine<B> {
     fn end_control_sequence<P: PerformAs<G>, G: Grain>(
         &mut self,
         performer: &mut P,
-        part: HeadPart,
+        part: HeadProgress,
         byte: u8,
         position: usize,
     ) -> usize {
-        if let HeadPart::IllShaped = part {
+        if let HeadProgress::IllShaped = part {
             self.state = State::Text(Unfinished::Nothing);
             return position + 1;
         }

@@ -3,7 +3,7 @@
 
 use crate::proved::vte_core::buffer::Buffer;
 use crate::proved::vte_core::class::{ends_all, is_device_data, is_final};
-use crate::proved::vte_core::head::HeadPart;
+use crate::proved::vte_core::head::HeadProgress;
 use crate::proved::vte_core::parser::{Machine, State, Unfinished};
 use crate::proved::vte_core::scan::grain::PerformAs;
 use crate::proved::vte_core::scan::search::find_device_data_end;
@@ -20,7 +20,7 @@ impl<B: Buffer> Machine<B> {
         &mut self,
         performer: &mut P,
         input: &[u8],
-        reached: HeadPart,
+        reached: HeadProgress,
         from: usize,
     ) -> usize {
         let head = self.collected.read_head(reached, input, from);
@@ -38,8 +38,8 @@ impl<B: Buffer> Machine<B> {
     }
 
     /// Hooks the string at the final byte of its head, or ignores it if the head is malformed.
-    fn hook<P: PerformAs<G>, G: Grain>(&mut self, performer: &mut P, part: HeadPart, byte: u8) {
-        if let HeadPart::IllShaped = part {
+    fn hook<P: PerformAs<G>, G: Grain>(&mut self, performer: &mut P, part: HeadProgress, byte: u8) {
+        if let HeadProgress::IllShaped = part {
             self.state = State::IgnoredString;
             return;
         }

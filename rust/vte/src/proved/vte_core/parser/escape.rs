@@ -3,10 +3,10 @@
 
 use crate::proved::vte_core::buffer::Buffer;
 use crate::proved::vte_core::class::{
-    begins_ignored_string, dispatches_escape, ends_all, is_control, is_final, is_head,
-    is_intermediate, ESCAPE,
+    begins_ignored_string, dispatches_escape, ends_all, is_final, is_head, is_intermediate,
+    is_plain_control, ESCAPE,
 };
-use crate::proved::vte_core::head::HeadPart;
+use crate::proved::vte_core::head::HeadProgress;
 use crate::proved::vte_core::parser::{Machine, State, Unfinished};
 use crate::proved::vte_core::scan::grain::PerformAs;
 use crate::proved::vte_core::scan::Grain;
@@ -25,11 +25,11 @@ impl<B: Buffer> Machine<B> {
         let next = from + 1;
         if next < input.len() && input[next] == b'[' {
             self.collected.begin_head();
-            self.state = State::ControlSequence(HeadPart::Entry);
+            self.state = State::ControlSequence(HeadProgress::Entry);
             return self.continue_control_sequence(
                 performer,
                 input,
-                HeadPart::Entry,
+                HeadProgress::Entry,
                 false,
                 next + 1,
             );
@@ -53,8 +53,8 @@ impl<B: Buffer> Machine<B> {
             let next = position + 1;
             if byte == b'[' {
                 self.collected.begin_head();
-                self.state = State::ControlSequence(HeadPart::Entry);
-                return self.read_control_sequence(performer, input, HeadPart::Entry, next);
+                self.state = State::ControlSequence(HeadProgress::Entry);
+                return self.read_control_sequence(performer, input, HeadProgress::Entry, next);
             }
             // Another ESC changes nothing: nothing was collected since the one before.
             if byte != ESCAPE {
@@ -76,7 +76,7 @@ impl<B: Buffer> Machine<B> {
             self.dispatch_escape(performer, byte);
         } else if ends_all(byte) {
             self.end_body(performer, byte);
-        } else if is_control(byte) {
+        } else if is_plain_control(byte) {
             performer.execute_control(byte);
         }
         // DEL and 80..FF are dropped.
@@ -88,7 +88,7 @@ impl<B: Buffer> Machine<B> {
     fn begin_body<P: PerformAs<G>, G: Grain>(&mut self, performer: &mut P, byte: u8) {
         if byte == b'P' {
             self.collected.begin_head();
-            self.state = State::DeviceControl(HeadPart::Entry);
+            self.state = State::DeviceControl(HeadProgress::Entry);
         } else if byte == b']' {
             self.command.clear();
             self.state = State::SystemCommand;
@@ -116,7 +116,7 @@ impl<B: Buffer> Machine<B> {
             } else if ends_all(byte) {
                 self.end_body(performer, byte);
                 return position + 1;
-            } else if is_control(byte) {
+            } else if is_plain_control(byte) {
                 performer.execute_control(byte);
                 return position + 1;
             }

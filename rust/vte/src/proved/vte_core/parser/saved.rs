@@ -2,7 +2,7 @@
 //! A parser as plain data, for callers that can hold nothing else.
 
 use crate::adapter::array_vec::ArrayVec;
-use crate::proved::vte_core::head::HeadPart;
+use crate::proved::vte_core::head::HeadProgress;
 use crate::proved::vte_core::params::Params;
 use crate::proved::vte_core::parser::{Parser, State, Unfinished, MAX_OSC_RAW};
 
@@ -22,7 +22,7 @@ pub struct Saved {
     // intermediates
     number: u16,
     joined: u8,
-    too_many: u8,
+    too_many_intermediates: u8,
     // what is kept of an operating system command: data bytes, and the ends of its pieces in them
     byte_count: usize,
     bytes: [u8; MAX_OSC_RAW],
@@ -64,14 +64,14 @@ fn saved_state(state: State) -> [u8; 4] {
         State::Text(Unfinished::Three(first, second, third)) => [3, first, second, third],
         State::Escape => [4, 0, 0, 0],
         State::EscapeIntermediate => [5, 0, 0, 0],
-        State::ControlSequence(HeadPart::Entry) => [6, 0, 0, 0],
-        State::ControlSequence(HeadPart::Parameters) => [7, 0, 0, 0],
-        State::ControlSequence(HeadPart::Intermediates) => [8, 0, 0, 0],
-        State::ControlSequence(HeadPart::IllShaped) => [9, 0, 0, 0],
-        State::DeviceControl(HeadPart::Entry) => [10, 0, 0, 0],
-        State::DeviceControl(HeadPart::Parameters) => [11, 0, 0, 0],
-        State::DeviceControl(HeadPart::Intermediates) => [12, 0, 0, 0],
-        State::DeviceControl(HeadPart::IllShaped) => [13, 0, 0, 0],
+        State::ControlSequence(HeadProgress::Entry) => [6, 0, 0, 0],
+        State::ControlSequence(HeadProgress::Parameters) => [7, 0, 0, 0],
+        State::ControlSequence(HeadProgress::Intermediates) => [8, 0, 0, 0],
+        State::ControlSequence(HeadProgress::IllShaped) => [9, 0, 0, 0],
+        State::DeviceControl(HeadProgress::Entry) => [10, 0, 0, 0],
+        State::DeviceControl(HeadProgress::Parameters) => [11, 0, 0, 0],
+        State::DeviceControl(HeadProgress::Intermediates) => [12, 0, 0, 0],
+        State::DeviceControl(HeadProgress::IllShaped) => [13, 0, 0, 0],
         State::DeviceData => [14, 0, 0, 0],
         State::SystemCommand => [15, 0, 0, 0],
         State::IgnoredString => [16, 0, 0, 0],
@@ -88,14 +88,14 @@ fn restored_state(saved: [u8; 4]) -> State {
         3 => State::Text(Unfinished::Three(first, second, third)),
         4 => State::Escape,
         5 => State::EscapeIntermediate,
-        6 => State::ControlSequence(HeadPart::Entry),
-        7 => State::ControlSequence(HeadPart::Parameters),
-        8 => State::ControlSequence(HeadPart::Intermediates),
-        9 => State::ControlSequence(HeadPart::IllShaped),
-        10 => State::DeviceControl(HeadPart::Entry),
-        11 => State::DeviceControl(HeadPart::Parameters),
-        12 => State::DeviceControl(HeadPart::Intermediates),
-        13 => State::DeviceControl(HeadPart::IllShaped),
+        6 => State::ControlSequence(HeadProgress::Entry),
+        7 => State::ControlSequence(HeadProgress::Parameters),
+        8 => State::ControlSequence(HeadProgress::Intermediates),
+        9 => State::ControlSequence(HeadProgress::IllShaped),
+        10 => State::DeviceControl(HeadProgress::Entry),
+        11 => State::DeviceControl(HeadProgress::Parameters),
+        12 => State::DeviceControl(HeadProgress::Intermediates),
+        13 => State::DeviceControl(HeadProgress::IllShaped),
         14 => State::DeviceData,
         15 => State::SystemCommand,
         _ => State::IgnoredString,
@@ -115,7 +115,7 @@ impl Saved {
             numbers: [0; 32],
             number: 0,
             joined: 0,
-            too_many: 0,
+            too_many_intermediates: 0,
             byte_count: 0,
             bytes: [0; MAX_OSC_RAW],
             end_count: 0,
@@ -150,7 +150,7 @@ impl Parser<MAX_OSC_RAW> {
         let collected = &machine.collected;
         let intermediates = collected.intermediates.as_slice();
         saved.intermediate_count = copy_to_front(intermediates, &mut saved.intermediates);
-        saved.too_many = u8::from(collected.too_many);
+        saved.too_many_intermediates = u8::from(collected.too_many_intermediates);
         saved.number = collected.number;
         saved.joined = u8::from(collected.joined);
     }
@@ -177,7 +177,7 @@ impl Parser<MAX_OSC_RAW> {
         }
         let collected = &mut machine.collected;
         collected.intermediates = collect_front(&saved.intermediates, saved.intermediate_count);
-        collected.too_many = saved.too_many != 0;
+        collected.too_many_intermediates = saved.too_many_intermediates != 0;
         collected.number = saved.number;
         collected.joined = saved.joined != 0;
         parser

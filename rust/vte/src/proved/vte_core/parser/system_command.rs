@@ -21,7 +21,7 @@ impl<B: Buffer> Machine<B> {
         from: usize,
     ) -> Result<usize, Refused> {
         let end = find_command_data_end(input, from);
-        if !self.command.make_room(end - from) {
+        if !self.command.take_memory(end - from) {
             return Err(Refused { read: from });
         }
         self.command.push_data(input, from, end);

@@ -1,6 +1,6 @@
 -- A turn more leads on (`reaches-more`), until all bytes are read or a turn is refused memory.
 use Rattle.vte.proofs.Common.{◌≡◌, ◌+◌, ◌-◌, length, take, drop, arith}
-use Rattle.vte.proofs.turns.ToCalls.{all_read, has_halted, next-at, reaches-more, reaches-nothing, read_until, rest_size}
+use Rattle.vte.proofs.turns.EngineTurns.{all_read, has_halted, next-at, reaches-more, reaches-nothing, read_until, rest_size}
 use Rattle.vte.proofs.ansi.engine.Engine.read.Goals as goal
 
 -- Before the first turn nothing is read.

@@ -4,7 +4,7 @@ use Rattle.vte.proofs.Common.{◌≡◌, ◌<◌, length, refl, sym, ◌∙◌, 
 use Rattle.vte.proofs.Common.{meaning_of, engine_meaning, EngineIsAtKeeping}
 use Rattle.vte.proofs.turns.Kinds.{is_held, is_stopped, stop_if_due}
 use Rattle.vte.proofs.turns.Slices.{halted_nothing}
-use Rattle.vte.proofs.turns.ToCalls.{after-next, ends_turn, kept-next, next-at, stops-next, turned_hold}
+use Rattle.vte.proofs.turns.EngineTurns.{after-next, ends_turn, kept-next, next-at, stops-next, turned_hold}
 use Rattle.vte.proofs.ansi.engine.Engine.turn.Goals as goal
 use Rattle.vte.proofs.ansi.engine.Engine.turn.Goals.{else-pending-via-else-pending, else-pending-via-then-pending+else-has_room, else-pending-2+else-len-gt0, then-pending-2}
 use Rattle.vte.proofs.ansi.engine.Engine.turn.Goals.{then-pending-2-via-else-pending-2+then-len-gt0, then-pending-2-via-then-pending-2}
@@ -44,8 +44,8 @@ returns-clause-turned g c = λ s at.
           rw (w.self-is, w.handler-is, free) (next-at at)
     ] in
     ends_turn pending
-    (rw at.stands.timeout_is at c.pending_timeout-pending.ensures) parses here.memory _ c.open.ensures.within
-    (c.open.ensures.opened _ here.are_at)
+    (rw at.stands.timeout_is at c.pending_timeout-pending.ensures) parses here.memory _ c.take_open_turn.ensures.within
+    (c.take_open_turn.ensures.opened _ here.are_at)
 
 -- A hold turn: an update is pending, and there is room for all bytes and memory for them.
 pub returns-then-has_room-clause-turned : goal.returns-then-has_room-clause-turned

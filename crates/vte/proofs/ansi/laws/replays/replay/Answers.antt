@@ -1,4 +1,4 @@
--- A call is one more step of the run, by what it ensures; and so is a stop.
+-- A call is one more step of the list, by what it ensures; and so is a stop.
 use Rattle.vte.proofs.Common.{[], refl, take_all}
 use Rattle.vte.proofs.replays.PlainReplays.{replays_all}
 use Rattle.vte.proofs.replays.Replays.{advance_taken, replayed, stop_taken}

@@ -1,4 +1,4 @@
--- After some of the steps there is a run of these, and the processor stands at its end.
+-- After some of the steps, these lead to where the processor stands.
 use Rattle.vte.proofs.Common.{take, meaning_of, HasParsedAndHolds, IsAt, Replayed, State, usual_limit}
 use Rattle.vte.proofs.ansi.laws.replays.replay.Given as goal
 

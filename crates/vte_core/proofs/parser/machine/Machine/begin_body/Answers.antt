@@ -4,7 +4,7 @@ use Rattle.vte_core.proofs.Common.{false, [], ◌∷◌, refl, ◌∙◌, arith,
 use Rattle.vte_core.specs.Key.{DeviceControl, IgnoredString, SystemCommand}
 use Rattle.vte_core.proofs.bytes.ClassCases.{final}
 use Rattle.vte_core.proofs.calls.Arms.{taken}
-use Rattle.vte_core.proofs.calls.Ends.{settled-by}
+use Rattle.vte_core.proofs.calls.CallEnds.{settled-by}
 use Rattle.vte_core.proofs.fields.PlaceOfState.{stands-escape, stands-text_begun}
 use Rattle.vte_core.proofs.places.PlaceLeads.{escape-key, escape-end}
 use Rattle.vte_core.proofs.bytes.PlainKeys.{other_key}
@@ -41,7 +41,8 @@ returns-else-begins_ignored_string-clause-takes g c = λ s.
     ∙ rw (← c.begins_ignored_string.ensures, c.if-begins_ignored_string.false) refl in
     let d = c.dispatch_escape.ensures in
     let holds = stands-escape _ s in
-    taken (EscDispatch [] false c.args.byte ∷ []) (InText []) (rw (holds.kept, holds.too_many) at d.tells.value)
+    taken (EscDispatch [] false c.args.byte ∷ []) (InText [])
+    (rw (holds.kept, holds.too_many_intermediates) at d.tells.value)
     (stands-text_begun _ d.text)
     (escape-end _ c.args.byte _ (final _ c.requires.ends) refl key)
 

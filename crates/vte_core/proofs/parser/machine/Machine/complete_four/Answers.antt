@@ -13,14 +13,14 @@ use Rattle.vte_core.proofs.dividing.PrintableCharacters.{run-four}
 use Rattle.vte_core.proofs.parser.machine.Machine.complete_four.Goals as goal
 
 -- Over plain numbers, where `omega` has little to read.
-leads : (first : ℕ) → 0xf0 ≤ first → 0xe0 ≤ first
-leads first low = omega arith
+lead_of_three : (first : ℕ) → 0xf0 ≤ first → 0xe0 ≤ first
+lead_of_three first low = omega arith
 
-leads-all : (first : ℕ) → 0xf0 ≤ first → 0xc2 ≤ first
-leads-all first low = omega arith
+lead_of_two : (first : ℕ) → 0xf0 ≤ first → 0xc2 ≤ first
+lead_of_two first low = omega arith
 
-counted : (next : ℕ) → next + 3 ≡ next + 2 + 1
-counted next = omega arith
+next_counted : (next : ℕ) → next + 3 ≡ next + 2 + 1
+next_counted next = omega arith
 
 -- The second byte does not fit the first one: broken.
 pub returns-then-not-may_begin_four-clause-advances : goal.returns-then-not-may_begin_four-clause-advances
@@ -29,7 +29,7 @@ returns-then-not-may_begin_four-clause-advances g c =
     -- The call's `ensures` says what its result means, and the test that it is false.
     let misfits = sym c.may_begin_four.ensures ∙ c.if-not-may_begin_four.true in
     -- The first byte is a lead byte, C2 to F4, so the call goes on by a character.
-    advances-first r.may_read (leads-all _ r.lead.low) r.lead.high
+    advances-first r.may_read (lead_of_two _ r.lead.low) r.lead.high
     -- No byte more belongs to it (`goes-nowhere`), and the next one breaks it.
     (completes-broken (goes-nowhere c.args.self.now (some _ _))
     -- So the definition says, and U+FFFD is what the code printed.
@@ -42,8 +42,8 @@ pub returns-then-next-len-clause-advances : goal.returns-then-next-len-clause-ad
 returns-then-next-len-clause-advances g c =
     let r = c.requires in
     let second = sym c.may_begin_four.ensures ∙ c.if-not-may_begin_four.false in
-    advances-first r.may_read (leads-all _ r.lead.low) r.lead.high
-    (completes-then (goes-second c.args.self.now (leads _ r.lead.low) second r.within r.is)
+    advances-first r.may_read (lead_of_two _ r.lead.low) r.lead.high
+    (completes-then (goes-second c.args.self.now (lead_of_three _ r.lead.low) second r.within r.is)
     c.continue_character.ensures.completes)
 
 -- The third byte does not continue: broken after two.
@@ -52,8 +52,8 @@ returns-then-not-is_continuation-clause-advances g c =
     let r = c.requires in
     let second = sym c.may_begin_four.ensures ∙ c.if-not-may_begin_four.false in
     let misfits = sym c.is_continuation.ensures ∙ c.if-not-is_continuation.true in
-    advances-first r.may_read (leads-all _ r.lead.low) r.lead.high
-    (completes-broken (goes-second c.args.self.now (leads _ r.lead.low) second r.within r.is)
+    advances-first r.may_read (lead_of_two _ r.lead.low) r.lead.high
+    (completes-broken (goes-second c.args.self.now (lead_of_three _ r.lead.low) second r.within r.is)
     (λ more. third_broken c.args.first c.args.second c.at-third.result more misfits)
     r.may_read.begun c.print_char-then-not-is_continuation.ensures.value
     (omega (arith, r.within, c.if-next-len.false)) c.at-third.ensures.value)
@@ -66,7 +66,7 @@ returns-then-not-is_continuation-2-clause-advances g c =
     let third = sym c.is_continuation.ensures ∙ c.if-not-is_continuation.false in
     let misfits = sym c.is_continuation-2.ensures ∙ c.if-not-is_continuation-2.true in
     let within : c.args.from + 1 + 2 < length c.args.input.bytes.now = omega (arith, r.within, c.if-next-len.false) in
-    advances-first r.may_read (leads-all _ r.lead.low) r.lead.high
+    advances-first r.may_read (lead_of_two _ r.lead.low) r.lead.high
     (completes-broken (goes-third c.args.self.now r.lead.low second third within r.is c.at-third.ensures.value)
     (λ more. fourth_broken c.args.first c.args.second c.at-third.result c.at-fourth.result more misfits)
     r.may_read.begun c.print_char-then-not-is_continuation-2.ensures.value within c.at-fourth.ensures.value)
@@ -113,7 +113,7 @@ returns-clause-advances g c =
     spells_four c.args.first c.args.second c.at-third.result c.at-fourth.result r.lead.low r.lead.high
     second third fourth in
     let within : c.args.from + 1 + 2 < length c.args.input.bytes.now = omega (arith, r.within, c.if-next-len.false) in
-    advances-first r.may_read (leads-all _ r.lead.low) r.lead.high
+    advances-first r.may_read (lead_of_two _ r.lead.low) r.lead.high
     (completes-whole (goes-third c.args.self.now r.lead.low second third within r.is c.at-third.ensures.value)
     (λ more. (spells.is_whole, c.character_of_four.ensures)) r.may_read.begun
-    c.tell_character.ensures.value within c.at-fourth.ensures.value (counted _))
+    c.tell_character.ensures.value within c.at-fourth.ensures.value (next_counted _))

@@ -1,5 +1,5 @@
 -- The call is inside the character that was begun, and has told nothing.
-use Rattle.vte_core.proofs.Common.{◌≡◌, not, eqb, Spends, chunk_call}
+use Rattle.vte_core.proofs.Common.{◌≡◌, not, eqb, SpendsWithin, chunk_call}
 use Rattle.vte_core.proofs.calls.Characters.{GoesOn}
 use Rattle.vte_core.proofs.parser.machine.Machine.continue_character.Given as goal
 
@@ -9,5 +9,5 @@ invariant-loop-position g l = record {
       g.B.Buffer.limit l.input.bytes.now) (g.P.CountedPerform.value_of l.initial.performer) l.from l.position l.fn.begun
       l.unfinished l.self;
   same : g.P.CountedPerform.value_of l.performer ≡ g.P.CountedPerform.value_of l.initial.performer;
-  spends : Spends 1 0 0 l.input.bytes.now l.from l.position l.initial.self l.self l.initial.looks l.looks;
+  spends : SpendsWithin 1 0 0 l.input.bytes.now l.from l.position l.initial.self l.self l.initial.looks l.looks;
 }

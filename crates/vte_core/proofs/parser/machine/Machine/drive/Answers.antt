@@ -2,7 +2,7 @@
 -- or where memory is refused.
 use Rattle.vte_core.proofs.Common.{Err, ap, sym, ◌∙◌, arith, rules, err_from_is_err_and}
 use Rattle.vte_core.proofs.calls.States.{may_stop-some}
-use Rattle.vte_core.proofs.calls.Ends.{ends-at_stop, ends-with_all}
+use Rattle.vte_core.proofs.calls.CallEnds.{ends-at_stop, ends-with_all}
 use Rattle.vte_core.proofs.parser.machine.Machine.drive.Goals as goal
 
 -- The loop begins where the open character was completed.

@@ -1,5 +1,5 @@
--- The call stands at this place, and no character is open there.
-use Rattle.vte_core.proofs.Common.{ℕ, ◌-◌, ◌<◌, not, eqb, List, length, Spends, HasReadUnder, IsSettled, StandsAt, chunk_call}
+-- The call stands at this position, and no character is open there.
+use Rattle.vte_core.proofs.Common.{ℕ, ◌-◌, ◌<◌, not, eqb, List, length, SpendsWithin, HasReadUnder, IsSettled, StandsAt, chunk_call}
 use Rattle.vte_core.proofs.parser.machine.Machine.drive.Given as goal
 
 abbrev pub invariant-loop-position : goal.invariant-loop-position
@@ -9,7 +9,7 @@ invariant-loop-position g l = record {
       g.B.Buffer.limit l.input.bytes.now) (g.P.CountedPerform.value_of l.fn.performer)
       (g.P.CountedPerform.value_of l.performer) stream l.position l.self;
   settled : l.position < length l.input.bytes.now → IsSettled l.self.state;
-  spends : Spends 5 0 2 l.input.bytes.now 0 l.position l.fn.self l.self l.fn.looks l.looks;
+  spends : SpendsWithin 5 0 2 l.input.bytes.now 0 l.position l.fn.self l.self l.fn.looks l.looks;
 }
 
 abbrev pub decreases-loop-position : goal.decreases-loop-position

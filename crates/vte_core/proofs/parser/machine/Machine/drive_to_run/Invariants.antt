@@ -1,5 +1,5 @@
 -- As for `drive`; and what is told so far is told by no run.
-use Rattle.vte_core.proofs.Common.{ℕ, ◌-◌, ◌<◌, true, List, length, Spends, HasReadUnder, IsSettled, StandsAt, TellsQuietly, chunk_call}
+use Rattle.vte_core.proofs.Common.{ℕ, ◌-◌, ◌<◌, true, List, length, SpendsWithin, HasReadUnder, IsSettled, StandsAt, TellsQuietly, chunk_call}
 use Rattle.vte_core.proofs.parser.machine.Machine.drive_to_run.Given as goal
 
 abbrev pub invariant-loop-position : goal.invariant-loop-position
@@ -11,7 +11,7 @@ invariant-loop-position g l = record {
   settled : l.position < length l.input.bytes.now → IsSettled l.self.state;
   quietly : (stream : List ℕ) → HasReadUnder g.B.Buffer.limit l.fn.self stream
       → TellsQuietly g.B.Buffer.limit stream l.input.bytes.now l.position;
-  spends : Spends 7 0 2 l.input.bytes.now 0 l.position l.fn.self l.self l.fn.looks l.looks;
+  spends : SpendsWithin 7 0 2 l.input.bytes.now 0 l.position l.fn.self l.self l.fn.looks l.looks;
 }
 
 abbrev pub decreases-loop-position : goal.decreases-loop-position

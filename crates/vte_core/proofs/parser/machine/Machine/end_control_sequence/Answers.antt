@@ -1,7 +1,7 @@
 -- A malformed head tells nothing. Any other is whole once the last number is settled, and is dispatched.
 use Rattle.vte_core.proofs.Common.{[], ◌∷◌, refl, ap, ◌∙◌, arith, CsiDispatch, head_of, sequence_event, InText}
 use Rattle.vte_core.proofs.bytes.ClassCases.{final}
-use Rattle.vte_core.proofs.calls.Ends.{settled-by}
+use Rattle.vte_core.proofs.calls.CallEnds.{settled-by}
 use Rattle.vte_core.proofs.fields.HeadSteps.{dispatched-ready, head-holds, ill_shaped-now}
 use Rattle.vte_core.proofs.places.PlaceLeads.{control-dispatched, control-silent}
 use Rattle.vte_core.proofs.fields.PlaceOfState.{stands-text_begun}

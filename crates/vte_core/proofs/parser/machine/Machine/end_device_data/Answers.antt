@@ -1,9 +1,9 @@
 -- ST unhooks and leads to a text; any other byte that is no data and ends nothing is dropped.
-use Rattle.vte_core.proofs.Common.{[], ◌∷◌, refl, sym, ◌∙◌, Unhook, InText, InData}
+use Rattle.vte_core.proofs.Common.{[], ◌∷◌, refl, sym, ◌∙◌, Unhook, InText, InDeviceData}
 use Rattle.vte_core.proofs.bytes.ClassCases.{ends_no_data, terminator_is_high}
 use Rattle.vte_core.proofs.calls.Arms.{advances-in, in_data, taken}
 use Rattle.vte_core.proofs.fields.PlaceOfState.{stands-by}
-use Rattle.vte_core.proofs.calls.Ends.{settled-by}
+use Rattle.vte_core.proofs.calls.CallEnds.{settled-by}
 use Rattle.vte_core.proofs.calls.Stretches.{advances-when}
 use Rattle.vte_core.proofs.places.PlaceLeads.{data-dropped, data-terminator}
 use Rattle.vte_core.proofs.parser.machine.Machine.end_device_data.Goals.{then-byte-eq-STRING_TERMINATOR, else-byte-eq-STRING_TERMINATOR}
@@ -30,5 +30,5 @@ returns-clause-advances g c =
           (ends_no_data c.args.byte ordinary w.if-byte-eq-STRING_TERMINATOR.false) c.requires.other in
           rw (w.self-is, w.performer-is)
           (advances-when c.requires.other (advances-in r.begun r.within r.is r.may_go_on ordinary
-          (in_data parser (taken [] InData refl (stands-by r.begun tt) dropped)) (settled-by _ _ r.begun tt)))
+          (in_data parser (taken [] InDeviceData refl (stands-by r.begun tt) dropped)) (settled-by _ _ r.begun tt)))
     ]

@@ -2,7 +2,7 @@
 use Rattle.vte_core.proofs.Common.{sym, ◌∙◌, false≢true}
 use Rattle.vte_core.proofs.calls.InsideCharacters.{opens-text}
 use Rattle.vte_core.proofs.calls.BeforeRun.{tells-nothing, tells-open}
-use Rattle.vte_core.proofs.calls.Ends.{settled-by, settled-nothing, settled-outside, starts-at, starts-inside}
+use Rattle.vte_core.proofs.calls.CallEnds.{settled-by, settled-nothing, settled-outside, starts-at, starts-inside}
 use Rattle.vte_core.proofs.parser.machine.Machine.finish_character.Goals as goal
 
 -- A text without an open character.

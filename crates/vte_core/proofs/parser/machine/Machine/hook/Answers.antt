@@ -1,5 +1,5 @@
 -- A malformed head leads to an ignored string. Any other is whole once the last number is settled, and hooks.
-use Rattle.vte_core.proofs.Common.{[], ◌∷◌, refl, ap, ◌∙◌, rules, Hook, head_of, sequence_event, InData, InIgnoredString}
+use Rattle.vte_core.proofs.Common.{[], ◌∷◌, refl, ap, ◌∙◌, rules, Hook, head_of, sequence_event, InDeviceData, InIgnoredString}
 use Rattle.vte_core.proofs.bytes.ClassCases.{final}
 use Rattle.vte_core.proofs.fields.HeadSteps.{dispatched-ready, head-holds, ill_shaped-now}
 use Rattle.vte_core.proofs.places.PlaceLeads.{device-well_shaped, device-ill_shaped}
@@ -23,7 +23,7 @@ returns-clause-takes g c = λ head s.
     let f = c.end_head-ignore.ensures c.args.part head (head-holds _ _ head c.in_default.not-IllShaped s) in
     record {
       told = sequence_event Hook (head_of head) c.args.byte ∷ [];
-      next = InData;
+      next = InDeviceData;
       performed =
           c.hook.ensures.value
           ∙ ap (g.P.CountedPerform.step (g.P.CountedPerform.value_of c.args.performer.now))

@@ -1,7 +1,7 @@
 -- Closed is only a text without an open character: there a parser goes on as a new one (`anew`). Elsewhere something is
 -- unfinished (`unfinished`).
 use Rattle.vte_core.proofs.Common.{◌≡◌, [], cases_Bool, inl, inr, false≢true, not, ap, subst, sym, ◌∙◌, IsAfter, Text, bytes_of}
-use Rattle.vte_core.proofs.calls.Ends.{settled-by, settled-nothing}
+use Rattle.vte_core.proofs.calls.CallEnds.{settled-by, settled-nothing}
 use Rattle.vte_core.proofs.calls.IsOpen.{finished, same-begun, unfinished}
 use Rattle.vte_core.proofs.calls.States.{between_characters}
 use Rattle.vte_core.proofs.calls.ToRun.{anew, settled-text}

@@ -4,7 +4,7 @@ use Rattle.vte_core.proofs.Common.{false, [], ◌∷◌, refl, sym, ◌∙◌, a
 use Rattle.vte_core.proofs.bytes.ClassCases.{control, final_ends_nothing, intermediate, left_dispatches, head_ends_nothing}
 use Rattle.vte_core.proofs.bytes.ClassLemmas.{below_final}
 use Rattle.vte_core.proofs.calls.Arms.{performs-in, at_escape, taken}
-use Rattle.vte_core.proofs.calls.Ends.{settled-by}
+use Rattle.vte_core.proofs.calls.CallEnds.{settled-by}
 use Rattle.vte_core.proofs.calls.Sequences.{performs-dropped}
 use Rattle.vte_core.proofs.fields.PlaceOfState.{stands-by, stands-text_begun}
 use Rattle.vte_core.proofs.places.PlaceLeads.{byte-executed, escape-intermediate, escape-end}
@@ -35,29 +35,30 @@ returns-then-is_head-clause-performs g c =
     let d = c.dispatch_escape.ensures in
     performs-in c.requires.begun (head_ends_nothing (class_of b) head)
     (at_escape c.args.self.now
-    (λ holds. taken (EscDispatch [] false b ∷ []) (InText []) (rw (holds.kept, holds.too_many) at d.tells.value)
+    (λ holds. taken (EscDispatch [] false b ∷ []) (InText [])
+    (rw (holds.kept, holds.too_many_intermediates) at d.tells.value)
     (stands-text_begun _ d.text)
     (escape-end _ b _ refl ends (below_finals b (below_final b head)))))
 
 -- A control is executed; the place stays after ESC.
-pub returns-then-is_control-clause-performs : goal.returns-then-is_control-clause-performs
-returns-then-is_control-clause-performs g c =
+pub returns-then-is_plain_control-clause-performs : goal.returns-then-is_plain_control-clause-performs
+returns-then-is_plain_control-clause-performs g c =
     let b = c.args.byte in
-    let is = control _ (sym c.is_control.ensures ∙ c.if-is_control.true) in
+    let is = control _ (sym c.is_plain_control.ensures ∙ c.if-is_plain_control.true) in
     performs-in c.requires.begun (rw is refl)
     (at_escape c.args.self.now
     (λ holds. taken (Execute b ∷ []) AtEscape c.execute_control.ensures.value (stands-by c.requires.begun holds)
     (byte-executed _ AtEscape b refl is)))
 
 -- What is left is DEL and 80 to FF, which is dropped.
-pub returns-else-is_control-clause-performs : goal.returns-else-is_control-clause-performs
-returns-else-is_control-clause-performs g c =
+pub returns-else-is_plain_control-clause-performs : goal.returns-else-is_plain_control-clause-performs
+returns-else-is_plain_control-clause-performs g c =
     performs-dropped c.requires.begun (sym c.is_head.ensures ∙ c.if-is_head.false)
     (sym c.is_final.ensures ∙ c.if-is_final.false)
-    (sym c.ends_all.ensures ∙ c.if-ends_all.false) (sym c.is_control.ensures ∙ c.if-is_control.false)
+    (sym c.ends_all.ensures ∙ c.if-ends_all.false) (sym c.is_plain_control.ensures ∙ c.if-is_plain_control.false)
 
-pub returns-then-is_control-clause-handles : goal.returns-then-is_control-clause-handles
-returns-then-is_control-clause-handles g c =
+pub returns-then-is_plain_control-clause-handles : goal.returns-then-is_plain_control-clause-handles
+returns-then-is_plain_control-clause-handles g c =
     record {
       settled = settled-by _ _ c.requires.begun tt;
       count = omega arith;

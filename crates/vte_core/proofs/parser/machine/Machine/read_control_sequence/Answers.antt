@@ -7,7 +7,7 @@ use Rattle.vte_core.proofs.calls.Heads.{ControlHead, advances-head, advances-pas
 use Rattle.vte_core.proofs.calls.Stretches.{advances-moved}
 use Rattle.vte_core.proofs.fields.PlaceOfState.{stands-by}
 use Rattle.vte_core.proofs.places.PlaceLeads.{byte-dropped, byte-executed}
-use Rattle.vte_core.proofs.parser.machine.Machine.read_control_sequence.Goals.{then-ends_all, else-ends_all+then-is_control, else-ends_all+else-is_control}
+use Rattle.vte_core.proofs.parser.machine.Machine.read_control_sequence.Goals.{then-ends_all, else-ends_all+then-is_plain_control, else-ends_all+else-is_plain_control}
 use Rattle.vte_core.proofs.parser.machine.Machine.read_control_sequence.Goals as goal
 
 -- A final byte ends the sequence.
@@ -43,20 +43,20 @@ returns-in-Some-clause-advances g c =
           (advances-past ControlHead c.requires.begun read.reads.head next c.requires.may_go_on
           w.end_body.ensures.performs w.end_body.ensures.handles.settled)
       -- A control.
-      | else-ends_all+then-is_control w ↦
-          let is = control _ (sym w.is_control.ensures ∙ w.if-is_control.true) in
+      | else-ends_all+then-is_plain_control w ↦
+          let is = control _ (sym w.is_plain_control.ensures ∙ w.if-is_plain_control.true) in
           rw (w.self-is, w.performer-is)
           (advances-past ControlHead c.requires.begun read.reads.head next c.requires.may_go_on
           (performs-head ControlHead part refl (rw is refl) (λ bytes stands.
           taken (Execute b ∷ []) (InControlSequence bytes) w.execute_control.ensures.value (stands-by refl stands)
           (byte-executed _ (InControlSequence bytes) b refl is))) tt)
       -- A byte that is dropped.
-      | else-ends_all+else-is_control w ↦
+      | else-ends_all+else-is_plain_control w ↦
           let ordinary = sym c.ends_all.ensures ∙ w.if-ends_all.false in
           let dropped =
           left_is_dropped (class_of b) (rw c.in-Some.is at read.other)
           (sym c.is_final.ensures ∙ c.if-is_final.false) ordinary
-          (sym w.is_control.ensures ∙ w.if-is_control.false) in
+          (sym w.is_plain_control.ensures ∙ w.if-is_plain_control.false) in
           rw (w.self-is, w.performer-is)
           (advances-past ControlHead c.requires.begun read.reads.head next c.requires.may_go_on
           (performs-head ControlHead part refl ordinary (λ bytes stands.

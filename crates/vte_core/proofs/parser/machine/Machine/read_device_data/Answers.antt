@@ -1,11 +1,11 @@
 -- A call that asks goes on by one data byte; one that does not takes all up to the next byte that is not put.
-use Rattle.vte_core.proofs.Common.{[], ◌∷◌, refl, sym, ◌∙◌, arith, rules, Put, InData}
+use Rattle.vte_core.proofs.Common.{[], ◌∷◌, refl, sym, ◌∙◌, arith, rules, Put, InDeviceData}
 use Rattle.vte_core.proofs.bytes.ClassCases.{data_ends_nothing}
 use Rattle.vte_core.proofs.calls.Arms.{advances-in, in_data, taken}
 use Rattle.vte_core.proofs.calls.Data.{advances-data, first-put}
 use Rattle.vte_core.proofs.fields.PlaceOfState.{stands-by}
 use Rattle.vte_core.proofs.calls.States.{may_stop-none}
-use Rattle.vte_core.proofs.calls.Ends.{settled-by}
+use Rattle.vte_core.proofs.calls.CallEnds.{settled-by}
 use Rattle.vte_core.proofs.calls.Stretches.{advances-moved, advances-nothing, advances-part, advances-then}
 use Rattle.vte_core.proofs.places.PlaceLeads.{data-put}
 use Rattle.vte_core.proofs.parser.machine.Machine.read_device_data.Goals.{else-this-ne0-via-then-this-ne0+else-terminated, else-this-ne0-via-else-this-ne0}
@@ -29,7 +29,7 @@ loop-position-preserved g c =
       advances = advances-then v.advances
           (advances-part (advances-in v.begun (omega arith) c.at-byte.ensures.value v.may_go_on (data_ends_nothing _ is)
           (in_data c.loop-position.self
-          (taken (Put c.at-byte.result ∷ []) InData c.put_byte.ensures.value (stands-by v.begun tt)
+          (taken (Put c.at-byte.result ∷ []) InDeviceData c.put_byte.ensures.value (stands-by v.begun tt)
           (data-put _ c.at-byte.result is))) (settled-by _ _ v.begun tt)));
       may_go_on = (λ does. elim c.else-this-ne0.branch [
         | else-this-ne0-via-then-this-ne0+else-terminated w ↦ sym w.terminated.ensures ∙ w.if-terminated.false
@@ -47,7 +47,7 @@ returns-then-terminated-clause-advances g c =
     advances-then v.advances
     (advances-part (advances-in v.begun (omega arith) c.at-byte.ensures.value v.may_go_on (data_ends_nothing _ is)
     (in_data c.loop-position.self
-    (taken (Put c.at-byte.result ∷ []) InData c.put_byte.ensures.value (stands-by v.begun tt)
+    (taken (Put c.at-byte.result ∷ []) InDeviceData c.put_byte.ensures.value (stands-by v.begun tt)
     (data-put _ c.at-byte.result is))) (settled-by _ _ v.begun tt)))
 
 -- A call that does not ask: all data up to the byte that is not put.

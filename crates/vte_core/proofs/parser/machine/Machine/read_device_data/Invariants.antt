@@ -1,5 +1,5 @@
 -- The call stands at this place, in the data.
-use Rattle.vte_core.proofs.Common.{◌≡◌, not, eqb, DeviceData, Spends, Advances, MayGoOn, chunk_call}
+use Rattle.vte_core.proofs.Common.{◌≡◌, not, eqb, DeviceData, SpendsWithin, Advances, MayGoOn, chunk_call}
 use Rattle.vte_core.proofs.parser.machine.Machine.read_device_data.Given as goal
 
 abbrev pub invariant-loop-position : goal.invariant-loop-position
@@ -11,5 +11,5 @@ invariant-loop-position g l = record {
   may_go_on : MayGoOn (chunk_call (not (eqb g.row.MAY_STOP 0)) g.P.CountedPerform.step g.P.CountedPerform.is_terminated
       g.B.Buffer.limit l.input.bytes.now) (g.P.CountedPerform.value_of l.performer);
   begun : l.self.state ≡ DeviceData;
-  spends : Spends 5 0 0 l.input.bytes.now l.from l.position l.initial.self l.self l.initial.looks l.looks;
+  spends : SpendsWithin 5 0 0 l.input.bytes.now l.from l.position l.initial.self l.self l.initial.looks l.looks;
 }

@@ -1,6 +1,6 @@
 -- ESC once more changes nothing. `[` leads to a head, which is read on; any other byte is one step.
 use Rattle.vte_core.proofs.Common.{refl, arith, rules}
-use Rattle.vte_core.proofs.calls.Ends.{settled-by}
+use Rattle.vte_core.proofs.calls.CallEnds.{settled-by}
 use Rattle.vte_core.proofs.calls.Stretches.{advances-byte, advances-moved, advances-nothing, advances-when, advances-then}
 use Rattle.vte_core.proofs.calls.Sequences.{advances-again, advances-bracket}
 use Rattle.vte_core.proofs.parser.machine.Machine.read_escape.Goals as goal

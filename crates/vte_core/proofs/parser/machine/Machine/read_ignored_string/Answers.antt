@@ -2,7 +2,7 @@
 use Rattle.vte_core.proofs.Common.{◌≡◌, ℕ, zero, suc, ◌+◌, ◌-◌, ◌≤◌, [], length, refl, arith, slice_index, Machine, IgnoredString, Advances, MayGoOn, AreIgnored, InIgnoredString, ChunkCall}
 use Rattle.vte_core.proofs.bytes.ClassCases.{ends_not_cancel}
 use Rattle.vte_core.proofs.calls.Arms.{advances-in, in_ignored, taken}
-use Rattle.vte_core.proofs.calls.Ends.{settled-by}
+use Rattle.vte_core.proofs.calls.CallEnds.{settled-by}
 use Rattle.vte_core.proofs.calls.Stretches.{advances-moved, advances-nothing, advances-when, advances-then}
 use Rattle.vte_core.proofs.fields.PlaceOfState.{stands-by}
 use Rattle.vte_core.proofs.places.PlaceLeads.{ignored-more}

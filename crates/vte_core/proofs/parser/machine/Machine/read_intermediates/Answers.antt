@@ -3,11 +3,11 @@
 use Rattle.vte_core.proofs.Common.{[], ◌∷◌, ◌++◌, refl, sym, ◌∙◌, arith, rules, class_of, EscDispatch, Execute, first_two, are_too_many, InText, InEscape}
 use Rattle.vte_core.proofs.bytes.ClassCases.{control, dispatch_ends_nothing, intermediate, left_of_intermediates}
 use Rattle.vte_core.proofs.calls.Arms.{advances-in, in_escape, taken}
-use Rattle.vte_core.proofs.calls.Ends.{settled-by}
+use Rattle.vte_core.proofs.calls.CallEnds.{settled-by}
 use Rattle.vte_core.proofs.calls.Stretches.{advances-byte, advances-nothing, advances-when, advances-then}
 use Rattle.vte_core.proofs.fields.PlaceOfState.{stands-by, stands-text_begun}
 use Rattle.vte_core.proofs.places.PlaceLeads.{byte-dropped, byte-executed, intermediate-end, intermediate-more}
-use Rattle.vte_core.proofs.parser.machine.Machine.read_intermediates.Goals.{then-is_intermediate, else-is_intermediate+else-dispatches_escape+else-ends_all+else-is_control}
+use Rattle.vte_core.proofs.parser.machine.Machine.read_intermediates.Goals.{then-is_intermediate, else-is_intermediate+else-dispatches_escape+else-ends_all+else-is_plain_control}
 use Rattle.vte_core.proofs.parser.machine.Machine.read_intermediates.Goals as goal
 
 -- Nothing is read yet.
@@ -37,12 +37,12 @@ loop-position-preserved g c =
             (stands-by v.begun (w.collect.ensures.holds ints holds)) (intermediate-more _ ints b is)))
             (settled-by _ _ v.begun tt)))
         -- A byte that is dropped.
-        | else-is_intermediate+else-dispatches_escape+else-ends_all+else-is_control w ↦
+        | else-is_intermediate+else-dispatches_escape+else-ends_all+else-is_plain_control w ↦
             let ordinary = sym w.ends_all.ensures ∙ w.if-ends_all.false in
             let dropped =
             left_of_intermediates (class_of b) (sym c.is_intermediate.ensures ∙ w.if-is_intermediate.false)
             (sym w.dispatches_escape.ensures ∙ w.if-dispatches_escape.false) ordinary
-            (sym w.is_control.ensures ∙ w.if-is_control.false) in
+            (sym w.is_plain_control.ensures ∙ w.if-is_plain_control.false) in
             rw w.self-is
             (advances-when tt (advances-in v.begun (omega arith) c.at-byte.ensures.value v.may_go_on ordinary
             (in_escape parser
@@ -53,7 +53,7 @@ loop-position-preserved g c =
       may_go_on = v.may_go_on;
       begun = elim c.if-is_intermediate.branch [
         | then-is_intermediate w ↦ rw w.self-is v.begun
-        | else-is_intermediate+else-dispatches_escape+else-ends_all+else-is_control w ↦ rw w.self-is v.begun
+        | else-is_intermediate+else-dispatches_escape+else-ends_all+else-is_plain_control w ↦ rw w.self-is v.begun
       ];
       spends = search rules;
     }
@@ -70,7 +70,7 @@ returns-then-dispatches_escape-clause-advances g c =
     (advances-in v.begun (omega arith) c.at-byte.ensures.value v.may_go_on (dispatch_ends_nothing (class_of b) ends)
     (in_escape c.loop-position.self
     (λ ints holds. taken (EscDispatch (first_two ints) (are_too_many ints) b ∷ []) (InText [])
-    (rw (holds.kept, holds.too_many) at d.tells.value) (stands-text_begun _ d.text)
+    (rw (holds.kept, holds.too_many_intermediates) at d.tells.value) (stands-text_begun _ d.text)
     (intermediate-end _ ints b _ refl ends))) (settled-by _ _ d.text tt)))
 
 -- CAN, SUB or ESC: the sequence is left without being told.
@@ -83,11 +83,11 @@ returns-then-ends_all-clause-advances g c =
     (advances-byte (omega arith) c.at-byte.ensures.value v.may_go_on d.performs d.handles.settled))
 
 -- A control is executed inside the sequence.
-pub returns-then-is_control-clause-advances : goal.returns-then-is_control-clause-advances
-returns-then-is_control-clause-advances g c =
+pub returns-then-is_plain_control-clause-advances : goal.returns-then-is_plain_control-clause-advances
+returns-then-is_plain_control-clause-advances g c =
     let v = c.loop-position.invariant in
     let b = c.at-byte.result in
-    let is = control _ (sym c.is_control.ensures ∙ c.if-is_control.true) in
+    let is = control _ (sym c.is_plain_control.ensures ∙ c.if-is_plain_control.true) in
     advances-then v.advances
     (advances-when tt (advances-in v.begun (omega arith) c.at-byte.ensures.value v.may_go_on (rw is refl)
     (in_escape c.loop-position.self

@@ -5,7 +5,7 @@ use Rattle.vte_core.proofs.bytes.ClassCases.{left_is_control}
 use Rattle.vte_core.proofs.calls.Arms.{advances-in, in_system_command, taken}
 use Rattle.vte_core.proofs.fields.PlaceOfState.{keeps-same, stands-by}
 use Rattle.vte_core.proofs.fields.StoreLemmas.{pieces_held}
-use Rattle.vte_core.proofs.calls.Ends.{settled-by}
+use Rattle.vte_core.proofs.calls.CallEnds.{settled-by}
 use Rattle.vte_core.proofs.calls.Stretches.{advances-items, advances-when, advances-then}
 use Rattle.vte_core.proofs.places.PlaceLeads.{command-item, command-control, command-bell}
 use Rattle.vte_core.proofs.parser.machine.Machine.read_system_command.Goals.{then-byte-eq59, else-byte-eq59+then-byte-eq-BELL, else-byte-eq59+else-byte-eq-BELL}
@@ -18,7 +18,7 @@ returns-in-None-clause-advances g c =
     let found = c.find_command_data_end-end.ensures in
     advances-items r.begun refl found.low found.high
     (λ k low high. (found.are k low high).0) r.may_go_on r.begun
-    (λ items k. c.push_data.ensures.keeps items (keeps-same _ _ _ items c.make_room.ensures.same k))
+    (λ items k. c.push_data.ensures.keeps items (keeps-same _ _ _ items c.take_memory.ensures.same k))
 
 -- CAN, SUB or ESC after the data ends the command.
 pub returns-then-ends_all-clause-advances : goal.returns-then-ends_all-clause-advances
@@ -28,7 +28,7 @@ returns-then-ends_all-clause-advances g c =
     advances-then
     (advances-items r.begun refl found.low found.high
     (λ k low high. (found.are k low high).0) r.may_go_on r.begun
-    (λ items k. c.push_data.ensures.keeps items (keeps-same _ _ _ items c.make_room.ensures.same k)))
+    (λ items k. c.push_data.ensures.keeps items (keeps-same _ _ _ items c.take_memory.ensures.same k)))
     c.read_end.ensures.advances
 
 -- Another byte after the data: `;` ends the piece, BEL the command, and a control is dropped.
@@ -48,7 +48,7 @@ returns-clause-advances g c =
     advances-then
     (advances-items {next = after_data} begun refl found.low found.high
     (λ k low high. (found.are k low high).0) r.may_go_on begun
-    (λ items k. c.push_data.ensures.keeps items (keeps-same _ _ _ items c.make_room.ensures.same k)))
+    (λ items k. c.push_data.ensures.keeps items (keeps-same _ _ _ items c.take_memory.ensures.same k)))
     (elim c.if-byte-eq59.branch [
       -- `;`: the next piece begins.
       | then-byte-eq59 w ↦

@@ -2,19 +2,19 @@
 -- by one of five branches (`read`). Goals after such joins take these three; the others are one branch alone.
 use Rattle.vte_core.proofs.Common.{◌≡◌, ◌+◌, ◌<◌, true, length, sym, ◌∙◌, arith, rules, false≢true, Advances, Text, Nothing}
 use Rattle.vte_core.specs.machine.Prelude.{MayReadByte}
-use Rattle.vte_core.proofs.calls.Ends.{settled-by}
+use Rattle.vte_core.proofs.calls.CallEnds.{settled-by}
 use Rattle.vte_core.proofs.calls.Stretches.{advances-byte, advances-moved, advances-part, advances-then}
 use Rattle.vte_core.proofs.calls.TextRuns.{advances-text, may_go_on-malformed, may_go_on-text}
 use Rattle.vte_core.proofs.calls.BetweenCharacters.{performs-printed, performs-single}
 use Rattle.vte_core.proofs.parser.machine.Machine.read_text.Given.{Over}
-use Rattle.vte_core.proofs.parser.machine.Machine.read_text.Invariants.{this}
+use Rattle.vte_core.proofs.parser.machine.Machine.read_text.Invariants.{call_at}
 use Rattle.vte_core.proofs.parser.machine.Machine.read_text.Goals.{Joined-IN_RUNS-2, then-IN_RUNS-2+then-is_printed_ascii+in-Some, else-IN_RUNS-2, Joined-is_printed_ascii-2, then-is_printed_ascii-2, else-is_printed_ascii-2+else-IN_RUNS-3+then-is_lead-2+else-this-ne0-2, then-is_lead+else-this-ne0, else-is_lead}
 use Rattle.vte_core.proofs.parser.machine.Machine.read_text.Goals.{else-is_printed_ascii-2+else-IN_RUNS-3+else-is_lead-2+else-byte-eq-ESCAPE}
 use Rattle.vte_core.proofs.parser.machine.Machine.read_text.Goals as goal
 
 -- the call has come past the run of ASCII, if there was one
 reached : (g : Over) (c : Joined-IN_RUNS-2 g)
-    → Advances ⊥ (this g c.args.input.bytes.now) (g.P.CountedPerform.value_of c.args.performer.now)
+    → Advances ⊥ (call_at g c.args.input.bytes.now) (g.P.CountedPerform.value_of c.args.performer.now)
     (g.P.CountedPerform.value_of c.if-IN_RUNS-2.performer) c.args.from c.if-IN_RUNS-2.position c.args.self.now
     c.loop-position-2.self
 reached g c =
@@ -34,7 +34,7 @@ reached g c =
     ]
 
 -- After the first part of the loop's body, the call stands before the byte to be read.
-at : (g : Over) (c : Joined-IN_RUNS-2 g) → MayReadByte (this g c.args.input.bytes.now)
+at : (g : Over) (c : Joined-IN_RUNS-2 g) → MayReadByte (call_at g c.args.input.bytes.now)
     (g.P.CountedPerform.value_of c.if-IN_RUNS-2.performer) (Text Nothing) c.loop-position-2.self c.if-IN_RUNS-2.position
     c.if-IN_RUNS-2.byte
 at g c =
@@ -48,7 +48,7 @@ at g c =
           rw (w.performer-is, w.position-is, w.byte-is) (record {
             begun = v.settled within;
             may_go_on =
-                may_go_on-text (this g c.args.input.bytes.now)
+                may_go_on-text (call_at g c.args.input.bytes.now)
                 (c.requires.no_stop (sym c.IN_RUNS-in-loop-position-2.ensures ∙ w.if-IN_RUNS-2.true))
                 v.may_go_on run.prints;
             within = next.0;
@@ -74,7 +74,7 @@ loop-position-2-preserved-in-None g c =
       advances =
           advances-then v.advances
           (advances-text (c.requires.no_stop runs) v.may_go_on (v.settled within) run.progress run.high run.prints);
-      may_go_on = may_go_on-text (this g c.args.input.bytes.now) (c.requires.no_stop runs) v.may_go_on run.prints;
+      may_go_on = may_go_on-text (call_at g c.args.input.bytes.now) (c.requires.no_stop runs) v.may_go_on run.prints;
       settled = λ _. v.settled within;
       low = search rules;
       high = search rules;
@@ -103,9 +103,10 @@ read_sequence-requires-clause-may_read g c =
 
 -- The call reads the byte before which it stands.
 read : (g : Over) (c : Joined-is_printed_ascii-2 g)
-    → MayReadByte (this g c.args.input.bytes.now) (g.P.CountedPerform.value_of c.if-IN_RUNS-2.performer) (Text Nothing)
+    → MayReadByte (call_at g c.args.input.bytes.now) (g.P.CountedPerform.value_of c.if-IN_RUNS-2.performer)
+    (Text Nothing)
     c.loop-position-2.self c.if-IN_RUNS-2.position c.if-IN_RUNS-2.byte
-    → Advances ⊥ (this g c.args.input.bytes.now) (g.P.CountedPerform.value_of c.if-IN_RUNS-2.performer)
+    → Advances ⊥ (call_at g c.args.input.bytes.now) (g.P.CountedPerform.value_of c.if-IN_RUNS-2.performer)
     (g.P.CountedPerform.value_of c.if-is_printed_ascii-2.performer) c.if-IN_RUNS-2.position
     (c.if-is_printed_ascii-2.position + 1) c.loop-position-2.self c.if-is_printed_ascii-2.self
 read g c here = elim c.if-is_printed_ascii-2.branch [
@@ -192,7 +193,7 @@ loop-position-2-preserved-then-byte-ge160 g c =
       may_go_on = elim c.if-is_lead.branch [
         | then-is_lead+else-this-ne0 w ↦ search rules
         | else-is_lead w ↦
-            rw w.performer-is (may_go_on-malformed g.P.CountedPerform.keeps (this g c.args.input.bytes.now)
+            rw w.performer-is (may_go_on-malformed g.P.CountedPerform.keeps (call_at g c.args.input.bytes.now)
             (c.requires.no_stop runs) here.may_go_on c.if-byte-ge160.true
             (w.tell_single.ensures.malformed (omega (arith, c.if-byte-ge160.true))))
       ];

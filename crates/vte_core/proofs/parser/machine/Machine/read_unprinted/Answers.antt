@@ -1,10 +1,10 @@
 -- A longer character is read as one. Otherwise each byte is single (`advances-single`), up to ESC, the end, a stop or a
 -- byte that may begin a run.
 use Rattle.vte_core.proofs.Common.{refl, sym, ◌∙◌, arith, rules}
-use Rattle.vte_core.proofs.calls.Ends.{settled-by}
+use Rattle.vte_core.proofs.calls.CallEnds.{settled-by}
 use Rattle.vte_core.proofs.calls.Stretches.{advances-nothing, advances-then, advances-when}
 use Rattle.vte_core.proofs.calls.BetweenCharacters.{advances-single}
-use Rattle.vte_core.proofs.bytes.Ends.{ends-unprinted}
+use Rattle.vte_core.proofs.bytes.RunEnds.{ends-unprinted}
 use Rattle.vte_core.proofs.parser.machine.Machine.read_unprinted.Goals as goal
 
 -- A byte that begins a longer one: no run begins here, so the character is none that is printed.

@@ -1,5 +1,5 @@
 -- The call stands before this byte, which neither is printed nor begins a longer character, and has told no run.
-use Rattle.vte_core.proofs.Common.{◌≡◌, ◌+◌, ◌-◌, ◌≤◌, true, false, is_in, from_to, length, Text, Nothing, Advances, looked, Spends, chunk_call}
+use Rattle.vte_core.proofs.Common.{◌≡◌, ◌+◌, ◌-◌, ◌≤◌, true, false, is_in, from_to, length, Text, Nothing, Advances, looked, SpendsWithin, chunk_call}
 use Rattle.vte_core.specs.machine.Prelude.{MayReadByte}
 use Rattle.vte_core.proofs.parser.machine.Machine.read_unprinted.Given as goal
 
@@ -14,7 +14,7 @@ invariant-loop-byte g l = record {
       (g.P.CountedPerform.value_of l.performer) (Text Nothing) l.self l.position l.byte;
   other : is_in (from_to 0x20 0x7f) l.byte ≡ false;
   lone : is_in (from_to 0xc2 0xf4) l.byte ≡ false;
-  spends : Spends 3 0 1 l.input.bytes.now l.from l.position l.fn.self l.self l.fn.looks l.looks;
+  spends : SpendsWithin 3 0 1 l.input.bytes.now l.from l.position l.fn.self l.self l.fn.looks l.looks;
   seen : looked l.fn.looks + l.position + 1 ≤ looked l.looks + l.from;
 }
 

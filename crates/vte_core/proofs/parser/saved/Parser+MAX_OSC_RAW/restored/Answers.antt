@@ -6,7 +6,7 @@ pub returns : goal.returns
 returns c = λ stream h. h.reads (record c.new-parser.result { machine = _ }) (record {
   state = search rules;
   intermediates = search rules;
-  too_many = refl;
+  too_many_intermediates = refl;
   params = search rules;
   number = refl;
   joined = refl;

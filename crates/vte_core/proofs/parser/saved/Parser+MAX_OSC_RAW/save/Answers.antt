@@ -7,7 +7,7 @@ pub returns : goal.returns
 returns c = λ stream h. reads_saved _ c.args.self.now.machine (record {
   state = c.saved_state-saved.ensures;
   intermediates = search rules;
-  too_many = search rules;
+  too_many_intermediates = search rules;
   params = search rules;
   number = refl;
   joined = search rules;

@@ -1,6 +1,6 @@
 -- The slices so far begin no update, and are parsed. Each has at least one byte, so the loop reads all.
-use Rattle.vte.proofs.Common.{◌<◌, ◌≤◌, length, meaning_of, EngineIsAt, engine_meaning, EngineIsAtKeeping, IsOpenAt, State}
-use Rattle.vte.proofs.ansi.engine.Engine.open.Given as goal
+use Rattle.vte.proofs.Common.{◌<◌, ◌≤◌, length, meaning_of, EngineIsAt, engine_meaning, EngineIsAtKeeping, HasParsedWithoutBegin, State}
+use Rattle.vte.proofs.ansi.engine.Engine.take_open_turn.Given as goal
 
 abbrev pub invariant-loop-slice : goal.invariant-loop-slice
 invariant-loop-slice g l =
@@ -12,6 +12,6 @@ invariant-loop-slice g l =
       reaches : (s : State g.H.Handler.Value g.T.Timeout.Value)
           → EngineIsAt parts l.initial.self (g.H.Handler.value_of l.initial.handler) s
           → (l._slice ≤ l.read)
-          × IsOpenAt m s l.bytes l.read
+          × HasParsedWithoutBegin m s l.bytes l.read
           (EngineIsAtKeeping parts l.initial.self l.self (g.H.Handler.value_of l.handler));
     }

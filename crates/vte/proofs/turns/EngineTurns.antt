@@ -1,10 +1,10 @@
 -- From turns to a call: what the private functions ensure of parser, hold and handler is put together into `Turned`
--- and `Halted`, and the loop over turns into `TakesTurns` and `TakesSome`.
+-- and `Halted`, and the loop over turns into `TakesTurns` and `TakesTurnsOrHalts`.
 use Rattle.vte.proofs.Common.{◌≡◌, ℕ, ◌+◌, ◌-◌, ◌<◌, ◌≤◌, Bool, true, List, [], ◌++◌, length, take, drop, refl, ap, sym, ◌∙◌, arith, length-drop}
 use Rattle.vte.proofs.Common.{append_assoc, Result, Ok, Err, append_cancel_right, drop_all, drop-drop, take_all, take-append-drop, Refused, PerformerState, Engine, Meaning}
-use Rattle.vte.proofs.Common.{held_of, false, MatchResult, EndsTurn, within}
-use Rattle.vte.proofs.Common.{Advanced, EngineIsAt, HasTaken, EngineMeaning, KeepsMemory, EngineHasMemory, EngineReads, EngineStops, EngineIsAtKeeping, EndsOpen, Halted, IsAtBegin, IsOpenAt, IsParsed, IsParsedKeeping}
-use Rattle.vte.proofs.Common.{IsParsedWithRoom, Turned, State, TakesSome, TakesTurns, all_bytes, turn, hold_turn, parse, stop, between, done, EngineLacksMemory, EngineReserves}
+use Rattle.vte.proofs.Common.{held_of, false, MatchResult, EndsTurn, inside_turn}
+use Rattle.vte.proofs.Common.{Advanced, EngineIsAt, HasTaken, EngineMeaning, KeepsMemory, EngineHasMemory, EngineReads, EngineStops, EngineIsAtKeeping, EndsOpen, Halted, HasParsedFront, HasParsedWithoutBegin, ArePartsAt, ArePartsAtKeeping}
+use Rattle.vte.proofs.Common.{ArePartsAtWithMemory, Turned, State, TakesTurnsOrHalts, TakesTurns, all_bytes, turn, hold_turn, parse, stop, between_turns, done, EngineLacksMemory, EngineReserves}
 use Rattle.vte.proofs.turns.EachOnce.{grown_bytes}
 use Rattle.vte.proofs.turns.Kinds.{halts_open, is_held, stop_if_due, turn_holds, turn_parses}
 use Rattle.vte.proofs.turns.Slices.{all_taken, halts, one_taken, some_grow, some_on, some_well, taken_on}
@@ -12,7 +12,7 @@ use Rattle.vte.proofs.turns.Slices.{all_taken, halts, one_taken, some_grow, some
 -- an engine stands where its parts do
 module _ {P B T A V W : Type 0} {parts : EngineMeaning P B T W} {engine : Engine P B T A} {value : V} {s : State V W}
   where
-    pub parts-at : EngineIsAt parts engine value s → IsParsed parts engine.parser engine.state value s
+    pub parts-at : EngineIsAt parts engine value s → ArePartsAt parts engine.parser engine.state value s
     parts-at at = record {
       has_read = at.stands.has_read;
       last = at.stands.last;
@@ -21,7 +21,7 @@ module _ {P B T A V W : Type 0} {parts : EngineMeaning P B T W} {engine : Engine
     }
 
     -- if they hold nothing
-    pub at-parts : IsParsed parts engine.parser engine.state value s → held_of engine.hold ≡ s.held → s.held ≡ []
+    pub at-parts : ArePartsAt parts engine.parser engine.state value s → held_of engine.hold ≡ s.held → s.held ≡ []
         → EngineIsAt parts engine value s
     at-parts parsed holds none = record {
       stands =
@@ -58,12 +58,12 @@ module _ {P B T A V W : Type 0} {parts : EngineMeaning P B T W} {value : V} {s :
 module _ {P B T A V W : Type 0} {parts : EngineMeaning P B T W} {m : Meaning V W} {s : State V W} {bytes slice : List ℕ}
     {read count n : ℕ} {b : Bool}
     {first old taken : Engine P B T A} {parser : P} {state : PerformerState T B} {before value : V} where
-  pub slice_parsed : IsOpenAt m s bytes read (EngineIsAtKeeping parts first old before)
+  pub slice_parsed : HasParsedWithoutBegin m s bytes read (EngineIsAtKeeping parts first old before)
       → EngineReserves parts old taken count true
       → length slice ≡ count → s.held ≡ []
-      → ((t : State V W) (k : ℕ) → IsParsedWithRoom parts taken.parser taken.state before t (length slice + k)
-      → IsAtBegin m t slice n b (IsParsedKeeping parts taken.parser taken.state parser state value))
-      → IsAtBegin m (parse m s (take read bytes)) slice n b
+      → ((t : State V W) (k : ℕ) → ArePartsAtWithMemory parts taken.parser taken.state before t (length slice + k)
+      → HasParsedFront m t slice n b (ArePartsAtKeeping parts taken.parser taken.state parser state value))
+      → HasParsedFront m (parse m s (take read bytes)) slice n b
       (EngineIsAtKeeping parts first (record taken { parser = parser; state = state }) value)
   slice_parsed o reserved size none parses =
       let here : EngineIsAtKeeping parts first taken before
@@ -122,7 +122,7 @@ ends_turn {m} {s} {bytes} pending allowed parses keeps (Err refused) less e = re
   turned = tt;
   halted = record {
     next = parse m (stop_if_due m pending s) (take refused.read bytes);
-    takes = within done pending allowed
+    takes = inside_turn done pending allowed
         (halts_open m pending s _ bytes _ (parses, halts m (stop_if_due m pending s) bytes e.halted less));
     is_at = after-next keeps e.halted.is_at;
   };
@@ -185,7 +185,7 @@ module _ {V W : Type 0} (m : Meaning V W) (s : State V W) (bytes : List ℕ) whe
         is_at = after-next r.is_at.memory turned.is_at;
       }
 
-  taken : {read : ℕ} {IsThere : State V W → Type 0} (t : State V W) → TakesSome m s bytes t (drop read bytes)
+  taken : {read : ℕ} {IsThere : State V W → Type 0} (t : State V W) → TakesTurnsOrHalts m s bytes t (drop read bytes)
       → IsThere t → HasTaken m s bytes read IsThere
   taken {read} t takes at = record {
     next = t;
@@ -200,7 +200,7 @@ module _ {V W : Type 0} (m : Meaning V W) (s : State V W) (bytes : List ℕ) whe
 
   pub has_taken : {count read : ℕ} {IsThere : State V W → Type 0} → HasReached count read IsThere
       → HasTaken m s bytes read IsThere
-  has_taken r = taken r.here (between r.takes) r.is_at
+  has_taken r = taken r.here (between_turns r.takes) r.is_at
 
   -- a turn was refused memory
   pub has_halted : {P B T A : Type 0} {parts : EngineMeaning P B T W} {first mid new : Engine P B T A}

@@ -1,10 +1,10 @@
--- Where a run ends: no sequence that is printed begins at a place. Of a sequence that would begin there, the rows say
--- the bytes; each test of the search excludes one row.
+-- Where a run ends: no sequence that is printed begins at a position. Of a sequence that would begin there, the rows
+-- say the bytes; each test of the search excludes one row.
 use Rattle.vte_core.proofs.Common.{◌≡◌, ℕ, zero, suc, ◌+◌, ◌<◌, ◌≤◌, inl, inr, Bool, utf8_rows, true, false, List, [], ◌∷◌, length, take, drop, refl, sym, ap, subst, ◌∙◌, arith, false≢true, cases_Bool, cases_lt, and_parts, nat_tests, drop_all, drop_more, slice_index, Range, from_to, is_in, is_layout, ends_run, is_control_character, is_well_formed, second_range, scalar_of, EndsRun}
 use Rattle.vte_core.proofs.bytes.Scalars.{continuation-bounds, in_range-bounds}
 use Rattle.vte_core.proofs.bytes.FirstBytes.{rows_lone, rows_none, continuation, fits, second_plain, tests_ascii, tests_none, tests_two, tests_three, tests_four}
 
--- The bytes from a place on are each in its range.
+-- The bytes from a position on are each in its range.
 abbrev pub AreIn : List Range → List ℕ → ℕ → Type 0
 AreIn [] bytes i = Unit {0}
 AreIn (range ∷ ranges) bytes i =

@@ -15,7 +15,7 @@ pub mod Takes
 -- How far a call has come; what each function requires, reads and costs.
 pub mod Progress
 pub mod MayRead
-pub mod MovesWithin
+pub mod Moves
 pub mod Completes
 pub mod Reading
 -- Several bytes: data, what a search passes, runs of text.

@@ -7,7 +7,7 @@ use Rattle.vte_core.proofs.Common.{◌≡◌, TellsQuietly, ℕ, ◌+◌, ◌*�
 use Rattle.vte_core.proofs.calls.ToRun.{reads-run, returns-run}
 use Rattle.vte_core.specs.declared.parser.long.LongParser.{LongParser}
 use Rattle.vte_core.specs.LongParser.{HasReadLong, memory_of}
-use Rattle.vte_core.specs.machine.MovesWithin.{Costs}
+use Rattle.vte_core.specs.machine.Moves.{Costs}
 use Rattle.vte_core.specs.Looks.{looks_long}
 use Rattle.vte_core.proofs.calls.Refusals.{by_count, inside-reads, meets_data, never_refused, ok_only, refuses-inside, stores_pieces}
 use Rattle.vte_core.proofs.calls.CallEnds.{ends-performs, ends-reads, ends-reads_all, ends-stops}

@@ -22,7 +22,7 @@ pub use Rattle.vte_core.specs.machine.Each.{Each}
 pub use Rattle.vte_core.specs.machine.Completes.{Completes}
 pub use Rattle.vte_core.specs.machine.Data.{AreIgnored, ArePut}
 pub use Rattle.vte_core.specs.machine.MayRead.{MayRead, MayReadAt, MayReadByte}
-pub use Rattle.vte_core.specs.machine.MovesWithin.{Costs, HandlesByte, MovesWithin, Refuses, SpendsWithin}
+pub use Rattle.vte_core.specs.machine.Moves.{Costs, HandlesByte, MovesWithin, Refuses, SpendsWithin}
 pub use Rattle.vte_core.specs.machine.ParserFields.{CountsNumbers, HoldsIntermediates, HoldsHead, HasReadUnder, KeepsIntermediates, KeepsNumbers, HoldsNumbers, Stands, StandsInHead}
 pub use Rattle.vte_core.specs.machine.Place.{AtEscape, InControlSequence, InDeviceControl, IsSettledPlace, Place, closing_events_at}
 pub use Rattle.vte_core.specs.machine.Progress.{Advances, IsSettled, ReadsUpTo, ReadsUntilRefused, StandsAt, chunk_call}

@@ -15,8 +15,8 @@ pub use Rattle.std.specs.Fmt.{decimal}
 pub use Rattle.std.specs.List.{All, concat, flat_map, join_with_byte}
 pub use Rattle.std.specs.Str.{IsUtf8, bytes_eq, chars}
 pub use Rattle.vte_core.proofs.showing.Shown.{after_colon, after_semicolon, group_text, group_written, groups_written, shown-nil}
-pub use Rattle.vte_core.specs.EventBounds.{IsBounded, IsBrief}
-pub use Rattle.vte_core.specs.EarlyStop.{IsStart, StopsExactly, breaks_at, stream_at}
+pub use Rattle.vte_core.specs.EventBounds.{IsBounded, AreFromOneByte}
+pub use Rattle.vte_core.specs.EarlyStop.{IsStart, StopsExactly, breaks_at, resumed_stream}
 unfoldable pub use Rattle.vte_core.specs.EarlyStop.{told_before}
 pub use Rattle.vte_core.specs.Event.{CsiDispatch, EscDispatch, Event, Execute, Hook, OscDispatch, Print, replacement}
 pub use Rattle.vte_core.specs.Parameters.{AreGroups, count_of, greatest_number, semicolon}

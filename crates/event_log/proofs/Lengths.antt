@@ -1,7 +1,7 @@
 -- How long the text of an event is, part by part, and how many events bytes add: at most two each. So the text of bytes
 -- is at most eight times as long as they are.
 use Rattle.event_log.proofs.Common.{◌≡◌, ℕ, ◌+◌, ◌-◌, ◌*◌, ◌<◌, ◌≤◌, max, Bool, true, false, if◌then◌else◌, List, [], ◌∷◌, ◌++◌, length, map, refl, usual_limit}
-use Rattle.event_log.proofs.Common.{length-append, arith, All, flat_map, concat, join_with_byte, decimal, length-decimal-le, All-head, All-tail, length-encode, len_utf8_bounds, IsBounded, IsBrief}
+use Rattle.event_log.proofs.Common.{length-append, arith, All, flat_map, concat, join_with_byte, decimal, length-decimal-le, All-head, All-tail, length-encode, len_utf8_bounds, IsBounded, AreFromOneByte}
 use Rattle.event_log.proofs.Common.{Event, Print, Execute, Hook, OscDispatch, CsiDispatch, EscDispatch, AreGroups, semicolon, count_of, greatest_number, shown, added, is_layout, group_text}
 use Rattle.event_log.proofs.Common.{hex_byte, hex_character, six_hex_digits, hex_length, hex_field, flag_field, pieces_fields, sequence_fields, line_of, plain_text_of}
 use Rattle.std.proofs.Common.{length-drop}
@@ -133,9 +133,9 @@ length_texts (event ∷ events) = simp length-append (omega (arith, length_text 
 -- ---- what bytes add
 
 abbrev pub AreBrief : Type 0
-AreBrief = (stream : List ℕ) (byte : ℕ) → IsBrief usual_limit (added usual_limit stream (byte ∷ []))
+AreBrief = (stream : List ℕ) (byte : ℕ) → AreFromOneByte usual_limit (added usual_limit stream (byte ∷ []))
 
-at_most_two : (events : List Event) → IsBrief usual_limit events → length events ≤ 2
+at_most_two : (events : List Event) → AreFromOneByte usual_limit events → length events ≤ 2
 at_most_two [] h = omega arith
 at_most_two (event ∷ []) h = omega arith
 at_most_two (event ∷ last ∷ []) h = omega arith

@@ -1,6 +1,6 @@
 -- A recorder that is asked at each start loses no line: unless it is terminated, at most half of its room is in use,
 -- and the lines up to the next start fit into the rest.
-use Rattle.event_log.proofs.Common.{◌≡◌, inl, inr, ℕ, zero, suc, ◌<◌, false, List, [], length, drop, refl, ap, ◌∙◌, arith, cases_Bool, StopsExactly, breaks_at, told_before, stream_at, usual_limit}
+use Rattle.event_log.proofs.Common.{◌≡◌, inl, inr, ℕ, zero, suc, ◌<◌, false, List, [], length, drop, refl, ap, ◌∙◌, arith, cases_Bool, StopsExactly, breaks_at, told_before, resumed_stream, usual_limit}
 use Rattle.event_log.proofs.Common.{Print, replacement, HasRead, after, GoesOnFromPositions, TellsUnits, Parser, line_of, hex_character, hex_length, six_hex_digits, hex_byte, hex_digit, AddsUpTo}
 use Rattle.event_log.proofs.Common.{HasKept, Record, empty_record, is_to_be_written, with_event, with_text}
 use Rattle.vte_core.proofs.streams.After.{added-nothing}
@@ -31,7 +31,7 @@ pub kept_lines : {whole : List ℕ → List ℕ} {n : ℕ} {parser parser_then :
     → GoesOnFromPositions usual_limit → TellsUnits usual_limit → old ≡ empty_record
     → (before : AddsUpTo line_of whole [] parser unread)
     → StopsExactly (with_event line_of) is_to_be_written old usual_limit before.since unread new n
-    → HasRead parser_then (stream_at before.since unread n)
+    → HasRead parser_then (resumed_stream before.since unread n)
     → HasKept line_of whole new parser_then (drop n unread)
 kept_lines {whole} {n} {parser} {old} unread goes_on units empty before s parsed =
     let since = before.since in
@@ -39,7 +39,8 @@ kept_lines {whole} {n} {parser} {old} unread goes_on units empty before s parsed
       adds_up = record { since = since; parsed = before.parsed; goes_on = λ more. rw empty (before.goes_on more) };
       kept = ap (λ (r : Record). r.lost) empty;
     } in
-    kept_by (told_before usual_limit since unread n) (stream_at since unread n) h (λ more. goes_on since unread more n)
+    kept_by (told_before usual_limit since unread n) (resumed_stream since unread n) h
+        (λ more. goes_on since unread more n)
     parsed
     (s.comes.performed
     ∙ takes_told line_of lines_are_small units since unread old h.kept

@@ -1,7 +1,7 @@
 -- What a record holds after texts. It holds the texts of all events if there is room at each start: by induction over
 -- the places, from one start to the next.
 use Rattle.event_log.proofs.Common.{◌≡◌, ℕ, zero, suc, ◌+◌, ◌<◌, ◌≤◌, Bool, false, List, [], ◌∷◌, ◌++◌, length, inl, inr, refl, sym, ap, subst, ◌∙◌, usual_limit}
-use Rattle.event_log.proofs.Common.{append_assoc, append-nil, length-append, arith, take-append_seam, cases_Bool, le-leb, nat_tests, flat_map-append, flat_map, IsBrief, IsStart, told_before, Event, after}
+use Rattle.event_log.proofs.Common.{append_assoc, append-nil, length-append, arith, take-append_seam, cases_Bool, le-leb, nat_tests, flat_map-append, flat_map, AreFromOneByte, IsStart, told_before, Event, after}
 use Rattle.event_log.proofs.Common.{TellsUnits, Record, BeginsLine, ExtendsLine, EndsLine, has_room_after, record_in, is_to_be_written, most_bytes, with_event, with_text, Lines}
 use Rattle.vte_core.proofs.streams.Performing.{after-append}
 
@@ -68,7 +68,8 @@ abbrev pub most_of_unit : ℕ
 most_of_unit = 2213
 
 abbrev pub IsSmall : (Event → List ℕ) → Type 0
-IsSmall text_of = (events : List Event) → IsBrief usual_limit events → length (flat_map text_of events) ≤ most_of_unit
+IsSmall text_of = (events : List Event) → AreFromOneByte usual_limit events
+    → length (flat_map text_of events) ≤ most_of_unit
 
 -- There is room for what is reported up to the next start.
 abbrev pub HasRoomForUnit : Record → Type 0
@@ -84,7 +85,7 @@ module _ (text_of : Event → List ℕ) (small : IsSmall text_of) (units : Tells
   Takes events = after (with_event text_of) old events ≡ record_of (old.bytes ++ flat_map text_of events) false
 
   takes_unit : (events unit : List Event) → Takes events → HasRoomForUnit (after (with_event text_of) old events)
-      → IsBrief usual_limit unit
+      → AreFromOneByte usual_limit unit
       → Takes (events ++ unit)
   takes_unit events unit taken has_room_after brief =
       after-append (with_event text_of) old events unit

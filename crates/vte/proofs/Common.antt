@@ -19,24 +19,24 @@ pub use Rattle.std.specs.Option.{ok_or, option_or}
 pub use Rattle.std.specs.Prelude.{replicate, slice_index_or}
 pub use Rattle.std.specs.Str.{IsCharBoundary, IsUtf8}
 unfoldable pub use Rattle.std.specs.Str.{chars, is_utf8, trim_end, trim_start}
-pub use Rattle.vte_core.proofs.shapes.Told.{starts-settled, stream_at-settled, told-settled}
+pub use Rattle.vte_core.proofs.shapes.Told.{starts-settled, resumed_stream-settled, told-settled}
 pub use Rattle.vte_core.proofs.stops.Units.{added_both}
 pub use Rattle.vte_core.proofs.streams.After.{added-nothing}
 pub use Rattle.vte_core.proofs.streams.CommandSizes.{counts_data}
 pub use Rattle.vte_core.proofs.streams.StreamSteps.{events_are_bounded, events_grow, opens_silently}
-pub use Rattle.vte_core.specs.EarlyStop.{StopsExactly, breaks_at, stream_at, told_before}
+pub use Rattle.vte_core.specs.EarlyStop.{StopsExactly, breaks_at, resumed_stream, told_before}
 pub use Rattle.vte_core.specs.Event.{Event, OscDispatch, Print, replacement}
-pub use Rattle.vte_core.specs.Stream.{added, open_end, usual_limit}
+pub use Rattle.vte_core.specs.Stream.{added, open_character, usual_limit}
 unfoldable pub use Rattle.vte_core.specs.Stream.{events, outcome}
 pub use Rattle.vte_core.specs.declared.parser.long.LongParser.{LongParser}
 pub use Rattle.vte_core.specs.declared.parser.refused.Refused.{Refused}
 pub use Rattle.vte_handler.specs.Call.{Call, Input, ResetColor}
 pub use Rattle.vte_handler.specs.Handler.{after}
 pub use Rattle.vte_handler.specs.Timeout.{AllowsOnly, IsSteady, TimeoutMeaning, timeout_meaning}
-pub use Rattle.vte.specs.Processor.{EndsInBegin, HoldsWellAt, IsInsideUpdate, IsOutsideUpdate, Meaning, TakesSteps, State, TakesAllTurns, TakesTurns, all_bytes, begin_front, given_bytes, AreInOrder, added_calls, calls_between, calls_with_stops, done, extend, hold_turn, kind_of, turn_of, OpenTurn, ExpiredTurn, HoldTurn, release, meaning_of, most_held, open_turn, parse, set_times, stop, turn, turns, update_nanos, with_held}
-pub use Rattle.vte.specs.Refusal.{OpenTurnHalts, HasTaken, TakesTurnsOrHalts, TurnHalts, between_turns, inside_turn}
+pub use Rattle.vte.specs.Processor.{EndsInBegin, HoldsWellAt, IsInsideUpdate, IsOutsideUpdate, Meaning, TakesSteps, State, TakesAllTurns, TakesTurns, all_bytes, front_to_begin, given_bytes, AreInOrder, added_calls, calls_between, calls_with_stops, done, extend, hold_turn, kind_of, turn_of, OpenTurn, ExpiredTurn, HoldTurn, release, meaning_of, most_held, open_turn, parse, set_times, stop, turn, turns, update_nanos, with_held}
+pub use Rattle.vte.specs.Refusal.{OpenTurnIsRefused, HasTaken, TakesTurnsUntilRefused, TurnIsRefused, between_turns, inside_turn}
 pub use Rattle.vte.specs.BeginUpdate.{begin_count, begins_in_event, is_update_group, update_group_count}
-pub use Rattle.vte.specs.Calls.{calls_beyond, calls, calls_from, calls_of, last_printed_after, last_printed, last_printed_from}
+pub use Rattle.vte.specs.Calls.{calls_after, calls, calls_from, calls_of, last_printed_after, last_printed, last_printed_from}
 pub use Rattle.vte.specs.ModeChange.{change_calls}
 pub use Rattle.vte.specs.ColorReading.{kind_reading}
 pub use Rattle.vte.specs.CommandCalls.{dynamic_calls, id_of, link_to, palette_entry_calls, palette_entries_calls}
@@ -53,7 +53,7 @@ pub use Rattle.vte.specs.machine.Performer.{FitsText, PerformerValue, with_event
 pub use Rattle.vte.specs.machine.Engine.{EngineIsAt, EngineIsAtKeeping, EndsOpen, EndsTurn, Halted, HasParsedFront, HasParsedWithoutBegin, ArePartsAt, ArePartsAtKeeping, ArePartsAtWithMemory, Opened, Turned, EngineHasMemory, EngineLacksMemory, EngineReads, EngineReserves, EngineStandsAt, EngineStops}
 pub use Rattle.vte.specs.machine.Meanings.{ParserMeaning, EngineMeaning, long_meaning, engine_meaning, limited_meaning, unlimited}
 pub use Rattle.vte.specs.Rendition.{attribute_calls, attributes_from}
-pub use Rattle.vte.specs.Synchronized.{begin_update, begins_ending_in_last, begins_with, after_last_end, end_update, from_begin, last_part}
+pub use Rattle.vte.specs.Synchronized.{begin_update, begins_ending_in_last, begins_with, after_last_end, end_update, from_begin_update, part_after_last_end}
 pub use Rattle.vte.specs.machine.Texts.{FitsRoom, fits_room, joined_size, parts_left, text_to_join}
 pub use Rattle.vte_types.specs.Words.{after_word}
 pub use Rattle.vte.specs.Titles.{joined_texts, text_in}

@@ -7,8 +7,8 @@ use Rattle.vte_types.specs.Words.{read_by}
 use Rattle.vte_types.specs.declared.color.Rgb.{Rgb}
 
 -- One to four digits.
-abbrev pub is_size : ℕ → Bool
-is_size count = nat_le 1 count && nat_le count 4
+abbrev pub is_component_length : ℕ → Bool
+is_component_length count = nat_le 1 count && nat_le count 4
 
 -- A number scaled so that the greatest with this many digits becomes 255.
 abbrev pub scaled_to_255 : ℕ → ℕ → ℕ
@@ -21,7 +21,7 @@ top_eight_bits count number = 256 * number / 16 ^ count
 -- A component of one to four hex digits, converted by `value`.
 abbrev pub component_by : (ℕ → ℕ → ℕ) → List ℕ → Option ℕ
 component_by value digits =
-    if is_size (length digits)
+    if is_component_length (length digits)
     then option_map (λ number. value (length digits) number) (hex_number digits) else None
 
 -- r/g/b

@@ -2,7 +2,7 @@
 use Rattle.std.specs.Prelude.{ℕ, pos, List, [], ◌∷◌, if◌then◌else◌, ◌==◌, ◌&&◌, ◌-◌, Option, Some, None, drop, replicate, unwrap_or}
 use Rattle.vte.specs.declared.ansi.control_calls.ModeChange.TheVariants as change
 use Rattle.vte.specs.ModeChange.{change_calls}
-use Rattle.vte.specs.Numbers.{first_of, first_or, first_numbers, asks_for_modify_other_keys}
+use Rattle.vte.specs.Numbers.{first_of, first_nonzero_or, first_numbers, asks_for_modify_other_keys}
 use Rattle.vte.specs.Rendition.{attribute_calls}
 use Rattle.vte.specs.OptionalCalls.{for_both, for_some}
 use Rattle.vte_types.specs.Rows.{Row, entry_of}
@@ -43,16 +43,16 @@ module _ (last : Option ℕ) (groups : List (List ℕ)) where
   -- Parameters as ECMA-48 names them, one per group: a number Pn is 1 if it is 0 or omitted, and an
   -- omitted Ps is 0.
   abbrev pub pn : ℕ
-  pn = first_or 1 (first_numbers groups)
+  pn = first_nonzero_or 1 (first_numbers groups)
 
   abbrev pub pn2 : ℕ
-  pn2 = first_or 1 (first_numbers (drop 1 groups))
+  pn2 = first_nonzero_or 1 (first_numbers (drop 1 groups))
 
   abbrev pub ps : ℕ
-  ps = first_or 0 (first_numbers groups)
+  ps = first_nonzero_or 0 (first_numbers groups)
 
   abbrev pub ps2 : ℕ
-  ps2 = first_or 0 (first_numbers (drop 1 groups))
+  ps2 = first_nonzero_or 0 (first_numbers (drop 1 groups))
 
   -- Without intermediates.
   unfoldable pub rows_without_intermediates : List (Row (List Call))

@@ -1,7 +1,7 @@
 -- The memory of a processor without a limit: for how many bytes it has some, and for which it was
 -- refused some.
 use Rattle.std.specs.Prelude.{◌⊎◌, ◌≡◌, ℕ, ◌+◌, ◌<◌, ◌≤◌, ◌^◌, List, length, string_capacity}
-use Rattle.vte_core.specs.LongParser.{HasReadLong, memory_of, open_size}
+use Rattle.vte_core.specs.LongParser.{HasReadLong, memory_of, open_command_size}
 use Rattle.vte_core.specs.declared.parser.long.LongParser.{LongParser}
 use Rattle.vte.specs.Processor.{most_held}
 use Rattle.vte.specs.ProcessorCalls.{held_of}
@@ -14,9 +14,9 @@ use Rattle.vte.specs.declared.ansi.engine.TheConstants.{SLICE}
 -- bytes of an open command, 50 more need memory for 150, and a text of 166: 16 for separators.
 pub record ParserHasMemory {A : Type 0} (parser : LongParser A) (size : ℕ) (stream : List ℕ)
     (count : ℕ) : Type 0 where
-  pub kept : open_size stream + count ≤ memory_of parser
-  pub joined : open_size stream + count + SEPARATORS ≤ size
-  pub counted : open_size stream + count + SEPARATORS < 2 ^ 64
+  pub kept : open_command_size stream + count ≤ memory_of parser
+  pub joined : open_command_size stream + count + SEPARATORS ≤ size
+  pub counted : open_command_size stream + count + SEPARATORS < 2 ^ 64
 
 abbrev pub held_long : {T A : Type 0} → LongProcessor T A → List ℕ
 held_long processor = held_of processor.engine.hold

@@ -15,9 +15,9 @@ abbrev pub first_numbers : List (List ℕ) → List ℕ
 first_numbers groups = map first_number groups
 
 -- The first number, or `default` if that is 0 or there is none.
-abbrev pub first_or : ℕ → List ℕ → ℕ
-first_or default [] = default
-first_or default (number ∷ numbers) = if number == 0 then default else number
+abbrev pub first_nonzero_or : ℕ → List ℕ → ℕ
+first_nonzero_or default [] = default
+first_nonzero_or default (number ∷ numbers) = if number == 0 then default else number
 
 -- XTQMODKEYS asks for the other keys: the first group is just the number 4.
 abbrev pub asks_for_modify_other_keys : List (List ℕ) → Bool

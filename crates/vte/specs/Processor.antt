@@ -8,8 +8,8 @@ use Rattle.vte_handler.specs.Call.{Call}
 use Rattle.vte_handler.specs.Handler.{after}
 use Rattle.vte_handler.specs.Timeout.{TimeoutMeaning, timeout_meaning, AllowsOnly, IsSteady}
 use Rattle.vte.specs.BeginUpdate.{begin_count}
-use Rattle.vte.specs.Calls.{calls_beyond}
-use Rattle.vte.specs.Synchronized.{begins_ending_in_last, last_part, update_ended, begin_update, begins_with, after_last_end, from_begin}
+use Rattle.vte.specs.Calls.{calls_after}
+use Rattle.vte.specs.Synchronized.{begins_ending_in_last, part_after_last_end, update_ended_call, begin_update, begins_with, after_last_end, from_begin_update}
 use Rattle.vte.specs.declared.ansi.laws.replays.Step.{Step}
 use Rattle.vte.specs.declared.ansi.laws.replays.Step.TheVariants.{Advance, StopSync}
 
@@ -36,7 +36,7 @@ set_times meaning (suc count) value = set_times meaning count (meaning.set value
 
 -- The calls that more bytes add to those of a stream.
 abbrev pub added_calls : Option ℕ → List ℕ → List ℕ → List Call
-added_calls limit stream more = calls_beyond (events limit stream) (events limit (stream ++ more))
+added_calls limit stream more = calls_after (events limit stream) (events limit (stream ++ more))
 
 -- The state between calls: the bytes parsed so far, the positions among them at which updates were
 -- stopped, the bytes held after them, and the values of the timeout and the handler.
@@ -64,11 +64,11 @@ pub record Turn (V W : Type 0) : Type 0 where
   pub rest : List ℕ
 
 -- The shortest prefix whose last byte begins an update, or all bytes if there is none.
-abbrev pub begin_front : Option ℕ → List ℕ → List ℕ → List ℕ
-begin_front limit parsed [] = []
-begin_front limit parsed (byte ∷ rest) =
+abbrev pub front_to_begin : Option ℕ → List ℕ → List ℕ → List ℕ
+front_to_begin limit parsed [] = []
+front_to_begin limit parsed (byte ∷ rest) =
     if nat_lt 0 (begin_count (added limit parsed (byte ∷ []))) then byte ∷ []
-    else byte ∷ begin_front limit (parsed ++ byte ∷ []) rest
+    else byte ∷ front_to_begin limit (parsed ++ byte ∷ []) rest
 
 -- The kinds of turns.
 pub data TurnKind : Type 0 where
@@ -101,13 +101,13 @@ module _ {V W : Type 0} (meaning : Meaning V W) where
     stops = next.stops ++ length next.parsed ∷ [];
     held = [];
     timeout = meaning.timeout.clear next.timeout;
-    handler = meaning.step next.handler update_ended;
+    handler = meaning.step next.handler update_ended_call;
   }
 
   -- An open turn: bytes are parsed up to the one that begins an update.
   abbrev pub open_turn : State V W → List ℕ → Turn V W
   open_turn state bytes =
-      let front = begin_front meaning.limit state.parsed bytes in
+      let front = front_to_begin meaning.limit state.parsed bytes in
       record { state = parse state front; rest = drop (length front) bytes }
 
   -- The bytes join the hold. Each begin-update that ends among them, and after the last end-update,
@@ -115,7 +115,7 @@ module _ {V W : Type 0} (meaning : Meaning V W) where
   abbrev pub extend : State V W → List ℕ → State V W
   extend state bytes =
       let all = state.held ++ bytes in
-      let begins = begins_ending_in_last (length bytes) (last_part all) in
+      let begins = begins_ending_in_last (length bytes) (part_after_last_end all) in
       record state { held = all; timeout = set_times meaning.timeout begins state.timeout }
 
   -- Bytes at the end of the hold are kept, and those before them parsed. If none are kept, the
@@ -130,7 +130,7 @@ module _ {V W : Type 0} (meaning : Meaning V W) where
   -- begins.
   abbrev pub release_after_end : State V W → Option (List ℕ) → State V W
   release_after_end state None = state
-  release_after_end state (Some rest) = release state (from_begin rest)
+  release_after_end state (Some rest) = release state (from_begin_update rest)
 
   -- A hold turn: all bytes join the hold, and what ends in it is released.
   abbrev pub hold_turn : State V W → List ℕ → State V W
@@ -216,7 +216,7 @@ given_bytes (StopSync ∷ steps) = given_bytes steps
 -- The calls that the bytes from one position of a stream to another make.
 abbrev pub calls_between : Option ℕ → List ℕ → ℕ → ℕ → List Call
 calls_between limit stream from to =
-    calls_beyond (events limit (take from stream)) (events limit (take to stream))
+    calls_after (events limit (take from stream)) (events limit (take to stream))
 
 -- The calls that the bytes of a stream make from a position on, if updates are stopped at these
 -- ones: after the calls of the bytes before a stop comes the one that reports the end of an update.
@@ -224,7 +224,7 @@ abbrev pub calls_with_stops : Option ℕ → List ℕ → ℕ → List ℕ → L
 calls_with_stops limit stream from [] = calls_between limit stream from (length stream)
 calls_with_stops limit stream from (position ∷ positions) =
     calls_between limit stream from position
-    ++ update_ended ∷ calls_with_stops limit stream position positions
+    ++ update_ended_call ∷ calls_with_stops limit stream position positions
 
 -- The positions lie between two others, and none is before the one that precedes it.
 abbrev pub AreInOrder : ℕ → List ℕ → ℕ → Type 0

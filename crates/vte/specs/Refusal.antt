@@ -1,8 +1,9 @@
 -- What turns, a call and a list of calls have led to if memory is refused, which happens only to a
 -- `LongProcessor`.
 --
--- The call has read bytes by whole turns, and the turn after them may have halted on the way
--- (`TurnHalts`): together these are `TakesTurnsOrHalts`. `HasTaken` says what is true then.
+-- The call has read bytes by whole turns, and the turn after them may have been refused memory on
+-- the way (`TurnIsRefused`): together these are `TakesTurnsUntilRefused`. `HasTaken` says what is
+-- true then.
 use Rattle.std.specs.Prelude.{◌≡◌, ℕ, ◌-◌, ◌<◌, ◌++◌, Bool, List, [], ◌∷◌, length, take, drop}
 use Rattle.vte_core.specs.Stream.{added}
 use Rattle.vte.specs.BeginUpdate.{begin_count}
@@ -15,7 +16,7 @@ use Rattle.vte.specs.declared.ansi.laws.replays.Step.TheVariants.{Advance, StopS
 module _ {V W : Type 0} (meaning : Meaning V W) where
   -- An open turn that was refused memory: it has parsed a front of its bytes, in which no update
   -- begins, and left some.
-  pub record OpenTurnHalts (state : State V W) (bytes : List ℕ) (next : State V W)
+  pub record OpenTurnIsRefused (state : State V W) (bytes : List ℕ) (next : State V W)
       (left : List ℕ) : Type 0 where
     pub front : List ℕ
     pub bytes_are : front ++ left ≡ bytes
@@ -24,26 +25,29 @@ module _ {V W : Type 0} (meaning : Meaning V W) where
     pub state_is : next ≡ parse meaning state front
 
   -- A turn of this kind was refused memory: never a hold turn, which takes its memory before.
-  abbrev pub KindHalts : TurnKind → State V W → List ℕ → State V W → List ℕ → Type 0
-  KindHalts OpenTurn state bytes next left = OpenTurnHalts state bytes next left
-  KindHalts ExpiredTurn state bytes next left = OpenTurnHalts (stop meaning state) bytes next left
-  KindHalts HoldTurn state bytes next left = ⊥
-  KindHalts FullTurn state bytes next left = OpenTurnHalts (stop meaning state) bytes next left
+  abbrev pub KindIsRefused : TurnKind → State V W → List ℕ → State V W → List ℕ → Type 0
+  KindIsRefused OpenTurn state bytes next left = OpenTurnIsRefused state bytes next left
+  KindIsRefused ExpiredTurn state bytes next left = OpenTurnIsRefused
+      (stop meaning state) bytes next left
+  KindIsRefused HoldTurn state bytes next left = ⊥
+  KindIsRefused FullTurn state bytes next left = OpenTurnIsRefused
+      (stop meaning state) bytes next left
 
   -- A turn was refused memory, by the timeout's answer.
-  abbrev pub TurnHalts : Bool → State V W → List ℕ → State V W → List ℕ → Type 0
-  TurnHalts pending state bytes =
-      KindHalts (kind_of pending (length state.held) (length bytes)) state bytes
+  abbrev pub TurnIsRefused : Bool → State V W → List ℕ → State V W → List ℕ → Type 0
+  TurnIsRefused pending state bytes =
+      KindIsRefused (kind_of pending (length state.held) (length bytes)) state bytes
 
   -- Turns of a call, after which a further one may have been refused memory on the way.
-  pub data TakesTurnsOrHalts (state : State V W) (bytes : List ℕ) (next : State V W)
+  pub data TakesTurnsUntilRefused (state : State V W) (bytes : List ℕ) (next : State V W)
       (left : List ℕ) : Type 0 where
     between_turns : TakesTurns meaning state bytes next left
-        → TakesTurnsOrHalts state bytes next left
+        → TakesTurnsUntilRefused state bytes next left
     inside_turn : {reached : State V W} {rest : List ℕ}
         → TakesTurns meaning state bytes reached rest
         → (pending : Bool) → meaning.timeout.allows reached.timeout pending
-        → TurnHalts pending reached rest next left → TakesTurnsOrHalts state bytes next left
+        → TurnIsRefused pending reached rest next left
+        → TakesTurnsUntilRefused state bytes next left
 
   -- A call has read `read` of its bytes, by turns, of which the last may have been refused memory
   -- on the way, and is at the state to which they led. Each byte that was read is parsed or held,
@@ -51,7 +55,7 @@ module _ {V W : Type 0} (meaning : Meaning V W) where
   pub record HasTaken (state : State V W) (bytes : List ℕ) (read : ℕ)
       (IsThere : State V W → Type 0) : Type 0 where
     pub next : State V W
-    pub takes : TakesTurnsOrHalts state bytes next (drop read bytes)
+    pub takes : TakesTurnsUntilRefused state bytes next (drop read bytes)
     pub each_once : all_bytes next ≡ all_bytes state ++ take read bytes
     pub holds_well : HoldsWellAt meaning state → HoldsWellAt meaning next
     pub is_at : IsThere next

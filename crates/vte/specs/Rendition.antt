@@ -97,18 +97,18 @@ pub record Rendition : Type 0 where
   pub used : ℕ
 
 -- A colour in the groups that follow a single 38, 48 or 58.
-abbrev pub rendition_read : (Color → Attr) → ReadColor → Rendition
-rendition_read with_color reading =
+abbrev pub color_rendition : (Color → Attr) → ReadColor → Rendition
+color_rendition with_color reading =
     record { attribute = option_map with_color reading.color; used = reading.used }
 
-abbrev pub attribute_alone : Option Attr → Rendition
-attribute_alone attribute = record { attribute = attribute; used = 0 }
+abbrev pub without_further_groups : Option Attr → Rendition
+without_further_groups attribute = record { attribute = attribute; used = 0 }
 
 -- A group of one number.
 abbrev pub single_rendition : ℕ → Option (Color → Attr) → List (List ℕ) → Rendition
 single_rendition number (Some with_color) groups =
-    rendition_read with_color (color_reading (first_numbers groups))
-single_rendition number None groups = attribute_alone (entry_of attribute_rows number)
+    color_rendition with_color (color_reading (first_numbers groups))
+single_rendition number None groups = without_further_groups (entry_of attribute_rows number)
 
 -- Any other kind is a plain underline.
 abbrev pub underline_of : List ℕ → Attr
@@ -118,12 +118,14 @@ underline_of _ = attr.Underline
 -- A group of several numbers.
 abbrev pub joined_rendition : ℕ → List ℕ → Option (Color → Attr) → Rendition
 joined_rendition number numbers (Some with_color) =
-    attribute_alone (option_map with_color (color_reading (without_color_space numbers)).color)
+    without_further_groups
+    (option_map with_color (color_reading (without_color_space numbers)).color)
 joined_rendition number numbers None =
-    if number == 4 then attribute_alone (Some (underline_of numbers)) else attribute_alone None
+    if number == 4 then without_further_groups
+    (Some (underline_of numbers)) else without_further_groups None
 
 abbrev pub rendition : List ℕ → List (List ℕ) → Rendition
-rendition [] groups = attribute_alone None
+rendition [] groups = without_further_groups None
 rendition (number ∷ []) groups = single_rendition number (entry_of color_rows number) groups
 rendition (number ∷ more ∷ numbers) groups =
     joined_rendition number (more ∷ numbers) (entry_of color_rows number)

@@ -24,25 +24,25 @@ after_last_end [] = None
 after_last_end (byte ∷ text) = option_or (after_last_end text) (after_word end_update (byte ∷ text))
 
 -- The text from its earliest begin-update on, if there is one.
-abbrev pub from_begin : List ℕ → List ℕ
-from_begin [] = []
-from_begin (byte ∷ text) =
-    if begins_with begin_update (byte ∷ text) then byte ∷ text else from_begin text
+abbrev pub from_begin_update : List ℕ → List ℕ
+from_begin_update [] = []
+from_begin_update (byte ∷ text) =
+    if begins_with begin_update (byte ∷ text) then byte ∷ text else from_begin_update text
 
 -- How many begin-updates have their last byte among the last n bytes of the text: of
 -- `ESC [?2026h b`, one among the last two, and none in the last one.
 abbrev pub begins_ending_in_last : ℕ → List ℕ → ℕ
-begins_ending_in_last count [] = 0
-begins_ending_in_last count (byte ∷ text) =
-    option_map_or (λ rest. if nat_lt (length rest) count then 1 else 0)
+begins_ending_in_last n [] = 0
+begins_ending_in_last n (byte ∷ text) =
+    option_map_or (λ rest. if nat_lt (length rest) n then 1 else 0)
     (after_word begin_update (byte ∷ text)) 0
-    + begins_ending_in_last count text
+    + begins_ending_in_last n text
 
 -- The part of a text in which begin-updates count: what follows the last end-update or, without
 -- one, all of it.
-abbrev pub last_part : List ℕ → List ℕ
-last_part text = unwrap_or (after_last_end text) text
+abbrev pub part_after_last_end : List ℕ → List ℕ
+part_after_last_end text = unwrap_or (after_last_end text) text
 
 -- The call that reports the end of an update.
-abbrev pub update_ended : Call
-update_ended = UnsetPrivateMode (Named SyncUpdate)
+abbrev pub update_ended_call : Call
+update_ended_call = UnsetPrivateMode (Named SyncUpdate)

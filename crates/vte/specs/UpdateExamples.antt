@@ -9,7 +9,7 @@ use Rattle.vte_types.specs.declared.color.NamedColor.TheVariants.{Red}
 use Rattle.vte_types.specs.declared.mode.NamedPrivateMode.TheVariants.{ShowCursor, SyncUpdate}
 use Rattle.vte_types.specs.declared.mode.PrivateMode.TheVariants.{Named}
 use Rattle.vte.specs.Processor.{Meaning, State, stop, turn}
-use Rattle.vte.specs.Synchronized.{begin_update, end_update, update_ended}
+use Rattle.vte.specs.Synchronized.{begin_update, end_update, update_ended_call}
 use Rattle.vte_core.specs.Stream.{usual_limit}
 
 -- The handler's value is the list of its calls; the timeout is pending from when it is set until it
@@ -79,12 +79,13 @@ update_examples =
     leads
     (Some (begin_update ++ codes "\u{1b}[1m")
     ∷ Some (end_update ++ begin_update ++ codes "\u{1b}[4m") ∷ [])
-    (update_begun ∷ TerminalAttribute Bold ∷ update_ended ∷ []) (begin_update ++ codes "\u{1b}[4m")
+    (update_begun ∷ TerminalAttribute Bold ∷ update_ended_call ∷ []) (begin_update
+    ++ codes "\u{1b}[4m")
     ∷ leads
     (Some (begin_update ++ codes "\u{1b}[1m")
     ∷ Some (end_update ++ begin_update ++ codes "\u{1b}[4m") ∷ Some end_update ∷ [])
-    (update_begun ∷ TerminalAttribute Bold ∷ update_ended ∷ update_begun
-    ∷ TerminalAttribute Underline ∷ update_ended ∷ update_ended ∷ []) []
+    (update_begun ∷ TerminalAttribute Bold ∷ update_ended_call ∷ update_begun
+    ∷ TerminalAttribute Underline ∷ update_ended_call ∷ update_ended_call ∷ []) []
     -- both sequences are cut across calls
     ∷ leads
     (Some (codes "\u{1b}[?20") ∷ Some (codes "26h") ∷ Some (codes "random \u{1b}[31m stuff")
@@ -92,26 +93,26 @@ update_examples =
     ∷ Some (codes "\u{1b}[?20") ∷ Some (codes "26l") ∷ [])
     (update_begun ∷ inputs (codes "random ") ++ TerminalAttribute (Foreground (color.Named Red))
     ∷ inputs (codes " stuff")
-    ++ update_begun ∷ update_ended ∷ update_ended ∷ []) []
+    ++ update_begun ∷ update_ended_call ∷ update_ended_call ∷ []) []
     -- a begin beside another mode isn't recognised in the hold; it makes its calls when it is
     -- parsed
     ∷ leads (Some begin_update ∷ Some (codes "a\u{1b}[?25;2026hb") ∷ Some end_update ∷ [])
     (update_begun ∷ Input 0x61 ∷ SetPrivateMode (Named ShowCursor) ∷ update_begun ∷ Input 0x62
-    ∷ update_ended ∷ update_ended ∷ []) []
+    ∷ update_ended_call ∷ update_ended_call ∷ []) []
     -- a stop with nothing held
-    ∷ leads (None ∷ []) (update_ended ∷ []) []
+    ∷ leads (None ∷ []) (update_ended_call ∷ []) []
     -- an update that a sequence of two modes begins, and a stop
     ∷ leads (Some (codes "\u{1b}[?25;2026hx") ∷ [])
     (SetPrivateMode (Named ShowCursor) ∷ update_begun ∷ []) (codes "x")
     ∷ leads (Some (codes "\u{1b}[?25;2026hx") ∷ None ∷ [])
-    (SetPrivateMode (Named ShowCursor) ∷ update_begun ∷ Input 0x78 ∷ update_ended ∷ []) []
+    (SetPrivateMode (Named ShowCursor) ∷ update_begun ∷ Input 0x78 ∷ update_ended_call ∷ []) []
     -- the last of two ends decides
     ∷ leads
     (Some
     (begin_update ++ codes "a" ++ end_update ++ begin_update ++ codes "b" ++ end_update
     ++ codes "c") ∷ [])
-    (update_begun ∷ Input 0x61 ∷ update_ended ∷ update_begun ∷ Input 0x62 ∷ update_ended
-    ∷ Input 0x63 ∷ update_ended ∷ []) []
+    (update_begun ∷ Input 0x61 ∷ update_ended_call ∷ update_begun ∷ Input 0x62 ∷ update_ended_call
+    ∷ Input 0x63 ∷ update_ended_call ∷ []) []
     ∷ []
 
 -- An expired update is stopped before new bytes are parsed: the timeout answers "not pending"
@@ -120,4 +121,4 @@ abbrev pub expired_example : Type 0
 expired_example =
     (turn recording_meaning false (state_after_calls start (Some (begin_update ++ codes "x") ∷ []))
     (codes "y")).state.handler
-    ≡ update_begun ∷ Input 0x78 ∷ update_ended ∷ Input 0x79 ∷ []
+    ≡ update_begun ∷ Input 0x78 ∷ update_ended_call ∷ Input 0x79 ∷ []

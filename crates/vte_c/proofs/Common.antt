@@ -17,9 +17,9 @@ pub use Rattle.std.specs.List.{All, concat, flat_map}
 pub use Rattle.std.specs.Str.{IsUtf8, chars}
 pub use Rattle.event_log.specs.Plain.{plain_text}
 unfoldable pub use Rattle.event_log.specs.Plain.{plain_text_of}
-pub use Rattle.vte_core.specs.EventBounds.{IsBounded, IsBrief, IsShort}
+pub use Rattle.vte_core.specs.EventBounds.{IsBounded, AreFromOneByte, IsShort}
 pub use Rattle.vte_core.specs.EarlyStop.{ComesTo, IsStart, breaks}
-unfoldable pub use Rattle.vte_core.specs.EarlyStop.{breaks_at, stream_at, told_before}
+unfoldable pub use Rattle.vte_core.specs.EarlyStop.{breaks_at, resumed_stream, told_before}
 pub use Rattle.vte_core.specs.Event.{CsiDispatch, EscDispatch, Event, Execute, Hook, OscDispatch, Print, Put, Unhook, replacement}
 pub use Rattle.vte_core.specs.Laws.{OpensSilently}
 pub use Rattle.vte_core.specs.Parameters.{AreGroups, count_of}
@@ -28,7 +28,7 @@ pub use Rattle.vte_core.specs.Perform.{after}
 pub use Rattle.vte_core.specs.Saved.{HasReadSaved}
 pub use Rattle.vte_core.specs.EarlyStopLaws.{GoesOnFromPositions, TellsUnits}
 pub use Rattle.vte_core.specs.Stream.{added, usual_limit}
-unfoldable pub use Rattle.vte_core.specs.Stream.{events, open_end}
+unfoldable pub use Rattle.vte_core.specs.Stream.{events, open_character}
 pub use Rattle.vte_core.specs.declared.parser.Parser.{Parser}
 pub use Rattle.vte_core.specs.declared.parser.saved.Saved.{Saved}
 pub use Rattle.vte_c.specs.Events.{AreCharacters, Holds, Room, Starts, has_room_for, is_full, most_added, paused_if, resumed, room_of, with_event, with_run, with_taken}

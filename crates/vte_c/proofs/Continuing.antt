@@ -1,7 +1,7 @@
 -- A parser that read a part of a call goes on as one that has read another stream (`Continues`), and so it does after
 -- the next part: what the parts add is joined.
 use Rattle.vte_c.proofs.Common.{AreFirst, Continues, Event, GoesOnFromPositions, List, Print, [], add_assoc, added, ap, append-nil, append_assoc, arith, breaks, usual_limit}
-use Rattle.vte_c.proofs.Common.{breaks_at, cases_Bool, drop, drop-drop, inl, inr, length, length-drop, open_end, refl, replacement, stream_at, suc, sym, take, take-add}
+use Rattle.vte_c.proofs.Common.{breaks_at, cases_Bool, drop, drop-drop, inl, inr, length, length-drop, open_character, refl, replacement, resumed_stream, suc, sym, take, take-add}
 use Rattle.vte_c.proofs.Common.{take-append-drop, told_before, true, zero, zero-add, ℕ, ◌++◌, ◌+◌, ◌∙◌, ◌∷◌, ◌≡◌, ◌≤◌}
 use Rattle.vte_core.proofs.stops.Units.{added_both}
 use Rattle.vte_core.proofs.streams.After.{added-nothing}
@@ -60,9 +60,9 @@ breaks-next (a ∷ opened) byte xs ys = refl
 
 -- A call that stops before that byte has told U+FFFD, which no byte has added so far.
 broken_first : GoesOnFromPositions usual_limit → (stream unread : List ℕ) (k : ℕ)
-    → breaks (open_end stream) unread ≡ true
+    → breaks (open_character stream) unread ≡ true
     → AreFirst (added usual_limit stream (take k unread)) (Print replacement ∷ added usual_limit [] (take k unread))
-unfolding told_before stream_at breaks_at
+unfolding told_before resumed_stream breaks_at
 broken_first goes_on stream unread zero broken =
     record { others = Print replacement ∷ added usual_limit [] []; parts = rw (added-nothing usual_limit stream) refl }
 broken_first goes_on stream [] (suc k) broken =
@@ -70,15 +70,15 @@ broken_first goes_on stream [] (suc k) broken =
 broken_first goes_on stream (byte ∷ unread) (suc k) broken =
     let front : List ℕ = byte ∷ take k unread in
     let breaks_it : breaks_at stream front 0 ≡ true =
-    rw (append-nil stream) (breaks-next (open_end stream) byte (take k unread) unread ∙ broken) in
+    rw (append-nil stream) (breaks-next (open_character stream) byte (take k unread) unread ∙ broken) in
     first_same
     (sym
-    (rw (append-nil front, told_before, stream_at, breaks_it, added-nothing usual_limit stream) at
+    (rw (append-nil front, told_before, resumed_stream, breaks_it, added-nothing usual_limit stream) at
     (goes_on stream front [] 0)))
 
 pub continues-call : GoesOnFromPositions usual_limit → (since bytes : List ℕ) (n : ℕ)
-    → Continues since (stream_at since bytes n) bytes n (told_before usual_limit since bytes n)
-unfolding told_before stream_at breaks_at
+    → Continues since (resumed_stream since bytes n) bytes n (told_before usual_limit since bytes n)
+unfolding told_before resumed_stream breaks_at
 continues-call goes_on since bytes n = elim (cases_Bool (breaks_at since bytes n)) [
   | inl broken ↦ rw broken (record {
     goes_on = λ more. rw broken at (goes_on since bytes more n);

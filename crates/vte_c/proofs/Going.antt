@@ -4,7 +4,7 @@ use Rattle.vte_c.proofs.Common.{AreCharacters, Bool, ComesTo, DataRun, Event, Re
 use Rattle.vte_c.proofs.Common.{IsRunAt, List, OpensSilently, Parser, Print, Put, Room, Run, Single, Starts, StopsAtNone, TellsUnits, TextRun, [], added, after, ap}
 use Rattle.vte_c.proofs.Common.{append-nil, arith, breaks_at, cases_Bool, cases_lt, chars, data_of, drop, drop-drop, false, false≢true, filter-append, flat_map, flat_map-append}
 use Rattle.vte_c.proofs.Common.{has, if◌then◌else◌, inl, inr, is_full, is_stop, item_events, kind_of, len_utf8_bounds, length, length-append, length-drop, length-encode, map}
-use Rattle.vte_c.proofs.Common.{nat_tests, refl, replacement, reported, resumed, run_events, run_kind, run_record, stream_at, subst, sym, take, told_before, true, with_event}
+use Rattle.vte_c.proofs.Common.{nat_tests, refl, replacement, reported, resumed, run_events, run_kind, run_record, resumed_stream, subst, sym, take, told_before, true, with_event}
 use Rattle.vte_c.proofs.Common.{with_items, with_run, with_taken, with_wanted, zero-add, ℕ, ◌++◌, ◌+◌, ◌-◌, ◌<◌, ◌∙◌, ◌∷◌, ◌≡◌, ◌≤◌}
 use Rattle.vte_core.proofs.streams.After.{added-nothing}
 use Rattle.vte_core.specs.AdvanceToRun.{IsLongestRun, ReturnsRun, run_bytes, run_events as returned_events, taken_bytes}
@@ -118,7 +118,7 @@ module _ (old new : Room) (since bytes : List ℕ) (from n : ℕ) (laws : Laws) 
       (items-unit_more bytes old)
       i (omega (arith, s.within)) (λ j earlier. s.earlier j (omega arith))
 
-  goes-call : ReadsOn old (resumed new) since (stream_at since (drop from bytes) n) bytes from n
+  goes-call : ReadsOn old (resumed new) since (resumed_stream since (drop from bytes) n) bytes from n
   goes-call = record {
     told = told_at n;
     items = items_of old (told_at n);
@@ -209,7 +209,7 @@ module _ (old mid new : Room) (since bytes : List ℕ) (from : ℕ) (run : Retur
     (r : ReturnsRun with_event is_full old mid usual_limit HasReadBefore (drop from bytes) run)
     (before : HasReadBefore since) where
   abbrev after_call : List ℕ
-  after_call = stream_at since (drop from bytes) run.start
+  after_call = resumed_stream since (drop from bytes) run.start
 
   call : ReadsOn old (resumed mid) since after_call bytes from run.start
   call = goes-call old mid since bytes from run.start laws free (r.comes since before)

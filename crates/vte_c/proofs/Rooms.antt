@@ -1,7 +1,7 @@
 -- What events leave in a room. One that isn't full has room for what one byte adds, so each event is written as one
 -- item, or isn't one of the kinds asked for.
 use Rattle.vte_c.proofs.Common.{AreReadable, Bool, CsiDispatch, DataRun, EscDispatch, Event, Events, Execute, HasItems, HaveOtherRecords, Holds, Hook, InInput, IsBounded, usual_limit}
-use Rattle.vte_c.proofs.Common.{IsBrief, IsRunAt, Item, List, OscDispatch, Print, Put, Room, Run, Single, StopsAtKind, TextRun, Unhook, VteEvent, [], add-zero, after, ap}
+use Rattle.vte_c.proofs.Common.{AreFromOneByte, IsRunAt, Item, List, OscDispatch, Print, Put, Room, Run, Single, StopsAtKind, TextRun, Unhook, VteEvent, [], add-zero, after, ap}
 use Rattle.vte_c.proofs.Common.{append-nil, append_assoc, arith, cases_Bool, data_of, false, filter-append, flag_byte, flat_map, flat_map-append, has, has_kind, has_room_for}
 use Rattle.vte_c.proofs.Common.{if◌then◌else◌, inl, inr, may_have_lost, is_full, item_data, kind_of, kinds_of, length, length-append, length-map, map, map-append, most_added}
 use Rattle.vte_c.proofs.Common.{nat_lt, nat_tests, or_parts, record_at, records_from, refl, reported, resumed, room_of, run_kind, run_record, subst, sym, take, true, with_event}
@@ -235,7 +235,7 @@ are_few room event = elim (cases_Bool (has room.kinds (kind_of event))) [
   | inr other ↦ record { count = rw other (omega arith); size = rw other (omega arith) }
 ]
 
-items-unit : (input : List ℕ) (room : Room) (unit : List Event) → IsBrief usual_limit unit → is_full room ≡ false
+items-unit : (input : List ℕ) (room : Room) (unit : List Event) → AreFromOneByte usual_limit unit → is_full room ≡ false
     → HasItems room (resumed (after with_event room unit)) input (items_of room unit)
 items-unit input room [] brief free = rw (resumed_same room (unpaused room free)) (items-nothing room input)
 items-unit input room (event ∷ []) brief free =
@@ -281,7 +281,7 @@ items-unit input room (event ∷ last ∷ more ∷ events) brief free = absurd b
 
 pub items-unit_more : {old : Room} (input : List ℕ) (room : Room) (before unit : List Event)
     → HasItems old (resumed (after with_event room before)) input (items_of old before)
-    → is_full (after with_event room before) ≡ false → IsBrief usual_limit unit
+    → is_full (after with_event room before) ≡ false → AreFromOneByte usual_limit unit
     → HasItems old (resumed (after with_event room (before ++ unit))) input (items_of old (before ++ unit))
 items-unit_more {old} input room before unit h free brief =
     let mid : Room = after with_event room before in

@@ -19,14 +19,14 @@ pub use Rattle.std.specs.Prelude.{MatchOption, slice_index}
 pub use Rattle.std.specs.Str.{IsAscii, IsUtf8, chars}
 pub use Rattle.vte_core.specs.Body.{body_rest, sequence_outcome}
 unfoldable pub use Rattle.vte_core.specs.Body.{body_outcome}
-pub use Rattle.vte_core.specs.EventBounds.{FitsStore, IsBounded, IsBrief, IsExecuted, IsPrintable, IsShort}
-pub use Rattle.vte_core.specs.Class.{AreInClass, Cancel, Class, Colon, Control, Delete, Digit, Final, High, Intermediate, Marker, Semicolon, dispatches_escape, ends_all, ends_head, is_cancel, IsPut, is_plain_control, is_device_data, is_final, is_head, is_intermediate, is_key, is_marker, is_parameter_text}
+pub use Rattle.vte_core.specs.EventBounds.{FitsStore, IsBounded, AreFromOneByte, IsExecuted, IsPrintable, IsShort}
+pub use Rattle.vte_core.specs.Class.{AreInClass, Cancel, Class, Colon, Control, Delete, Digit, Final, High, Intermediate, Marker, Semicolon, dispatches_escape, ends_body, ends_head, is_cancel, IsDeviceData, is_plain_control, is_device_data, is_final, is_head_byte, is_intermediate, is_key, is_marker, is_parameter_text}
 unfoldable pub use Rattle.vte_core.specs.Class.{class_of}
 unfoldable pub use Rattle.vte_core.specs.ControlSequence.{control_sequence_end, control_sequence_outcome}
 pub use Rattle.vte_core.specs.DeviceControl.{ends_device_data}
-unfoldable pub use Rattle.vte_core.specs.DeviceControl.{device_data_outcome, device_control_end, device_control_outcome}
+unfoldable pub use Rattle.vte_core.specs.DeviceControl.{device_data_outcome, device_control_after_head, device_control_outcome}
 pub use Rattle.vte_core.specs.EarlyStop.{ComesTo, IsStart, NoCharacterStops, StopsExactly, breaks}
-unfoldable pub use Rattle.vte_core.specs.EarlyStop.{breaks_at, stream_at, told_before}
+unfoldable pub use Rattle.vte_core.specs.EarlyStop.{breaks_at, resumed_stream, told_before}
 unfoldable pub use Rattle.vte_core.specs.Escape.{escape_outcome}
 pub use Rattle.vte_core.specs.Event.{CsiDispatch, EscDispatch, Event, Execute, Hook, OscDispatch, Print, Put, Unhook, replacement}
 pub use Rattle.vte_core.specs.Head.{Head, head_after, reported_intermediates}
@@ -35,7 +35,7 @@ pub use Rattle.vte_core.specs.Intermediates.{are_too_many, first_two}
 pub use Rattle.vte_core.specs.Key.{EscapeSequence, Key}
 unfoldable pub use Rattle.vte_core.specs.Key.{key_of}
 pub use Rattle.vte_core.specs.Laws.{AreParameters, CountsData, DispatchesShown}
-pub use Rattle.vte_core.specs.LongParser.{MeetsData, open_data_count, open_size, read_count}
+pub use Rattle.vte_core.specs.LongParser.{MeetsData, open_data_count, open_command_size, read_count}
 pub use Rattle.vte_core.specs.Looks.{looked}
 pub use Rattle.vte_core.specs.Quiet.{AddsQuietly, IsQuietEvent, PrintsNoAscii, TellsQuietly}
 pub use Rattle.vte_core.specs.Outcome.{SaysLoss, NothingToClose, ToClose, CharacterToClose, CommandToClose, Outcome, events_before_escape, closing_events, leaves, tell, open_bytes}
@@ -44,7 +44,7 @@ unfoldable pub use Rattle.vte_core.specs.Parameters.{groups_of, has_too_many_num
 pub use Rattle.vte_core.specs.Perform.{after}
 pub use Rattle.vte_core.specs.CutBefore.{from_first}
 pub use Rattle.vte_core.specs.Stream.{added, cut_at_escape, escape, with_bodies, usual_limit}
-unfoldable pub use Rattle.vte_core.specs.Stream.{events, open_end, outcome}
+unfoldable pub use Rattle.vte_core.specs.Stream.{events, open_character, outcome}
 pub use Rattle.vte_core.specs.SystemCommand.{IsCommandData, bell, ends_command, has_room, is_data_item, kept_after, most_pieces, system_command_rest}
 unfoldable pub use Rattle.vte_core.specs.SystemCommand.{loses_data, kept_items, pieces_of, system_command_outcome}
 pub use Rattle.vte_core.specs.Text.{EndsRun, is_control_character, is_layout, ends_run, StaysInRun, segments_outcome, run_event}

@@ -5,8 +5,8 @@ use Rattle.vte_core.specs.declared.scan.taken.Run.{Run}
 use Rattle.vte_core.specs.declared.scan.taken.Taken.{Taken}
 use Rattle.vte_core.specs.declared.scan.taken.Taken.TheVariants.{Text, Data, Nothing}
 use Rattle.vte_core.specs.declared.parser.Parser.{Parser}
-use Rattle.vte_core.specs.Class.{IsPut}
-use Rattle.vte_core.specs.EarlyStop.{ComesTo, stream_at}
+use Rattle.vte_core.specs.Class.{IsDeviceData}
+use Rattle.vte_core.specs.EarlyStop.{ComesTo, resumed_stream}
 use Rattle.vte_core.specs.Event.{Event, Print, Put}
 use Rattle.vte_core.specs.Looks.{looks}
 use Rattle.vte_core.specs.Quiet.{TellsQuietly}
@@ -38,7 +38,7 @@ abbrev pub IsLongestRun : List ℕ → ℕ → Taken → Type 0
 IsLongestRun bytes end (Text text) =
     (0 < length text.now) × HasNoControls text.now × EndsRun false bytes end
 IsLongestRun bytes end (Data those) =
-    (0 < length those.now) × (end < length bytes → IsPut (slice_index bytes end) → ⊥)
+    (0 < length those.now) × (end < length bytes → IsDeviceData (slice_index bytes end) → ⊥)
 IsLongestRun bytes end Nothing = ⊤
 
 -- The run stands in the bytes at its position.
@@ -58,7 +58,7 @@ pub record ReturnsRun {V : Type 0} (step : V → Event → V) (is_terminated : V
       → ComesTo step is_terminated old limit stream bytes new run.start
   -- A call that performs the run would add its events.
   pub adds : (stream : List ℕ) → HasReadBefore stream
-      → added limit (stream_at stream bytes run.start) (run_bytes run) ≡ run_events run
+      → added limit (resumed_stream stream bytes run.start) (run_bytes run) ≡ run_events run
   -- There is a run only if the performer isn't terminated.
   pub may_go_on : run.start < run.end → is_terminated new ≡ false
   -- If there is no run, the performer is terminated or all bytes were read.
@@ -71,7 +71,7 @@ pub record ReadsToRun {V : Type 0} {N : ℕ} (step : V → Event → V) (is_term
   pub returns : ReturnsRun step is_terminated old new (Some N) (HasRead parser) bytes run
   -- The parser goes on after the run.
   pub reads : (stream : List ℕ) → HasRead parser stream
-      → HasRead next (stream_at stream bytes run.start ++ run_bytes run)
+      → HasRead next (resumed_stream stream bytes run.start ++ run_bytes run)
   -- Characters and data are left to the run.
   pub quietly : (stream : List ℕ) → HasRead parser stream
       → TellsQuietly (Some N) stream bytes run.start

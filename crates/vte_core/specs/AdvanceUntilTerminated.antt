@@ -1,7 +1,7 @@
 -- What `advance_until_terminated` ensures.
 use Rattle.std.specs.Prelude.{ℕ, ◌+◌, ◌*◌, ◌≤◌, Bool, Some, List, length}
 use Rattle.vte_core.specs.declared.parser.Parser.{Parser}
-use Rattle.vte_core.specs.EarlyStop.{StopsExactly, stream_at}
+use Rattle.vte_core.specs.EarlyStop.{StopsExactly, resumed_stream}
 use Rattle.vte_core.specs.Event.{Event}
 use Rattle.vte_core.specs.Looks.{looks}
 use Rattle.vte_core.specs.Parser.{HasRead}
@@ -16,7 +16,8 @@ pub record ReadsUntilTerminated {V : Type 0} {N : ℕ} (step : V → Event → V
   pub stops : (stream : List ℕ) → HasRead parser stream
       → StopsExactly step is_terminated old (Some N) stream bytes new n
   -- The parser goes on after the bytes read.
-  pub reads : (stream : List ℕ) → HasRead parser stream → HasRead next (stream_at stream bytes n)
+  pub reads : (stream : List ℕ) → HasRead parser stream
+      → HasRead next (resumed_stream stream bytes n)
   -- At most 5 looks per byte read and 8 more, and at least one per byte read.
   pub count : looks next ≤ looks parser + 5 * n + 8
   pub least : looks parser + n ≤ looks next

@@ -53,10 +53,10 @@ is_cancel Cancel = true
 is_cancel _ = false
 
 -- CAN, SUB and ESC
-abbrev pub ends_all : Class → Bool
-ends_all Cancel = true
-ends_all Escape = true
-ends_all _ = false
+abbrev pub ends_body : Class → Bool
+ends_body Cancel = true
+ends_body Escape = true
+ends_body _ = false
 
 -- 20..2F
 abbrev pub is_intermediate : Class → Bool
@@ -76,13 +76,13 @@ is_marker Marker = true
 is_marker _ = false
 
 -- 20..3F
-abbrev pub is_head : Class → Bool
-is_head Intermediate = true
-is_head Digit = true
-is_head Colon = true
-is_head Semicolon = true
-is_head Marker = true
-is_head _ = false
+abbrev pub is_head_byte : Class → Bool
+is_head_byte Intermediate = true
+is_head_byte Digit = true
+is_head_byte Colon = true
+is_head_byte Semicolon = true
+is_head_byte Marker = true
+is_head_byte _ = false
 
 -- 40..7E
 abbrev pub is_final : Class → Bool
@@ -93,7 +93,7 @@ is_final _ = false
 abbrev pub is_key : Class → Bool
 is_key Cancel = true
 is_key Final = true
-is_key k = is_head k
+is_key k = is_head_byte k
 
 -- 30..7E, CAN and SUB: the end of an escape sequence
 abbrev pub ends_escape : Class → Bool
@@ -115,11 +115,11 @@ ends_head _ = false
 abbrev pub is_device_data : Class → Bool
 is_device_data Control = true
 is_device_data Final = true
-is_device_data k = is_head k
+is_device_data k = is_head_byte k
 
 -- Among the data of a device control string, the byte is put.
-abbrev pub IsPut : ℕ → Type 0
-IsPut b = is_device_data (class_of b) ≡ true
+abbrev pub IsDeviceData : ℕ → Type 0
+IsDeviceData b = is_device_data (class_of b) ≡ true
 
 -- Each byte is in the class.
 abbrev pub AreInClass : (Class → Bool) → List ℕ → Type 0

@@ -36,8 +36,8 @@ device_data_outcome bytes =
 
 -- CAN and SUB are executed. A final byte hooks if the head is well shaped; otherwise the string is
 -- ignored.
-unfoldable pub device_control_end : List ℕ → ℕ → List ℕ → Outcome
-device_control_end head end bytes =
+unfoldable pub device_control_after_head : List ℕ → ℕ → List ℕ → Outcome
+device_control_after_head head end bytes =
     if is_cancel (class_of end) then tell (Execute end ∷ []) (text_outcome bytes)
     else if is_well_shaped (head_of head)
     then tell (sequence_event Hook (head_of head) end ∷ []) (device_data_outcome bytes)
@@ -46,7 +46,7 @@ device_control_end head end bytes =
 -- The end of the head, and the bytes that follow it. Without an end nothing is left open.
 abbrev pub device_control_rest : List ℕ → List ℕ → Outcome
 device_control_rest head [] = leaves NothingToClose
-device_control_rest head (end ∷ bytes) = device_control_end head end bytes
+device_control_rest head (end ∷ bytes) = device_control_after_head head end bytes
 
 -- The head ends as that of a control sequence does, but C0 in it is dropped.
 unfoldable pub device_control_outcome : List ℕ → Outcome

@@ -4,7 +4,7 @@
 use Rattle.std.specs.Prelude.{◌≡◌, ◌⊎◌, ℕ, ◌<◌, ◌≤◌, Bool, true, false, ◌&&◌, not, List, [], ◌∷◌, ◌++◌, length, take, drop, Option, if◌then◌else◌}
 use Rattle.vte_core.specs.Event.{Event, Print, replacement}
 use Rattle.vte_core.specs.Perform.{after}
-use Rattle.vte_core.specs.Stream.{added, open_end}
+use Rattle.vte_core.specs.Stream.{added, open_character}
 use Rattle.vte_core.specs.Text.{run_event}
 use Rattle.vte_core.specs.Utf8.{is_truncated, is_well_formed}
 
@@ -17,13 +17,13 @@ breaks (a ∷ bytes) (b ∷ unread) =
 
 -- After i bytes a character is open, and the next byte breaks it.
 unfoldable pub breaks_at : List ℕ → List ℕ → ℕ → Bool
-breaks_at stream bytes i = breaks (open_end (stream ++ take i bytes)) (drop i bytes)
+breaks_at stream bytes i = breaks (open_character (stream ++ take i bytes)) (drop i bytes)
 
 -- A start is a position before one of the bytes where no character is open, or where that byte
 -- breaks the open one.
 pub record IsStart (stream bytes : List ℕ) (i : ℕ) : Type 0 where
   pub within : i < length bytes
-  pub starts : (open_end (stream ++ take i bytes) ≡ []) ⊎ (breaks_at stream bytes i ≡ true)
+  pub starts : (open_character (stream ++ take i bytes) ≡ []) ⊎ (breaks_at stream bytes i ≡ true)
 
 -- The events reported before position i: those that the first i bytes add, and U+FFFD if the next
 -- byte breaks a character.
@@ -34,8 +34,8 @@ told_before limit stream bytes i =
 
 -- The stream from which the parser continues after a stop at n: the empty one if the next byte
 -- breaks a character, because U+FFFD was told for that character already.
-unfoldable pub stream_at : List ℕ → List ℕ → ℕ → List ℕ
-stream_at stream bytes n = if breaks_at stream bytes n then [] else stream ++ take n bytes
+unfoldable pub resumed_stream : List ℕ → List ℕ → ℕ → List ℕ
+resumed_stream stream bytes n = if breaks_at stream bytes n then [] else stream ++ take n bytes
 
 -- Of a call: what an event does to the performer's value and when that is terminated, the value
 -- before the call, the limit of commands, the stream that was read, and the bytes of the call.
@@ -61,7 +61,7 @@ module _ {V : Type 0} (step : V → Event → V) (is_terminated : V → Bool) (o
     pub starts : n < length bytes → IsStart stream bytes n
     -- The bytes from there on in a further call leave the performer as one call with all bytes
     -- would.
-    pub goes_on : after step new (added limit (stream_at stream bytes n) (drop n bytes))
+    pub goes_on : after step new (added limit (resumed_stream stream bytes n) (drop n bytes))
         ≡ after step old (added limit stream bytes)
 
   -- The call stopped at n: at the first start where the performer was terminated or, if there was

@@ -1,7 +1,7 @@
 -- Laws of early stops, which functions of `laws` state as contracts.
 use Rattle.std.specs.Prelude.{◌≡◌, ◌⊎◌, ℕ, ◌<◌, ◌≤◌, List, [], ◌++◌, length, drop, Option}
-use Rattle.vte_core.specs.EventBounds.{IsBrief}
-use Rattle.vte_core.specs.EarlyStop.{IsStart, told_before, stream_at}
+use Rattle.vte_core.specs.EventBounds.{AreFromOneByte}
+use Rattle.vte_core.specs.EarlyStop.{IsStart, told_before, resumed_stream}
 use Rattle.vte_core.specs.Event.{Event}
 use Rattle.vte_core.specs.Stream.{added}
 
@@ -11,7 +11,7 @@ abbrev pub GoesOnFromPositions : Option ℕ → Type 0
 GoesOnFromPositions limit = (stream bytes more : List ℕ) (n : ℕ) →
     added limit stream (bytes ++ more)
     ≡ told_before limit stream bytes n
-    ++ added limit (stream_at stream bytes n) (drop n bytes ++ more)
+    ++ added limit (resumed_stream stream bytes n) (drop n bytes ++ more)
 
 -- These events had been reported at a start before position i.
 pub record AreToldAtStart (limit : Option ℕ) (stream bytes : List ℕ) (i : ℕ)
@@ -27,7 +27,7 @@ pub record TellsUnit (limit : Option ℕ) (stream bytes : List ℕ) (i : ℕ) : 
   pub before : List Event
   pub unit : List Event
   pub parts : told_before limit stream bytes i ≡ before ++ unit
-  pub brief : IsBrief limit unit
+  pub brief : AreFromOneByte limit unit
   pub begun : (before ≡ []) ⊎ AreToldAtStart limit stream bytes i before
 
 -- `TellsUnit` for each position: a performer that is asked at each start is asked after each unit.

@@ -1,8 +1,9 @@
--- One byte adds at most two events to a stream, and only the first of them may be long.
+-- The limits of events, and what one byte adds to a stream: at most two events, of which only the
+-- first may be long.
 use Rattle.std.specs.Char.{IsScalar}
 use Rattle.std.specs.Prelude.{◌≡◌, ℕ, ◌<◌, ◌≤◌, true, false, List, [], ◌∷◌, length, Option, Some, None, ⊤}
 use Rattle.std.specs.List.{concat}
-use Rattle.vte_core.specs.Class.{IsPut}
+use Rattle.vte_core.specs.Class.{IsDeviceData}
 use Rattle.vte_core.specs.Event.{Event, Print, Execute, Hook, Put, Unhook, OscDispatch, CsiDispatch, EscDispatch}
 use Rattle.vte_core.specs.Intermediates.{most_intermediates}
 use Rattle.vte_core.specs.Parameters.{AreGroups}
@@ -23,8 +24,8 @@ abbrev pub IsExecuted : ℕ → Type 0
 IsExecuted byte = is_control_character byte ≡ true
 
 -- A control sequence or a device control string: at least one group, and a final byte among 40..7E.
-abbrev pub IsSequence : List (List ℕ) → List ℕ → ℕ → Type 0
-IsSequence groups intermediates final =
+abbrev pub HasBoundedFields : List (List ℕ) → List ℕ → ℕ → Type 0
+HasBoundedFields groups intermediates final =
     AreGroups groups × (length intermediates ≤ most_intermediates) × (final < 0x7f) × (0x40 ≤ final)
     × (0 < length groups)
 
@@ -32,13 +33,14 @@ IsSequence groups intermediates final =
 abbrev pub IsBounded : Option ℕ → Event → Type 0
 IsBounded limit (Print c) = IsPrintable c
 IsBounded limit (Execute byte) = IsExecuted byte
-IsBounded limit (Hook groups intermediates ignore final) = IsSequence groups intermediates final
-IsBounded limit (Put byte) = IsPut byte
+IsBounded limit (Hook groups intermediates ignore final) = HasBoundedFields groups intermediates
+    final
+IsBounded limit (Put byte) = IsDeviceData byte
 IsBounded limit Unhook = ⊤
 IsBounded limit (OscDispatch pieces bell) =
     (length pieces ≤ most_pieces) × FitsStore limit pieces × (0 < length pieces)
 IsBounded limit (CsiDispatch groups intermediates ignore final) =
-    IsSequence groups intermediates final
+    HasBoundedFields groups intermediates final
 IsBounded limit (EscDispatch intermediates ignore final) =
     (length intermediates ≤ most_intermediates) × (final < 0x7f) × (0x30 ≤ final)
 
@@ -48,8 +50,8 @@ IsShort (Print c) = IsPrintable c
 IsShort (Execute byte) = IsExecuted byte
 IsShort _ = ⊥
 
-abbrev pub IsBrief : Option ℕ → List Event → Type 0
-IsBrief limit [] = ⊤
-IsBrief limit (event ∷ []) = IsBounded limit event
-IsBrief limit (event ∷ last ∷ []) = IsBounded limit event × IsShort last
-IsBrief limit _ = ⊥
+abbrev pub AreFromOneByte : Option ℕ → List Event → Type 0
+AreFromOneByte limit [] = ⊤
+AreFromOneByte limit (event ∷ []) = IsBounded limit event
+AreFromOneByte limit (event ∷ last ∷ []) = IsBounded limit event × IsShort last
+AreFromOneByte limit _ = ⊥

@@ -2,7 +2,7 @@
 -- 5.4).
 use Rattle.std.specs.Prelude.{ℕ, Bool, ◌||◌, List, [], ◌∷◌, ◌++◌, if◌then◌else◌, not}
 use Rattle.std.specs.List.{filter, list_all}
-use Rattle.vte_core.specs.Class.{class_of, is_head, is_intermediate, is_marker, is_parameter_text}
+use Rattle.vte_core.specs.Class.{class_of, is_head_byte, is_intermediate, is_marker, is_parameter_text}
 use Rattle.vte_core.specs.Intermediates.{first_two, are_too_many}
 use Rattle.vte_core.specs.Event.{Event}
 use Rattle.vte_core.specs.Parameters.{groups_of, has_too_many_numbers}
@@ -43,4 +43,4 @@ sequence_event event head final =
 
 -- The bytes 20..3F.
 abbrev pub head_bytes : List ℕ → List ℕ
-head_bytes bytes = filter (λ b. is_head (class_of b)) bytes
+head_bytes bytes = filter (λ b. is_head_byte (class_of b)) bytes

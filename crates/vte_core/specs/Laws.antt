@@ -4,9 +4,9 @@ use Rattle.std.specs.Prelude.{◌≡◌, ◌≢◌, ◌⊎◌, ℕ, ◌+◌, ◌
 use Rattle.std.specs.Str.{chars}
 use Rattle.vte_core.specs.Event.{CsiDispatch, Print, replacement}
 use Rattle.vte_core.specs.EventBounds.{IsBounded}
-use Rattle.vte_core.specs.LongParser.{open_size}
+use Rattle.vte_core.specs.LongParser.{open_command_size}
 use Rattle.vte_core.specs.Parameters.{count_of, shown, AreGroups}
-use Rattle.vte_core.specs.Stream.{events, added, open_end, escape}
+use Rattle.vte_core.specs.Stream.{events, added, open_character, escape}
 use Rattle.vte_core.specs.Text.{character_event}
 use Rattle.vte_core.specs.Utf8.{is_well_formed, scalar_of}
 
@@ -44,7 +44,7 @@ pub record Resyncs (limit : Option ℕ) : Type 0 where
 -- If a character is open after a byte, the byte added no event, or U+FFFD for another character
 -- that it broke.
 abbrev pub OpensSilently : Option ℕ → Type 0
-OpensSilently limit = (stream : List ℕ) (byte : ℕ) → (open_end (stream ++ byte ∷ []) ≡ [])
+OpensSilently limit = (stream : List ℕ) (byte : ℕ) → (open_character (stream ++ byte ∷ []) ≡ [])
     ⊎ ((added limit stream (byte ∷ []) ≡ [])
     ⊎ (added limit stream (byte ∷ []) ≡ Print replacement ∷ []))
 
@@ -69,5 +69,6 @@ GivesCharacters limit text =
 -- A command that bytes dispatch, or leave open, has no more data than was open before them and they
 -- can add.
 pub record CountsData (stream bytes : List ℕ) : Type 0 where
-  pub told : All (IsBounded (Some (open_size stream + length bytes))) (added None stream bytes)
-  pub left : open_size (stream ++ bytes) ≤ open_size stream + length bytes
+  pub told : All (IsBounded (Some (open_command_size stream + length bytes)))
+      (added None stream bytes)
+  pub left : open_command_size (stream ++ bytes) ≤ open_command_size stream + length bytes

@@ -51,8 +51,8 @@ abbrev pub open_data_count : ToClose → ℕ
 open_data_count (CommandToClose pieces lost) = length (concat pieces)
 open_data_count _ = 0
 
-abbrev pub open_size : List ℕ → ℕ
-open_size stream = open_data_count (outcome None stream).left
+abbrev pub open_command_size : List ℕ → ℕ
+open_command_size stream = open_data_count (outcome None stream).left
 
 -- If an operating system command is open, as many bytes are stored as its first 16 pieces have.
 abbrev pub StoresPieces : {A : Type 0} → LongParser A → List ℕ → Type 0

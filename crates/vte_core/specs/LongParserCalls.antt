@@ -4,9 +4,9 @@ use Rattle.vte_core.specs.AdvanceToRun.{ReturnsRun, run_bytes}
 use Rattle.vte_core.specs.declared.parser.long.LongParser.{LongParser}
 use Rattle.vte_core.specs.declared.parser.refused.Refused.{Refused}
 use Rattle.vte_core.specs.declared.scan.taken.Run.{Run}
-use Rattle.vte_core.specs.EarlyStop.{HasPassedBytes, StopsExactly, stream_at}
+use Rattle.vte_core.specs.EarlyStop.{HasPassedBytes, StopsExactly, resumed_stream}
 use Rattle.vte_core.specs.Event.{Event}
-use Rattle.vte_core.specs.LongParser.{HasReadLong, LacksMemory, MeetsData, StoresPieces, bytes_read, memory_of, open_size, read_count}
+use Rattle.vte_core.specs.LongParser.{HasReadLong, LacksMemory, MeetsData, StoresPieces, bytes_read, memory_of, open_command_size, read_count}
 use Rattle.vte_core.specs.Looks.{looks_long}
 use Rattle.vte_core.specs.Quiet.{TellsQuietly}
 use Rattle.vte_core.specs.Perform.{after}
@@ -31,7 +31,7 @@ pub record ContinuesLong {A Answer : Type 0} (rate : ℕ) (bytes : List ℕ)
   pub memory : memory_of parser ≤ memory_of next
   -- If there was enough for all bytes, none is refused.
   pub enough : (stream : List ℕ) → HasReadLong parser stream
-      → open_size stream + length bytes ≤ memory_of parser → IsOk result
+      → open_command_size stream + length bytes ≤ memory_of parser → IsOk result
   -- At most `rate` looks per byte of the call and 8 more; if no memory is refused, per byte read.
   -- At least one look per byte read.
   pub count : looks_long next ≤ looks_long parser + rate * length bytes + 8
@@ -71,12 +71,12 @@ pub record ReadsUntilTerminatedLong {V A : Type 0} (step : V → Event → V) (i
   pub refuses : PassesLong step is_terminated old new (HasReadLong parser) bytes result
   -- The parser goes on after the bytes read.
   pub goes_on : ContinuesLong 5 bytes result (read_count result)
-      (λ stream. stream_at stream bytes (read_count result)) parser next
+      (λ stream. resumed_stream stream bytes (read_count result)) parser next
 
 -- What a parser has read after `advance_to_run`: the run too.
 abbrev pub stream_after_run : Result Run Refused → List ℕ → List ℕ → List ℕ
-stream_after_run (Ok run) stream bytes = stream_at stream bytes run.start ++ run_bytes run
-stream_after_run (Err refused) stream bytes = stream_at stream bytes refused.read
+stream_after_run (Ok run) stream bytes = resumed_stream stream bytes run.start ++ run_bytes run
+stream_after_run (Err refused) stream bytes = resumed_stream stream bytes refused.read
 
 -- How many bytes a call of `advance_to_run` read, with the run.
 abbrev pub run_count : Result Run Refused → ℕ

@@ -3,7 +3,7 @@ use Rattle.std.specs.Prelude.{◌≡◌, ℕ, ◌≤◌, Option, List, [], ◌++
 use Rattle.std.specs.List.{All}
 use Rattle.vte_core.specs.EarlyStop.{told_before}
 use Rattle.vte_core.specs.Event.{Event, Print, Put, replacement}
-use Rattle.vte_core.specs.Stream.{open_end}
+use Rattle.vte_core.specs.Stream.{open_character}
 
 -- Neither a printed character nor data. U+FFFD is allowed: it stands for what is malformed.
 abbrev pub IsQuietEvent : Event → Type 0
@@ -20,7 +20,7 @@ PrintsNoAscii _ = ⊤
 -- Before position n of a call nothing is told that belongs into a run: only the character that an
 -- earlier call began, if one was open.
 pub record TellsQuietly (limit : Option ℕ) (stream bytes : List ℕ) (n : ℕ) : Type 0 where
-  pub quietly : open_end stream ≡ [] → All IsQuietEvent (told_before limit stream bytes n)
+  pub quietly : open_character stream ≡ [] → All IsQuietEvent (told_before limit stream bytes n)
   -- The character that an earlier call began isn't ASCII.
   pub no_ascii : All PrintsNoAscii (told_before limit stream bytes n)
 

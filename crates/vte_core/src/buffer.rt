@@ -1,6 +1,6 @@
 //! The buffer for the data bytes of an operating system command.
 ghost use Rattle.std.specs.Prelude.{◌≡◌, ◌+◌, ◌-◌, ◌<◌, ◌≤◌, ◌++◌, ℕ, true, false, List, [], Option, Some, None, not, length, drop, take, vec_capacity};
-ghost use Rattle.vte_core.specs.machine.Prelude.{HasCapacity, IsRange, ReservesCapacity, TakesFew, fitting, has_room};
+ghost use Rattle.vte_core.specs.machine.Prelude.{HasCapacity, IsRange, ReservesCapacity, LooksAtMost, fitting, has_room};
 
 use crate::scan::{Input, Looks};
 use arrayvec::ArrayVec;
@@ -47,7 +47,7 @@ pub(crate) trait Buffer {
             ++ fitting limit (length (held self.old))
             (take (to - from) (drop from input.entry.bytes.now)) }
         ensures memory { capacity self.old ≤ capacity self.new }
-        ensures few { TakesFew (to - from) looks.old looks.new };
+        ensures few { LooksAtMost (to - from) looks.old looks.new };
 }
 
 impl<const N: usize> Buffer for ArrayVec<u8, N> {

@@ -2,7 +2,7 @@
 #![tactic(auto, unfolding(crate::specs::Class::class_of))]
 
 ghost use Rattle.std.specs.Prelude.{◌≡◌, ◌-◌, ◌<◌, ◌≤◌, ◌↔◌, true, false, IsTrue, MatchOption};
-ghost use Rattle.vte_core.specs.machine.Prelude.{IsCommandData, begins_ignored_string, class_of, dispatches_escape, ends_all, is_plain_control, is_device_data, is_final, is_head, is_intermediate, is_layout, is_parameter_text, is_separator};
+ghost use Rattle.vte_core.specs.machine.Prelude.{IsCommandData, begins_ignored_string, class_of, dispatches_escape, ends_body, is_plain_control, is_device_data, is_final, is_head_byte, is_intermediate, is_layout, is_parameter_text, is_separator};
 
 pub(crate) const ESCAPE: u8 = 0x1b;
 
@@ -22,15 +22,15 @@ pub(crate) fn is_layout(byte: u8) -> bool
 }
 
 /// Returns whether a byte is CAN, SUB or ESC, which end whatever is open.
-pub(crate) fn ends_all(byte: u8) -> bool
-    ensures { result ≡ ends_all (class_of byte) }
+pub(crate) fn ends_body(byte: u8) -> bool
+    ensures { result ≡ ends_body (class_of byte) }
 {
     byte == 0x18 || byte == 0x1a || byte == ESCAPE
 }
 
 /// Returns whether a byte is surely none of CAN, SUB and ESC, by one comparison: not one of 18..1B.
 pub(crate) fn cannot_end(byte: u8) -> bool
-    ensures { result ≡ true → ends_all (class_of byte) ≡ false }
+    ensures { result ≡ true → ends_body (class_of byte) ≡ false }
 {
     byte < 0x18 || byte > ESCAPE
 }
@@ -83,8 +83,8 @@ pub(crate) fn is_parameter_text(byte: u8) -> bool
 }
 
 /// Returns whether a byte is part of a head: 20..3F.
-pub(crate) fn is_head(byte: u8) -> bool
-    ensures { result ≡ is_head (class_of byte) }
+pub(crate) fn is_head_byte(byte: u8) -> bool
+    ensures { result ≡ is_head_byte (class_of byte) }
 {
     byte >= 0x20 && byte < 0x40
 }

@@ -1,10 +1,10 @@
 //! What is collected of an escape sequence, and of the head of a control sequence or a device
 //! control string.
 ghost use Rattle.std.specs.Prelude.{◌≡◌, ◌<◌, ◌≤◌, ◌+◌, ◌*◌, ◌-◌, ◌↔◌, ◌⊎◌, min, IsTrue, List, ℕ, true, false, [], ◌∷◌, ◌++◌, length, slice_index, IfSome};
-ghost use Rattle.vte_core.specs.machine.Prelude.{CountsNumbers, HoldsIntermediates, HoldsHead, IsReady, KeepsIntermediates, KeepsNumbers, ReadsHeadUpTo, HoldsNumbers, StandsInHead, class_of, is_head, is_parameter_text};
+ghost use Rattle.vte_core.specs.machine.Prelude.{CountsNumbers, HoldsIntermediates, HoldsHead, IsReady, KeepsIntermediates, KeepsNumbers, ReadsHeadUpTo, HoldsNumbers, StandsInHead, class_of, is_head_byte, is_parameter_text};
 ghost use Rattle.vte_core.specs.machine.Prelude.{is_separator, looked, with_open_number};
 
-use crate::class::{digit_of, is_head, is_intermediate, is_parameter_text, is_separator};
+use crate::class::{digit_of, is_head_byte, is_intermediate, is_parameter_text, is_separator};
 use crate::params::Params;
 use crate::scan::{Input, Looks};
 use arrayvec::ArrayVec;
@@ -113,7 +113,7 @@ impl Collected {
     /// has been read then.
     #[inline(always)]
     fn collect_head_byte(&mut self, part: HeadProgress, byte: u8) -> HeadProgress
-        requires is { is_head (class_of byte) ≡ true }
+        requires is { is_head_byte (class_of byte) ≡ true }
         requires no_number { (part ≡ HeadProgress.Entry) ⊎ (part ≡ HeadProgress.Parameters)
             → is_parameter_text (class_of byte) ≡ false }
         ensures { (head : List ℕ) → StandsInHead self.old part head
@@ -198,7 +198,7 @@ impl Collected {
     ) -> HeadEnd
         requires { from ≤ length input.bytes.now }
         ensures reads { ReadsHeadUpTo input.entry.bytes.now from reached result self.old self.new }
-        ensures other { IfSome result.next (λ byte. is_head (class_of byte) ≡ false) }
+        ensures other { IfSome result.next (λ byte. is_head_byte (class_of byte) ≡ false) }
         ensures count { looked looks.new + 3 * from
             ≤ looked looks.old + 2 * result.position
             + min (result.position + 1) (length input.entry.bytes.now) }
@@ -210,7 +210,7 @@ impl Collected {
         let mut next = None;
         while position < input.len() {
             let byte = looks.at(input, position);
-            if !is_head(byte) {
+            if !is_head_byte(byte) {
                 next = Some(byte);
                 break;
             }

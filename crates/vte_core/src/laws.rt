@@ -1,8 +1,9 @@
-//! Laws of the definitions. The functions do nothing: their contracts are the laws.
+//! Laws of the definitions. The functions do nothing, but for `replay`, which reads a stream: their
+//! contracts are the laws.
 ghost use Rattle.std.specs.Prelude.{◌≡◌, ◌+◌, ◌≤◌, ◌^◌, List, [], ◌∷◌, ℕ, Option, Some, None, All, map, true, IsUtf8, chars};
 ghost use Rattle.std.specs.Char.{IsScalar, encode_utf8};
 ghost use Rattle.std.specs.List.{concat, flat_map};
-ghost use Rattle.vte_core.specs.EventBounds.{IsBounded, IsBrief};
+ghost use Rattle.vte_core.specs.EventBounds.{IsBounded, AreFromOneByte};
 ghost use Rattle.vte_core.specs.Division.{AreRightSegments, IsAllDivided};
 ghost use Rattle.vte_core.specs.Examples.{AreRight, text_examples, escape_examples, control_sequence_examples, device_control_examples, system_command_examples, full_store_examples};
 ghost use Rattle.vte_core.specs.Examples.{store_of_five_examples, store_of_two_examples, empty_store_examples, ignored_string_examples};
@@ -68,7 +69,7 @@ pub fn commands_are_counted()
 #[tactic(auto, using(crate::proofs::streams::StreamSteps::bytes_are_brief))]
 pub fn bytes_are_brief()
     ensures { (limit : Option ℕ) (stream : List ℕ) (byte : ℕ)
-        → IsBrief limit (added limit stream (byte ∷ [])) }
+        → AreFromOneByte limit (added limit stream (byte ∷ [])) }
 {}
 
 /// A byte after which a character is open reports nothing, or U+FFFD if it broke another one.

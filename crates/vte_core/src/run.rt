@@ -3,7 +3,7 @@
 //! A word is eight bytes. No word is tried before a run has begun with single bytes, so that no
 //! byte is read often.
 ghost use Rattle.std.specs.Prelude.{◌≡◌, ◌+◌, ◌*◌, ◌<◌, ◌≤◌, ◌↔◌, true, false, None, MatchOption, IfSome, IsTrue, length, slice_index};
-ghost use Rattle.vte_core.specs.machine.Prelude.{ArePrintedAscii, EndsRun, IsPrintedAscii, IsRange, IsRun, Scans, TakesFew, is_in, looked, from_to};
+ghost use Rattle.vte_core.specs.machine.Prelude.{ArePrintedAscii, EndsRun, IsPrintedAscii, IsRange, IsRun, Scans, LooksAtMost, is_in, looked, from_to};
 
 use crate::class::is_layout;
 use crate::scan::{CountedPerform, Grain, Input, Looks};
@@ -25,7 +25,7 @@ impl<B> Looks<B> {
             × (byte ≡ slice_index input.bytes.now (at + 1))) }
         ensures within { result ≡ true → at + 4 ≤ length input.entry.bytes.now }
         ensures printed { result ≡ true → ArePrintedAscii input.entry.bytes.now at (at + 4) }
-        ensures few { TakesFew 2 self.old self.new }
+        ensures few { LooksAtMost 2 self.old self.new }
     {
         matches!(next, Some(second) if is_printed_ascii(second))
             && matches!(self.get(input, at + 2), Some(third) if is_printed_ascii(third))
@@ -183,7 +183,7 @@ impl<B> Looks<B> {
         ensures high { IfSome result (λ end. end ≤ length input.entry.bytes.now) }
         ensures run { IfSome result (IsRun keeps input.entry.bytes.now from) }
         ensures ended { result ≡ None → EndsRun keeps input.entry.bytes.now from }
-        ensures few { TakesFew 3 self.old self.new }
+        ensures few { LooksAtMost 3 self.old self.new }
         ensures count { IfSome result (λ end. looked self.new + from + 1 ≡ looked self.old + end) }
     {
         if !is_lead(first) {

@@ -1,7 +1,7 @@
 //! The store of an operating system command.
 ghost use Rattle.std.specs.Prelude.{◌≡◌, ◌≢◌, ◌+◌, ◌-◌, ◌≤◌, ◌<◌, List, ℕ, [], ◌∷◌, ◌++◌, length, drop, map, take, false, ◌↔◌, IsTrue, All};
 ghost use Rattle.std.specs.List.Sorted.{IsNonDecreasing};
-ghost use Rattle.vte_core.specs.machine.Prelude.{ArePieceEnds, HasCapacity, Stored, IsRange, HoldsItems, OscDispatch, ReservesCapacity, SameItems, TakesFew, Tells, cut_pieces, most_pieces};
+ghost use Rattle.vte_core.specs.machine.Prelude.{ArePieceEnds, HasCapacity, Stored, IsRange, HoldsItems, OscDispatch, ReservesCapacity, SameItems, LooksAtMost, Tells, cut_pieces, most_pieces};
 
 use crate::buffer::Buffer;
 use crate::scan::{CountedPerform, Grain, Input, Looks};
@@ -119,7 +119,7 @@ impl<B: Buffer> Store<B> {
         ensures keeps { (items : List ℕ) → HoldsItems B.limit self.old items → HoldsItems B.limit
             self.new (items ++ take (to - from) (drop from input.entry.bytes.now)) }
         ensures memory { self.old.capacity ≤ self.new.capacity }
-        ensures few { TakesFew (to - from) looks.old looks.new }
+        ensures few { LooksAtMost (to - from) looks.old looks.new }
     {
         let before = self.bytes.bytes().len();
         if !self.ends.is_full() {

@@ -1,7 +1,7 @@
 -- The calls of events that follow one another, and those that more bytes add: those of the whole are those of the
 -- parts joined. By induction over the events, with the last printed character carried along.
 use Rattle.vte.proofs.Common.{◌≡◌, ℕ, None, List, [], ◌∷◌, ◌++◌, Option, refl, ap, ◌∙◌, append_assoc, drop-append_seam, Event, added, events, added_both, added-nothing}
-use Rattle.vte.proofs.Common.{events_grow, Call, after, added_calls, calls_beyond, calls, calls_from, last_printed_after, last_printed, last_printed_from, zero, suc, ◌+◌, zero-add, suc-add, Bool, ◌||◌}
+use Rattle.vte.proofs.Common.{events_grow, Call, after, added_calls, calls_after, calls, calls_from, last_printed_after, last_printed, last_printed_from, zero, suc, ◌+◌, zero-add, suc-add, Bool, ◌||◌}
 use Rattle.vte.proofs.Common.{nat_lt, arith, nat_tests, TimeoutMeaning, set_times, update_nanos, PerformerValue, first_number, is_update_group, update_group_count, with_private_mode, with_private_modes}
 use Rattle.std.specs.Bool.{if◌then◌else◌}
 
@@ -22,14 +22,14 @@ pub last-append : (last : Option ℕ) (xs ys : List Event)
 last-append last [] ys = refl
 last-append last (x ∷ xs) ys = last-append (last_printed_after last x) xs ys
 
-calls_beyond-append : (before more : List Event)
-    → calls_beyond before (before ++ more) ≡ calls_from (last_printed before) more
-calls_beyond-append before more = rw (calls-append None before more) (drop-append_seam (calls before) _)
+calls_after-append : (before more : List Event)
+    → calls_after before (before ++ more) ≡ calls_from (last_printed before) more
+calls_after-append before more = rw (calls-append None before more) (drop-append_seam (calls before) _)
 
 pub added_calls-events : (limit : Option ℕ) (p u : List ℕ)
     → added_calls limit p u ≡ calls_from (last_printed (events limit p)) (added limit p u)
 added_calls-events limit p u =
-    ap (calls_beyond (events limit p)) (events_grow limit p u) ∙ calls_beyond-append (events limit p) (added limit p u)
+    ap (calls_after (events limit p)) (events_grow limit p u) ∙ calls_after-append (events limit p) (added limit p u)
 
 pub added_calls-nothing : (limit : Option ℕ) (p : List ℕ) → added_calls limit p [] ≡ []
 added_calls-nothing limit p = rw (added_calls-events limit p [], added-nothing limit p)

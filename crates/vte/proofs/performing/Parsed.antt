@@ -1,9 +1,9 @@
 -- What parsed bytes make of a handler and a timeout. A performer's value steps by events; all events together make the
 -- calls of their rows and set the timeout once per begin of an update. An early stop is the front up to the begin.
 use Rattle.vte.proofs.Common.{◌≡◌, ℕ, ◌+◌, ◌<◌, inl, inr, Bool, false, ◌||◌, nat_lt, All, List, [], ◌∷◌, ◌++◌, length, take, refl, ap, sym, ◌∙◌, arith, or-false}
-use Rattle.vte.proofs.Common.{cases_lt, false≢true, nat_tests, All-head, All-tail, told_before, stream_at, StopsExactly, Event, added, events, starts-settled, stream_at-settled, told-settled, events_grow}
+use Rattle.vte.proofs.Common.{cases_lt, false≢true, nat_tests, All-head, All-tail, told_before, resumed_stream, StopsExactly, Event, added, events, starts-settled, resumed_stream-settled, told-settled, events_grow}
 use Rattle.vte.proofs.Common.{after, PerformerState, begin_count, begins_in_event, calls_of, calls_from, last_printed_after, last_printed, last_printed_from, performer_value, Meaning, set_times, FitsText, PerformerValue}
-use Rattle.vte.proofs.Common.{with_event, engine_meaning, ArePartsAt, ArePartsAtKeeping, KeepsMemory, State, parse, begin_front, ParserMeaning}
+use Rattle.vte.proofs.Common.{with_event, engine_meaning, ArePartsAt, ArePartsAtKeeping, KeepsMemory, State, parse, front_to_begin, ParserMeaning}
 use Rattle.vte_core.specs.Perform.{after as performed}
 use Rattle.vte.specs.declared.ansi.performer.Performer.{Performer}
 use Rattle.vte.proofs.performing.CallLists.{after-append, added_calls-events, last-append, set_times-add}
@@ -76,7 +76,7 @@ module _ {H T B G V W : Type 0} (handler_of : H → V) (timeout_of : T → W) (r
       let timeout : old.timeout ≡ s.timeout = at_timeout ∙ at.timeout_is in
       let handler : old.handler ≡ s.handler = at_handler ∙ at.handler_is in
       record {
-        is_parsed = record {
+        parts_at = record {
           has_read = read;
           last = rw (is_state, events_grow m.limit s.parsed f, last-append, ← last) (ap (λ lent. lent.last) all);
           timeout_is = rw (is_state, ← timeout) (ap (λ lent. lent.timeout) all);
@@ -99,52 +99,52 @@ terminated_by m lent (event ∷ events) =
 module _ {V W : Type 0} (m : Meaning V W) {old new : PerformerValue V W} (goes_on : old.terminated ≡ false)
     {p r : List ℕ} {n : ℕ}
     (stop : StopsExactly (with_event m.step m.timeout) (λ lent. lent.terminated) old m.limit p r new n) where
-  front : IsFront m.limit p r (length (begin_front m.limit p r))
+  front : IsFront m.limit p r (length (front_to_begin m.limit p r))
   front = is_front m.limit p r
 
   terminated_at : (i : ℕ) → (performed (with_event m.step m.timeout) old (told_before m.limit p r i)).terminated
       ≡ nat_lt 0 (begin_count (added m.limit p (take i r)))
   terminated_at i = terminated_by m old (told_before m.limit p r i) ∙ rw (goes_on, told_count m.limit p r i)
 
-  not_before : n < length (begin_front m.limit p r) → ⊥
+  not_before : n < length (front_to_begin m.limit p r) → ⊥
   not_before less =
       let f = front in
       let ends = stop.stops (omega (arith, f.within)) in
       let none = rw (stop.comes.performed, terminated_at n, f.before n less) at ends in
       false≢true none
 
-  not_after : length (begin_front m.limit p r) < n → ⊥
+  not_after : length (front_to_begin m.limit p r) < n → ⊥
   not_after less =
       let f = front in
-      let k = length (begin_front m.limit p r) in
+      let k = length (front_to_begin m.limit p r) in
       let within : k < length r = omega (arith, stop.comes.within) in
       let goes_on =
       rw (terminated_at k) at (stop.comes.earlier k less
       (starts-settled p r k within (closed_at m.limit p r k f within))) in
       grind (arith, nat_tests, f.begins within)
 
-  pub stops_at_front : n ≡ length (begin_front m.limit p r)
-  stops_at_front = elim (cases_lt n (length (begin_front m.limit p r))) [
+  pub stops_at_front : n ≡ length (front_to_begin m.limit p r)
+  stops_at_front = elim (cases_lt n (length (front_to_begin m.limit p r))) [
     | inl less ↦ absurd (not_before less)
-    | inr least ↦ elim (cases_lt (length (begin_front m.limit p r)) n) [
+    | inr least ↦ elim (cases_lt (length (front_to_begin m.limit p r)) n) [
       | inl less ↦ absurd (not_after less)
       | inr most ↦ omega arith
     ]
   ]
 
-  pub stop_performs : new ≡ performed (with_event m.step m.timeout) old (added m.limit p (begin_front m.limit p r))
+  pub stop_performs : new ≡ performed (with_event m.step m.timeout) old (added m.limit p (front_to_begin m.limit p r))
   stop_performs =
       let f =
       front in
       rw (f.is, ← stops_at_front, ← told-settled m.limit p r n (rw stops_at_front (whole_at m.limit p r _ f)))
       stop.comes.performed
 
-  pub stop_terminated : new.terminated ≡ nat_lt 0 (begin_count (added m.limit p (begin_front m.limit p r)))
+  pub stop_terminated : new.terminated ≡ nat_lt 0 (begin_count (added m.limit p (front_to_begin m.limit p r)))
   stop_terminated =
       ap (λ lent. lent.terminated) stop_performs
-      ∙ terminated_by m old (added m.limit p (begin_front m.limit p r)) ∙ rw goes_on
+      ∙ terminated_by m old (added m.limit p (front_to_begin m.limit p r)) ∙ rw goes_on
 
-  pub stop_stream : stream_at p r n ≡ p ++ begin_front m.limit p r
+  pub stop_stream : resumed_stream p r n ≡ p ++ front_to_begin m.limit p r
   stop_stream =
       let f =
-      front in rw (f.is, ← stops_at_front) (stream_at-settled p r n (rw stops_at_front (whole_at m.limit p r _ f)))
+      front in rw (f.is, ← stops_at_front) (resumed_stream-settled p r n (rw stops_at_front (whole_at m.limit p r _ f)))

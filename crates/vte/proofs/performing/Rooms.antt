@@ -6,7 +6,7 @@ use Rattle.vte.proofs.Common.{added, events, LongParser, Refused, added_both, co
 use Rattle.vte.proofs.Common.{long_meaning}
 use Rattle.vte_core.specs.EventBounds.{IsBounded}
 use Rattle.vte_core.specs.LongParserCalls.{ReadsBytesLong, ReadsUntilTerminatedLong}
-use Rattle.vte_core.specs.LongParser.{memory_of, open_size, read_count}
+use Rattle.vte_core.specs.LongParser.{memory_of, open_command_size, read_count}
 use Rattle.vte.specs.declared.ansi.titles.TheConstants.{TEXT_ROOM}
 use Rattle.vte_core.specs.declared.parser.Parser.{Parser}
 use Rattle.vte_core.specs.Advance.{ReadsBytes}
@@ -93,12 +93,12 @@ keeps_room more larger =
 
 module _ {A : Type 0} {parser : LongParser A} {size : ℕ} (stream bytes : List ℕ) (n : ℕ)
     (room : ParserHasMemory parser size stream (length bytes + n)) where
-  enough : open_size stream + length bytes ≤ memory_of parser
+  enough : open_command_size stream + length bytes ≤ memory_of parser
   enough = omega (arith, room.kept)
 
   long_fits : All (FitsText size) (added None stream bytes)
   long_fits =
-      events_fit size (open_size stream + length bytes) (added None stream bytes) (omega (arith, room.joined))
+      events_fit size (open_command_size stream + length bytes) (added None stream bytes) (omega (arith, room.joined))
       (let counts = counts_data stream bytes in counts.told)
 
   room_left : (next : LongParser A) → memory_of parser ≤ memory_of next → ParserHasMemory next size (stream ++ bytes) n

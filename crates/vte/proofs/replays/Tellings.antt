@@ -3,8 +3,8 @@
 -- stops only grow.
 use Rattle.vte.proofs.Common.{◌≡◌, ◌≤◌, ℕ, ◌+◌, ◌-◌, inl, inr, Bool, Option, List, [], ◌∷◌, ◌++◌, length, take, refl, ap, sym, ◌∙◌, arith}
 use Rattle.vte.proofs.Common.{append_assoc, length-append, cases_Bool, append-nil, drop_all, take-append-add, take-append_seam, take_all, after, Step, Advance, StopSync, added_calls, Meaning}
-use Rattle.vte.proofs.Common.{TakesSteps, calls_beyond, after_last_end, from_begin, hold_turn, AreInOrder, calls, calls_between, calls_with_stops, events}
-use Rattle.vte.proofs.Common.{State, TakesAllTurns, begin_front, extend, release, open_turn, stop, turn, done, turns}
+use Rattle.vte.proofs.Common.{TakesSteps, calls_after, after_last_end, from_begin_update, hold_turn, AreInOrder, calls, calls_between, calls_with_stops, events}
+use Rattle.vte.proofs.Common.{State, TakesAllTurns, front_to_begin, extend, release, open_turn, stop, turn, done, turns}
 use Rattle.vte.proofs.performing.CallLists.{after-append, added_calls-append}
 use Rattle.vte.proofs.turns.Kinds.{holds_all, holds_rest, is_held, is_stopped, turn_holds, turn_parses}
 use Rattle.vte.proofs.updates.Sequences.{cases_Option}
@@ -25,7 +25,7 @@ between-append limit p f rest position from =
     ap (take (length p)) (append_assoc p f rest) ∙ take-append_seam p (f ++ rest) in
     let more = take k rest in
     rw (is, first, take-append-add (p ++ f) rest k, take-append_seam (p ++ f) rest)
-    (ap (λ all. calls_beyond (events limit p) (events limit all)) (append_assoc p f more)
+    (ap (λ all. calls_after (events limit p) (events limit all)) (append_assoc p f more)
     ∙ added_calls-append limit p f more)
 
 pub between-whole : (limit : Option ℕ) (p f : List ℕ)
@@ -96,7 +96,7 @@ module _ {V W : Type 0} (m : Meaning V W) (end : State V W) where
       })
 
   tells-open : (t : State V W) (r : List ℕ) → TellsAt (open_turn m t r).state → TellsAt t
-  tells-open t r = tells-parse t.parsed (begin_front m.limit t.parsed r) t.stops t.handler
+  tells-open t r = tells-parse t.parsed (front_to_begin m.limit t.parsed r) t.stops t.handler
 
   tells-release : (t : State V W) (kept : List ℕ) → TellsAt (release m t kept) → TellsAt t
   tells-release t [] = tells-stop t
@@ -105,7 +105,7 @@ module _ {V W : Type 0} (m : Meaning V W) (end : State V W) where
   tells-hold : (t : State V W) (r : List ℕ) → TellsAt (hold_turn m t r) → TellsAt t
   tells-hold t r = elim (cases_Option (after_last_end (t.held ++ r))) [
     | inl none ↦ rw (holds_all m t r none) (λ e. e)
-    | inr some ↦ rw (holds_rest m t r some.0 some.1) (tells-release (extend m t r) (from_begin some.0))
+    | inr some ↦ rw (holds_rest m t r some.0 some.1) (tells-release (extend m t r) (from_begin_update some.0))
   ]
 
   tells-turn : (pending : Bool) (t : State V W) (r : List ℕ) → TellsAt (turn m pending t r).state → TellsAt t

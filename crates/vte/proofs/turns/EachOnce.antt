@@ -1,7 +1,7 @@
 -- Each given byte is parsed or held, once and in order. Each turn and stop keeps `Progresses`: parsed, held and left
 -- bytes together are those of before, and `Progresses` composes over the turns of a call and over calls.
 use Rattle.vte.proofs.Common.{◌≡◌, ℕ, ◌-◌, suc, inl, inr, Bool, Option, List, [], ◌∷◌, ◌++◌, length, take, drop, refl, ap, sym, ◌∙◌, append_assoc, arith}
-use Rattle.vte.proofs.Common.{take-append-drop, Step, Advance, StopSync, Meaning, TakesSteps, given_bytes, after_last_end, from_begin, State, TakesTurns, all_bytes, begin_front, extend, hold_turn, release}
+use Rattle.vte.proofs.Common.{take-append-drop, Step, Advance, StopSync, Meaning, TakesSteps, given_bytes, after_last_end, from_begin_update, State, TakesTurns, all_bytes, front_to_begin, extend, hold_turn, release}
 use Rattle.vte.proofs.Common.{cases_Bool, nat_tests, append-nil, parse, stop, turn, done, turns}
 use Rattle.std.proofs.lemmas.List.{nil_from_length}
 use Rattle.vte.proofs.updates.Fronts.{is_front}
@@ -9,9 +9,9 @@ use Rattle.vte.proofs.turns.Kinds.{holds_all, holds_rest, is_held, is_stopped, s
 use Rattle.vte.proofs.updates.Sequences.{cases_Option, stays-is}
 
 pub front_rest : (limit : Option ℕ) (p r : List ℕ)
-    → begin_front limit p r ++ drop (length (begin_front limit p r)) r ≡ r
+    → front_to_begin limit p r ++ drop (length (front_to_begin limit p r)) r ≡ r
 front_rest limit p r =
-    let k = length (begin_front limit p r) in ap (λ x. x ++ drop k r) (is_front limit p r).is ∙ take-append-drop k r
+    let k = length (front_to_begin limit p r) in ap (λ x. x ++ drop k r) (is_front limit p r).is ∙ take-append-drop k r
 
 -- A state has parsed what another had, and more of the bytes that were held there or given since.
 -- The others are held, or left.
@@ -95,7 +95,7 @@ module _ {V W : Type 0} (m : Meaning V W) where
         | inl none ↦ rw (holds_all m s r none) held
         | inr some ↦
             rw (holds_rest m s r some.0 some.1)
-            (grows_on held (release_grows (extend m s r) (from_begin some.0)
+            (grows_on held (release_grows (extend m s r) (from_begin_update some.0)
             (rw some.1 at (stays-is (s.held ++ r)))))
       ]
 

@@ -1,10 +1,10 @@
 -- From turns to a call: what the private functions ensure of parser, hold and handler is put together into `Turned`
--- and `Halted`, and the loop over turns into `TakesTurns` and `TakesTurnsOrHalts`.
+-- and `Halted`, and the loop over turns into `TakesTurns` and `TakesTurnsUntilRefused`.
 use Rattle.vte.proofs.Common.{◌≡◌, ℕ, ◌+◌, ◌-◌, ◌<◌, ◌≤◌, Bool, true, List, [], ◌++◌, length, take, drop, refl, ap, sym, ◌∙◌, arith, length-drop}
 use Rattle.vte.proofs.Common.{append_assoc, Result, Ok, Err, append_cancel_right, drop_all, drop-drop, take_all, take-append-drop, Refused, PerformerState, Engine, Meaning}
 use Rattle.vte.proofs.Common.{held_of, false, MatchResult, EndsTurn, inside_turn}
 use Rattle.vte.proofs.Common.{Advanced, EngineIsAt, HasTaken, EngineMeaning, KeepsMemory, EngineHasMemory, EngineReads, EngineStops, EngineIsAtKeeping, EndsOpen, Halted, HasParsedFront, HasParsedWithoutBegin, ArePartsAt, ArePartsAtKeeping}
-use Rattle.vte.proofs.Common.{ArePartsAtWithMemory, Turned, State, TakesTurnsOrHalts, TakesTurns, all_bytes, turn, hold_turn, parse, stop, between_turns, done, EngineLacksMemory, EngineReserves}
+use Rattle.vte.proofs.Common.{ArePartsAtWithMemory, Turned, State, TakesTurnsUntilRefused, TakesTurns, all_bytes, turn, hold_turn, parse, stop, between_turns, done, EngineLacksMemory, EngineReserves}
 use Rattle.vte.proofs.turns.EachOnce.{grown_bytes}
 use Rattle.vte.proofs.turns.Kinds.{halts_open, is_held, stop_if_due, turn_holds, turn_parses}
 use Rattle.vte.proofs.turns.Slices.{all_taken, halts, one_taken, some_grow, some_on, some_well, taken_on}
@@ -39,18 +39,23 @@ module _ {P B T A V W : Type 0} {parts : EngineMeaning P B T W} {engine : Engine
 module _ {P B T A V W : Type 0} {parts : EngineMeaning P B T W} {value : V} {s : State V W} where
   pub next-at : {engine : Engine P B T A} → EngineIsAt parts engine value s
       → EngineIsAtKeeping parts engine engine value s
-  next-at at = record { are_at = at; memory = λ stream count had. had }
+  next-at at = record { engine_at = at; memory = λ stream count had. had }
 
   pub after-next : {old mid new : Engine P B T A} → KeepsMemory (EngineHasMemory parts old) (EngineHasMemory parts mid)
       → EngineIsAtKeeping parts mid new value s → EngineIsAtKeeping parts old new value s
   after-next keeps next =
-      record { are_at = next.are_at; memory = λ stream count had. next.memory stream count (keeps stream count had) }
+      record {
+        engine_at = next.engine_at;
+        memory = λ stream count had. next.memory stream count
+            (keeps stream count had);
+      }
 
   -- they stand where they stood, and the handler is the same
   pub kept-next : {old mid new : Engine P B T A} {more : ℕ} {result : Bool} → EngineReserves parts mid new more result
       → EngineIsAtKeeping parts old mid value s → EngineIsAtKeeping parts old new value s
   kept-next r at = record {
-    are_at = record { stands = r.same s.parsed s.held s.timeout at.are_at.stands; handler_is = at.are_at.handler_is };
+    engine_at = record
+        { stands = r.same s.parsed s.held s.timeout at.engine_at.stands; handler_is = at.engine_at.handler_is };
     memory = λ stream count had. r.memory stream count (at.memory stream count had);
   }
 
@@ -71,13 +76,13 @@ module _ {P B T A V W : Type 0} {parts : EngineMeaning P B T W} {m : Meaning V W
       let all : length slice + 0 ≡ length s.held + count = omega (arith, size, ap length none) in
       let p =
       parses (parse m s (take read bytes)) 0
-      (record { is_parsed = parts-at here.are_at; room = rw all (reserved.room refl _ _ _ here.are_at.stands) }) in
+      (record { parts_at = parts-at here.engine_at; room = rw all (reserved.room refl _ _ _ here.engine_at.stands) }) in
       record {
         count = p.count;
         begins_is = p.begins_is;
         is_at = record {
-          are_at = at-parts
-              {engine = record taken { parser = parser; state = state }} p.is_at.is_parsed here.are_at.stands.holds
+          engine_at = at-parts
+              {engine = record taken { parser = parser; state = state }} p.is_at.parts_at here.engine_at.stands.holds
               none;
           memory = λ stream more had. p.is_at.memory stream more (here.memory stream more had);
         };
@@ -90,14 +95,14 @@ pub stops_update : {P B T A V W : Type 0} {parts : EngineMeaning P B T W} {m : M
     → ((s : State V W) → EngineIsAt parts old before s → EngineIsAtKeeping parts mid new value (stop m s))
     → EngineStops parts m old new before value
 stops_update {m} keeps ends = record {
-  stops = λ s at. (ends s at).are_at;
+  stops = λ s at. (ends s at).engine_at;
   memory = λ s at stream count had. (ends s at).memory stream count (keeps stream count had);
 }
 
 pub stops-next : {P B T A V W : Type 0} {parts : EngineMeaning P B T W} {m : Meaning V W} {old new : Engine P B T A}
     {before value : V} {s : State V W} → EngineStops parts m old new before value
     → EngineIsAt parts old before s → EngineIsAtKeeping parts old new value (stop m s)
-stops-next stopped at = record { are_at = stopped.stops _ at; memory = stopped.memory _ at }
+stops-next stopped at = record { engine_at = stopped.stops _ at; memory = stopped.memory _ at }
 
 -- a turn that parses bytes, after a stop if need be
 pub ends_turn : {P B T A V W : Type 0} {parts : EngineMeaning P B T W} {m : Meaning V W} {old mid new : Engine P B T A}
@@ -185,7 +190,8 @@ module _ {V W : Type 0} (m : Meaning V W) (s : State V W) (bytes : List ℕ) whe
         is_at = after-next r.is_at.memory turned.is_at;
       }
 
-  taken : {read : ℕ} {IsThere : State V W → Type 0} (t : State V W) → TakesTurnsOrHalts m s bytes t (drop read bytes)
+  taken : {read : ℕ} {IsThere : State V W → Type 0} (t : State V W)
+      → TakesTurnsUntilRefused m s bytes t (drop read bytes)
       → IsThere t → HasTaken m s bytes read IsThere
   taken {read} t takes at = record {
     next = t;
@@ -243,7 +249,7 @@ module _ {V W : Type 0} {m : Meaning V W} {s : State V W} {bytes : List ℕ} {re
   taken-at : {P B T A : Type 0} {parts : EngineMeaning P B T W} {old new : Engine P B T A} {value : V}
       → HasTaken m s bytes read (EngineIsAtKeeping parts old new value)
       → HasTaken m s bytes read (EngineIsAt parts new value)
-  taken-at = taken-to (λ t next. next.are_at)
+  taken-at = taken-to (λ t next. next.engine_at)
 
 -- what a call ensures by its turns
 module _ {P B T A V W : Type 0} {parts : EngineMeaning P B T W} {m : Meaning V W} {old new : Engine P B T A}

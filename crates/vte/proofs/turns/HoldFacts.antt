@@ -3,7 +3,7 @@
 use Rattle.vte.proofs.Common.{◌≡◌, ℕ, zero, suc, ◌-◌, ◌<◌, ◌≤◌, inl, inr, Bool, true, false, List, [], ◌∷◌, ◌++◌, length, take, refl, sym}
 use Rattle.vte.proofs.Common.{length-append, arith, cases_Bool, cases_lt, false≢true, nat_tests, added}
 use Rattle.vte.proofs.Common.{TimeoutMeaning, AllowsOnly, IsSteady, begin_count, IsOutsideUpdate, IsInsideUpdate, Meaning, set_times}
-use Rattle.vte.proofs.Common.{update_nanos, HoldsWellAt, begin_update, begins_ending_in_last, after_last_end, from_begin, last_part, State, TakesTurns, stop, begin_front, open_turn, release}
+use Rattle.vte.proofs.Common.{update_nanos, HoldsWellAt, begin_update, begins_ending_in_last, after_last_end, from_begin_update, part_after_last_end, State, TakesTurns, stop, front_to_begin, open_turn, release}
 use Rattle.vte.proofs.Common.{extend, hold_turn, turn, done, turns, most_held, ap, append-nil}
 use Rattle.vte.proofs.turns.EachOnce.{stop_if_due_none}
 use Rattle.vte.proofs.updates.Fronts.{is_front}
@@ -39,14 +39,14 @@ module _ {V W : Type 0} (m : Meaning V W) where
       record {
         no_end = rw nothing refl;
         fits = rw nothing (omega arith);
-        steady = λ k. elim (cases_lt 0 (begin_count (added m.limit s.parsed (begin_front m.limit s.parsed r)))) [
+        steady = λ k. elim (cases_lt 0 (begin_count (added m.limit s.parsed (front_to_begin m.limit s.parsed r)))) [
           | inl some ↦
               inr (record {
                 pending = pending m.timeout k _ s.timeout some;
                 begun = inl (rw f.is (f.ends (rw f.is at some)));
               })
           | inr none ↦
-              let zero : begin_count (added m.limit s.parsed (begin_front m.limit s.parsed r)) ≡ 0 = omega arith in
+              let zero : begin_count (added m.limit s.parsed (front_to_begin m.limit s.parsed r)) ≡ 0 = omega arith in
               inl (record { not_pending = rw zero (outside k).not_pending; none_held = nothing })
         ];
       }
@@ -101,7 +101,7 @@ module _ {V W : Type 0} (m : Meaning V W) where
       let inside : IsSteady m.timeout
       → IsInsideUpdate m.limit m.timeout s.parsed (s.held ++ r) (extend m s r).timeout =
       λ k. (let i = inside_of s h allowed k in record {
-        pending = still_pending m.timeout k (begins_ending_in_last (length r) (last_part (s.held
+        pending = still_pending m.timeout k (begins_ending_in_last (length r) (part_after_last_end (s.held
             ++ r))) s.timeout i.pending;
         begun = elim i.begun [ inl p ↦ inl p | inr b ↦ inr (begins_with-append begin_update s.held r b) ];
       }) in
@@ -110,7 +110,7 @@ module _ {V W : Type 0} (m : Meaning V W) where
             rw (holds_all m s r none) (record { no_end = none; fits = fits; steady = λ k. inr (inside k) })
         | inr some ↦
             rw (holds_rest m s r some.0 some.1)
-            (keep_well (extend m s r) (from_begin some.0) (rw some.1 at (stays_held (s.held ++ r))) fits inside)
+            (keep_well (extend m s r) (from_begin_update some.0) (rw some.1 at (stays_held (s.held ++ r))) fits inside)
       ]
 
   -- ---- a turn, and turns of a call

@@ -1,7 +1,7 @@
 -- A hold turn by its parts: bytes join the hold, the timeout is set as often as they begin updates, and what the hold
 -- releases is parsed.
 use Rattle.vte.proofs.Common.{◌≡◌, ℕ, ◌+◌, ◌-◌, ◌<◌, List, [], ◌∷◌, ◌++◌, length, length-append, length-take, take, refl, sym, ◌∙◌, arith, take_all, Engine, IsAdded}
-use Rattle.vte.proofs.Common.{held_of, released_of, still_held, Meaning, set_times, EngineIsAt, EngineMeaning, EngineIsAtKeeping, ArePartsAt, ArePartsAtKeeping, ArePartsAtWithMemory, State, after_last_end, extend, from_begin, hold_turn, release}
+use Rattle.vte.proofs.Common.{held_of, released_of, still_held, Meaning, set_times, EngineIsAt, EngineMeaning, EngineIsAtKeeping, ArePartsAt, ArePartsAtKeeping, ArePartsAtWithMemory, State, after_last_end, extend, from_begin_update, hold_turn, release}
 use Rattle.vte.proofs.Common.{ap, inl, inr, parse, stop, with_held}
 use Rattle.std.proofs.lemmas.List.{nil_from_length}
 use Rattle.vte.proofs.turns.Kinds.{holds_all, holds_rest}
@@ -28,8 +28,8 @@ module _ {V W : Type 0} (m : Meaning V W) where
         holds_all m s r none
         ∙ rw (is, no_front) (sym (ap (λ t. with_held t all) (parse-nothing m (extend m s r))))
     | inr last ↦
-        let is : still_held (s.held ++ r) ≡ from_begin last.0 = rw last.1 refl in
-        holds_rest m s r last.0 last.1 ∙ rw is (keeps_some (extend m s r) (from_begin last.0) (rw is at some))
+        let is : still_held (s.held ++ r) ≡ from_begin_update last.0 = rw last.1 refl in
+        holds_rest m s r last.0 last.1 ∙ rw is (keeps_some (extend m s r) (from_begin_update last.0) (rw is at some))
   ]
 
   holds_none : (s : State V W) (r : List ℕ) → 0 < length (s.held ++ r) → still_held (s.held ++ r) ≡ []
@@ -37,7 +37,7 @@ module _ {V W : Type 0} (m : Meaning V W) where
   holds_none s r some none = elim (cases_Option (after_last_end (s.held ++ r))) [
     | inl whole ↦ let all : s.held ++ r ≡ [] = rw whole at none in absurd (omega (arith, some, ap length all))
     | inr last ↦
-        let nothing : from_begin last.0 ≡ [] = rw last.1 at none in
+        let nothing : from_begin_update last.0 ≡ [] = rw last.1 at none in
         holds_rest m s r last.0 last.1 ∙ rw nothing refl
   ]
 
@@ -88,9 +88,9 @@ module _ {P B T A V W : Type 0} {parts : EngineMeaning P B T W} (m : Meaning V W
       let there = parses t rest extended (λ some. ready) in
       let parsed : ArePartsAt parts last.parser last.state next
       (parse m t (take (length all - length (still_held all)) all)) =
-      rw added.released_is at there.is_parsed in
+      rw added.released_is at there.parts_at in
       rw (holds_some m s more (rw added.held_is at some)) (record {
-        are_at = record {
+        engine_at = record {
           stands = record {
             has_read = parsed.has_read;
             last = parsed.last;
@@ -99,7 +99,7 @@ module _ {P B T A V W : Type 0} {parts : EngineMeaning P B T W} (m : Meaning V W
             has_memory =
                 λ some.
                 rw (added.released_is, added.held_is) at (leaves t rest
-                (record { is_parsed = extended; room = ready }));
+                (record { parts_at = extended; room = ready }));
           };
           handler_is = parsed.handler_is;
         };
@@ -124,4 +124,4 @@ module _ {P B T A V W : Type 0} {parts : EngineMeaning P B T W} (m : Meaning V W
       let there : EngineIsAtKeeping parts set last next (stop m (extend m s more)) =
       stops (extend m s more) 0 extended whole none (λ some. rw sum room) in
       rw (holds_none m s more (omega (arith, some, length-append s.held more)) nothing)
-      (record { are_at = there.are_at; memory = there.memory })
+      (record { engine_at = there.engine_at; memory = there.memory })

@@ -1,6 +1,6 @@
 -- Turns by their cases: a hold turn by whether the hold has an end-update, and a turn by whether its bytes are held.
 use Rattle.vte.proofs.Common.{◌≡◌, ◌⊎◌, inl, inr, refl, Bool, true, false, List, [], Some, None, ◌++◌, ◌+◌, ◌||◌, ℕ, zero, suc, length, nat_le, nat_lt, cases_Bool, arith, nat_tests}
-use Rattle.vte.proofs.Common.{ExpiredTurn, Meaning, OpenTurn, OpenTurnHalts, State, TurnHalts, after_last_end, extend, from_begin, hold_turn, kind_of, most_held, open_turn, release, stop, turn}
+use Rattle.vte.proofs.Common.{ExpiredTurn, Meaning, OpenTurn, OpenTurnIsRefused, State, TurnIsRefused, after_last_end, extend, from_begin_update, hold_turn, kind_of, most_held, open_turn, release, stop, turn}
 use Rattle.std.specs.Prelude.{◌&&◌, if◌then◌else◌}
 
 module _ {V W : Type 0} (m : Meaning V W) (s : State V W) (r : List ℕ) where
@@ -8,7 +8,7 @@ module _ {V W : Type 0} (m : Meaning V W) (s : State V W) (r : List ℕ) where
   holds_all none = rw none refl
 
   pub holds_rest : (rest : List ℕ) → after_last_end (s.held ++ r) ≡ Some rest
-      → hold_turn m s r ≡ release m (extend m s r) (from_begin rest)
+      → hold_turn m s r ≡ release m (extend m s r) (from_begin_update rest)
   holds_rest rest is = rw is refl
 
 -- ---- whether bytes are held, and what is stopped before they are parsed
@@ -25,7 +25,7 @@ stop_if_due m pending s = if is_stopped pending s then stop m s else s
 -- An open turn, after a stop if need be, was refused memory.
 abbrev pub OpensAndHalts : {V W : Type 0} → Meaning V W → Bool → State V W → List ℕ → State V W → List ℕ → Type 0
 OpensAndHalts m pending s bytes t left =
-    (is_held pending s bytes ≡ false) × OpenTurnHalts m (stop_if_due m pending s) bytes t left
+    (is_held pending s bytes ≡ false) × OpenTurnIsRefused m (stop_if_due m pending s) bytes t left
 
 not_pending : (held given : ℕ) → ((kind_of false held given ≡ OpenTurn) × (nat_lt 0 held ≡ false))
     ⊎ ((kind_of false held given ≡ ExpiredTurn) × (nat_lt 0 held ≡ true))
@@ -46,7 +46,7 @@ module _ {V W : Type 0} (m : Meaning V W) where
     | inr e ↦ rw (e.0, e.1) refl
   ]
 
-  pub opens_first : (pending : Bool) (s t : State V W) (r left : List ℕ) → TurnHalts m pending s r t left
+  pub opens_first : (pending : Bool) (s t : State V W) (r left : List ℕ) → TurnIsRefused m pending s r t left
       → OpensAndHalts m pending s r t left
   opens_first true s t r left h = elim (cases_Bool (nat_le (length s.held + length r) most_held)) [
     | inl fits ↦ absurd (rw fits at h)
@@ -58,7 +58,7 @@ module _ {V W : Type 0} (m : Meaning V W) where
   ]
 
   pub halts_open : (pending : Bool) (s t : State V W) (r left : List ℕ) → OpensAndHalts m pending s r t left
-      → TurnHalts m pending s r t left
+      → TurnIsRefused m pending s r t left
   halts_open true s t r left (parses, h) = rw parses h
   halts_open false s t r left (parses, h) = elim (not_pending (length s.held) (length r)) [
     | inl e ↦ rw e.0 (rw e.1 at h)

@@ -1,10 +1,10 @@
 -- An open turn by its slices, and turns that are refused memory. Slices in which no update begins add up to a longer
--- front, so the turn ends where the front of the whole does; where one is refused, `OpenTurnHalts` says how far it
+-- front, so the turn ends where the front of the whole does; where one is refused, `OpenTurnIsRefused` says how far it
 -- came.
 use Rattle.vte.proofs.Common.{◌≡◌, ℕ, ◌+◌, ◌-◌, ◌<◌, ◌≤◌, inl, Bool, true, false, nat_lt, List, [], ◌∷◌, ◌++◌, length, take, drop, refl, ap, sym, subst}
 use Rattle.vte.proofs.Common.{◌∙◌, arith, length-append, length-drop, append_assoc, drop-append-add, take-add, nat_tests, append-nil, drop_all, length-take-le}
 use Rattle.vte.proofs.Common.{take-append-drop, take_all, take_at, added, IsSteady, begin_count, IsOutsideUpdate, Meaning, HoldsWellAt, Halted, HasParsedFront, HasParsedWithoutBegin, Opened}
-use Rattle.vte.proofs.Common.{TakesAllTurns, OpenTurn, OpenTurnHalts, State, TakesTurnsOrHalts, TakesTurns, begin_front, between_turns, done, kind_of, open_turn, parse, turn, turns, inside_turn}
+use Rattle.vte.proofs.Common.{TakesAllTurns, OpenTurn, OpenTurnIsRefused, State, TakesTurnsUntilRefused, TakesTurns, front_to_begin, between_turns, done, kind_of, open_turn, parse, turn, turns, inside_turn}
 use Rattle.vte.proofs.performing.CallLists.{after-append, added_calls-append, added_calls-nothing, set_times-add}
 use Rattle.vte.proofs.turns.EachOnce.{Progresses, grows_on, stop_if_due_grows, stop_if_due_none, parse_grows, turns_grow}
 use Rattle.vte.proofs.updates.Fronts.{begins_in, front_after, front_is_all, front_of_more, front_some, none_begin, none_begin_in}
@@ -33,10 +33,10 @@ module _ {V W : Type 0} (m : Meaning V W) where
         append_assoc s.parsed a b,
       ) refl
 
-  open_on : (s t : State V W) (bytes left : List ℕ) → OpenTurnHalts m s bytes t left
+  open_on : (s t : State V W) (bytes left : List ℕ) → OpenTurnIsRefused m s bytes t left
       → open_turn m t left ≡ open_turn m s bytes
   open_on s t bytes left h =
-      let front = begin_front m.limit (s.parsed ++ h.front) left in
+      let front = front_to_begin m.limit (s.parsed ++ h.front) left in
       rw (
         h.state_is,
         ← h.bytes_are,
@@ -49,12 +49,12 @@ module _ {V W : Type 0} (m : Meaning V W) where
 -- where no update begins in bytes, they are their own front
 module _ {V W : Type 0} {m : Meaning V W} {s : State V W} {bytes : List ℕ} {n : ℕ} {b : Bool} {IsThere : State V W
     → Type 0} (at : HasParsedFront m s bytes n b IsThere) (whole : b ≡ false) where
-  none_begins : begin_count (added m.limit s.parsed (begin_front m.limit s.parsed bytes)) ≡ 0
+  none_begins : begin_count (added m.limit s.parsed (front_to_begin m.limit s.parsed bytes)) ≡ 0
   none_begins =
-      let test : nat_lt 0 (begin_count (added m.limit s.parsed (begin_front m.limit s.parsed bytes))) ≡ false =
+      let test : nat_lt 0 (begin_count (added m.limit s.parsed (front_to_begin m.limit s.parsed bytes))) ≡ false =
       sym at.begins_is ∙ whole in grind (arith, nat_tests)
 
-  front_whole : begin_front m.limit s.parsed bytes ≡ bytes
+  front_whole : front_to_begin m.limit s.parsed bytes ≡ bytes
   front_whole = front_is_all m.limit s.parsed bytes none_begins
 
   pub begin-whole : n ≡ length bytes
@@ -70,8 +70,8 @@ module _ {V W : Type 0} (m : Meaning V W) (s : State V W) (bytes : List ℕ) whe
   open-all {read} o all =
       let whole = take_all read bytes all in
       let none : begin_count (added m.limit s.parsed bytes) ≡ 0 = rw whole at o.none_begin in
-      let is : begin_front m.limit s.parsed bytes ≡ bytes =
-      ap (begin_front m.limit s.parsed) (sym (append-nil bytes)) ∙ front_after m.limit s.parsed bytes [] none
+      let is : front_to_begin m.limit s.parsed bytes ≡ bytes =
+      ap (front_to_begin m.limit s.parsed) (sym (append-nil bytes)) ∙ front_after m.limit s.parsed bytes [] none
       ∙ append-nil bytes in
       record {
         progress = λ some. omega (arith, all);
@@ -105,7 +105,7 @@ module _ {V W : Type 0} (m : Meaning V W) (s : State V W) (bytes : List ℕ) whe
       → slice ≡ take k (drop read bytes) → HasParsedFront m (parse m s (take read bytes)) slice n b new → b ≡ true
       → Opened m s bytes (read + n) new
   open-ends {slice} {read} {n} k o inside is at begun =
-      let front = begin_front m.limit (s.parsed ++ take read bytes) slice in
+      let front = front_to_begin m.limit (s.parsed ++ take read bytes) slice in
       let test : nat_lt 0 (begin_count (added m.limit (s.parsed ++ take read bytes) front)) ≡ true =
       sym at.begins_is ∙ begun in
       let some : 0 < begin_count (added m.limit (s.parsed ++ take read bytes) front) = grind (arith, nat_tests) in
@@ -113,11 +113,11 @@ module _ {V W : Type 0} (m : Meaning V W) (s : State V W) (bytes : List ℕ) whe
       rw is (sym (take-append-drop k (drop read bytes))) in
       let whole : bytes ≡ take read bytes ++ (slice ++ drop k (drop read bytes)) =
       sym (take-append-drop read bytes) ∙ ap (λ rest. take read bytes ++ rest) parts in
-      let all : begin_front m.limit s.parsed bytes ≡ take read bytes ++ front =
-      ap (begin_front m.limit s.parsed) whole ∙ front_after m.limit s.parsed (take read bytes) _ o.none_begin
+      let all : front_to_begin m.limit s.parsed bytes ≡ take read bytes ++ front =
+      ap (front_to_begin m.limit s.parsed) whole ∙ front_after m.limit s.parsed (take read bytes) _ o.none_begin
       ∙ ap (λ x. take read bytes ++ x)
       (front_of_more m.limit (s.parsed ++ take read bytes) slice (drop k (drop read bytes)) some) in
-      let size : length (begin_front m.limit s.parsed bytes) ≡ read + n =
+      let size : length (front_to_begin m.limit s.parsed bytes) ≡ read + n =
       ap length all ∙ length-append (take read bytes) front
       ∙ omega (arith, length-take-le read bytes inside, at.count) in
       record {
@@ -128,7 +128,7 @@ module _ {V W : Type 0} (m : Meaning V W) (s : State V W) (bytes : List ℕ) whe
 
   pub halts : {read : ℕ} {IsThere : State V W → Type 0} → HasParsedWithoutBegin m s bytes read IsThere
       → read < length bytes
-      → OpenTurnHalts m s bytes (parse m s (take read bytes)) (drop read bytes)
+      → OpenTurnIsRefused m s bytes (parse m s (take read bytes)) (drop read bytes)
   halts {read} o less = record {
     front = take read bytes;
     bytes_are = take-append-drop read bytes;
@@ -160,14 +160,14 @@ module _ {V W : Type 0} (m : Meaning V W) where
       turns pending allowed (taken_on _ t u _ left rest first more)
 
   pub some_on : (s t u : State V W) (bytes left rest : List ℕ) → TakesTurns m s bytes t left
-      → TakesTurnsOrHalts m t left u rest
-      → TakesTurnsOrHalts m s bytes u rest
+      → TakesTurnsUntilRefused m t left u rest
+      → TakesTurnsUntilRefused m s bytes u rest
   some_on s t u bytes left rest first (between_turns more) = between_turns (taken_on s t u bytes left rest first more)
   some_on s t u bytes left rest first (inside_turn more pending allowed halts) =
       inside_turn (taken_on s t _ bytes left _ first more) pending allowed halts
 
   -- where nothing is left, no turn was refused memory
-  pub all_taken : (s t : State V W) (bytes : List ℕ) → TakesTurnsOrHalts m s bytes t [] → TakesTurns m s bytes t []
+  pub all_taken : (s t : State V W) (bytes : List ℕ) → TakesTurnsUntilRefused m s bytes t [] → TakesTurns m s bytes t []
   all_taken s t bytes (between_turns taken) = taken
   all_taken s t bytes (inside_turn {reached = u} {rest} taken pending allowed halts) =
       absurd (omega (arith, (opens_first m pending u t rest [] halts).1.some_left))
@@ -181,7 +181,7 @@ module _ {V W : Type 0} (m : Meaning V W) where
       (grows_on (stop_if_due_grows m pending s bytes)
       (parse_grows m (stop_if_due m pending s) h.front left bytes (stop_if_due_none m pending s) h.bytes_are))
 
-  pub some_grow : (s t : State V W) (bytes left : List ℕ) → TakesTurnsOrHalts m s bytes t left
+  pub some_grow : (s t : State V W) (bytes left : List ℕ) → TakesTurnsUntilRefused m s bytes t left
       → Progresses s t bytes left
   some_grow s t bytes left (between_turns taken) = turns_grow m s t bytes left taken
   some_grow s t bytes left (inside_turn {reached = u} {rest} taken pending allowed halts) =
@@ -199,7 +199,7 @@ module _ {V W : Type 0} (m : Meaning V W) where
       → OpensAndHalts m pending s bytes t left → t.held ≡ []
   turn_halts_held pending s t bytes left (parses, h) = ap (λ t. t.held) h.state_is ∙ stop_if_due_none m pending s
 
-  pub some_well : (s t : State V W) (bytes left : List ℕ) → TakesTurnsOrHalts m s bytes t left → HoldsWellAt m s
+  pub some_well : (s t : State V W) (bytes left : List ℕ) → TakesTurnsUntilRefused m s bytes t left → HoldsWellAt m s
       → HoldsWellAt m t
   some_well s t bytes left (between_turns taken) well = taken_well m s t bytes left taken well
   some_well s t bytes left (inside_turn {reached = u} {rest} taken pending allowed halts) well =
@@ -236,7 +236,7 @@ module _ {V W : Type 0} (m : Meaning V W) where
       (subst (λ x. TakesTurns m x.state x.rest end []) same more)
 
   pub goes_on : (s t end : State V W) (bytes left : List ℕ) → IsSteady m.timeout → HoldsWellAt m s
-      → TakesTurnsOrHalts m s bytes t left → TakesAllTurns m t left end → TakesAllTurns m s bytes end
+      → TakesTurnsUntilRefused m s bytes t left → TakesAllTurns m t left end → TakesAllTurns m s bytes end
   goes_on s t end bytes left steady well (between_turns taken) more = taken_on s t end bytes left [] taken more
   goes_on s t end bytes left steady well (inside_turn {reached = u} {rest} taken pending allowed halts) more =
       let opens = opens_first m pending u t rest left halts in

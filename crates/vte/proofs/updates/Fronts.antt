@@ -2,8 +2,8 @@
 -- no character is open or broken there, and the front is the shortest that adds a begin.
 use Rattle.vte_core.proofs.shapes.Told.{breaks_at-all, breaks_at-settled, told-broken}
 use Rattle.vte.proofs.Common.{◌≡◌, ℕ, zero, suc, ◌+◌, ◌<◌, ◌≤◌, inl, inr, false, nat_lt, Option, List, [], ◌∷◌, ◌++◌, length, take, refl, ap, subst, ◌∙◌}
-use Rattle.vte.proofs.Common.{append_assoc, arith, cases_Bool, cases_lt, nat_tests, append-nil, take_all, breaks_at, told_before, Event, Print, replacement, added, open_end}
-use Rattle.vte.proofs.Common.{told-settled, added_both, added-nothing, opens_silently, begin_count, EndsInBegin, begin_front}
+use Rattle.vte.proofs.Common.{append_assoc, arith, cases_Bool, cases_lt, nat_tests, append-nil, take_all, breaks_at, told_before, Event, Print, replacement, added, open_character}
+use Rattle.vte.proofs.Common.{told-settled, added_both, added-nothing, opens_silently, begin_count, EndsInBegin, front_to_begin}
 
 -- ---- how often bytes begin an update
 
@@ -36,7 +36,7 @@ told_count limit p r i = elim (cases_Bool (breaks_at p r i)) [
 
 pub record IsFront (limit : Option ℕ) (p r : List ℕ) (k : ℕ) : Type 0 where
   pub within : k ≤ length r
-  pub is : begin_front limit p r ≡ take k r
+  pub is : front_to_begin limit p r ≡ take k r
   pub before : (i : ℕ) → i < k → begin_count (added limit p (take i r)) ≡ 0
   pub begins : k < length r → 0 < begin_count (added limit p (take k r))
   pub ends : 0 < begin_count (added limit p (take k r)) → EndsInBegin limit (p ++ take k r)
@@ -48,7 +48,7 @@ none_before limit p rest b k zero none f l = none_begin limit p
 none_before limit p rest b k (suc i) none f l =
     omega (arith, begins_in limit p (b ∷ []) (take i rest), none, f.before i (omega arith))
 
-pub is_front : (limit : Option ℕ) (p r : List ℕ) → IsFront limit p r (length (begin_front limit p r))
+pub is_front : (limit : Option ℕ) (p r : List ℕ) → IsFront limit p r (length (front_to_begin limit p r))
 is_front limit p [] = record {
   within = omega arith;
   is = refl;
@@ -66,7 +66,7 @@ is_front limit p (b ∷ rest) = elim (cases_Bool (nat_lt 0 (begin_count (added l
   })
   | inr no_begin ↦
       let none : begin_count (added limit p (b ∷ [])) ≡ 0 = grind (arith, nat_tests) in
-      let front = begin_front limit (p ++ b ∷ []) rest in
+      let front = front_to_begin limit (p ++ b ∷ []) rest in
       let f : IsFront limit (p ++ b ∷ []) rest (length front) = is_front limit (p ++ b ∷ []) rest in
       let same : begin_count (added limit p (b ∷ take (length front) rest))
       ≡ begin_count (added limit (p ++ b ∷ []) (take (length front) rest)) =
@@ -83,7 +83,7 @@ is_front limit p (b ∷ rest) = elim (cases_Bool (nat_lt 0 (begin_count (added l
 ]
 
 -- no character is open after a byte that begins an update
-closed : (limit : Option ℕ) (p : List ℕ) → EndsInBegin limit p → open_end p ≡ []
+closed : (limit : Option ℕ) (p : List ℕ) → EndsInBegin limit p → open_character p ≡ []
 closed limit p e = elim (opens_silently limit e.before e.byte) [
   | inl none ↦ rw e.parsed_is none
   | inr silent ↦ absurd (elim silent [
@@ -93,7 +93,7 @@ closed limit p e = elim (opens_silently limit e.before e.byte) [
 ]
 
 pub closed_at : (limit : Option ℕ) (p r : List ℕ) (k : ℕ) → IsFront limit p r k → k < length r
-    → open_end (p ++ take k r) ≡ []
+    → open_character (p ++ take k r) ≡ []
 closed_at limit p r k f more = closed limit (p ++ take k r) (f.ends (f.begins more))
 
 -- no character is broken after the front
@@ -110,7 +110,7 @@ pub none_begin_in : (limit : Option ℕ) (p a r : List ℕ) → begin_count (add
 none_begin_in limit p a r first second = omega (arith, begins_in limit p a r, first, second)
 
 pub front_after : (limit : Option ℕ) (p a r : List ℕ) → begin_count (added limit p a) ≡ 0
-    → begin_front limit p (a ++ r) ≡ a ++ begin_front limit (p ++ a) r
+    → front_to_begin limit p (a ++ r) ≡ a ++ front_to_begin limit (p ++ a) r
 front_after limit p [] r none = rw append-nil
 front_after limit p (b ∷ a) r none =
     let all = begins_in limit p (b ∷ []) a in
@@ -118,29 +118,30 @@ front_after limit p (b ∷ a) r none =
     let later : begin_count (added limit (p ++ b ∷ []) a) ≡ 0 = omega (arith, all, none) in
     rw first (ap (λ front. b ∷ front) (front_after limit (p ++ b ∷ []) a r later ∙ rw append_assoc))
 
-pub front_of_more : (limit : Option ℕ) (p r more : List ℕ) → 0 < begin_count (added limit p (begin_front limit p r))
-    → begin_front limit p (r ++ more) ≡ begin_front limit p r
+pub front_of_more : (limit : Option ℕ) (p r more : List ℕ) → 0 < begin_count (added limit p (front_to_begin limit p r))
+    → front_to_begin limit p (r ++ more) ≡ front_to_begin limit p r
 front_of_more limit p [] more some = absurd (omega (arith, none_begin limit p, some))
 front_of_more limit p (b ∷ r) more some = elim (cases_Bool (nat_lt 0 (begin_count (added limit p (b ∷ []))))) [
   | inl begins ↦ rw begins refl
   | inr no_begin ↦
       let none : begin_count (added limit p (b ∷ [])) ≡ 0 = grind (arith, nat_tests) in
-      let later : 0 < begin_count (added limit (p ++ b ∷ []) (begin_front limit (p ++ b ∷ []) r)) =
-      omega (arith, begins_in limit p (b ∷ []) (begin_front limit (p ++ b ∷ []) r), none, rw no_begin at some) in
+      let later : 0 < begin_count (added limit (p ++ b ∷ []) (front_to_begin limit (p ++ b ∷ []) r)) =
+      omega (arith, begins_in limit p (b ∷ []) (front_to_begin limit (p ++ b ∷ []) r), none, rw no_begin at some) in
       rw no_begin (ap (λ front. b ∷ front) (front_of_more limit (p ++ b ∷ []) r more later))
 ]
 
 -- bytes in which no update begins are their own front
-pub front_is_all : (limit : Option ℕ) (p r : List ℕ) → begin_count (added limit p (begin_front limit p r)) ≡ 0
-    → begin_front limit p r ≡ r
+pub front_is_all : (limit : Option ℕ) (p r : List ℕ) → begin_count (added limit p (front_to_begin limit p r)) ≡ 0
+    → front_to_begin limit p r ≡ r
 front_is_all limit p r none =
     let f = is_front limit p r in
-    f.is ∙ take_all (length (begin_front limit p r)) r (elim (cases_lt (length (begin_front limit p r)) (length r)) [
+    f.is ∙ take_all (length (front_to_begin limit p r)) r
+    (elim (cases_lt (length (front_to_begin limit p r)) (length r)) [
       | inl more ↦ absurd (omega (arith, rw (← f.is) at (f.begins more), none))
       | inr all ↦ omega arith
     ])
 
 -- a front of some bytes has some
-pub front_some : (limit : Option ℕ) (p r : List ℕ) → 0 < length r → 0 < length (begin_front limit p r)
+pub front_some : (limit : Option ℕ) (p r : List ℕ) → 0 < length r → 0 < length (front_to_begin limit p r)
 front_some limit p [] some = absurd (omega arith)
 front_some limit p (b ∷ rest) some = grind arith

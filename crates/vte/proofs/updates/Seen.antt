@@ -2,7 +2,7 @@
 -- unread starts. Only a position with ESC can change it, and the older bytes matter only by their last seven.
 use Rattle.vte.proofs.Common.{◌≡◌, ℕ, zero, suc, ◌+◌, ◌-◌, ◌<◌, ◌≤◌, inl, inr, true, false, eqb, Some, None, List, [], ◌∷◌, length, drop, take, get_or, refl}
 use Rattle.vte.proofs.Common.{ap, ◌∙◌, add-zero, length-drop, arith, cases_Bool, nat_tests, drop_all, drop_more, get_or-drop, get_or-take, length-take-le, take_all, ◌++◌}
-use Rattle.vte.proofs.Common.{IsHeldTail, drop-drop, length-append, Adds, after_word, begin_update, end_update, begins_ending_in_last, begins_with, after_last_end, from_begin}
+use Rattle.vte.proofs.Common.{IsHeldTail, drop-drop, length-append, Adds, after_word, begin_update, end_update, begins_ending_in_last, begins_with, after_last_end, from_begin_update}
 use Rattle.std.specs.Prelude.{nat_lt}
 use Rattle.memchr.specs.Find.{NoneAfter, Nowhere, Passes, is_byte}
 use Rattle.vte.proofs.updates.Sequences.{after_whole, begins_ending_in_last-tail, begins_is, begins_long, after_last_end-tail, end_skipped, not_further, not_some}
@@ -71,7 +71,7 @@ begins_one text e = rw (begins_is begin_update text e) refl
 -- what follows the position `unread` of a text, of which the last `new` bytes are new
 pub record HasSeen (text : List ℕ) (new unread begin begins : ℕ) : Type 0 where
   pub no_end : after_last_end (drop unread text) ≡ None
-  pub begin_is : begin ≡ length text - length (from_begin (drop unread text))
+  pub begin_is : begin ≡ length text - length (from_begin_update (drop unread text))
   pub begins_are : begins ≡ begins_ending_in_last new (drop unread text)
 
 -- ---- one position more

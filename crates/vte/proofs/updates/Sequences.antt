@@ -1,7 +1,7 @@
 -- The two sequences of updates in a text, and the parts after them. Both have eight bytes and one ESC, so they never
 -- overlap; without an end-update in the older bytes, their last seven decide as all of them would.
 use Rattle.vte.proofs.Common.{◌≡◌, ℕ, zero, suc, ◌+◌, ◌-◌, ◌≤◌, inl, inr, ◌⊎◌, true, false, Option, Some, None, List, [], ◌∷◌, ◌++◌, length, drop, refl, ap}
-use Rattle.vte.proofs.Common.{zero-add, length-append, length-drop, arith, cases_Bool, cases_lt, nat_tests, drop-drop, after_word, begin_update, end_update, begins_with, after_last_end, from_begin}
+use Rattle.vte.proofs.Common.{zero-add, length-append, length-drop, arith, cases_Bool, cases_lt, nat_tests, drop-drop, after_word, begin_update, end_update, begins_with, after_last_end, from_begin_update}
 use Rattle.vte.proofs.Common.{begins_ending_in_last, still_held, sym, ◌<◌}
 use Rattle.std.specs.Prelude.{is_some, nat_lt}
 
@@ -51,7 +51,7 @@ begins_with-append sequence text more e = grind (arith, begins_long sequence tex
 
 -- no update begins inside an end-update
 pub end_skipped : (n b : ℕ) (text : List ℕ) → begins_with end_update (b ∷ text) ≡ true
-    → (from_begin text ≡ from_begin (drop 7 text))
+    → (from_begin_update text ≡ from_begin_update (drop 7 text))
     × (begins_ending_in_last n text ≡ begins_ending_in_last n (drop 7 text))
 end_skipped n b text e = let is = ap (drop 1) (begins_is end_update (b ∷ text) e) in rw is (grind arith)
 
@@ -107,7 +107,7 @@ pub record StartsAtBegin (kept text : List ℕ) : Type 0 where
   pub suffix : IsSuffix kept text
   pub begins : 0 < length kept → begins_with begin_update kept ≡ true
 
-starts_at_begin : (text : List ℕ) → StartsAtBegin (from_begin text) text
+starts_at_begin : (text : List ℕ) → StartsAtBegin (from_begin_update text) text
 starts_at_begin [] =
     record { suffix = record { front = 0; within = omega arith; is = refl }; begins = λ some. absurd (omega arith) }
 starts_at_begin (b ∷ text) = elim (cases_Bool (begins_with begin_update (b ∷ text))) [

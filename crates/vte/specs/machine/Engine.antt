@@ -6,9 +6,9 @@ use Rattle.vte.specs.BeginUpdate.{begin_count}
 use Rattle.vte.specs.Calls.{last_printed}
 use Rattle.vte.specs.LongProcessor.{read_of}
 use Rattle.vte.specs.Memory.{KeepsMemory}
-use Rattle.vte.specs.Processor.{Meaning, State, begin_front, most_held, open_turn, parse, turn}
+use Rattle.vte.specs.Processor.{Meaning, State, front_to_begin, most_held, open_turn, parse, turn}
 use Rattle.vte.specs.ProcessorCalls.{IsAt, StopsSync, held_of}
-use Rattle.vte.specs.Refusal.{HasTaken, TakesTurnsOrHalts}
+use Rattle.vte.specs.Refusal.{HasTaken, TakesTurnsUntilRefused}
 use Rattle.vte.specs.machine.Meanings.{EngineMeaning}
 use Rattle.vte.specs.declared.ansi.performer.PerformerState.{PerformerState}
 use Rattle.vte.specs.declared.ansi.engine.TheConstants.{SLICE}
@@ -77,14 +77,14 @@ pub record ArePartsAt {P B T V W : Type 0} (parts : EngineMeaning P B T W) (pars
 -- `ArePartsAt`, and there is memory for `count` bytes.
 pub record ArePartsAtWithMemory {P B T V W : Type 0} (parts : EngineMeaning P B T W) (parser : P)
     (lent : PerformerState T B) (value : V) (state : State V W) (count : ℕ) : Type 0 where
-  pub is_parsed : ArePartsAt parts parser lent value state
+  pub parts_at : ArePartsAt parts parser lent value state
   pub room : parts.reading.has_memory parser (parts.room_of lent.text) state.parsed count
 
 -- `ArePartsAt`, with the memory that was there before.
 pub record ArePartsAtKeeping {P B T V W : Type 0} (parts : EngineMeaning P B T W) (parser : P)
     (lent : PerformerState T B) (next : P) (back : PerformerState T B)
     (value : V) (state : State V W) : Type 0 where
-  pub is_parsed : ArePartsAt parts next back value state
+  pub parts_at : ArePartsAt parts next back value state
   pub memory : KeepsMemory (parts.reading.has_memory parser (parts.room_of lent.text))
       (parts.reading.has_memory next (parts.room_of back.text))
 
@@ -98,7 +98,7 @@ EngineIsAt parts engine = IsAt (EngineStandsAt parts engine)
 pub record EngineIsAtKeeping {P B T A V W : Type 0} (parts : EngineMeaning P B T W)
     (engine next : Engine P B T A)
     (value : V) (state : State V W) : Type 0 where
-  pub are_at : EngineIsAt parts next value state
+  pub engine_at : EngineIsAt parts next value state
   pub memory : KeepsMemory (EngineHasMemory parts engine) (EngineHasMemory parts next)
 
 -- From each state that the engine is at, it leads on as `ends` says.
@@ -112,10 +112,10 @@ module _ {V W : Type 0} (meaning : Meaning V W) (state : State V W) (bytes : Lis
   -- The first `read` bytes were parsed: those up to the one that begins an update, or all if none
   -- begins.
   pub record HasParsedFront (read : ℕ) (begins : Bool) (IsThere : State V W → Type 0) : Type 0 where
-    pub count : read ≡ length (begin_front meaning.limit state.parsed bytes)
-    pub begins_is : let front = begin_front meaning.limit state.parsed bytes in
+    pub count : read ≡ length (front_to_begin meaning.limit state.parsed bytes)
+    pub begins_is : let front = front_to_begin meaning.limit state.parsed bytes in
         begins ≡ nat_lt 0 (begin_count (added meaning.limit state.parsed front))
-    pub is_at : IsThere (parse meaning state (begin_front meaning.limit state.parsed bytes))
+    pub is_at : IsThere (parse meaning state (front_to_begin meaning.limit state.parsed bytes))
 
   -- One turn has read `read` bytes, and at least one if there were any. It is at the state to which
   -- it leads.
@@ -140,7 +140,7 @@ module _ {V W : Type 0} (meaning : Meaning V W) (state : State V W) (bytes : Lis
   -- A turn that was refused memory has read `read` bytes.
   pub record Halted (read : ℕ) (IsThere : State V W → Type 0) : Type 0 where
     pub next : State V W
-    pub takes : TakesTurnsOrHalts meaning state bytes next (drop read bytes)
+    pub takes : TakesTurnsUntilRefused meaning state bytes next (drop read bytes)
     pub is_at : IsThere next
 
   -- How a turn ends, if memory for it may be refused.

@@ -1,7 +1,7 @@
 -- The bytes of a hold.
 use Rattle.std.specs.Prelude.{◌≡◌, ℕ, ◌-◌, Option, Some, None, List, ◌++◌, length, take, drop}
 use Rattle.vte.specs.ProcessorCalls.{held_of}
-use Rattle.vte.specs.Synchronized.{after_last_end, begins_ending_in_last, from_begin, last_part}
+use Rattle.vte.specs.Synchronized.{after_last_end, begins_ending_in_last, from_begin_update, part_after_last_end}
 use Rattle.vte.specs.declared.ansi.hold.Hold.{Hold}
 use Rattle.vte.specs.declared.ansi.release.Release.{Release}
 
@@ -12,7 +12,7 @@ released_of hold = take hold.released hold.bytes.items
 -- What stays held of a text: all of it or, if there is an end-update, what follows the last one
 -- from the earliest begin-update on.
 abbrev pub kept_part : List ℕ → Option (List ℕ) → List ℕ
-kept_part text (Some rest) = from_begin rest
+kept_part text (Some rest) = from_begin_update rest
 kept_part text None = text
 
 abbrev pub still_held : List ℕ → List ℕ
@@ -26,7 +26,7 @@ pub record IsHeldTail (held more text : List ℕ) (start : ℕ) : Type 0 where
 
 -- The result of adding the last `new` of these bytes to the others.
 pub record Adds (bytes : List ℕ) (new : ℕ) (added : Release) : Type 0 where
-  pub begins : added.begins ≡ begins_ending_in_last new (last_part bytes)
+  pub begins : added.begins ≡ begins_ending_in_last new (part_after_last_end bytes)
   pub released : added.released ≡ length bytes - length (still_held bytes)
 
 -- Bytes were added to those that were held.
@@ -35,4 +35,4 @@ pub record IsAdded {A : Type 0} (held more : List ℕ) (hold : Hold A)
   pub held_is : held_of hold ≡ still_held (held ++ more)
   pub released_is : released_of hold
       ≡ take (length (held ++ more) - length (still_held (held ++ more))) (held ++ more)
-  pub begins_are : begins ≡ begins_ending_in_last (length more) (last_part (held ++ more))
+  pub begins_are : begins ≡ begins_ending_in_last (length more) (part_after_last_end (held ++ more))

@@ -12,7 +12,7 @@ use Rattle.vte.specs.Numbers.{first_numbers}
 use Rattle.vte.specs.machine.Performer.{FitsText, PerformerValue}
 use Rattle.vte.specs.declared.ansi.control_calls.ModeChange.TheVariants.{SetPrivate}
 use Rattle.vte.specs.declared.ansi.performer.Performer.{Performer}
-use Rattle.vte_core.specs.EarlyStop.{StopsExactly, stream_at}
+use Rattle.vte_core.specs.EarlyStop.{StopsExactly, resumed_stream}
 use Rattle.vte_core.specs.Event.{Event}
 use Rattle.vte_core.specs.Perform.{after as performed}
 use Rattle.vte_core.specs.Stream.{added}
@@ -69,7 +69,7 @@ pub record HasStopped {P V W : Type 0} (reading : ParserMeaning P) (limit : Opti
     (stream bytes : List ℕ) (read : ℕ) : Type 0 where
   pub stops : StopsExactly step (λ performer. performer.terminated) old limit stream bytes new read
   pub fits : All (FitsText old.room) (added limit stream bytes)
-  pub reads : reading.has_read next (stream_at stream bytes read)
+  pub reads : reading.has_read next (resumed_stream stream bytes read)
 
 -- After each stream that the parser has read, it performs all bytes if it has memory for them.
 -- Memory that was there stays.

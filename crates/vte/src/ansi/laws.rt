@@ -3,7 +3,7 @@ ghost use Rattle.std.specs.Prelude.{◌≡◌, ℕ, List, None, Option};
 ghost use Rattle.vte.specs.CallExamples.{AreMade, AreRead, color_examples, command_examples, counted_examples, escape_examples, executed_examples};
 ghost use Rattle.vte.specs.CallExamples.{link_examples, mode_examples, palette_examples, position_examples, rendition_examples, selected_examples, title_examples};
 ghost use Rattle.vte.specs.Processor.{HoldsWellAt, State, TakesAllTurns, TakesTurns, all_bytes, meaning_of, stop};
-ghost use Rattle.vte.specs.Refusal.{TakesTurnsOrHalts};
+ghost use Rattle.vte.specs.Refusal.{TakesTurnsUntilRefused};
 ghost use Rattle.vte.specs.UpdateExamples.{AreLed, expired_example, update_examples};
 ghost use Rattle.vte_handler.specs.Timeout.{IsSteady};
 
@@ -56,6 +56,6 @@ pub fn refused_calls_go_on<H: Handler, T: Timeout>()
         → TakesAllTurns m state bytes end }
     ensures within { (state next end : State H.Value T.Value) (bytes rest : List ℕ)
         → let m = meaning_of None H.step T.set T.clear T.allows in
-        IsSteady m.timeout → HoldsWellAt m state → TakesTurnsOrHalts m state bytes next rest →
+        IsSteady m.timeout → HoldsWellAt m state → TakesTurnsUntilRefused m state bytes next rest →
         TakesAllTurns m next rest end → TakesAllTurns m state bytes end }
 {}

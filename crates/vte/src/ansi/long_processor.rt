@@ -1,6 +1,6 @@
 //! The processor without a limit.
 ghost use Rattle.std.specs.Prelude.{◌≡◌, ℕ, ◌+◌, false, List, [], length, None, IfOk, MatchResult};
-ghost use Rattle.vte_core.specs.LongParser.{open_size};
+ghost use Rattle.vte_core.specs.LongParser.{open_command_size};
 ghost use Rattle.vte_handler.specs.Timeout.{AllowsOnly, IsSteady, timeout_meaning};
 ghost use Rattle.vte.specs.Processor.{HoldsWell, meaning_of};
 ghost use Rattle.vte.specs.LongProcessor.{AdvancesLong, HasParsedAndHoldsLong, IsCopyOfLong, Reserves, StopsSyncLong};
@@ -96,7 +96,8 @@ impl<T: Timeout + Drop, A: Allocator> LongProcessor<T, A> {
             → HasParsedAndHoldsLong T.value_of self.new parsed held timeout }
         // No memory is kept if no command is open.
         ensures frees { (parsed : List ℕ) (timeout : T.Value)
-            → HasParsedAndHoldsLong T.value_of self.old parsed [] timeout → open_size parsed ≡ 0
+            → HasParsedAndHoldsLong T.value_of self.old parsed [] timeout
+            → open_command_size parsed ≡ 0
             → HasFreedMemory self.new }
     {
         if self.engine.hold.len() == 0 {

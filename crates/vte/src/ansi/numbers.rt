@@ -1,6 +1,6 @@
 //! The numbers of a control sequence.
 ghost use Rattle.std.specs.Prelude.{◌≡◌, ◌<◌, ℕ, List, drop, map};
-ghost use Rattle.vte.specs.Numbers.{first_number as first_of_group, first_of, first_or};
+ghost use Rattle.vte.specs.Numbers.{first_number as first_of_group, first_of, first_nonzero_or};
 
 use vte_core::ParamsIter;
 
@@ -19,7 +19,7 @@ pub(crate) trait NumberIterator {
 
     /// Returns the next number, or `default` if that is 0 or there is none left.
     fn next_or(&mut self, default: u16) -> u16
-        ensures value { result ≡ first_or default (map number (left self.old)) }
+        ensures value { result ≡ first_nonzero_or default (map number (left self.old)) }
         ensures rest { left self.new ≡ drop 1 (left self.old) }
         ensures positive { 0 < default → 0 < result }
     {

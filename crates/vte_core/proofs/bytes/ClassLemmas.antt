@@ -1,5 +1,5 @@
 -- Which bytes a class has: bounds of each, by the tests of `class_of`, which ask in ascending order.
-use Rattle.vte_core.proofs.Common.{◌≡◌, ℕ, ◌<◌, ◌≤◌, true, arith, nat_tests, Class, Control, Cancel, Intermediate, Digit, Colon, Semicolon, Marker, Final, Delete, High, class_of, is_head}
+use Rattle.vte_core.proofs.Common.{◌≡◌, ℕ, ◌<◌, ◌≤◌, true, arith, nat_tests, Class, Control, Cancel, Intermediate, Digit, Colon, Semicolon, Marker, Final, Delete, High, class_of, is_head_byte}
 use Rattle.vte_core.specs.Class.{Escape}
 
 -- the bytes of a class lie so
@@ -25,6 +25,6 @@ pub spans : (b : ℕ) (k : Class) → class_of b ≡ k → Spans k b
 spans b k e = rw e at (class_of-spans b)
 
 -- a byte of a head is none that ends it
-pub below_final : (b : ℕ) → is_head (class_of b) ≡ true → b < 0x40
+pub below_final : (b : ℕ) → is_head_byte (class_of b) ≡ true → b < 0x40
 unfolding class_of
 below_final b h = grind (arith, nat_tests)

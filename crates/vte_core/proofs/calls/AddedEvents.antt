@@ -1,6 +1,6 @@
 -- What is told from position to position. A call is followed with a performer that keeps all events; so what any
 -- performer receives is a function of the bytes, and a stretch that tells no run is known by its events.
-use Rattle.vte_core.proofs.Common.{◌≡◌, ℕ, ◌+◌, ◌-◌, ◌<◌, inl, inr, false, Option, List, [], ◌∷◌, ◌++◌, length, take, refl, ap, sym, ◌∙◌, append_assoc, append-nil, arith, cases_Bool, slice_index, false≢true, All, All-append, All-cons, All-nil, Event, Print, replacement, after, added, told_before, stream_at, breaks_at, State, Text, DeviceData, Machine, StandsBy, StandsAt, StandsInside, Reads, ChunkCall, chunk_call}
+use Rattle.vte_core.proofs.Common.{◌≡◌, ℕ, ◌+◌, ◌-◌, ◌<◌, inl, inr, false, Option, List, [], ◌∷◌, ◌++◌, length, take, refl, ap, sym, ◌∙◌, append_assoc, append-nil, arith, cases_Bool, slice_index, false≢true, All, All-append, All-cons, All-nil, Event, Print, replacement, after, added, told_before, resumed_stream, breaks_at, State, Text, DeviceData, Machine, StandsBy, StandsAt, StandsInside, Reads, ChunkCall, chunk_call}
 use Rattle.vte_core.proofs.Common.{Place, InText, InDeviceData, IsAfter, AddsQuietly, IsQuietEvent}
 use Rattle.vte_core.specs.machine.Completes.{AddsCharacter}
 use Rattle.vte_core.specs.machine.Progress.{HasProgress}
@@ -94,7 +94,7 @@ module _ {limit : Option ℕ} {stream bytes : List ℕ} {i : ℕ} where
 
   pub adds-reads : {b : ℕ} {place next : Place} {these : List Event}
       → i < length bytes → b ≡ slice_index bytes i
-      → IsAfter limit (stream_at stream bytes i) place → Reads limit place (b ∷ []) these next → IsPlace next
+      → IsAfter limit (resumed_stream stream bytes i) place → Reads limit place (b ∷ []) these next → IsPlace next
       → All IsQuietEvent these → AddsQuietly limit stream bytes i (i + 1)
   adds-reads {b} {place} {next} {these} within is a r is_place are =
       let one = one_byte bytes i b within is in
@@ -102,8 +102,8 @@ module _ {limit : Option ℕ} {stream bytes : List ℕ} {i : ℕ} where
       let all : added limit stream (take (i + 1) bytes) ≡ before ++ these =
       stretch-added limit stream bytes i (i + 1) (omega arith)
       ∙ ap (λ (es : List Event). before ++ es)
-      (ap (added limit (stream_at stream bytes i)) one
-      ∙ added-reads limit (stream_at stream bytes i) (b ∷ []) place next these a r is_place) in
+      (ap (added limit (resumed_stream stream bytes i)) one
+      ∙ added-reads limit (resumed_stream stream bytes i) (b ∷ []) place next these a r is_place) in
       elim (cases_Bool (breaks_at stream bytes (i + 1))) [
         | inl broken ↦ record {
           events = these ++ Print replacement ∷ [];
@@ -118,7 +118,7 @@ module _ {limit : Option ℕ} {stream bytes : List ℕ} {i : ℕ} where
       ]
 
   pub adds-quiet : {b : ℕ} {place : Place} → i < length bytes
-      → b ≡ slice_index bytes i → IsAfter limit (stream_at stream bytes i) place
+      → b ≡ slice_index bytes i → IsAfter limit (resumed_stream stream bytes i) place
       → IsPlace place → IsQuietAt place b → AddsQuietly limit stream bytes i (i + 1)
   adds-quiet {b} {place} within is a is_place quiet =
       let s = steps limit place b is_place in

@@ -1,6 +1,6 @@
 -- A byte that a state's function reads: the state says at which place the parser is, so what the byte does after that
 -- place is what the function must have done.
-use Rattle.vte_core.proofs.Common.{◌≡◌, ℕ, ◌+◌, ◌<◌, false, Option, List, [], ◌∷◌, sym, subst, length, slice_index, class_of, ends_all, Machine, State, Escape, EscapeIntermediate, DeviceData, SystemCommand, IgnoredString, Event, Advances, MayGoOn, IsSettled, Leads, Reads, HoldsIntermediates, Stands, StandsBy, TakesBytes, Place, AtEscape, InEscape, InDeviceData, InSystemCommand, InIgnoredString, IsSettledPlace, closing_events_at, HoldsItems, TakesByte, ChunkCall}
+use Rattle.vte_core.proofs.Common.{◌≡◌, ℕ, ◌+◌, ◌<◌, false, Option, List, [], ◌∷◌, sym, subst, length, slice_index, class_of, ends_body, Machine, State, Escape, EscapeIntermediate, DeviceData, SystemCommand, IgnoredString, Event, Advances, MayGoOn, IsSettled, Leads, Reads, HoldsIntermediates, Stands, StandsBy, TakesBytes, Place, AtEscape, InEscape, InDeviceData, InSystemCommand, InIgnoredString, IsSettledPlace, closing_events_at, HoldsItems, TakesByte, ChunkCall}
 use Rattle.vte_core.proofs.Common.{after, escape}
 use Rattle.vte_core.proofs.calls.Stretches.{advances-byte, advances-if}
 use Rattle.vte_core.specs.machine.ToRun.{IsQuietIn}
@@ -17,7 +17,7 @@ module _ {V B : Type 0} {step : V → Event → V} {old new : V} {limit : Option
 
   -- a byte other than CAN, SUB and ESC, read in a state
   pub performs-in : {b : ℕ} {state : State} {parser next : Machine B}
-      → parser.state ≡ state → ends_all (class_of b) ≡ false
+      → parser.state ≡ state → ends_body (class_of b) ≡ false
       → ((place : Place) → StandsBy limit state parser place → TakesByte step old new limit place b next)
       → (place : Place) → Stands limit parser place → IsSettledPlace place
       → TakesBytes step old new limit place (b ∷ []) next
@@ -43,7 +43,7 @@ module _ {V B : Type 0} {step : V → Event → V} {old new : V} {limit : Option
 
 pub advances-in : {V B : Type 0} {call : ChunkCall V} {old new : V} {i b : ℕ} {state : State} {parser next : Machine B}
     → parser.state ≡ state → i < length call.bytes → b ≡ slice_index call.bytes i
-    → MayGoOn call old → ends_all (class_of b) ≡ false
+    → MayGoOn call old → ends_body (class_of b) ≡ false
     → ((place : Place) → StandsBy call.limit state parser place → TakesByte call.step old new call.limit place b next)
     → IsSettled next.state → Advances (IsQuietIn state b) call old new i (i + 1) parser next
 advances-in {b} e within is may_go_on ordinary takes settled =

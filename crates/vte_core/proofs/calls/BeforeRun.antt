@@ -1,6 +1,6 @@
 -- What a call tells before a run is told by no run: nothing at its start, then what an open character is, then
 -- stretches of which each tells none.
-use Rattle.vte_core.proofs.Common.{◌≡◌, ℕ, inl, inr, Option, List, [], ◌++◌, ap, sym, subst, ◌∙◌, All, All-append, All-nil, Event, Machine, HasReadUnder, IsSettled, told_before, open_end, AddsQuietly, IsQuietEvent, TellsQuietly, PrintsNoAscii}
+use Rattle.vte_core.proofs.Common.{◌≡◌, ℕ, inl, inr, Option, List, [], ◌++◌, ap, sym, subst, ◌∙◌, All, All-append, All-nil, Event, Machine, HasReadUnder, IsSettled, told_before, open_character, AddsQuietly, IsQuietEvent, TellsQuietly, PrintsNoAscii}
 use Rattle.vte_core.specs.machine.Completes.{AddsCharacter}
 use Rattle.vte_core.proofs.calls.CallEnds.{starts-at}
 use Rattle.vte_core.proofs.calls.AddedEvents.{keeping, told-at}
@@ -20,7 +20,7 @@ tells-nothing {limit} {stream} {bytes} settled h =
 
 -- what an open character is
 pub tells-open : {limit : Option ℕ} {stream begun bytes : List ℕ} {j : ℕ} → AddsCharacter limit stream begun bytes 0 j
-    → (open_end stream ≡ [] → ⊥) → TellsQuietly limit stream bytes j
+    → (open_character stream ≡ [] → ⊥) → TellsQuietly limit stream bytes j
 tells-open {limit} {stream} {bytes} {j} a opened =
     let all : told_before limit stream bytes j ≡ a.events =
     a.parts ∙ ap (λ (es : List Event). es ++ a.events) (added-nothing limit stream) in

@@ -1,7 +1,7 @@
 -- A byte between characters: it is one (`performs-printed`), a control or malformed (`performs-single`), or the first
 -- of one (`performs-opened`). What the code does is what `places/PlaceLeads` says of the byte, and the parser is at the
 -- next place. A single byte tells nothing that a run would (`advances-single`).
-use Rattle.vte_core.proofs.Common.{◌≡◌, ◌≢◌, ℕ, ◌+◌, ◌<◌, ◌≤◌, inl, inr, true, false, Option, List, [], ◌∷◌, length, refl, ap, sym, subst, ◌∙◌, arith, cases_lt, nat_tests, slice_index, Advances, Machine, Text, Nothing, Event, Print, replacement, Stands, TakesBytes, Place, InText, IsSettledPlace, Carries, escape, character_event, malformed_event, from_to, is_in, is_truncated, is_well_formed, Unfinished, All-cons, All-nil, IsQuietEvent, Execute, is_control_character, AddsQuietly, IsAfter, stream_at, Reads, All, cases_Bool, ChunkCall}
+use Rattle.vte_core.proofs.Common.{◌≡◌, ◌≢◌, ℕ, ◌+◌, ◌<◌, ◌≤◌, inl, inr, true, false, Option, List, [], ◌∷◌, length, refl, ap, sym, subst, ◌∙◌, arith, cases_lt, nat_tests, slice_index, Advances, Machine, Text, Nothing, Event, Print, replacement, Stands, TakesBytes, Place, InText, IsSettledPlace, Carries, escape, character_event, malformed_event, from_to, is_in, is_truncated, is_well_formed, Unfinished, All-cons, All-nil, IsQuietEvent, Execute, is_control_character, AddsQuietly, IsAfter, resumed_stream, Reads, All, cases_Bool, ChunkCall}
 use Rattle.vte_core.specs.declared.utf8.Carried.TheVariants.{Unfinished as StillUnfinished}
 use Rattle.vte_core.proofs.bytes.CarriedLemmas.{begins_none}
 use Rattle.vte_core.proofs.bytes.FirstBytes.{ascii_alone}
@@ -128,11 +128,11 @@ adds-single : {B : Type 0} {limit : Option ℕ} {stream bytes : List ℕ} {i b :
     → is_in (from_to 0x20 0x7f) b ≡ false → is_in (from_to 0xc2 0xf4) b ≡ false → i < length bytes
     → b ≡ slice_index bytes i
     → Stands limit parser place
-    → IsAfter limit (stream_at stream bytes i) place → AddsQuietly limit stream bytes i (i + 1)
+    → IsAfter limit (resumed_stream stream bytes i) place → AddsQuietly limit stream bytes i (i + 1)
 adds-single {limit} {stream} {bytes} {i} {b} {place} parser e n other no_lead within is s after =
     let one = single limit b n other no_lead in
     adds-reads within is
-    (subst (IsAfter limit (stream_at stream bytes i)) (between_characters parser place e s) after)
+    (subst (IsAfter limit (resumed_stream stream bytes i)) (between_characters parser place e s) after)
     one.reads refl one.are
 
 pub advances-single : {quiet V B : Type 0} {call : ChunkCall V} {old new : V} {i b : ℕ} {parser : Machine B}

@@ -1,10 +1,10 @@
 -- Where a call starts (`starts-*`), stops or ends (`ends-*`), and where no character is open, so that something may
 -- start (`settles`).
-use Rattle.vte_core.proofs.Common.{◌≡◌, ℕ, ◌<◌, ◌≤◌, true, Option, List, [], ◌++◌, length, refl, sym, subst, arith, Machine, State, Text, Nothing, StopsExactly, stream_at, IsSettled, ReadsUpTo, StandsAt, StandsInside, Stands, StandsBy, HasReadUnder, after, Place, InText, ChunkCall}
+use Rattle.vte_core.proofs.Common.{◌≡◌, ℕ, ◌<◌, ◌≤◌, true, Option, List, [], ◌++◌, length, refl, sym, subst, arith, Machine, State, Text, Nothing, StopsExactly, resumed_stream, IsSettled, ReadsUpTo, StandsAt, StandsInside, Stands, StandsBy, HasReadUnder, after, Place, InText, ChunkCall}
 use Rattle.vte_core.proofs.Common.{IsSettledPlace, added, bytes_of, Unfinished, ComesTo}
 use Rattle.vte_core.proofs.calls.Progress.{come-all, come-settled, come-nowhere, come-performs, come-starts, come-to}
 use Rattle.vte_core.proofs.fields.PlaceOfState.{stands-place}
-use Rattle.vte_core.proofs.shapes.Told.{stream_at-all}
+use Rattle.vte_core.proofs.shapes.Told.{resumed_stream-all}
 
 -- ---- between characters
 
@@ -84,7 +84,7 @@ module _ {V B : Type 0} {call : ChunkCall V} where
       record { comes = ends-comes does within s; stops = stops; all = λ all. come-performs all s.has_come }
 
   pub ends-reads : {old value : V} {stream : List ℕ} {n : ℕ} {parser : Machine B}
-      → StandsAt call old value stream n parser → HasReadUnder call.limit parser (stream_at stream call.bytes n)
+      → StandsAt call old value stream n parser → HasReadUnder call.limit parser (resumed_stream stream call.bytes n)
   ends-reads s = record { place = s.place; stands = s.stands; is_after = s.has_come.is_after }
 
   -- of a call that reads all bytes
@@ -95,7 +95,7 @@ module _ {V B : Type 0} {call : ChunkCall V} where
   pub ends-reads_all : {old value : V} {stream : List ℕ} {n : ℕ} {parser : Machine B} → n ≡ length call.bytes
       → StandsAt call old value stream n parser → HasReadUnder call.limit parser (stream ++ call.bytes)
   ends-reads_all {stream} {n} {parser} all s =
-      subst (HasReadUnder call.limit parser) (stream_at-all stream call.bytes n all) (ends-reads s)
+      subst (HasReadUnder call.limit parser) (resumed_stream-all stream call.bytes n all) (ends-reads s)
 
   -- ---- where the loop of a call ends: at a stop, or with all bytes read
 

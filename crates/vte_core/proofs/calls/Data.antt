@@ -1,5 +1,5 @@
 -- A call that asks nothing goes on by data that are put, a stretch at a time: bytes that lead back to the same place.
-use Rattle.vte_core.proofs.Common.{◌≡◌, ℕ, zero, suc, ◌+◌, ◌-◌, ◌<◌, ◌≤◌, false, List, [], ◌∷◌, map, length, take, drop, refl, sym, subst, ◌∙◌, arith, false≢true, drop_more, slice_index, Machine, DeviceData, Put, InDeviceData, Advances, after, ArePut, IsPut, ChunkCall}
+use Rattle.vte_core.proofs.Common.{◌≡◌, ℕ, zero, suc, ◌+◌, ◌-◌, ◌<◌, ◌≤◌, false, List, [], ◌∷◌, map, length, take, drop, refl, sym, subst, ◌∙◌, arith, false≢true, drop_more, slice_index, Machine, DeviceData, Put, InDeviceData, Advances, after, ArePut, IsDeviceData, ChunkCall}
 use Rattle.vte_core.proofs.bytes.EachLemmas.{each-both, each-one}
 use Rattle.vte_core.proofs.bytes.ClassCases.{data_ends_nothing}
 use Rattle.vte_core.proofs.calls.Arms.{advances-in, in_data, taken}
@@ -34,7 +34,8 @@ advances-data {call} {old} {i} {j} {parser} begun low high are none performed =
     (advances-by (j - i) i begun (omega (arith, low, high)) (λ k from to. are k from (omega (arith, low, to))) none))
 
 -- a byte that is put, and those after it
-pub first-put : (bytes : List ℕ) {from end b : ℕ} → b ≡ slice_index bytes from → IsPut b → ArePut bytes (from + 1) end
+pub first-put : (bytes : List ℕ) {from end b : ℕ} → b ≡ slice_index bytes from → IsDeviceData b
+    → ArePut bytes (from + 1) end
     → ArePut bytes from end
 first-put bytes {from} {end} is put rest =
-    each-both IsPut bytes from (from + 1) end (each-one IsPut bytes from (subst IsPut is put)) rest
+    each-both IsDeviceData bytes from (from + 1) end (each-one IsDeviceData bytes from (subst IsDeviceData is put)) rest

@@ -1,7 +1,7 @@
 -- The bytes of a head: a function that reads several of them goes on by each. `ReadsHeadUpTo` says which, without the
 -- performer, which learns of a head only at its end; both shapes share it.
 use Rattle.vte_core.specs.machine.ToRun.{IsQuietIn}
-use Rattle.vte_core.proofs.Common.{◌≡◌, ℕ, zero, suc, ◌+◌, ◌-◌, ◌<◌, ◌≤◌, ◌⊎◌, inr, eqb, Option, List, [], ◌∷◌, ◌++◌, Bool, true, false, length, take, drop, refl, sym, subst, append_assoc, arith, nat_tests, append-nil, drop-drop, drop_more, take-add, slice_index, MatchOption, class_of, is_head, is_parameter_text, AreInClass, Collected, HeadProgress, Entry, Parameters, Machine, State, ControlSequence, DeviceControl, Event, ChunkCall, Leads, CountsNumbers, KeepsIntermediates, Stands, StandsBy, StandsInHead, Place, InControlSequence, InDeviceControl, IsSettledPlace, Advances, ProgressAt, StandsAt, IsSettled, MayGoOn, TakesBytes, TakesByte, ends_all, part_after, ReadsHead, Some, None, false≢true}
+use Rattle.vte_core.proofs.Common.{◌≡◌, ℕ, zero, suc, ◌+◌, ◌-◌, ◌<◌, ◌≤◌, ◌⊎◌, inr, eqb, Option, List, [], ◌∷◌, ◌++◌, Bool, true, false, length, take, drop, refl, sym, subst, append_assoc, arith, nat_tests, append-nil, drop-drop, drop_more, take-add, slice_index, MatchOption, class_of, is_head_byte, is_parameter_text, AreInClass, Collected, HeadProgress, Entry, Parameters, Machine, State, ControlSequence, DeviceControl, Event, ChunkCall, Leads, CountsNumbers, KeepsIntermediates, Stands, StandsBy, StandsInHead, Place, InControlSequence, InDeviceControl, IsSettledPlace, Advances, ProgressAt, StandsAt, IsSettled, MayGoOn, TakesBytes, TakesByte, ends_body, part_after, ReadsHead, Some, None, false≢true}
 use Rattle.vte_core.proofs.bytes.ClassCases.{head_ends_nothing, AreInClass-append, parameter_is_head}
 use Rattle.vte_core.proofs.calls.Progress.{come-settled, come-byte}
 use Rattle.vte_core.proofs.calls.Arms.{performs-in}
@@ -37,14 +37,14 @@ reads-then {bytes} {i} {j} {k} a b =
     record {
       low = omega (arith, a.low, b.low);
       high = b.high;
-      are = rw whole (AreInClass-append is_head _ _ a.are b.are);
+      are = rw whole (AreInClass-append is_head_byte _ _ a.are b.are);
       stands =
           λ head s. rw (whole, ← append_assoc head (take (j - i) (drop i bytes)) (take (k - j) (drop j bytes)))
           (b.stands _ (a.stands head s));
     }
 
 pub reads-head_byte : {bytes : List ℕ} {i b : ℕ} {part next : HeadProgress} {old new : Collected} → i < length bytes
-    → b ≡ slice_index bytes i → is_head (class_of b) ≡ true
+    → b ≡ slice_index bytes i → is_head_byte (class_of b) ≡ true
     → ((head : List ℕ) → StandsInHead old part head → StandsInHead new next (head ++ b ∷ []))
     → ReadsHead bytes i (i + 1) part next old new
 reads-head_byte {bytes} {i} {b} within at is stands =
@@ -124,7 +124,7 @@ stands_in : {B : Type 0} (shape : Shape) (limit : Option ℕ) (part : HeadProgre
 stands_in ControlHead limit part parser head e s = record { by = rw e s }
 stands_in DeviceHead limit part parser head e s = record { by = rw e s }
 
-leads : (shape : Shape) (limit : Option ℕ) (head : List ℕ) (b : ℕ) → is_head (class_of b) ≡ true
+leads : (shape : Shape) (limit : Option ℕ) (head : List ℕ) (b : ℕ) → is_head_byte (class_of b) ≡ true
     → Leads limit (in_head shape head) b [] (in_head shape (head ++ b ∷ []))
 leads ControlHead limit head b is = control-head limit head b is
 leads DeviceHead limit head b is = device-head limit head b is
@@ -148,7 +148,7 @@ settled DeviceHead part = tt
 module _ {V : Type 0} {call : ChunkCall V} where
   -- n bytes of a head
   come-head : {old value : V} {stream : List ℕ} {i : ℕ} (shape : Shape) (n : ℕ) (head : List ℕ)
-      → i + n ≤ length call.bytes → AreInClass is_head (take n (drop i call.bytes)) → MayGoOn call value
+      → i + n ≤ length call.bytes → AreInClass is_head_byte (take n (drop i call.bytes)) → MayGoOn call value
       → ProgressAt call old value stream i (in_head shape head)
       → ProgressAt call old value stream (i + n) (in_head shape (head ++ take n (drop i call.bytes)))
   come-head {i} shape zero head within more may_go_on c =
@@ -157,7 +157,7 @@ module _ {V : Type 0} {call : ChunkCall V} where
       let here : i < length call.bytes = omega (arith, within) in
       let b : ℕ = slice_index call.bytes i in
       let cut : drop i call.bytes ≡ b ∷ drop (i + 1) call.bytes = drop_more call.bytes i 0 here in
-      let both : AreInClass is_head (b ∷ take n (drop (i + 1) call.bytes)) = rw cut at more in
+      let both : AreInClass is_head_byte (b ∷ take n (drop (i + 1) call.bytes)) = rw cut at more in
       let place = is_place shape (head ++ b ∷ []) in
       let reads =
       reads-byte call.limit (in_head shape head) (in_head shape (head ++ b ∷ [])) b []
@@ -219,7 +219,7 @@ module _ {V : Type 0} {call : ChunkCall V} where
 -- a byte other than CAN, SUB and ESC there
 pub performs-head : {V B : Type 0} {step : V → Event → V} {old new : V} {limit : Option ℕ} {b : ℕ}
     {parser next : Machine B} (shape : Shape) (part : HeadProgress)
-    → parser.state ≡ state_of shape part → ends_all (class_of b) ≡ false
+    → parser.state ≡ state_of shape part → ends_body (class_of b) ≡ false
     → ((head : List ℕ) → StandsInHead parser.collected part head
     → TakesByte step old new limit (in_head shape head) b next)
     → (place : Place) → Stands limit parser place → IsSettledPlace place

@@ -8,13 +8,13 @@
 -- or the next byte breaks the open one; `come-command`: back from there
 -- `come-starts`: there something starts
 -- `come-to`, `come-performs`: the public clauses of a call that stops, and of one that reads all
-use Rattle.vte_core.proofs.Common.{◌≡◌, ℕ, zero, suc, ◌+◌, ◌-◌, ◌<◌, ◌≤◌, inl, inr, true, false, Option, List, [], ◌∷◌, ◌++◌, length, take, drop, refl, ap, sym, subst, ◌∙◌, append_assoc, arith, slice_index, cases_Bool, cases_lt, append-nil, drop_more, take-add, breaks, breaks_at, IsStart, told_before, stream_at, Event, Print, replacement, after, added, open_end, ProgressAt, ProgressInside, MayGoOn, Reads, Place, InText, ChunkCall}
+use Rattle.vte_core.proofs.Common.{◌≡◌, ℕ, zero, suc, ◌+◌, ◌-◌, ◌<◌, ◌≤◌, inl, inr, true, false, Option, List, [], ◌∷◌, ◌++◌, length, take, drop, refl, ap, sym, subst, ◌∙◌, append_assoc, arith, slice_index, cases_Bool, cases_lt, append-nil, drop_more, take-add, breaks, breaks_at, IsStart, told_before, resumed_stream, Event, Print, replacement, after, added, open_character, ProgressAt, ProgressInside, MayGoOn, Reads, Place, InText, ChunkCall}
 use Rattle.vte_core.proofs.Common.{InSystemCommand, IsAfter, IsSettledPlace, open_at, ComesTo}
-use Rattle.vte_core.proofs.streams.After.{after-left, after-nothing, after-open_end, after-reads, added-reads, added-nothing}
+use Rattle.vte_core.proofs.streams.After.{after-left, after-nothing, after-open_character, after-reads, added-reads, added-nothing}
 use Rattle.vte_core.proofs.calls.States.{reads-item}
 use Rattle.vte_core.proofs.fields.PlaceOfState.{IsPlace, open_at-settled}
 use Rattle.vte_core.proofs.streams.Performing.{after-append}
-use Rattle.vte_core.proofs.shapes.Told.{breaks_at-all, breaks_at-settled, breaks_at-byte, no_start, starts-settled, starts-broken, stream_at-settled, stream_at-broken, told-all, told-settled, told-broken}
+use Rattle.vte_core.proofs.shapes.Told.{breaks_at-all, breaks_at-settled, breaks_at-byte, no_start, starts-settled, starts-broken, resumed_stream-settled, resumed_stream-broken, told-all, told-settled, told-broken}
 use Rattle.vte_core.proofs.bytes.EachLemmas.{one_byte}
 use Rattle.vte_core.proofs.stops.Units.{added_from, after_from, breaks_there, goes_on_from}
 
@@ -38,13 +38,14 @@ module _ (limit : Option ℕ) (stream bytes : List ℕ) (i j : ℕ) (further : i
   abbrev stretch : List ℕ
   stretch = take (j - i) (drop i bytes)
 
-  stretch-breaks : breaks_at stream bytes i ≡ true → breaks (open_end here) stretch ≡ true
+  stretch-breaks : breaks_at stream bytes i ≡ true → breaks (open_character here) stretch ≡ true
   stretch-breaks broken =
-      breaks-front (open_end here) (drop i bytes) (j - i) (omega (arith, further)) (breaks_there stream bytes i broken)
+      breaks-front (open_character here) (drop i bytes) (j - i) (omega (arith, further))
+      (breaks_there stream bytes i broken)
 
-  stretch-after : (next : Place) → IsAfter limit (stream_at stream bytes i ++ stretch) next
+  stretch-after : (next : Place) → IsAfter limit (resumed_stream stream bytes i ++ stretch) next
       → IsAfter limit (stream ++ take j bytes) next
-  unfolding stream_at
+  unfolding resumed_stream
   stretch-after next a =
       let all : here ++ stretch ≡ stream ++ take j bytes =
       append_assoc stream (take i bytes) stretch ∙ ap (λ x. stream ++ x) (sym (stretch-ends bytes i j further)) in
@@ -52,8 +53,8 @@ module _ (limit : Option ℕ) (stream bytes : List ℕ) (i j : ℕ) (further : i
       (after_from limit here stretch next (breaks_at stream bytes i) stretch-breaks a)
 
   pub stretch-added : added limit stream (take j bytes)
-      ≡ told_before limit stream bytes i ++ added limit (stream_at stream bytes i) stretch
-  unfolding told_before stream_at
+      ≡ told_before limit stream bytes i ++ added limit (resumed_stream stream bytes i) stretch
+  unfolding told_before resumed_stream
   stretch-added =
       ap (added limit stream) (stretch-ends bytes i j further)
       ∙ added_from limit stream (take i bytes) stretch (breaks_at stream bytes i) stretch-breaks
@@ -65,14 +66,15 @@ module _ {V : Type 0} {call : ChunkCall V} {old : V} {stream : List ℕ} where
   come-whole : {value : V} {i : ℕ} {place : Place} → breaks_at stream call.bytes i ≡ false
       → ProgressInside call old value stream i place → ProgressAt call old value stream i place
   come-whole {i} whole c =
-      rw (told-settled call.limit stream call.bytes i whole, stream_at-settled stream call.bytes i whole) c
+      rw (told-settled call.limit stream call.bytes i whole, resumed_stream-settled stream call.bytes i whole) c
 
   pub come-settled : {value : V} {i : ℕ} {place : Place} → IsPlace place → IsSettledPlace place
       → ProgressInside call old value stream i place → ProgressAt call old value stream i place
   come-settled {i} {place} is between c =
       come-whole
       (breaks_at-settled stream call.bytes i
-      (after-open_end call.limit (stream ++ take i call.bytes) place c.is_after is ∙ open_at-settled place between)) c
+      (after-open_character call.limit (stream ++ take i call.bytes) place c.is_after is
+      ∙ open_at-settled place between)) c
 
   pub come-all : {value : V} {i : ℕ} {place : Place} → length call.bytes ≤ i
       → ProgressInside call old value stream i place → ProgressAt call old value stream i place
@@ -86,14 +88,14 @@ module _ {V : Type 0} {call : ChunkCall V} {old : V} {stream : List ℕ} where
   come-broken {i} {b} {place} is_place within is broken performed c =
       let here : breaks_at stream call.bytes i ≡ true =
       breaks_at-byte stream call.bytes (open_at place) i b within is
-      (after-open_end call.limit (stream ++ take i call.bytes) place c.is_after is_place) ∙ broken in
+      (after-open_character call.limit (stream ++ take i call.bytes) place c.is_after is_place) ∙ broken in
       record {
         performed =
             performed ∙ ap (λ v. call.step v (Print replacement)) c.performed
             ∙ sym (after-append call.step old (added call.limit stream (take i call.bytes)) (Print replacement ∷ []))
             ∙ ap (after call.step old) (sym (told-broken call.limit stream call.bytes i here));
         is_after =
-            subst (λ s. IsAfter call.limit s (InText [])) (sym (stream_at-broken stream call.bytes i here))
+            subst (λ s. IsAfter call.limit s (InText [])) (sym (resumed_stream-broken stream call.bytes i here))
             (after-nothing call.limit);
         earlier = c.earlier;
       }
@@ -115,11 +117,11 @@ module _ {V : Type 0} {call : ChunkCall V} {old : V} {stream : List ℕ} where
             ∙ sym (after-append call.step old (told_before call.limit stream call.bytes i) these)
             ∙ ap (after call.step old) (sym (stretch-added call.limit stream call.bytes i j in_order
             ∙ ap (λ (es : List Event). told_before call.limit stream call.bytes i ++ es)
-            (added-reads call.limit (stream_at stream call.bytes i)
+            (added-reads call.limit (resumed_stream stream call.bytes i)
             (take (j - i) (drop i call.bytes)) place next these c.is_after r is_place)));
         is_after =
             stretch-after call.limit stream call.bytes i j in_order next
-            (after-reads call.limit (stream_at stream call.bytes i)
+            (after-reads call.limit (resumed_stream stream call.bytes i)
             (take (j - i) (drop i call.bytes)) place next these c.is_after r is_place);
         earlier = λ does k below start. elim (cases_lt k i) [
           | inl front ↦ c.earlier does k front start
@@ -159,8 +161,8 @@ module _ {V : Type 0} {call : ChunkCall V} {old : V} {stream : List ℕ} where
       → new ≡ after call.step value these → IsPlace next → ProgressInside call old value stream i place
       → ProgressInside call old new stream (i + 1) next
   come-carried {i} {b} {place} is_here within is some whole r performed is_place c =
-      let ends : open_end (stream ++ take i call.bytes) ≡ open_at place =
-      after-open_end call.limit (stream ++ take i call.bytes) place c.is_after is_here in
+      let ends : open_character (stream ++ take i call.bytes) ≡ open_at place =
+      after-open_character call.limit (stream ++ take i call.bytes) place c.is_after is_here in
       further within is
       (λ _ start. absurd (no_start stream call.bytes (open_at place) i b within is ends some whole start)) r
       performed is_place
@@ -197,7 +199,7 @@ module _ {V : Type 0} {call : ChunkCall V} {old : V} {stream : List ℕ} where
   come-back : {value : V} {i : ℕ} {place : Place} → breaks_at stream call.bytes i ≡ false
       → ProgressAt call old value stream i place → ProgressInside call old value stream i place
   come-back {i} whole c =
-      rw (told-settled call.limit stream call.bytes i whole, stream_at-settled stream call.bytes i whole) at c
+      rw (told-settled call.limit stream call.bytes i whole, resumed_stream-settled stream call.bytes i whole) at c
 
   -- in a command no character was broken
   pub come-command : {value : V} {i : ℕ} {items : List ℕ} → ProgressAt call old value stream i (InSystemCommand items)
@@ -205,7 +207,7 @@ module _ {V : Type 0} {call : ChunkCall V} {old : V} {stream : List ℕ} where
   come-command {value} {i} {items} c = elim (cases_Bool (breaks_at stream call.bytes i)) [
     | inl broken ↦
         let a : IsAfter call.limit [] (InSystemCommand items) =
-        subst (λ s. IsAfter call.limit s (InSystemCommand items)) (stream_at-broken stream call.bytes i broken)
+        subst (λ s. IsAfter call.limit s (InSystemCommand items)) (resumed_stream-broken stream call.bytes i broken)
         c.is_after in
         let none =
         sym (after-left call.limit [] (InText []) (after-nothing call.limit) refl)
@@ -221,8 +223,9 @@ module _ {V : Type 0} {call : ChunkCall V} {old : V} {stream : List ℕ} where
   come-starts {i} {place} is between within c = elim (cases_Bool (breaks_at stream call.bytes i)) [
     | inl broken ↦ starts-broken stream call.bytes i within broken
     | inr whole ↦ starts-settled stream call.bytes i within
-        (ap open_end (sym (stream_at-settled stream call.bytes i whole))
-        ∙ after-open_end call.limit (stream_at stream call.bytes i) place c.is_after is ∙ open_at-settled place between)
+        (ap open_character (sym (resumed_stream-settled stream call.bytes i whole))
+        ∙ after-open_character call.limit (resumed_stream stream call.bytes i) place c.is_after is
+        ∙ open_at-settled place between)
   ]
 
   -- ---- the end of a call
@@ -239,11 +242,12 @@ module _ {V : Type 0} {call : ChunkCall V} {old : V} {stream : List ℕ} where
         earlier = c.earlier does;
         starts = starts;
         goes_on =
-            ap (λ v. after call.step v (added call.limit (stream_at stream call.bytes n) unread)) c.performed
+            ap (λ v. after call.step v (added call.limit (resumed_stream stream call.bytes n) unread)) c.performed
             ∙ sym (after-append call.step old (told_before call.limit stream call.bytes n)
-            (added call.limit (stream_at stream call.bytes n) unread))
+            (added call.limit (resumed_stream stream call.bytes n) unread))
             ∙ ap (after call.step old)
-            (ap (λ x. told_before call.limit stream call.bytes n ++ added call.limit (stream_at stream call.bytes n) x)
+            (ap (λ x. told_before call.limit stream call.bytes n
+            ++ added call.limit (resumed_stream stream call.bytes n) x)
             (sym (append-nil unread)) ∙ sym (goes_on_from call.limit stream call.bytes [] n)
             ∙ ap (added call.limit stream) (append-nil call.bytes));
       }

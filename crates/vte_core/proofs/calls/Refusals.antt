@@ -1,6 +1,6 @@
 -- What a call without a limit stores, and where it stops for lack of memory. What is stored of an open command is said
 -- of its place, so it holds of every parser that is at one.
-use Rattle.vte_core.proofs.Common.{◌≡◌, ℕ, ◌+◌, ◌≤◌, Bool, None, List, [], ◌∷◌, ◌++◌, length, take, Result, Ok, Err, IfErr, IfOk, IsOk, refl, ap, sym, subst, ◌∙◌, length-take, IsAfter, arith, concat, slice_index, Machine, MeetsData, open_data_count, open_size, read_count, State, SystemCommand, ProgressAt, IsRefusedInCommand, ReadsUntilRefused, StandsInside, HasReadUnder, Stands, StandsBy, Place, InSystemCommand, InText, ChunkCall}
+use Rattle.vte_core.proofs.Common.{◌≡◌, ℕ, ◌+◌, ◌≤◌, Bool, None, List, [], ◌∷◌, ◌++◌, length, take, Result, Ok, Err, IfErr, IfOk, IsOk, refl, ap, sym, subst, ◌∙◌, length-take, IsAfter, arith, concat, slice_index, Machine, MeetsData, open_data_count, open_command_size, read_count, State, SystemCommand, ProgressAt, IsRefusedInCommand, ReadsUntilRefused, StandsInside, HasReadUnder, Stands, StandsBy, Place, InSystemCommand, InText, ChunkCall}
 use Rattle.vte_core.proofs.Common.{left_at, Stored, HoldsItems, ToClose, CommandToClose, loses_data, outcome, pieces_of, Refused}
 use Rattle.vte_core.proofs.calls.States.{reads-item}
 use Rattle.vte_core.proofs.calls.Progress.{come-command}
@@ -78,7 +78,7 @@ refuses-inside {call} {old} {new} {n} {parser} r stream h =
 -- in a command as many bytes as are open
 pub stored_is_open : {B : Type 0} (parser : Machine B) (stream : List ℕ) → parser.state ≡ SystemCommand
     → HasReadUnder None parser stream
-    → length parser.command.bytes ≡ open_size stream
+    → length parser.command.bytes ≡ open_command_size stream
 stored_is_open parser stream e h =
     let k = in_command parser h.place e h.stands in
     pieces_stored None parser.command k.items k.keeps
@@ -119,13 +119,13 @@ by_left _ n stored = omega arith
 
 -- no more are open
 pub open_is_stored : {B : Type 0} (parser : Machine B) (stream : List ℕ) → HasReadUnder None parser stream
-    → open_size stream ≤ length parser.command.bytes
+    → open_command_size stream ≤ length parser.command.bytes
 open_is_stored parser stream h =
     by_left (outcome None stream).left (length parser.command.bytes) (stores_pieces parser stream h)
 
 -- outside a command no data bytes are open
 pub none_is_open : {B : Type 0} (parser : Machine B) (stream : List ℕ) → (parser.state ≡ SystemCommand → ⊥)
-    → HasReadUnder None parser stream → open_size stream ≡ 0
+    → HasReadUnder None parser stream → open_command_size stream ≡ 0
 none_is_open parser stream other h =
     omega (
       arith,
@@ -141,7 +141,7 @@ nothing_stored {held} keeps = pieces_stored None held [] keeps
 -- where there was memory for all bytes of the call, none is refused
 pub never_refused : {V B : Type 0} {call : ChunkCall V} {old new : V} {n : ℕ} {before parser : Machine B}
     → ReadsUntilRefused call old new n before parser → (stream : List ℕ) → HasReadUnder call.limit before stream
-    → open_size stream + length call.bytes ≤ before.command.capacity
+    → open_command_size stream + length call.bytes ≤ before.command.capacity
     → before.command.capacity ≤ parser.command.capacity → ⊥
 never_refused {call} {n} {parser} r stream h enough kept =
     let read : List ℕ = take n call.bytes in

@@ -1,6 +1,6 @@
 -- The bytes after ESC that begin no string: ESC once more and dropped bytes leave the place as it is, and `[` leads to
 -- an empty head.
-use Rattle.vte_core.proofs.Common.{◌≡◌, ℕ, ◌+◌, ◌<◌, false, Option, [], ◌∷◌, length, refl, slice_index, class_of, ends_all, is_plain_control, is_final, is_head, Entry, Machine, Escape, ControlSequence, Event, key_of, Advances, MayGoOn, HoldsIntermediates, HoldsHead, Stands, StandsBy, TakesBytes, Place, AtEscape, InControlSequence, IsSettledPlace, ChunkCall}
+use Rattle.vte_core.proofs.Common.{◌≡◌, ℕ, ◌+◌, ◌<◌, false, Option, [], ◌∷◌, length, refl, slice_index, class_of, ends_body, is_plain_control, is_final, is_head_byte, Entry, Machine, Escape, ControlSequence, Event, key_of, Advances, MayGoOn, HoldsIntermediates, HoldsHead, Stands, StandsBy, TakesBytes, Place, AtEscape, InControlSequence, IsSettledPlace, ChunkCall}
 use Rattle.vte_core.proofs.bytes.ClassCases.{left_is_dropped}
 use Rattle.vte_core.proofs.calls.Arms.{advances-in, at_escape, performs-escape, performs-in, taken}
 use Rattle.vte_core.proofs.fields.PlaceOfState.{stands-by, stands-in}
@@ -26,8 +26,8 @@ advances-again {call} {value} {b} {parser} begun within is may_go_on same =
 
 -- DEL and 80..FF
 pub performs-dropped : {V B : Type 0} {step : V → Event → V} {value : V} {limit : Option ℕ} {b : ℕ} {parser : Machine B}
-    → parser.state ≡ Escape → is_head (class_of b) ≡ false → is_final (class_of b) ≡ false
-    → ends_all (class_of b) ≡ false → is_plain_control (class_of b) ≡ false
+    → parser.state ≡ Escape → is_head_byte (class_of b) ≡ false → is_final (class_of b) ≡ false
+    → ends_body (class_of b) ≡ false → is_plain_control (class_of b) ≡ false
     → (place : Place) → Stands limit parser place → IsSettledPlace place
     → TakesBytes step value value limit place (b ∷ []) parser
 performs-dropped {limit} {b} {parser} begun head final ordinary control =

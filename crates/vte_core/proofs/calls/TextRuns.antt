@@ -1,6 +1,6 @@
 -- What a run of text does to a call's progress: its characters one by one do the same. By induction over the
 -- characters, and for the performer by its contract over the whole run.
-use Rattle.vte_core.proofs.Common.{cases_Bool, inl, inr, Bool, List, Option, [], ap, arith, drop, false, length, map, refl, subst, sym, take, true, ℕ, ◌++◌, ◌+◌, ◌-◌, ◌<◌, ◌∙◌, ◌∷◌, ◌≡◌, ◌≢◌, ◌≤◌, encode, false≢true, append-nil, take-append-drop, All-append, All-head, All-nil, All-tail, All, slice_index, breaks_at, stream_at, told_before, Event, Print, replacement, after, added, cut_at_escape, escape, with_bodies, events, ChunkCall, run_event, character_event, is_control_character, malformed_event, text_outcome, Text, Machine, Nothing, Reads, Stands, InText, encodes, nat_tests, outcome_from, Advances, ProgressAt, MayGoOn, StandsAt, StandsInside, chars, IsUtf8, NoCharacterStops, IsUtf8Run, IsPrintedAscii, PrintsRun, StaysInRun, ends_run}
+use Rattle.vte_core.proofs.Common.{cases_Bool, inl, inr, Bool, List, Option, [], ap, arith, drop, false, length, map, refl, subst, sym, take, true, ℕ, ◌++◌, ◌+◌, ◌-◌, ◌<◌, ◌∙◌, ◌∷◌, ◌≡◌, ◌≢◌, ◌≤◌, encode, false≢true, append-nil, take-append-drop, All-append, All-head, All-nil, All-tail, All, slice_index, breaks_at, resumed_stream, told_before, Event, Print, replacement, after, added, cut_at_escape, escape, with_bodies, events, ChunkCall, run_event, character_event, is_control_character, malformed_event, text_outcome, Text, Machine, Nothing, Reads, Stands, InText, encodes, nat_tests, outcome_from, Advances, ProgressAt, MayGoOn, StandsAt, StandsInside, chars, IsUtf8, NoCharacterStops, IsUtf8Run, IsPrintedAscii, PrintsRun, StaysInRun, ends_run}
 use Rattle.std.proofs.lemmas.List.{take-take}
 use Rattle.std.proofs.lemmas.List.Elements.{All-from_get_or}
 use Rattle.std.proofs.lemmas.Str.{inside_one, encodes-chars, scalars-chars}
@@ -161,7 +161,7 @@ advances-text {V} {call} {keeps} {old} {new} {i} {j} {parser}
         → (k : ℕ) → i < k → k < j
         → call.is_terminated (after call.step value (told_before call.limit stream call.bytes k)) ≡ false
     inside value stream c does k past below =
-        let from : List ℕ = stream_at stream call.bytes i in
+        let from : List ℕ = resumed_stream stream call.bytes i in
         let front : List ℕ = take (k - i) (drop i call.bytes) in
         let rest : List ℕ = drop (k - i) run in
         let parts : run ≡ front ++ rest =

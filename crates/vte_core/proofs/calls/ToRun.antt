@@ -1,8 +1,8 @@
 -- Runs that a caller takes from its own input: bytes that lead from the parser's place back to it, so the parser
 -- needn't change, and that no further printed character or data byte follows.
-use Rattle.vte_core.proofs.Common.{◌≡◌, ℕ, zero, suc, ◌+◌, ◌-◌, ◌<◌, ◌≤◌, false, true, Option, List, [], ◌∷◌, ◌++◌, drop, length, length-take, length-drop, map, take, refl, ap, sym, subst, ◌∙◌, arith, append-nil, drop_more, slice_index, Machine, DeviceData, Text, State, Nothing, class_of, stream_at, Event, Print, Put, Reads, Stands, StandsBy, HasReadUnder, Place, InDeviceData, InText, IsAfter, IsSettled, StandsAt, ChunkCall}
+use Rattle.vte_core.proofs.Common.{◌≡◌, ℕ, zero, suc, ◌+◌, ◌-◌, ◌<◌, ◌≤◌, false, true, Option, List, [], ◌∷◌, ◌++◌, drop, length, length-take, length-drop, map, take, refl, ap, sym, subst, ◌∙◌, arith, append-nil, drop_more, slice_index, Machine, DeviceData, Text, State, Nothing, class_of, resumed_stream, Event, Print, Put, Reads, Stands, StandsBy, HasReadUnder, Place, InDeviceData, InText, IsAfter, IsSettled, StandsAt, ChunkCall}
 use Rattle.vte_core.proofs.Common.{EndsRun, IsRun, chars, Unfinished, IsRange}
-use Rattle.vte_core.specs.machine.Prelude.{ArePut, AreOfKind, ComesToRun, IsOutsideTextAndData, IsPut, IsTaken}
+use Rattle.vte_core.specs.machine.Prelude.{ArePut, AreOfKind, ComesToRun, IsOutsideTextAndData, IsDeviceData, IsTaken}
 use Rattle.vte_core.specs.machine.ToRun.{HasRun, IsWholeAt, bytes_at, kind_events}
 use Rattle.vte_core.specs.AdvanceToRun.{IsRunIn, IsLongestRun, ReturnsRun, run_bytes, taken_bytes, taken_events}
 use Rattle.vte_core.specs.declared.scan.taken.Run.{Run}
@@ -116,7 +116,7 @@ reads-data limit bytes (suc n) i within are =
 
 pub has-data : {B : Type 0} {limit : Option ℕ} {bytes : List ℕ} {from end : ℕ} {parser : Machine B}
     → parser.state ≡ DeviceData → from < end → end ≤ length bytes
-    → ArePut bytes from end → (end < length bytes → IsPut (slice_index bytes end) → ⊥)
+    → ArePut bytes from end → (end < length bytes → IsDeviceData (slice_index bytes end) → ⊥)
     → HasRun limit bytes (record { start = from; end = end; kind = OfData }) parser
 has-data {limit} {bytes} {from} {end} {parser} begun low high are ended =
     has-run InDeviceData tt (λ place s. by_data limit parser place (stands-in begun s))
@@ -242,6 +242,6 @@ module _ {V B : Type 0} {call : ChunkCall V} {old new : V} (run : Run) {place : 
       }
 
   pub reads-run : (stream : List ℕ) → HasReadUnder call.limit before stream
-      → HasReadUnder call.limit parser (stream_at stream call.bytes run.start ++ run_bytes run)
+      → HasReadUnder call.limit parser (resumed_stream stream call.bytes run.start ++ run_bytes run)
   reads-run stream h =
       rw (starts, (takes-run run.taken c.has taken).are) (c.has.reads _ (ends-reads (c.stands_at stream h)))

@@ -1,7 +1,7 @@
 -- What one byte makes of the head that is held: by the part of the head that was reached and the byte's class.
 --
 -- `holds-X`: the head is held after X (`HoldsHead`); `malformed-X`, `ill_shaped-X`: it stays ill-shaped after X.
-use Rattle.vte_core.proofs.Common.{◌≡◌, ℕ, ◌⊎◌, inl, inr, Bool, true, false, ◌||◌, List, [], ◌∷◌, ◌++◌, length, refl, ap, ◌∙◌, append_assoc, arith, length-append, append-nil, Class, Intermediate, Marker, class_of, is_head, is_intermediate, is_marker, is_parameter_text, Collected, HeadProgress, Entry, Parameters, Intermediates, IllShaped, Event, head_of, is_well_shaped, sequence_event, HoldsIntermediates, CountsNumbers, HoldsNumbers, HoldsHead}
+use Rattle.vte_core.proofs.Common.{◌≡◌, ℕ, ◌⊎◌, inl, inr, Bool, true, false, ◌||◌, List, [], ◌∷◌, ◌++◌, length, refl, ap, ◌∙◌, append_assoc, arith, length-append, append-nil, Class, Intermediate, Marker, class_of, is_head_byte, is_intermediate, is_marker, is_parameter_text, Collected, HeadProgress, Entry, Parameters, Intermediates, IllShaped, Event, head_of, is_well_shaped, sequence_event, HoldsIntermediates, CountsNumbers, HoldsNumbers, HoldsHead}
 use Rattle.vte_core.proofs.Common.{KeepsNumbers, KeepsIntermediates, StandsInHead, StaysIllShaped}
 use Rattle.vte_core.specs.machine.Ready.{IsReady}
 use Rattle.vte_core.proofs.shapes.HeadLemmas.{begins-intermediates, head_of-parts, held-parts, held-well_shaped, list_all-not}
@@ -169,14 +169,14 @@ holds-nothing new holds counts = record {
 }
 
 -- what is left of the bytes of a head
-pub left_is_marker : (k : Class) → is_head k ≡ true → is_parameter_text k ≡ false
+pub left_is_marker : (k : Class) → is_head_byte k ≡ true → is_parameter_text k ≡ false
     → is_intermediate k ≡ false → k ≡ Marker
 left_is_marker Marker h p i = refl
 left_is_marker _ h p i = cc
 
 -- a marker that does not come first, or a digit or a separator that may not come next
 pub ill_shaped-late : (old : Collected) (part : HeadProgress) (head : List ℕ) (b : ℕ) → StandsInHead old part head
-    → is_head (class_of b) ≡ true
+    → is_head_byte (class_of b) ≡ true
     → is_intermediate (class_of b) ≡ false
     → ((part ≡ Entry) ⊎ (part ≡ Parameters) → is_parameter_text (class_of b) ≡ false)
     → (part ≡ Entry → ⊥) → StaysIllShaped (head ++ b ∷ [])

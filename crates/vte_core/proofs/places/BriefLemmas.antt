@@ -1,6 +1,6 @@
 -- The events of one byte are small: a character, a control, or a dispatch whose intermediates and final byte have
 -- bounds. By the kind of event.
-use Rattle.vte_core.proofs.Common.{◌≡◌, ℕ, ◌<◌, ◌≤◌, Bool, true, false, cond, Option, List, [], ◌∷◌, ◌++◌, length, refl, arith, nat_tests, IsBounded, IsBrief, IsExecuted, IsPrintable, IsShort, IsAtMostOneShort, first_two, Event, Print, Execute, Hook, CsiDispatch, replacement, Head, sequence_event, reported_intermediates, character_event, malformed_event, is_control_character, is_well_formed, scalar_of}
+use Rattle.vte_core.proofs.Common.{◌≡◌, ℕ, ◌<◌, ◌≤◌, Bool, true, false, cond, Option, List, [], ◌∷◌, ◌++◌, length, refl, arith, nat_tests, IsBounded, AreFromOneByte, IsExecuted, IsPrintable, IsShort, IsAtMostOneShort, first_two, Event, Print, Execute, Hook, CsiDispatch, replacement, Head, sequence_event, reported_intermediates, character_event, malformed_event, is_control_character, is_well_formed, scalar_of}
 use Rattle.std.proofs.lemmas.List.{length-take}
 use Rattle.vte_core.proofs.fields.Parameters.{AreGroups-groups_of, some_group}
 use Rattle.vte_core.proofs.bytes.Scalars.{well_formed_is_scalar}
@@ -41,13 +41,13 @@ short_bounded limit (Print c) short = short
 short_bounded limit (Execute b) short = short
 short_bounded limit _ short = absurd short
 
-pub tiny_brief : (limit : Option ℕ) (told : List Event) → IsAtMostOneShort told → IsBrief limit told
+pub tiny_brief : (limit : Option ℕ) (told : List Event) → IsAtMostOneShort told → AreFromOneByte limit told
 tiny_brief limit [] tiny = tt
 tiny_brief limit (event ∷ []) tiny = short_bounded limit event tiny
 tiny_brief limit (event ∷ next ∷ told) tiny = absurd tiny
 
 pub tiny-both : (limit : Option ℕ) (front rest : List Event) → IsAtMostOneShort front → IsAtMostOneShort rest
-    → IsBrief limit (front ++ rest)
+    → AreFromOneByte limit (front ++ rest)
 tiny-both limit [] rest t s = tiny_brief limit rest s
 tiny-both limit (e ∷ []) [] t s = short_bounded limit e t
 tiny-both limit (e ∷ []) (f ∷ []) t s = (short_bounded limit e t, s)

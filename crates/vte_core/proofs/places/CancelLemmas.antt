@@ -1,5 +1,5 @@
 -- CAN and SUB, which end what is open and are executed: what is closed comes first. By cases of the place.
-use Rattle.vte_core.proofs.Common.{◌≡◌, ℕ, ◌<◌, true, false, eqb, Option, List, [], ◌∷◌, ◌++◌, refl, ap, ◌∙◌, arith, nat_tests, Cancel, class_of, IsBrief, Print, Execute, replacement, Leads, tell, Place, InText, InDeviceData, InSystemCommand, closing_events_at, left_at, bell, text_outcome, character_event, is_control_character, append-nil, body_outcome, control_sequence_end, device_data_outcome, device_control_end, executed_events}
+use Rattle.vte_core.proofs.Common.{◌≡◌, ℕ, ◌<◌, true, false, eqb, Option, List, [], ◌∷◌, ◌++◌, refl, ap, ◌∙◌, arith, nat_tests, Cancel, class_of, AreFromOneByte, Print, Execute, replacement, Leads, tell, Place, InText, InDeviceData, InSystemCommand, closing_events_at, left_at, bell, text_outcome, character_event, is_control_character, append-nil, body_outcome, control_sequence_end, device_data_outcome, device_control_after_head, executed_events}
 use Rattle.vte_core.specs.IgnoredString.{ignored_string_outcome}
 use Rattle.vte_core.specs.machine.Place.{control_sequence_from, device_control_from, escape_from, system_command_from}
 use Rattle.vte_core.proofs.bytes.ClassLemmas.{spans}
@@ -26,7 +26,7 @@ text_cancel rest b low =
 pub cancel : (limit : Option ℕ) (place : Place) (b : ℕ) → IsPlace place → class_of b ≡ Cancel
     → Leads limit place b (closing_events_at limit place ++ Execute b ∷ []) (InText [])
 unfolding body_outcome executed_events escape_from control_sequence_from control_sequence_end device_control_from
-    device_control_end device_data_outcome system_command_from ignored_string_outcome
+    device_control_after_head device_data_outcome system_command_from ignored_string_outcome
 cancel limit (InText []) b is e = record { leads = λ rest. text_cancel rest b (spans b Cancel e) }
 cancel limit (InText (a ∷ u)) b is e =
     let low : b < 0x20 = spans b Cancel e in
@@ -41,7 +41,7 @@ cancel limit _ b is e = record { leads = λ rest. simp e }
 -- ---- both are little
 
 pub closing_brief : (limit size : Option ℕ) (place : Place) (b : ℕ) → FitsLeft size (left_at limit place) → b < 0x20
-    → IsBrief size (closing_events_at limit place ++ Execute b ∷ [])
+    → AreFromOneByte size (closing_events_at limit place ++ Execute b ∷ [])
 closing_brief limit size (InText []) b fits low = executed_low b low
 closing_brief limit size (InText (a ∷ u)) b fits low = ((refl, refl), executed_low b low)
 closing_brief limit size InDeviceData b fits low = (tt, executed_low b low)
@@ -50,7 +50,7 @@ closing_brief limit size (InSystemCommand items) b fits low =
 closing_brief limit size _ b fits low = executed_low b low
 
 pub closing_alone_brief : (limit size : Option ℕ) (place : Place) → FitsLeft size (left_at limit place)
-    → IsBrief size (closing_events_at limit place)
+    → AreFromOneByte size (closing_events_at limit place)
 closing_alone_brief limit size (InText []) fits = tt
 closing_alone_brief limit size (InText (a ∷ u)) fits = (refl, refl)
 closing_alone_brief limit size InDeviceData fits = tt

@@ -2,7 +2,7 @@
 -- definition of that shape alone.
 --
 -- A lemma is named by the place and what comes there, as `escape-end` for the end of a sequence right after ESC.
-use Rattle.vte_core.proofs.Common.{◌≡◌, ℕ, ◌≤◌, true, false, eqb, Option, List, [], ◌∷◌, ◌++◌, ap, sym, append_assoc, append-nil, arith, nat_tests, Class, Control, Intermediate, Delete, Digit, Colon, Semicolon, Marker, Final, High, dispatches_escape, class_of, is_cancel, is_device_data, is_head, EscapeSequence, key_of, body_outcome, control_sequence_end, control_sequence_outcome, device_data_outcome, device_control_end, ends_command}
+use Rattle.vte_core.proofs.Common.{◌≡◌, ℕ, ◌≤◌, true, false, eqb, Option, List, [], ◌∷◌, ◌++◌, ap, sym, append_assoc, append-nil, arith, nat_tests, Class, Control, Intermediate, Delete, Digit, Colon, Semicolon, Marker, Final, High, dispatches_escape, class_of, is_cancel, is_device_data, is_head_byte, EscapeSequence, key_of, body_outcome, control_sequence_end, control_sequence_outcome, device_data_outcome, device_control_after_head, ends_command}
 use Rattle.vte_core.proofs.Common.{ends_device_data, device_control_outcome, escape_outcome, executed_events, first_two, are_too_many, Execute, Hook, Put, Unhook, OscDispatch, CsiDispatch, EscDispatch, head_of, is_well_shaped, sequence_event, Leads, InText, AtEscape, InEscape, InControlSequence, InDeviceControl, InDeviceData, InSystemCommand, InIgnoredString, pieces_of, bell, system_command_outcome, text_outcome, character_event, Bool}
 use Rattle.vte_core.proofs.Common.{Place, refl, malformed_event, is_truncated, is_well_formed, scalar_of, nat_le}
 use Rattle.vte_core.specs.IgnoredString.{ignored_string_outcome}
@@ -108,7 +108,7 @@ escape-end limit b _ e h key = cc
 
 -- ---- in the head of a control sequence
 
-pub control-head : (limit : Option ℕ) (head : List ℕ) (b : ℕ) → is_head (class_of b) ≡ true
+pub control-head : (limit : Option ℕ) (head : List ℕ) (b : ℕ) → is_head_byte (class_of b) ≡ true
     → Leads limit (InControlSequence head) b [] (InControlSequence (head ++ b ∷ []))
 unfolding control_sequence_from executed_events
 control-head limit head b is =
@@ -136,7 +136,7 @@ unfolding device_control_from
 device-dropped limit head b Control e h = record { leads = λ rest. simp e }
 device-dropped limit head b k e h = byte-dropped limit (InDeviceControl head) b k refl e h
 
-pub device-head : (limit : Option ℕ) (head : List ℕ) (b : ℕ) → is_head (class_of b) ≡ true
+pub device-head : (limit : Option ℕ) (head : List ℕ) (b : ℕ) → is_head_byte (class_of b) ≡ true
     → Leads limit (InDeviceControl head) b [] (InDeviceControl (head ++ b ∷ []))
 unfolding device_control_from
 device-head limit head b is = record { leads = λ rest. simp (is, head_is_no_end (class_of b) is, append_assoc) }
@@ -144,12 +144,12 @@ device-head limit head b is = record { leads = λ rest. simp (is, head_is_no_end
 pub device-well_shaped : (limit : Option ℕ) (head : List ℕ) (b : ℕ) → class_of b ≡ Final
     → is_well_shaped (head_of head) ≡ true
     → Leads limit (InDeviceControl head) b (sequence_event Hook (head_of head) b ∷ []) InDeviceData
-unfolding device_control_from device_control_end
+unfolding device_control_from device_control_after_head
 device-well_shaped limit head b e well = record { leads = λ rest. simp (e, append-nil, well) }
 
 pub device-ill_shaped : (limit : Option ℕ) (head : List ℕ) (b : ℕ) → class_of b ≡ Final
     → is_well_shaped (head_of head) ≡ false → Leads limit (InDeviceControl head) b [] InIgnoredString
-unfolding device_control_from device_control_end
+unfolding device_control_from device_control_after_head
 device-ill_shaped limit head b e ill = record { leads = λ rest. simp (e, append-nil, ill) }
 
 -- ---- in the data of a hooked string

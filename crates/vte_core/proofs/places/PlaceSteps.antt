@@ -1,6 +1,6 @@
 -- After every place every byte reports at most two events, of which the second is short, and leads to a place
 -- (`steps`): by cases of the place and of the byte's class, each by a lemma of `PlaceLeads`.
-use Rattle.vte_core.proofs.Common.{◌≡◌, ℕ, inl, inr, false, eqb, Option, List, refl, arith, cases_Bool, nat_tests, Class, Control, Cancel, Intermediate, Final, Delete, High, class_of, ends_all, Key, EscapeSequence, key_of, IsBrief, Event, head_of, is_well_shaped, sequence_event, Leads, Place, InText, AtEscape, InEscape, InControlSequence, InDeviceControl, InDeviceData, InSystemCommand, InIgnoredString, closing_events_at, escape, bell, pieces_of}
+use Rattle.vte_core.proofs.Common.{◌≡◌, ℕ, inl, inr, false, eqb, Option, List, refl, arith, cases_Bool, nat_tests, Class, Control, Cancel, Intermediate, Final, Delete, High, class_of, ends_body, Key, EscapeSequence, key_of, AreFromOneByte, Event, head_of, is_well_shaped, sequence_event, Leads, Place, InText, AtEscape, InEscape, InControlSequence, InDeviceControl, InDeviceData, InSystemCommand, InIgnoredString, closing_events_at, escape, bell, pieces_of}
 use Rattle.vte_core.proofs.Common.{kept_items, open_data_count, left_at, breaks, open_at, sym, false≢true, ◌∙◌, [], ◌∷◌, ◌++◌, Execute}
 use Rattle.vte_core.proofs.bytes.FirstBytes.{Tests, ascii_breaks}
 use Rattle.vte_core.proofs.shapes.Told.{breaks-broken}
@@ -48,12 +48,12 @@ nothing_open limit (InSystemCommand (item ∷ items)) none = absurd none
 nothing_open limit _ none = (refl, refl, tt)
 
 -- a byte of the class, of which the class says that it is not ESC
-pub plain : (b : ℕ) (k : Class) → class_of b ≡ k → ends_all k ≡ false → eqb b escape ≡ false
+pub plain : (b : ℕ) (k : Class) → class_of b ≡ k → ends_body k ≡ false → eqb b escape ≡ false
 plain b k is no_end = no_escape b (rw is no_end)
 
 module _ {limit : Option ℕ} {place next : Place} {b : ℕ} where
   sequenced_by : {told : List Event} → eqb b escape ≡ false → Sequenced place next → Leads limit place b told next
-      → ((size : Option ℕ) → FitsLeft size (left_at limit place) → IsBrief size told)
+      → ((size : Option ℕ) → FitsLeft size (left_at limit place) → AreFromOneByte size told)
       → (IsQuietAt place b → AreQuietEvents told) → Steps limit place b
   sequenced_by other known leads =
       let none = nothing_open limit next known.1 in
@@ -61,14 +61,14 @@ module _ {limit : Option ℕ} {place next : Place} {b : ℕ} where
       none.2
 
   -- by the byte's class
-  sequenced : {told : List Event} {k : Class} → class_of b ≡ k → ends_all k ≡ false → Sequenced place next
+  sequenced : {told : List Event} {k : Class} → class_of b ≡ k → ends_body k ≡ false → Sequenced place next
       → Leads limit place b told next
-      → ((size : Option ℕ) → FitsLeft size (left_at limit place) → IsBrief size told)
+      → ((size : Option ℕ) → FitsLeft size (left_at limit place) → AreFromOneByte size told)
       → (IsQuietAt place b → AreQuietEvents told) → Steps limit place b
   sequenced is no_end = sequenced_by (plain _ _ is no_end)
 
   -- a byte that tells nothing
-  silent : {k : Class} → class_of b ≡ k → ends_all k ≡ false → Sequenced place next → Leads limit place b [] next
+  silent : {k : Class} → class_of b ≡ k → ends_body k ≡ false → Sequenced place next → Leads limit place b [] next
       → Steps limit place b
   silent is no_end known leads = sequenced is no_end known leads (λ _ _. tt) (λ _. tt)
 
@@ -84,7 +84,7 @@ step-final limit b EscapeSequence is k =
     sequenced is refl outside (escape-end limit b Final is refl k) (λ _ _. (omega arith, s.1, omega arith)) (λ _. tt)
 step-final limit b key is k = silent is refl outside (escape-key limit b key is k refl)
 
-step-escape : (limit : Option ℕ) (b : ℕ) (k : Class) → class_of b ≡ k → ends_all k ≡ false → Steps limit AtEscape b
+step-escape : (limit : Option ℕ) (b : ℕ) (k : Class) → class_of b ≡ k → ends_body k ≡ false → Steps limit AtEscape b
 step-escape limit b Control is no_end = executed is outside (byte-executed limit AtEscape b refl is)
 step-escape limit b Intermediate is no_end = silent is no_end outside (escape-intermediate limit b is)
 step-escape limit b Final is no_end = step-final limit b (key_of b) is refl
@@ -99,7 +99,7 @@ step-escape limit b k is no_end =
 
 -- ---- after ESC and intermediates
 
-step-intermediate : (limit : Option ℕ) (ints : List ℕ) (b : ℕ) (k : Class) → class_of b ≡ k → ends_all k ≡ false
+step-intermediate : (limit : Option ℕ) (ints : List ℕ) (b : ℕ) (k : Class) → class_of b ≡ k → ends_body k ≡ false
     → Steps limit (InEscape ints) b
 step-intermediate limit ints b Control is no_end = executed is outside (byte-executed limit (InEscape ints) b refl is)
 step-intermediate limit ints b Intermediate is no_end = silent is no_end outside (intermediate-more limit ints b is)
@@ -116,7 +116,7 @@ step-intermediate limit ints b k is no_end =
 
 -- ---- in the head of a control sequence
 
-step-control : (limit : Option ℕ) (head : List ℕ) (b : ℕ) (k : Class) → class_of b ≡ k → ends_all k ≡ false
+step-control : (limit : Option ℕ) (head : List ℕ) (b : ℕ) (k : Class) → class_of b ≡ k → ends_body k ≡ false
     → Steps limit (InControlSequence head) b
 unfolding sequence_event
 step-control limit head b Control is no_end =
@@ -137,7 +137,7 @@ step-control limit head b k is no_end = silent is no_end outside (control-head l
 
 -- ---- in a device control string
 
-step-device : (limit : Option ℕ) (head : List ℕ) (b : ℕ) (k : Class) → class_of b ≡ k → ends_all k ≡ false
+step-device : (limit : Option ℕ) (head : List ℕ) (b : ℕ) (k : Class) → class_of b ≡ k → ends_body k ≡ false
     → Steps limit (InDeviceControl head) b
 unfolding sequence_event
 step-device limit head b Control is no_end = silent is no_end outside (device-dropped limit head b Control is refl)
@@ -158,7 +158,7 @@ step-device limit head b k is no_end = silent is no_end outside (device-head lim
 delete_is_no_terminator : (b : ℕ) → Spans Delete b → eqb b 0x9c ≡ false
 delete_is_no_terminator b s = grind (arith, nat_tests)
 
-step-data : (limit : Option ℕ) (b : ℕ) (k : Class) → class_of b ≡ k → ends_all k ≡ false → Steps limit InDeviceData b
+step-data : (limit : Option ℕ) (b : ℕ) (k : Class) → class_of b ≡ k → ends_body k ≡ false → Steps limit InDeviceData b
 step-data limit b Delete is no_end =
     sequenced is no_end outside
     (data-dropped limit b (rw is (delete_is_no_terminator b (spans b Delete is))) (rw is refl)) (λ _ _. tt) (λ _. tt)
@@ -175,7 +175,7 @@ step-data limit b k is no_end =
 
 -- ---- in an operating system command
 
-step-command : (limit : Option ℕ) (items : List ℕ) (b : ℕ) (k : Class) → class_of b ≡ k → ends_all k ≡ false
+step-command : (limit : Option ℕ) (items : List ℕ) (b : ℕ) (k : Class) → class_of b ≡ k → ends_body k ≡ false
     → Steps limit (InSystemCommand items) b
 step-command limit items b Control is no_end = elim (cases_Bool (eqb b bell)) [
   | inl ends ↦
@@ -195,7 +195,7 @@ step-command limit items b k is no_end =
 -- ---- any place
 
 step-ordinary : (limit : Option ℕ) (place : Place) (b : ℕ) (k : Class) → IsPlace place → class_of b ≡ k
-    → ends_all k ≡ false
+    → ends_body k ≡ false
     → Steps limit place b
 step-ordinary limit (InText u) b k placed is no_end = steps-text limit u b (plain b k is no_end) placed
 step-ordinary limit AtEscape b k placed is no_end = step-escape limit b k is no_end

@@ -1,5 +1,5 @@
 -- From a text or a body to the whole stream: what a byte does in its part, it does in the stream, since only ESC cuts.
-use Rattle.vte_core.proofs.Common.{◌≡◌, ℕ, false, eqb, Option, List, [], ◌∷◌, ◌++◌, refl, ap, sym, ◌∙◌, append_assoc, arith, nat_tests, Cancel, class_of, ends_all, Event, Leads, Reads, tell, events_before_escape, Place, InText, AtEscape, closing_events_at, rest_outcome, outcome_from, events_from, cut_at_escape, with_bodies, outcome, events, escape}
+use Rattle.vte_core.proofs.Common.{◌≡◌, ℕ, false, eqb, Option, List, [], ◌∷◌, ◌++◌, refl, ap, sym, ◌∙◌, append_assoc, arith, nat_tests, Cancel, class_of, ends_body, Event, Leads, Reads, tell, events_before_escape, Place, InText, AtEscape, closing_events_at, rest_outcome, outcome_from, events_from, cut_at_escape, with_bodies, outcome, events, escape}
 use Rattle.vte_core.proofs.shapes.OutcomeLemmas.{tell-append, with_bodies-tell}
 use Rattle.vte_core.proofs.fields.PlaceOfState.{IsPlace, rest_outcome-nothing}
 
@@ -70,7 +70,7 @@ reads-append limit place next last bytes these told more_told r s = record {
       ∙ sym (tell-append told more_told (outcome_from limit last more));
 }
 
-pub no_escape : (b : ℕ) → ends_all (class_of b) ≡ false → eqb b escape ≡ false
+pub no_escape : (b : ℕ) → ends_body (class_of b) ≡ false → eqb b escape ≡ false
 unfolding class_of
 no_escape b is = grind (arith, nat_tests)
 

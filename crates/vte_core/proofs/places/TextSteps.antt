@@ -1,5 +1,5 @@
 -- What one byte reports in a text, whatever it is: by whether it ends, continues or breaks the open character.
-use Rattle.vte_core.proofs.Common.{◌≡◌, ℕ, ◌⊎◌, inl, inr, true, false, eqb, Option, List, [], ◌∷◌, ◌++◌, refl, ap, sym, subst, ◌∙◌, cases_Bool, false≢true, IsBrief, IsAtMostOneShort, IsQuietEvent, class_of, is_device_data, Event, Print, ◌≤◌, ◌+◌, None, arith, FitsStore, ToClose, CommandToClose, open_data_count, left_at, replacement, tell, Place, InDeviceData, InText, breaks, open_at, escape, Leads, Reads, may_continue, is_truncated, is_well_formed}
+use Rattle.vte_core.proofs.Common.{◌≡◌, ℕ, ◌⊎◌, inl, inr, true, false, eqb, Option, List, [], ◌∷◌, ◌++◌, refl, ap, sym, subst, ◌∙◌, cases_Bool, false≢true, AreFromOneByte, IsAtMostOneShort, IsQuietEvent, class_of, is_device_data, Event, Print, ◌≤◌, ◌+◌, None, arith, FitsStore, ToClose, CommandToClose, open_data_count, left_at, replacement, tell, Place, InDeviceData, InText, breaks, open_at, escape, Leads, Reads, may_continue, is_truncated, is_well_formed}
 use Rattle.vte_core.proofs.places.PlaceLeads.{text-unfinished, text-whole, text-lone}
 use Rattle.vte_core.proofs.shapes.TextLemmas.{text_broken}
 use Rattle.vte_core.proofs.places.BriefLemmas.{short-character, short-malformed, tiny_brief, tiny-both}
@@ -51,7 +51,7 @@ pub record Steps (limit : Option ℕ) (place : Place) (b : ℕ) : Type 0 where
   -- for `after-reads`
   pub reads : Reads limit place (b ∷ []) told next
   -- for `laws::bytes_are_brief`
-  pub brief : (size : Option ℕ) → FitsLeft size (left_at limit place) → IsBrief size told
+  pub brief : (size : Option ℕ) → FitsLeft size (left_at limit place) → AreFromOneByte size told
   -- for the size of a command without a limit
   pub grows : limit ≡ None → open_data_count (left_at limit next) ≤ open_data_count (left_at limit place) + 1
   -- for early stops: nothing is told where a character is left open
@@ -66,7 +66,7 @@ pub leads_on : {limit : Option ℕ} {place next : Place} {b : ℕ} {told : List 
     → (limit ≡ None → open_data_count (left_at limit next) ≤ open_data_count (left_at limit place) + 1)
     → eqb b escape ≡ false
     → Leads limit place b told next → IsPlace next
-    → ((size : Option ℕ) → FitsLeft size (left_at limit place) → IsBrief size told)
+    → ((size : Option ℕ) → FitsLeft size (left_at limit place) → AreFromOneByte size told)
     → (IsQuietAt place b → AreQuietEvents told)
     → Steps limit place b
 leads_on {limit} {place} {next} {b} {told} little leaves grows e l is brief others = record {

@@ -1,8 +1,8 @@
 -- Starts, what is told before them, and where a call stops: by whether the next byte breaks an open character.
 --
--- `told-X`, `stream_at-X` and `starts-X` say of `told_before`, `stream_at` and `IsStart` what holds if X: the open
--- character is `broken`, none is open (`between`), or `all` bytes are read. `breaks-X` and `breaks_at-X` say when.
-use Rattle.vte_core.proofs.Common.{◌≡◌, ℕ, ◌+◌, ◌<◌, ◌≤◌, inl, inr, true, false, Option, List, [], ◌∷◌, ◌++◌, length, take, drop, get_or, refl, ap, sym, ◌∙◌, arith, slice_index, false≢true, append-nil, drop_more, drop_all, take_all, breaks, breaks_at, IsStart, told_before, stream_at, Print, replacement, added, open_end, is_truncated, is_well_formed}
+-- `told-X`, `resumed_stream-X` and `starts-X` say of `told_before`, `resumed_stream` and `IsStart` what holds if X: the
+-- open character is `broken`, none is open (`settled`), or `all` bytes are read. `breaks-X` and `breaks_at-X` say when.
+use Rattle.vte_core.proofs.Common.{◌≡◌, ℕ, ◌+◌, ◌<◌, ◌≤◌, inl, inr, true, false, Option, List, [], ◌∷◌, ◌++◌, length, take, drop, get_or, refl, ap, sym, ◌∙◌, arith, slice_index, false≢true, append-nil, drop_more, drop_all, take_all, breaks, breaks_at, IsStart, told_before, resumed_stream, Print, replacement, added, open_character, is_truncated, is_well_formed}
 use Rattle.vte_core.proofs.shapes.TextLemmas.{well_formed_not_truncated}
 
 -- ---- whether a byte breaks the open character
@@ -31,13 +31,13 @@ breaks-next [] b rest = refl
 breaks-next (a ∷ u) b rest = refl
 
 pub breaks_at-byte : (stream bytes u : List ℕ) (i b : ℕ) → i < length bytes → b ≡ slice_index bytes i
-    → open_end (stream ++ take i bytes) ≡ u
+    → open_character (stream ++ take i bytes) ≡ u
     → breaks_at stream bytes i ≡ breaks u (b ∷ [])
 unfolding breaks_at
 breaks_at-byte stream bytes u i b within is ends =
     rw (ends, drop_more bytes i 0 within, is) (breaks-next u (get_or bytes i 0) (drop (i + 1) bytes))
 
-pub breaks_at-settled : (stream bytes : List ℕ) (i : ℕ) → open_end (stream ++ take i bytes) ≡ []
+pub breaks_at-settled : (stream bytes : List ℕ) (i : ℕ) → open_character (stream ++ take i bytes) ≡ []
     → breaks_at stream bytes i ≡ false
 unfolding breaks_at
 breaks_at-settled stream bytes i ends = rw ends refl
@@ -45,12 +45,12 @@ breaks_at-settled stream bytes i ends = rw ends refl
 pub breaks_at-all : (stream bytes : List ℕ) (n : ℕ) → length bytes ≤ n → breaks_at stream bytes n ≡ false
 unfolding breaks_at
 breaks_at-all stream bytes n all =
-    ap (breaks (open_end (stream ++ take n bytes))) (drop_all n bytes all)
-    ∙ breaks-no_byte (open_end (stream ++ take n bytes))
+    ap (breaks (open_character (stream ++ take n bytes))) (drop_all n bytes all)
+    ∙ breaks-no_byte (open_character (stream ++ take n bytes))
 
 -- ---- starts
 
-pub starts-settled : (stream bytes : List ℕ) (i : ℕ) → i < length bytes → open_end (stream ++ take i bytes) ≡ []
+pub starts-settled : (stream bytes : List ℕ) (i : ℕ) → i < length bytes → open_character (stream ++ take i bytes) ≡ []
     → IsStart stream bytes i
 starts-settled stream bytes i within ends = record { within = within; starts = inl ends }
 
@@ -60,7 +60,7 @@ starts-broken stream bytes i within broken = record { within = within; starts = 
 
 -- a byte of a character that was begun before it is none
 pub no_start : (stream bytes u : List ℕ) (i b : ℕ) → i < length bytes → b ≡ slice_index bytes i
-    → open_end (stream ++ take i bytes) ≡ u
+    → open_character (stream ++ take i bytes) ≡ u
     → (u ≡ [] → ⊥) → breaks u (b ∷ []) ≡ false
     → IsStart stream bytes i → ⊥
 no_start stream bytes u i b within is ends some whole start = elim start.starts [
@@ -86,16 +86,18 @@ told-all limit stream bytes n all =
     told-settled limit stream bytes n (breaks_at-all stream bytes n (omega arith))
     ∙ ap (added limit stream) (take_all n bytes (omega arith))
 
-pub stream_at-settled : (stream bytes : List ℕ) (n : ℕ) → breaks_at stream bytes n ≡ false
-    → stream_at stream bytes n ≡ stream ++ take n bytes
-unfolding stream_at
-stream_at-settled stream bytes n whole = rw whole refl
+pub resumed_stream-settled : (stream bytes : List ℕ) (n : ℕ) → breaks_at stream bytes n ≡ false
+    → resumed_stream stream bytes n ≡ stream ++ take n bytes
+unfolding resumed_stream
+resumed_stream-settled stream bytes n whole = rw whole refl
 
-pub stream_at-broken : (stream bytes : List ℕ) (n : ℕ) → breaks_at stream bytes n ≡ true → stream_at stream bytes n ≡ []
-unfolding stream_at
-stream_at-broken stream bytes n broken = rw broken refl
+pub resumed_stream-broken : (stream bytes : List ℕ) (n : ℕ) → breaks_at stream bytes n ≡ true
+    → resumed_stream stream bytes n ≡ []
+unfolding resumed_stream
+resumed_stream-broken stream bytes n broken = rw broken refl
 
-pub stream_at-all : (stream bytes : List ℕ) (n : ℕ) → n ≡ length bytes → stream_at stream bytes n ≡ stream ++ bytes
-stream_at-all stream bytes n all =
-    stream_at-settled stream bytes n (breaks_at-all stream bytes n (omega arith))
+pub resumed_stream-all : (stream bytes : List ℕ) (n : ℕ) → n ≡ length bytes
+    → resumed_stream stream bytes n ≡ stream ++ bytes
+resumed_stream-all stream bytes n all =
+    resumed_stream-settled stream bytes n (breaks_at-all stream bytes n (omega arith))
     ∙ ap (λ x. stream ++ x) (take_all n bytes (omega arith))

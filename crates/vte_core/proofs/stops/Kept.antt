@@ -1,5 +1,5 @@
 -- What is kept from start to start holds wherever a call stops: by induction over the places, a unit at a time.
-use Rattle.vte_core.proofs.Common.{ℕ, zero, suc, ◌+◌, ◌<◌, ◌≤◌, inl, inr, Option, List, [], ◌++◌, length, sym, subst, arith, IsBrief, IsStart, told_before, Event}
+use Rattle.vte_core.proofs.Common.{ℕ, zero, suc, ◌+◌, ◌<◌, ◌≤◌, inl, inr, Option, List, [], ◌++◌, length, sym, subst, arith, AreFromOneByte, IsStart, told_before, Event}
 use Rattle.vte_core.specs.EarlyStopLaws.{TellsUnit, TellsUnits}
 
 -- P is to hold of what is told before each place. It holds of no events, and a unit keeps it.
@@ -7,7 +7,7 @@ use Rattle.vte_core.specs.EarlyStopLaws.{TellsUnit, TellsUnits}
 -- each start.
 module _ {limit : Option ℕ} (P Q : List Event → Type 0) (stream bytes : List ℕ) (units : TellsUnits limit)
     (at_first : P []) (asked_first : Q [])
-    (kept : (before unit : List Event) → P before → Q before → IsBrief limit unit → P (before ++ unit)) where
+    (kept : (before unit : List Event) → P before → Q before → AreFromOneByte limit unit → P (before ++ unit)) where
   -- by induction on m
   kept_below : (m i : ℕ) → i < m → i ≤ length bytes
       → ((j : ℕ) → j < i → IsStart stream bytes j → Q (told_before limit stream bytes j))

@@ -1,9 +1,9 @@
 -- What is told before a position, and what goes on from there, is what the whole gives (`goes_on_from`); from one
 -- position to the next at most one unit is told. By what a byte does to an open character.
-use Rattle.vte_core.proofs.Common.{◌≡◌, ℕ, zero, suc, add-one, ◌+◌, ◌<◌, ◌≤◌, ◌⊎◌, inl, inr, Bool, true, false, if◌then◌else◌, Option, None, List, [], ◌∷◌, ◌++◌, length, take, drop, get_or, refl, ap, sym, subst, ◌∙◌, append_assoc, arith, drop-append_seam, cases_Bool, false≢true, append-nil, take_more, take-append-drop, IsBrief, IsAtMostOneShort, breaks, breaks_at, told_before, stream_at, Event, Print, replacement, added, events}
-use Rattle.vte_core.proofs.Common.{open_end, open_at, Place, IsAfter, IsStart}
+use Rattle.vte_core.proofs.Common.{◌≡◌, ℕ, zero, suc, add-one, ◌+◌, ◌<◌, ◌≤◌, ◌⊎◌, inl, inr, Bool, true, false, if◌then◌else◌, Option, None, List, [], ◌∷◌, ◌++◌, length, take, drop, get_or, refl, ap, sym, subst, ◌∙◌, append_assoc, arith, drop-append_seam, cases_Bool, false≢true, append-nil, take_more, take-append-drop, AreFromOneByte, IsAtMostOneShort, breaks, breaks_at, told_before, resumed_stream, Event, Print, replacement, added, events}
+use Rattle.vte_core.proofs.Common.{open_character, open_at, Place, IsAfter, IsStart}
 use Rattle.vte_core.specs.EarlyStopLaws.{GoesOnFromPositions, AreToldAtStart, TellsUnits}
-use Rattle.vte_core.proofs.streams.After.{added-nothing, after-open_end}
+use Rattle.vte_core.proofs.streams.After.{added-nothing, after-open_character}
 use Rattle.vte_core.proofs.places.BriefLemmas.{tiny-both}
 use Rattle.vte_core.proofs.places.TextSteps.{text_at}
 use Rattle.vte_core.proofs.streams.Resuming.{added-broken, resumes-after}
@@ -16,10 +16,10 @@ use Rattle.vte_core.proofs.streams.StreamSteps.{adds, LeadsTo, leads_to, events_
 abbrev TellsLittle : Option ℕ → List ℕ → ℕ → Type 0
 TellsLittle limit stream b =
     IsAtMostOneShort (added limit stream (b ∷ []))
-    × ((open_end (stream ++ b ∷ []) ≡ []) ⊎ (added limit stream (b ∷ []) ≡ []))
+    × ((open_character (stream ++ b ∷ []) ≡ []) ⊎ (added limit stream (b ∷ []) ≡ []))
 
-tells_little : (limit : Option ℕ) (stream : List ℕ) (b : ℕ) → (open_end stream ≡ [] → ⊥)
-    → breaks (open_end stream) (b ∷ []) ≡ false → TellsLittle limit stream b
+tells_little : (limit : Option ℕ) (stream : List ℕ) (b : ℕ) → (open_character stream ≡ [] → ⊥)
+    → breaks (open_character stream) (b ∷ []) ≡ false → TellsLittle limit stream b
 tells_little limit stream b some unbroken =
     let a = adds limit stream b in
     let breaks_none : breaks (open_at a.place) (b ∷ []) ≡ false =
@@ -51,7 +51,7 @@ replacement_tiny = (refl, refl)
 -- the bytes after a front add what they add to its stream or, after a character that they break,
 -- to the empty one
 pub added_from : (limit : Option ℕ) (stream front rest : List ℕ) (broken : Bool)
-    → (broken ≡ true → breaks (open_end (stream ++ front)) rest ≡ true)
+    → (broken ≡ true → breaks (open_character (stream ++ front)) rest ≡ true)
     → added limit stream (front ++ rest)
     ≡ (added limit stream front ++ (if broken then Print replacement ∷ [] else []))
     ++ added limit (if broken then [] else stream ++ front) rest
@@ -63,28 +63,29 @@ added_from limit stream front rest true is =
 added_from limit stream front rest false is = rw append-nil (added_both limit stream front rest)
 
 pub after_from : (limit : Option ℕ) (stream rest : List ℕ) (place : Place) (broken : Bool)
-    → (broken ≡ true → breaks (open_end stream) rest ≡ true)
+    → (broken ≡ true → breaks (open_character stream) rest ≡ true)
     → IsAfter limit ((if broken then [] else stream) ++ rest) place → IsAfter limit (stream ++ rest) place
 after_from limit stream rest place true is a = resumes-after limit stream rest place (is refl) a
 after_from limit stream rest place false is a = a
 
-ends_from : (stream rest : List ℕ) (broken : Bool) → (broken ≡ true → breaks (open_end stream) rest ≡ true)
-    → open_end (stream ++ rest) ≡ open_end ((if broken then [] else stream) ++ rest)
+ends_from : (stream rest : List ℕ) (broken : Bool) → (broken ≡ true → breaks (open_character stream) rest ≡ true)
+    → open_character (stream ++ rest) ≡ open_character ((if broken then [] else stream) ++ rest)
 ends_from stream rest broken is =
     let a : LeadsTo None ((if broken then [] else stream) ++ rest) = leads_to None _ in
-    after-open_end None (stream ++ rest) a.place (after_from None stream rest a.place broken is a.is_after) a.is_place
-    ∙ sym (after-open_end None _ a.place a.is_after a.is_place)
+    after-open_character None (stream ++ rest) a.place
+    (after_from None stream rest a.place broken is a.is_after) a.is_place
+    ∙ sym (after-open_character None _ a.place a.is_after a.is_place)
 
 -- what the bytes before a place add, by the last start before it
 record Added (limit : Option ℕ) (stream bytes : List ℕ) (i : ℕ) : Type 0 where
   before : List Event
   unit : List Event
   parts : added limit stream (take i bytes) ≡ before ++ unit
-  brief : IsBrief limit unit
-  tiny : (open_end (stream ++ take i bytes) ≡ [] → ⊥) → IsAtMostOneShort unit
+  brief : AreFromOneByte limit unit
+  tiny : (open_character (stream ++ take i bytes) ≡ [] → ⊥) → IsAtMostOneShort unit
   begun : (before ≡ []) ⊎ AreToldAtStart limit stream bytes i before
 
-opens_tiny : (limit : Option ℕ) (s : List ℕ) (b : ℕ) → (open_end (s ++ b ∷ []) ≡ [] → ⊥)
+opens_tiny : (limit : Option ℕ) (s : List ℕ) (b : ℕ) → (open_character (s ++ b ∷ []) ≡ [] → ⊥)
     → IsAtMostOneShort (added limit s (b ∷ []))
 opens_tiny limit s b some = elim (opens_silently limit s b) [
   | inl none ↦ absurd (some none)
@@ -109,19 +110,21 @@ module _ (limit : Option ℕ) (stream bytes : List ℕ) (i : ℕ) (within : i < 
   one : take (i + 1) bytes ≡ take i bytes ++ b ∷ []
   one = take_more bytes i 0 within
 
-  joined : open_end (stream ++ take (i + 1) bytes) ≡ open_end (here ++ b ∷ [])
+  joined : open_character (stream ++ take (i + 1) bytes) ≡ open_character (here ++ b ∷ [])
   joined =
-      ap (λ (v : List ℕ). open_end (stream ++ v)) one ∙ ap open_end (sym (append_assoc stream (take i bytes) (b ∷ [])))
+      ap (λ (v : List ℕ). open_character (stream ++ v)) one
+      ∙ ap open_character (sym (append_assoc stream (take i bytes) (b ∷ [])))
 
-  breaks_here : breaks_at stream bytes i ≡ breaks (open_end here) (b ∷ [])
-  breaks_here = breaks_at-byte stream bytes (open_end here) i b within refl refl
+  breaks_here : breaks_at stream bytes i ≡ breaks (open_character here) (b ∷ [])
+  breaks_here = breaks_at-byte stream bytes (open_character here) i b within refl refl
 
   -- the place is a start
   from_start : IsStart stream bytes i → Added limit stream bytes (i + 1)
-  unfolding told_before stream_at
+  unfolding told_before resumed_stream
   from_start starts =
-      let from : List ℕ = stream_at stream bytes i in
-      let is : breaks_at stream bytes i ≡ true → breaks (open_end here) (b ∷ []) ≡ true = λ e. sym breaks_here ∙ e in
+      let from : List ℕ = resumed_stream stream bytes i in
+      let is : breaks_at stream bytes i ≡ true
+      → breaks (open_character here) (b ∷ []) ≡ true = λ e. sym breaks_here ∙ e in
       record {
         before = told_before limit stream bytes i;
         unit = added limit from (b ∷ []);
@@ -135,7 +138,8 @@ module _ (limit : Option ℕ) (stream bytes : List ℕ) (i : ℕ) (within : i < 
       }
 
   -- the byte belongs to an open character
-  from_carried : Added limit stream bytes i → (open_end here ≡ [] → ⊥) → breaks (open_end here) (b ∷ []) ≡ false
+  from_carried : Added limit stream bytes i → (open_character here ≡ [] → ⊥)
+      → breaks (open_character here) (b ∷ []) ≡ false
       → Added limit stream bytes (i + 1)
   from_carried a some unbroken =
       let little = tells_little limit here b some unbroken in
@@ -165,9 +169,9 @@ module _ (limit : Option ℕ) (stream bytes : List ℕ) (i : ℕ) (within : i < 
       }
 
   added_further : Added limit stream bytes i → Added limit stream bytes (i + 1)
-  added_further a = elim (none_or_some (open_end here)) [
+  added_further a = elim (none_or_some (open_character here)) [
     | inl none ↦ from_start (starts-settled stream bytes i within none)
-    | inr some ↦ elim (cases_Bool (breaks (open_end here) (b ∷ []))) [
+    | inr some ↦ elim (cases_Bool (breaks (open_character here) (b ∷ []))) [
       | inl broken ↦ from_start (starts-broken stream bytes i within (breaks_here ∙ broken))
       | inr unbroken ↦ from_carried a some unbroken
     ]
@@ -203,7 +207,7 @@ tells_units limit stream bytes i within = record {
     a = added_to limit stream bytes i within
 
     by_break : (t : Bool) → breaks_at stream bytes i ≡ t
-        → IsBrief limit (a.unit ++ (if t then Print replacement ∷ [] else []))
+        → AreFromOneByte limit (a.unit ++ (if t then Print replacement ∷ [] else []))
     by_break true e =
         tiny-both limit a.unit (Print replacement ∷ [])
         (a.tiny (λ none. false≢true (sym (breaks_at-settled stream bytes i none) ∙ e))) replacement_tiny
@@ -212,7 +216,7 @@ tells_units limit stream bytes i within = record {
 -- ---- what the rest adds
 
 pub breaks_there : (stream bytes : List ℕ) (n : ℕ) → breaks_at stream bytes n ≡ true
-    → breaks (open_end (stream ++ take n bytes)) (drop n bytes) ≡ true
+    → breaks (open_character (stream ++ take n bytes)) (drop n bytes) ≡ true
 unfolding breaks_at
 breaks_there stream bytes n broken = broken
 
@@ -223,7 +227,7 @@ breaks-more (a ∷ u) [] more is = cc
 breaks-more (a ∷ u) (b ∷ unread) more is = is
 
 pub goes_on_from : (limit : Option ℕ) → GoesOnFromPositions limit
-unfolding told_before stream_at
+unfolding told_before resumed_stream
 goes_on_from limit stream bytes more n =
     ap (λ (v : List ℕ). added limit stream (v ++ more)) (sym (take-append-drop n bytes))
     ∙ ap (added limit stream) (append_assoc (take n bytes) (drop n bytes) more)

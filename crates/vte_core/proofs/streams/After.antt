@@ -2,7 +2,7 @@
 -- do after the bytes that lead from the place to another, whose events are added.
 --
 -- `added-X` says what `added` is in the case X, and `after-X` what `IsAfter` says of X.
-use Rattle.vte_core.proofs.Common.{◌≡◌, ℕ, Option, List, [], ◌++◌, length, drop, refl, ap, sym, ◌∙◌, append_assoc, append-nil, arith, drop_all, drop-append_seam, Machine, Stands, HasReadUnder, Event, tell, open_bytes, added, events, outcome, open_end, Place, InText, IsAfter, open_at, left_at, outcome_from, events_from, Reads}
+use Rattle.vte_core.proofs.Common.{◌≡◌, ℕ, Option, List, [], ◌++◌, length, drop, refl, ap, sym, ◌∙◌, append_assoc, append-nil, arith, drop_all, drop-append_seam, Machine, Stands, HasReadUnder, Event, tell, open_bytes, added, events, outcome, open_character, Place, InText, IsAfter, open_at, left_at, outcome_from, events_from, Reads}
 use Rattle.vte_core.proofs.fields.PlaceOfState.{IsPlace, outcome_from-nothing, events_from-nothing, open_bytes-at}
 use Rattle.vte_core.proofs.streams.Performing.{events-empty}
 use Rattle.vte_core.proofs.shapes.OutcomeLemmas.{tell-append}
@@ -36,9 +36,10 @@ after-left limit stream place a is =
     ap (λ s. (outcome limit s).left) (sym (append-nil stream)) ∙ ap (λ o. o.left) (a.goes_on [])
     ∙ ap (λ o. o.left) (outcome_from-nothing limit place is)
 
-pub after-open_end : (limit : Option ℕ) (stream : List ℕ) (place : Place) → IsAfter limit stream place → IsPlace place
-    → open_end stream ≡ open_at place
-after-open_end limit stream place a is =
+pub after-open_character : (limit : Option ℕ) (stream : List ℕ) (place : Place) → IsAfter limit stream place
+    → IsPlace place
+    → open_character stream ≡ open_at place
+after-open_character limit stream place a is =
     sym (open_bytes-any limit stream) ∙ ap open_bytes (after-left limit stream place a is) ∙ open_bytes-at limit place
 
 -- the bytes lead from one place to another

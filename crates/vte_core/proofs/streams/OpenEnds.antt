@@ -1,6 +1,6 @@
 -- The size of the store has no say in what is unfinished at the end: by the definitions, part by part, only what is
 -- kept of a command depends on it.
-use Rattle.vte_core.proofs.Common.{◌≡◌, ℕ, Bool, cases_Bool, inl, inr, Option, None, List, [], ◌∷◌, refl, Key, key_of, body_rest, body_outcome, sequence_outcome, class_of, is_cancel, is_key, Outcome, open_bytes, from_first, cut_at_escape, with_bodies, outcome, open_end, ends_command, system_command_outcome, system_command_rest, text_outcome}
+use Rattle.vte_core.proofs.Common.{◌≡◌, ℕ, Bool, cases_Bool, inl, inr, Option, None, List, [], ◌∷◌, refl, Key, key_of, body_rest, body_outcome, sequence_outcome, class_of, is_cancel, is_key, Outcome, open_bytes, from_first, cut_at_escape, with_bodies, outcome, open_character, ends_command, system_command_outcome, system_command_rest, text_outcome}
 use Rattle.vte_core.specs.Key.{SystemCommand}
 
 by_pieces : (pieces others : List (List ℕ)) (lost other : Bool) (rest : List ℕ)
@@ -36,8 +36,9 @@ by_bodies limit part other [] e = e
 by_bodies limit part other (body ∷ bodies) e =
     by_bodies limit (body_outcome limit body) (body_outcome None body) bodies (by_body limit body)
 
-pub open_bytes-any : (limit : Option ℕ) (stream : List ℕ) → open_bytes (outcome limit stream).left ≡ open_end stream
-unfolding outcome open_end
+pub open_bytes-any : (limit : Option ℕ) (stream : List ℕ)
+    → open_bytes (outcome limit stream).left ≡ open_character stream
+unfolding outcome open_character
 open_bytes-any limit stream =
     let cut = cut_at_escape stream in
     by_bodies limit (text_outcome cut.text) (text_outcome cut.text) cut.bodies refl

@@ -1,12 +1,12 @@
 -- What a stream goes on with after a character that the next byte breaks: as a stream that begins with that byte.
-use Rattle.vte_core.proofs.Common.{◌≡◌, ℕ, true, Option, List, [], ◌∷◌, ◌++◌, length, drop, ap, sym, ◌∙◌, append_assoc, and_parts, false≢true, not-true, drop-append_seam, append-nil, breaks, Event, Print, replacement, tell, added, events, outcome, open_end, Place, InText, IsAfter, open_at, outcome_from}
+use Rattle.vte_core.proofs.Common.{◌≡◌, ℕ, true, Option, List, [], ◌∷◌, ◌++◌, length, drop, ap, sym, ◌∙◌, append_assoc, and_parts, false≢true, not-true, drop-append_seam, append-nil, breaks, Event, Print, replacement, tell, added, events, outcome, open_character, Place, InText, IsAfter, open_at, outcome_from}
 use Rattle.vte_core.proofs.fields.PlaceOfState.{IsPlace}
 use Rattle.vte_core.proofs.streams.Performing.{events-empty, waits-broken}
 use Rattle.vte_core.proofs.shapes.Told.{breaks-no_byte}
 use Rattle.vte_core.proofs.shapes.OutcomeLemmas.{tell-append}
 use Rattle.vte_core.proofs.places.StreamLemmas.{outcome-after_nothing}
 use Rattle.vte_core.proofs.streams.StreamSteps.{leads_to}
-use Rattle.vte_core.proofs.streams.After.{after-open_end, events-told}
+use Rattle.vte_core.proofs.streams.After.{after-open_character, events-told}
 
 -- the next byte is the first of those that are unread
 broken_at : (limit : Option ℕ) (place : Place) (b : ℕ) (unread more : List ℕ) → IsPlace place
@@ -20,15 +20,15 @@ broken_at limit (InText (a ∷ u)) b unread more is broken =
 broken_at limit _ b unread more is broken = absurd (false≢true broken)
 
 -- the stream goes on as one that begins with what is unread
-resumes : (limit : Option ℕ) (stream unread more : List ℕ) → breaks (open_end stream) unread ≡ true
+resumes : (limit : Option ℕ) (stream unread more : List ℕ) → breaks (open_character stream) unread ≡ true
     → outcome limit (stream ++ (unread ++ more))
     ≡ tell (events limit stream ++ Print replacement ∷ []) (outcome limit (unread ++ more))
-resumes limit stream [] more broken = absurd (false≢true (sym (breaks-no_byte (open_end stream)) ∙ broken))
+resumes limit stream [] more broken = absurd (false≢true (sym (breaks-no_byte (open_character stream)) ∙ broken))
 resumes limit stream (b ∷ unread) more broken =
     let a = leads_to limit stream in
     let here : breaks (open_at a.place) (b ∷ unread) ≡ true =
     ap (λ (u : List ℕ). breaks u (b ∷ unread))
-    (sym (after-open_end limit stream a.place a.is_after a.is_place)) ∙ broken in
+    (sym (after-open_character limit stream a.place a.is_after a.is_place)) ∙ broken in
     a.is_after.goes_on (b ∷ (unread ++ more))
     ∙ ap (tell (events limit stream)) (broken_at limit a.place b unread (unread ++ more) a.is_place here)
     ∙ sym
@@ -37,14 +37,14 @@ resumes limit stream (b ∷ unread) more broken =
     ∙ ap (tell (events limit stream ++ Print replacement ∷ []))
     (sym (outcome-after_nothing limit (b ∷ (unread ++ more))))
 
-events-broken : (limit : Option ℕ) (stream unread more : List ℕ) → breaks (open_end stream) unread ≡ true
+events-broken : (limit : Option ℕ) (stream unread more : List ℕ) → breaks (open_character stream) unread ≡ true
     → events limit (stream ++ (unread ++ more))
     ≡ (events limit stream ++ Print replacement ∷ []) ++ events limit (unread ++ more)
 events-broken limit stream unread more broken =
     events-told limit (stream ++ (unread ++ more)) ∙ ap (λ o. o.told) (resumes limit stream unread more broken)
     ∙ ap (λ es. (events limit stream ++ Print replacement ∷ []) ++ es) (sym (events-told limit (unread ++ more)))
 
-pub added-broken : (limit : Option ℕ) (stream unread more : List ℕ) → breaks (open_end stream) unread ≡ true
+pub added-broken : (limit : Option ℕ) (stream unread more : List ℕ) → breaks (open_character stream) unread ≡ true
     → added limit stream (unread ++ more) ≡ Print replacement ∷ added limit [] (unread ++ more)
 added-broken limit stream unread more broken =
     let told : List Event = events limit stream in
@@ -54,7 +54,8 @@ added-broken limit stream unread more broken =
     ∙ drop-append_seam told (Print replacement ∷ later)
     ∙ ap (λ n. Print replacement ∷ drop n later) (sym (ap length (events-empty limit)))
 
-pub resumes-after : (limit : Option ℕ) (stream unread : List ℕ) (place : Place) → breaks (open_end stream) unread ≡ true
+pub resumes-after : (limit : Option ℕ) (stream unread : List ℕ) (place : Place)
+    → breaks (open_character stream) unread ≡ true
     → IsAfter limit unread place
     → IsAfter limit (stream ++ unread) place
 resumes-after limit stream unread place broken a = record {

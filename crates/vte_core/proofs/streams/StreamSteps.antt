@@ -1,10 +1,10 @@
 -- A stream of any bytes, from its front: each byte leads from a place to a place (`arrives`), so what a stream gives
 -- stays as it is whatever follows, and it begins anew where all places lead to the same.
 use Rattle.vte_core.specs.Laws.{Resyncs, ResyncsAfter, Grows, OpensSilently}
-use Rattle.vte_core.proofs.Common.{◌≡◌, ℕ, ◌+◌, ◌≤◌, inl, inr, Option, None, List, [], ◌∷◌, ◌++◌, arith, open_data_count, drop, length, refl, ap, sym, ◌∙◌, append_assoc, All, All-append, All-cons, All-nil, Cancel, class_of, IsBounded, IsBrief, Event, Place, InText, AtEscape, open_at, events_from, IsAfter, added, events, open_end, escape, Reads, InSystemCommand, left_at}
+use Rattle.vte_core.proofs.Common.{◌≡◌, ℕ, ◌+◌, ◌≤◌, inl, inr, Option, None, List, [], ◌∷◌, ◌++◌, arith, open_data_count, drop, length, refl, ap, sym, ◌∙◌, append_assoc, All, All-append, All-cons, All-nil, Cancel, class_of, IsBounded, AreFromOneByte, Event, Place, InText, AtEscape, open_at, events_from, IsAfter, added, events, open_character, escape, Reads, InSystemCommand, left_at}
 use Rattle.vte_core.proofs.places.BriefLemmas.{short_bounded}
 use Rattle.vte_core.proofs.places.CancelLemmas.{cancel}
-use Rattle.vte_core.proofs.streams.After.{added-after, added-reads, after-events, after-nothing, after-open_end, after-reads}
+use Rattle.vte_core.proofs.streams.After.{added-after, added-reads, after-events, after-nothing, after-open_character, after-reads}
 use Rattle.vte_core.proofs.places.PlaceSteps.{steps}
 use Rattle.vte_core.proofs.fields.PlaceOfState.{IsPlace}
 use Rattle.vte_core.proofs.streams.Performing.{events-empty}
@@ -30,7 +30,7 @@ pub record Arrives (limit size : Option ℕ) (place : Place) (bytes : List ℕ) 
   pub bounded : All (IsBounded size) told
   pub grows : limit ≡ None → size_at limit next ≤ size_at limit place + length bytes
 
-brief_bounded : (limit : Option ℕ) (told : List Event) → IsBrief limit told → All (IsBounded limit) told
+brief_bounded : (limit : Option ℕ) (told : List Event) → AreFromOneByte limit told → All (IsBounded limit) told
 brief_bounded limit [] brief = All-nil (IsBounded limit)
 brief_bounded limit (event ∷ []) brief = All-cons (IsBounded limit) event [] brief (All-nil (IsBounded limit))
 brief_bounded limit (event ∷ last ∷ []) brief =
@@ -138,9 +138,9 @@ resynchronises limit = record {
 
 pub record AddedByByte (limit : Option ℕ) (stream : List ℕ) (b : ℕ) : Type 0 where
   pub place : Place
-  pub begun : open_end stream ≡ open_at place
+  pub begun : open_character stream ≡ open_at place
   pub step : Steps limit place b
-  pub ends : open_end (stream ++ b ∷ []) ≡ open_at step.next
+  pub ends : open_character (stream ++ b ∷ []) ≡ open_at step.next
   pub told : added limit stream (b ∷ []) ≡ step.told
 
 pub adds : (limit : Option ℕ) (stream : List ℕ) (b : ℕ) → AddedByByte limit stream b
@@ -150,13 +150,13 @@ adds limit stream b =
     let later = after-reads limit stream (b ∷ []) a.place s.next s.told a.is_after s.reads s.is_place in
     record {
       place = a.place;
-      begun = after-open_end limit stream a.place a.is_after a.is_place;
+      begun = after-open_character limit stream a.place a.is_after a.is_place;
       step = s;
-      ends = after-open_end limit (stream ++ b ∷ []) s.next later s.is_place;
+      ends = after-open_character limit (stream ++ b ∷ []) s.next later s.is_place;
       told = added-reads limit stream (b ∷ []) a.place s.next s.told a.is_after s.reads s.is_place;
     }
 
-pub bytes_are_brief : (limit : Option ℕ) (stream : List ℕ) (b : ℕ) → IsBrief limit (added limit stream (b ∷ []))
+pub bytes_are_brief : (limit : Option ℕ) (stream : List ℕ) (b : ℕ) → AreFromOneByte limit (added limit stream (b ∷ []))
 bytes_are_brief limit stream b =
     let a = adds limit stream b in rw a.told (a.step.brief limit (left_fits limit a.place))
 

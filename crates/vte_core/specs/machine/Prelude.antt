@@ -1,5 +1,5 @@
 -- The words that contracts of the parser's functions share.
-pub use Rattle.vte_core.specs.Class.{IsPut, class_of, dispatches_escape, ends_all, is_plain_control, is_device_data, is_final, is_head, is_intermediate, is_parameter_text}
+pub use Rattle.vte_core.specs.Class.{IsDeviceData, class_of, dispatches_escape, ends_body, is_plain_control, is_device_data, is_final, is_head_byte, is_intermediate, is_parameter_text}
 pub use Rattle.vte_core.specs.EarlyStop.{NoCharacterStops}
 pub use Rattle.vte_core.specs.Event.{CsiDispatch, EscDispatch, Event, Execute, Hook, OscDispatch, Print, Put, Unhook}
 pub use Rattle.vte_core.specs.Key.{begins_ignored_string}
@@ -29,7 +29,7 @@ pub use Rattle.vte_core.specs.machine.Progress.{Advances, IsSettled, ReadsUpTo, 
 pub use Rattle.vte_core.specs.machine.Reading.{ReadsHeadUpTo, with_open_number}
 pub use Rattle.vte_core.specs.machine.Ready.{IsReady}
 pub use Rattle.vte_core.specs.machine.TextRun.{ArePrintedAscii, IsPrintedAscii, IsRun, IsNonEmptyRun, PrintsRun}
-pub use Rattle.vte_core.specs.machine.Scans.{FindsEnd, IsRange, Scans, TakesFew}
+pub use Rattle.vte_core.specs.machine.Scans.{FindsEnd, IsRange, Scans, LooksAtMost}
 pub use Rattle.vte_core.specs.machine.Store.{ArePieceEnds, HasCapacity, Stored, HoldsItems, ReservesCapacity, SameItems, cut_pieces, fitting}
 pub use Rattle.vte_core.specs.machine.Takes.{Dispatches, TakesBytes, TakesByte}
 pub use Rattle.vte_core.specs.machine.Tells.{Tells, TellsAll}

@@ -1,6 +1,6 @@
 -- A head that is being read.
 use Rattle.std.specs.Prelude.{ℕ, ◌≡◌, ◌-◌, ◌<◌, ◌≤◌, ◌++◌, List, length, take, drop, slice_index, MatchOption}
-use Rattle.vte_core.specs.Class.{is_head, AreInClass}
+use Rattle.vte_core.specs.Class.{is_head_byte, AreInClass}
 use Rattle.vte_core.specs.declared.head.Collected.{Collected}
 use Rattle.vte_core.specs.declared.head.HeadEnd.{HeadEnd}
 use Rattle.vte_core.specs.declared.head.HeadProgress.{HeadProgress}
@@ -21,7 +21,7 @@ pub record ReadsHead (bytes : List ℕ) (i j : ℕ) (reached part : HeadProgress
     (old new : Collected) : Type 0 where
   pub low : i ≤ j
   pub high : j ≤ length bytes
-  pub are : AreInClass is_head (take (j - i) (drop i bytes))
+  pub are : AreInClass is_head_byte (take (j - i) (drop i bytes))
   pub stands : (head : List ℕ) → StandsInHead old reached head
       → StandsInHead new part (head ++ take (j - i) (drop i bytes))
 

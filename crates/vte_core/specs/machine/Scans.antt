@@ -29,6 +29,6 @@ pub record FindsEnd {B : Type 0} (Is : ℕ → Type 0) (bytes : List ℕ) (from 
   pub count : looked after + from ≡ looked before + min (to + 1) (length bytes)
 
 -- The count of looks grew by at most `most`.
-pub record TakesFew {B : Type 0} (most : ℕ) (before after : Looks B) : Type 0 where
+pub record LooksAtMost {B : Type 0} (most : ℕ) (before after : Looks B) : Type 0 where
   pub few : looked after ≤ looked before + most
   pub grows : looked before ≤ looked after

@@ -10,7 +10,7 @@ use Rattle.vte_core.specs.declared.parser.machine.Machine.{Machine}
 use Rattle.vte_core.specs.declared.parser.refused.Refused.{Refused}
 use Rattle.vte_core.specs.declared.parser.State.{State}
 use Rattle.vte_core.specs.declared.parser.State.TheVariants.{Text, DeviceData}
-use Rattle.vte_core.specs.Class.{IsPut, class_of, is_device_data}
+use Rattle.vte_core.specs.Class.{IsDeviceData, class_of, is_device_data}
 use Rattle.vte_core.specs.Event.{Event, Print, Put}
 use Rattle.vte_core.specs.machine.ParserFields.{HasReadUnder}
 use Rattle.vte_core.specs.machine.Progress.{ChunkCall, StandsAt}
@@ -57,7 +57,8 @@ kind_events Empty bytes = []
 abbrev pub IsWholeAt : List ℕ → RunRange → RunKind → Type 0
 IsWholeAt bytes range OfText = (range.start < range.end) × EndsRun false bytes range.end
 IsWholeAt bytes range OfData =
-    (range.start < range.end) × (range.end < length bytes → IsPut (slice_index bytes range.end) → ⊥)
+    (range.start < range.end) × (range.end < length bytes
+    → IsDeviceData (slice_index bytes range.end) → ⊥)
 IsWholeAt bytes range Empty = range.start ≡ range.end
 
 -- A run stands there, adds its events to what the parser has read, and leaves the parser as it is.

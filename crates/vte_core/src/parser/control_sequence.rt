@@ -3,7 +3,7 @@ ghost use Rattle.std.specs.Prelude.{◌≡◌, ◌+◌, ◌<◌, ◌^◌, ℕ, t
 ghost use Rattle.vte_core.specs.machine.Prelude.{Advances, CsiDispatch, Dispatches, HandlesByte, InControlSequence, MayRead, MovesWithin, StandsInHead, TakesByte, chunk_call, class_of, is_final};
 
 use crate::buffer::Buffer;
-use crate::class::{ends_all, is_final, is_plain_control};
+use crate::class::{ends_body, is_final, is_plain_control};
 use crate::head::HeadProgress;
 use crate::parser::{Machine, State, Unfinished};
 use crate::scan::{CountedPerform, Grain, Input, Looks};
@@ -85,7 +85,7 @@ impl<B: Buffer> Machine<B> {
             if is_final(byte) {
                 return self.end_control_sequence(looks, performer, head.part, byte, head.position);
             }
-            if ends_all(byte) {
+            if ends_body(byte) {
                 self.end_body(looks, performer, byte);
             } else if is_plain_control(byte) {
                 performer.execute_control(looks, byte);

@@ -3,7 +3,7 @@ ghost use Rattle.std.specs.Prelude.{◌≡◌, ℕ, true, false, List, ⊤};
 ghost use Rattle.vte_core.specs.machine.Prelude.{Advances, DeviceData, HandlesByte, InDeviceControl, MayRead, MayReadByte, MovesWithin, StandsInHead, TakesByte, chunk_call, class_of, is_device_data, is_final};
 
 use crate::buffer::Buffer;
-use crate::class::{ends_all, is_device_data, is_final};
+use crate::class::{ends_body, is_device_data, is_final};
 use crate::head::HeadProgress;
 use crate::parser::{Machine, State, Unfinished};
 use crate::scan::{CountedPerform, Grain, Input, Looks};
@@ -35,7 +35,7 @@ impl<B: Buffer> Machine<B> {
         if let Some(byte) = head.next {
             if is_final(byte) {
                 self.hook(looks, performer, head.part, byte);
-            } else if ends_all(byte) {
+            } else if ends_body(byte) {
                 self.end_body(looks, performer, byte);
             }
             // C0, DEL and 80..FF are dropped.
@@ -125,7 +125,7 @@ impl<B: Buffer> Machine<B> {
         ensures moves { MovesWithin 5 1 input.entry.bytes.now from result self.old self.new
             looks.old looks.new }
     {
-        if ends_all(byte) {
+        if ends_body(byte) {
             return self.read_end::<P, G, MAY_STOP>(looks, performer, input, from, byte);
         }
         if byte == STRING_TERMINATOR {

@@ -1,6 +1,6 @@
 //! ESC, CAN and SUB, which end whatever is open, in every state.
 ghost use Rattle.std.specs.Prelude.{◌≡◌, true, [], ◌∷◌, ⊤};
-ghost use Rattle.vte_core.specs.machine.Prelude.{Advances, Escape, HandlesByte, IsSettledPlace, IsQuietIn, MayReadByte, MovesWithin, TakesBytes, Place, Stands, TakesFew, after, chunk_call, class_of, closing_events_at, ends_all};
+ghost use Rattle.vte_core.specs.machine.Prelude.{Advances, Escape, HandlesByte, IsSettledPlace, IsQuietIn, MayReadByte, MovesWithin, TakesBytes, Place, Stands, LooksAtMost, after, chunk_call, class_of, closing_events_at, ends_body};
 
 use crate::buffer::Buffer;
 use crate::class::ESCAPE;
@@ -16,7 +16,7 @@ impl<B: Buffer> Machine<B> {
         performer: &mut P,
         byte: u8,
     )
-        requires { ends_all (class_of byte) ≡ true }
+        requires { ends_body (class_of byte) ≡ true }
         ensures performs { (place : Place) → Stands B.limit self.old place → IsSettledPlace place
             → TakesBytes P.step (P.value_of performer.old)
             (P.value_of performer.new) B.limit place (byte ∷ []) self.new }
@@ -45,7 +45,7 @@ impl<B: Buffer> Machine<B> {
         requires may_read { MayReadByte
             (chunk_call MAY_STOP P.step P.is_terminated B.limit input.bytes.now)
             (P.value_of performer.old) self.old.state self.old from byte }
-        requires ends { ends_all (class_of byte) ≡ true }
+        requires ends { ends_body (class_of byte) ≡ true }
         requires quiet { IsQuietIn self.old.state byte }
         ensures advances { Advances ⊤
             (chunk_call MAY_STOP P.step P.is_terminated B.limit input.entry.bytes.now)
@@ -65,7 +65,7 @@ impl<B: Buffer> Machine<B> {
         ensures told { (place : Place) → Stands B.limit self.now place → IsSettledPlace place
             → P.value_of performer.new
             ≡ after P.step (P.value_of performer.old) (closing_events_at B.limit place) }
-        ensures few { TakesFew 1 looks.old looks.new }
+        ensures few { LooksAtMost 1 looks.old looks.new }
     {
         match self.state {
             State::DeviceData => performer.unhook(looks),

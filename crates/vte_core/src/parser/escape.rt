@@ -5,8 +5,8 @@ ghost use Rattle.vte_core.specs.machine.Prelude.{Stands, TakesByte, Text, chunk_
 
 use crate::buffer::Buffer;
 use crate::class::{
-    ESCAPE, begins_ignored_string, dispatches_escape, ends_all, is_final, is_head, is_intermediate,
-    is_plain_control,
+    ESCAPE, begins_ignored_string, dispatches_escape, ends_body, is_final, is_head_byte,
+    is_intermediate, is_plain_control,
 };
 use crate::head::HeadProgress;
 use crate::parser::{Machine, State, Unfinished};
@@ -112,13 +112,13 @@ impl<B: Buffer> Machine<B> {
         ensures handles { HandlesByte 2 self.old self.new looks.old looks.new }
     {
         if is_final(byte) {
-            self.begin_body(looks, performer, byte);
+            self.read_key(looks, performer, byte);
         } else if is_intermediate(byte) {
             self.collected.collect(byte);
             self.state = State::EscapeIntermediate;
-        } else if is_head(byte) {
+        } else if is_head_byte(byte) {
             self.dispatch_escape(looks, performer, byte);
-        } else if ends_all(byte) {
+        } else if ends_body(byte) {
             self.end_body(looks, performer, byte);
         } else if is_plain_control(byte) {
             performer.execute_control(looks, byte);
@@ -129,7 +129,7 @@ impl<B: Buffer> Machine<B> {
     /// Begins the string that a byte 40..7E other than `[` begins after ESC, or dispatches an
     /// escape sequence that ends with it.
     #[inline(never)]
-    fn begin_body<P: CountedPerform<B, G>, G: Grain>(
+    fn read_key<P: CountedPerform<B, G>, G: Grain>(
         &mut self,
         looks: &mut Looks<B>,
         performer: &mut P,
@@ -178,7 +178,7 @@ impl<B: Buffer> Machine<B> {
             } else if dispatches_escape(byte) {
                 self.dispatch_escape(looks, performer, byte);
                 return position + 1;
-            } else if ends_all(byte) {
+            } else if ends_body(byte) {
                 self.end_body(looks, performer, byte);
                 return position + 1;
             } else if is_plain_control(byte) {

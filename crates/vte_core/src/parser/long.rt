@@ -2,7 +2,7 @@
 ghost use Rattle.std.specs.Prelude.{◌≡◌, ◌+◌, ◌<◌, ◌≤◌, ℕ, true, false, List, [], None, length};
 ghost use Rattle.vte_core.specs.LongParserCalls.{ReadsBytesLong, ReadsToRunLong, ReadsUntilTerminatedLong};
 ghost use Rattle.vte_core.specs.LongParser.{HasReadLong, IsCopyOfLong, LacksMemoryForMore, lost_data_long, memory_of};
-ghost use Rattle.vte_core.specs.LongParser.{open_size};
+ghost use Rattle.vte_core.specs.LongParser.{open_command_size};
 ghost use Rattle.vte_core.specs.Looks.{looks_long};
 ghost use Rattle.vte_core.specs.Outcome.{SaysLoss};
 ghost use Rattle.vte_core.specs.Stream.{IsFinished, IsUnfinished, outcome};
@@ -34,6 +34,7 @@ pub struct LongParser<A: Allocator> {
     looks: Looks<Vec<u8, A>>,
 }
 
+/// A clone goes on as the parser would. Its looks are counted anew.
 impl<A: Allocator + Clone> Clone for LongParser<A> {
     ghost is_clone = { λ parser copy. IsCopyOfLong parser copy };
 
@@ -70,7 +71,8 @@ impl<A: Allocator> LongParser<A> {
 
     /// Returns how many data bytes it stores of an operating system command: 0 if none is open.
     pub fn stored(&self) -> usize
-        ensures { (stream : List ℕ) → HasReadLong self.now stream → result ≡ open_size stream }
+        ensures { (stream : List ℕ) → HasReadLong self.now stream
+            → result ≡ open_command_size stream }
     {
         match self.machine.state {
             State::SystemCommand => self.machine.command.len(),
@@ -97,12 +99,12 @@ impl<A: Allocator> LongParser<A> {
             → HasReadLong self.new stream }
         // The memory is for the bytes of an open command and for those that come.
         ensures room { result ≡ true → (stream : List ℕ) → HasReadLong self.new stream
-            → open_size stream + more ≤ memory_of self.new }
+            → open_command_size stream + more ≤ memory_of self.new }
         ensures memory { memory_of self.old ≤ memory_of self.new }
         ensures lacks { result ≡ false → LacksMemoryForMore self.new more }
         // Memory is refused only if the bytes don't fit: of a command that has ended none count.
         ensures lacks_open { result ≡ false → (stream : List ℕ) → HasReadLong self.new stream
-            → memory_of self.new < open_size stream + more }
+            → memory_of self.new < open_command_size stream + more }
         ensures count { looks_long self.new ≡ looks_long self.old }
     {
         // A command that has ended needs no memory.
@@ -117,7 +119,8 @@ impl<A: Allocator> LongParser<A> {
         ensures reads { (stream : List ℕ) → HasReadLong self.old stream
             → HasReadLong self.new stream }
         // No memory is kept if no data byte is stored.
-        ensures frees { (stream : List ℕ) → HasReadLong self.old stream → open_size stream ≡ 0
+        ensures frees { (stream : List ℕ) → HasReadLong self.old stream
+            → open_command_size stream ≡ 0
             → memory_of self.new ≡ 0 }
         ensures count { looks_long self.new ≡ looks_long self.old }
     {

@@ -3,7 +3,7 @@ ghost use Rattle.std.specs.Prelude.{IfErr, IfOk, ⊤};
 ghost use Rattle.vte_core.specs.machine.Prelude.{Advances, MayReadAt, MovesWithin, Refuses, SystemCommand, chunk_call, read_count};
 
 use crate::buffer::Buffer;
-use crate::class::ends_all;
+use crate::class::ends_body;
 use crate::parser::{Machine, Refused, State, Unfinished};
 use crate::scan::{CountedPerform, Grain, Input, Looks};
 
@@ -42,7 +42,7 @@ impl<B: Buffer> Machine<B> {
             Some(byte) => byte,
             None => return Ok(end),
         };
-        if ends_all(byte) {
+        if ends_body(byte) {
             return Ok(self.read_end::<P, G, MAY_STOP>(looks, performer, input, end, byte));
         }
         if byte == b';' {

@@ -3,9 +3,9 @@
 //! Ignored strings may hold megabytes, so blocks are taken. No block is tried before a string has
 //! begun with single bytes, so that no byte is read often.
 ghost use Rattle.std.specs.Prelude.{◌≡◌, ◌≢◌, ◌+◌, ◌*◌, ◌<◌, ◌≤◌, ℕ, IsTrue, true, length, min, slice_index};
-ghost use Rattle.vte_core.specs.machine.Prelude.{AreIgnored, FindsEnd, IsCommandData, IsPut, IsRange, Scans, class_of, ends_all, looked};
+ghost use Rattle.vte_core.specs.machine.Prelude.{AreIgnored, FindsEnd, IsCommandData, IsDeviceData, IsRange, Scans, class_of, ends_body, looked};
 
-use crate::class::{ESCAPE, cannot_end, ends_all, is_command_data, is_device_data};
+use crate::class::{ESCAPE, cannot_end, ends_body, is_command_data, is_device_data};
 use crate::scan::{Input, Looks};
 use memchr::memchr;
 
@@ -28,7 +28,7 @@ impl<B> Looks<B> {
     /// that isn't put, or with the input.
     pub(crate) fn find_device_data_end(&mut self, input: Input<'_, B>, from: usize) -> usize
         requires { from ≤ length input.bytes.now }
-        ensures { FindsEnd IsPut input.entry.bytes.now from result self.old self.new }
+        ensures { FindsEnd IsDeviceData input.entry.bytes.now from result self.old self.new }
     {
         let mut end = from;
         while end < input.len() && is_device_data(input.bytes[end]) {
@@ -89,7 +89,7 @@ impl<B> Looks<B> {
         requires { from ≤ length input.bytes.now }
         ensures scans { Scans AreIgnored input.entry.bytes.now from result self.old self.new }
         ensures ended { result < length input.entry.bytes.now
-            → ends_all (class_of (slice_index input.entry.bytes.now result)) ≡ true }
+            → ends_body (class_of (slice_index input.entry.bytes.now result)) ≡ true }
         ensures count { looked self.new + 4 * from ≤ looked self.old + 4 * result + 1 }
     {
         let near = input.len().min(from + 8);
@@ -114,11 +114,11 @@ impl<B> Looks<B> {
         ensures high { result ≤ to }
         ensures ignored { AreIgnored input.entry.bytes.now from result }
         ensures ended { result < to
-            → ends_all (class_of (slice_index input.entry.bytes.now result)) ≡ true }
+            → ends_body (class_of (slice_index input.entry.bytes.now result)) ≡ true }
         ensures count { looked self.new + from ≡ looked self.old + min (result + 1) to }
     {
         for end in from..to {
-            if ends_all(self.at(input, end)) {
+            if ends_body(self.at(input, end)) {
                 return end;
             }
         }

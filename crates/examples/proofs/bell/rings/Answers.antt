@@ -1,7 +1,7 @@
 -- The call may stop early, but only once the bell has rung, and no further event changes that.
 use Rattle.std.proofs.Common.{◌≡◌, ℕ, Bool, true, false, List, [], ◌∷◌, length, drop, refl, sym, ◌∙◌, ap, arith}
 use Rattle.examples.specs.Bell.{rung_after}
-use Rattle.vte_core.specs.EarlyStop.{StopsExactly, stream_at}
+use Rattle.vte_core.specs.EarlyStop.{StopsExactly, resumed_stream}
 use Rattle.vte_core.specs.Event.{Event, Execute}
 use Rattle.vte_core.specs.Perform.{after}
 use Rattle.vte_core.specs.Stream.{added, events, usual_limit}
@@ -20,7 +20,7 @@ stays_all (event ∷ events) = ap (λ rung. after rung_after rung events) (stays
 as_all : (rung : Bool) (n : ℕ) (bytes : List ℕ)
     → StopsExactly rung_after (λ has_rung. has_rung) false usual_limit [] bytes rung n
     → rung ≡ after rung_after false (added usual_limit [] bytes)
-as_all true n bytes s = sym (stays_all (added usual_limit (stream_at [] bytes n) (drop n bytes))) ∙ s.comes.goes_on
+as_all true n bytes s = sym (stays_all (added usual_limit (resumed_stream [] bytes n) (drop n bytes))) ∙ s.comes.goes_on
 as_all false n bytes s = s.all (grind (arith, s.comes.within, s.stops))
 
 pub returns : goal.returns

@@ -1,6 +1,6 @@
 -- A call of the parser goes on to the run that it returns, and by this run (`goes-to-run`), and reads a byte if it can
 -- (`further`).
-use Rattle.vte_c.proofs.Common.{List, arith, drop, length, length-drop, room_of, stream_at, take, take_all, ℕ, ◌++◌, ◌-◌, ◌≡◌, ◌≤◌, usual_limit}
+use Rattle.vte_c.proofs.Common.{List, arith, drop, length, length-drop, room_of, resumed_stream, take, take_all, ℕ, ◌++◌, ◌-◌, ◌≡◌, ◌≤◌, usual_limit}
 use Rattle.vte_core.specs.AdvanceToRun.{run_bytes}
 use Rattle.vte_c.proofs.Going.{Laws, further, goes-to-run}
 use Rattle.vte_c.proofs.feed.read_more.Goals as goal
@@ -25,7 +25,7 @@ returns c =
     record {
       within = omega (arith, returned.stands.within, c.requires.within);
       goes = λ since reads. record {
-        next = stream_at since rest run.start ++ run_bytes run;
+        next = resumed_stream since rest run.start ++ run_bytes run;
         reads = rw unread at (call.ensures.reads since reads);
         goes =
             goes-to-run (room_of c.args.room.now) (room_of call.new.performer)

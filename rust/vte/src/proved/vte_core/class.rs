@@ -15,7 +15,7 @@ pub(crate) fn is_layout(byte: u8) -> bool {
 }
 
 /// Returns whether a byte is CAN, SUB or ESC, which end whatever is open.
-pub(crate) fn ends_all(byte: u8) -> bool {
+pub(crate) fn ends_body(byte: u8) -> bool {
     byte == 0x18 || byte == 0x1a || byte == ESCAPE
 }
 
@@ -55,7 +55,7 @@ pub(crate) fn is_parameter_text(byte: u8) -> bool {
 }
 
 /// Returns whether a byte is part of a head: 20..3F.
-pub(crate) fn is_head(byte: u8) -> bool {
+pub(crate) fn is_head_byte(byte: u8) -> bool {
     byte >= 0x20 && byte < 0x40
 }
 

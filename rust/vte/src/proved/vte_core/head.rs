@@ -4,7 +4,7 @@
 
 use crate::adapter::array_vec::ArrayVec;
 use crate::proved::vte_core::class::{
-    digit_of, is_head, is_intermediate, is_parameter_text, is_separator,
+    digit_of, is_head_byte, is_intermediate, is_parameter_text, is_separator,
 };
 use crate::proved::vte_core::params::Params;
 
@@ -167,7 +167,7 @@ impl Collected {
         let mut next = None;
         while position < input.len() {
             let byte = input[position];
-            if !is_head(byte) {
+            if !is_head_byte(byte) {
                 next = Some(byte);
                 break;
             }

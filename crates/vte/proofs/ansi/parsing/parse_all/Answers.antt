@@ -6,15 +6,15 @@ use Rattle.vte.proofs.ansi.parsing.parse_all.Goals as goal
 pub returns-clause-parsed : goal.returns-clause-parsed
 returns-clause-parsed g c = λ s n ready.
     let m = meaning_of g.P.EventParser.limit g.H.Handler.step g.T.Timeout.set g.T.Timeout.clear g.T.Timeout.allows in
-    let p = c.advance.ensures.parses s.parsed n ready.is_parsed.has_read ready.room in
+    let p = c.advance.ensures.parses s.parsed n ready.parts_at.has_read ready.room in
     given_back g.H.Handler.value_of g.T.Timeout.value_of g.B.TextBuffer.room m s c.args.bytes.now _
     c.advance.new.performer p.fits p.performs c.state-1.given.1
-    ready.is_parsed refl refl refl refl p.reads c.handler-1.given.1 c.advance.ensures.memory
+    ready.parts_at refl refl refl refl p.reads c.handler-1.given.1 c.advance.ensures.memory
 
 pub returns-clause-room : goal.returns-clause-room
 returns-clause-room g c = λ s n ready.
     let m = meaning_of g.P.EventParser.limit g.H.Handler.step g.T.Timeout.set g.T.Timeout.clear g.T.Timeout.allows in
-    let p = c.advance.ensures.parses s.parsed n ready.is_parsed.has_read ready.room in
+    let p = c.advance.ensures.parses s.parsed n ready.parts_at.has_read ready.room in
     let same =
     room_back g.H.Handler.value_of g.T.Timeout.value_of g.B.TextBuffer.room m s c.args.bytes.now _
     c.advance.new.performer p.fits p.performs c.state-1.given.1 in

@@ -1,6 +1,6 @@
 -- An early stop reads the front up to the begin of an update (`updates/Fronts`), and what was lent comes back with its
 -- calls.
-use Rattle.vte.proofs.Common.{drop, length, refl, meaning_of, begin_front}
+use Rattle.vte.proofs.Common.{drop, length, refl, meaning_of, front_to_begin}
 use Rattle.vte.proofs.performing.Parsed.{given_back, stops_at_front, stop_performs, stop_stream, stop_terminated}
 use Rattle.vte.proofs.performing.Rooms.{front_fits}
 use Rattle.vte.proofs.turns.EachOnce.{front_rest}
@@ -10,8 +10,8 @@ pub returns-clause-stops : goal.returns-clause-stops
 returns-clause-stops g c = λ s n ready.
     let m = meaning_of g.P.EventParser.limit g.H.Handler.step g.T.Timeout.set g.T.Timeout.clear g.T.Timeout.allows in
     let bytes = c.args.bytes.now in
-    let front = begin_front g.P.EventParser.limit s.parsed bytes in
-    let p = c.advance_until_begin-read.ensures.stops s.parsed n ready.is_parsed.has_read ready.room in
+    let front = front_to_begin g.P.EventParser.limit s.parsed bytes in
+    let p = c.advance_until_begin-read.ensures.stops s.parsed n ready.parts_at.has_read ready.room in
     let fit =
     front_fits (g.B.TextBuffer.room c.args.state.now.text) g.P.EventParser.limit s.parsed front
     (drop (length front) bytes)
@@ -22,6 +22,6 @@ returns-clause-stops g c = λ s n ready.
       is_at =
           given_back g.H.Handler.value_of g.T.Timeout.value_of g.B.TextBuffer.room m s front _
           c.advance_until_begin-read.new.performer fit (stop_performs m refl p.stops)
-          c.state-1.given.1 ready.is_parsed refl refl refl refl
+          c.state-1.given.1 ready.parts_at refl refl refl refl
           (rw (stop_stream m refl p.stops) at p.reads) c.handler-1.given.1 c.advance_until_begin-read.ensures.memory;
     }

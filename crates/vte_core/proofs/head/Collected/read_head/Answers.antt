@@ -27,7 +27,7 @@ loop-position-preserved-then-may_have_parameters g c =
 pub loop-position-preserved : goal.loop-position-preserved
 loop-position-preserved g c =
     let v = c.loop-position.invariant in
-    let is = sym c.is_head.ensures ∙ c.if-not-is_head.false in
+    let is = sym c.is_head_byte.ensures ∙ c.if-not-is_head_byte.false in
     record {
       reads =
           reads-then v.reads

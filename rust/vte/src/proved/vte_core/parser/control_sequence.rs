@@ -2,7 +2,7 @@
 //! Control sequences.
 
 use crate::proved::vte_core::buffer::Buffer;
-use crate::proved::vte_core::class::{ends_all, is_final, is_plain_control};
+use crate::proved::vte_core::class::{ends_body, is_final, is_plain_control};
 use crate::proved::vte_core::head::HeadProgress;
 use crate::proved::vte_core::parser::{Machine, State, Unfinished};
 use crate::proved::vte_core::scan::grain::PerformAs;
@@ -53,7 +53,7 @@ impl<B: Buffer> Machine<B> {
             if is_final(byte) {
                 return self.end_control_sequence(performer, head.part, byte, head.position);
             }
-            if ends_all(byte) {
+            if ends_body(byte) {
                 self.end_body(performer, byte);
             } else if is_plain_control(byte) {
                 performer.execute_control(byte);

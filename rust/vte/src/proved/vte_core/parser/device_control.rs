@@ -2,7 +2,7 @@
 //! Device control strings.
 
 use crate::proved::vte_core::buffer::Buffer;
-use crate::proved::vte_core::class::{ends_all, is_device_data, is_final};
+use crate::proved::vte_core::class::{ends_body, is_device_data, is_final};
 use crate::proved::vte_core::head::HeadProgress;
 use crate::proved::vte_core::parser::{Machine, State, Unfinished};
 use crate::proved::vte_core::scan::grain::PerformAs;
@@ -28,7 +28,7 @@ impl<B: Buffer> Machine<B> {
         if let Some(byte) = head.next {
             if is_final(byte) {
                 self.hook(performer, head.part, byte);
-            } else if ends_all(byte) {
+            } else if ends_body(byte) {
                 self.end_body(performer, byte);
             }
             // C0, DEL and 80..FF are dropped.
@@ -89,7 +89,7 @@ impl<B: Buffer> Machine<B> {
         from: usize,
         byte: u8,
     ) -> usize {
-        if ends_all(byte) {
+        if ends_body(byte) {
             return self.read_end::<P, G, MAY_STOP>(performer, input, from, byte);
         }
         if byte == STRING_TERMINATOR {

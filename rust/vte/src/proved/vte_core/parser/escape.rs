@@ -3,7 +3,7 @@
 
 use crate::proved::vte_core::buffer::Buffer;
 use crate::proved::vte_core::class::{
-    begins_ignored_string, dispatches_escape, ends_all, is_final, is_head, is_intermediate,
+    begins_ignored_string, dispatches_escape, ends_body, is_final, is_head_byte, is_intermediate,
     is_plain_control, ESCAPE,
 };
 use crate::proved::vte_core::head::HeadProgress;
@@ -68,13 +68,13 @@ impl<B: Buffer> Machine<B> {
     /// Reads a byte after ESC, other than `[`.
     fn read_after_escape<P: PerformAs<G>, G: Grain>(&mut self, performer: &mut P, byte: u8) {
         if is_final(byte) {
-            self.begin_body(performer, byte);
+            self.read_key(performer, byte);
         } else if is_intermediate(byte) {
             self.collected.collect(byte);
             self.state = State::EscapeIntermediate;
-        } else if is_head(byte) {
+        } else if is_head_byte(byte) {
             self.dispatch_escape(performer, byte);
-        } else if ends_all(byte) {
+        } else if ends_body(byte) {
             self.end_body(performer, byte);
         } else if is_plain_control(byte) {
             performer.execute_control(byte);
@@ -85,7 +85,7 @@ impl<B: Buffer> Machine<B> {
     /// Begins the string that a byte 40..7E other than `[` begins after ESC, or dispatches an
     /// escape sequence that ends with it.
     #[inline(never)]
-    fn begin_body<P: PerformAs<G>, G: Grain>(&mut self, performer: &mut P, byte: u8) {
+    fn read_key<P: PerformAs<G>, G: Grain>(&mut self, performer: &mut P, byte: u8) {
         if byte == b'P' {
             self.collected.begin_head();
             self.state = State::DeviceControl(HeadProgress::Entry);
@@ -113,7 +113,7 @@ impl<B: Buffer> Machine<B> {
             } else if dispatches_escape(byte) {
                 self.dispatch_escape(performer, byte);
                 return position + 1;
-            } else if ends_all(byte) {
+            } else if ends_body(byte) {
                 self.end_body(performer, byte);
                 return position + 1;
             } else if is_plain_control(byte) {

@@ -2,7 +2,7 @@
 //! Operating system commands.
 
 use crate::proved::vte_core::buffer::Buffer;
-use crate::proved::vte_core::class::ends_all;
+use crate::proved::vte_core::class::ends_body;
 use crate::proved::vte_core::parser::{Machine, Refused, State, Unfinished};
 use crate::proved::vte_core::scan::grain::PerformAs;
 use crate::proved::vte_core::scan::search::find_command_data_end;
@@ -29,7 +29,7 @@ impl<B: Buffer> Machine<B> {
             Some(byte) => byte,
             None => return Ok(end),
         };
-        if ends_all(byte) {
+        if ends_body(byte) {
             return Ok(self.read_end::<P, G, MAY_STOP>(performer, input, end, byte));
         }
         if byte == b';' {

@@ -5,7 +5,7 @@
 //! begun with single bytes, so that no byte is read often.
 
 use crate::prelude::memchr;
-use crate::proved::vte_core::class::{cannot_end, ends_all, is_device_data, ESCAPE};
+use crate::proved::vte_core::class::{cannot_end, ends_body, is_device_data, ESCAPE};
 use crate::proved::vte_core::scan::{get_block, up_to};
 
 /// Finds where the data bytes of an operating system command end that start at a position:
@@ -71,7 +71,7 @@ pub(crate) fn find_string_end(input: &[u8], from: usize) -> usize {
 #[inline(always)]
 fn find_ending_byte(input: &[u8], from: usize, to: usize) -> usize {
     for end in from..to {
-        if ends_all(input[end]) {
+        if ends_body(input[end]) {
             return end;
         }
     }

@@ -23,7 +23,7 @@ loop-turn-preserved g c =
       reaches = λ s at.
           let r = before.reaches s at in
           reaches-more _ s c.args.bytes.now r (before.some c.loop-turn-test.true)
-          (c.in-Ok.ensures.turned r.here r.is_at.are_at).turned;
+          (c.in-Ok.ensures.turned r.here r.is_at.engine_at).turned;
     }
 
 -- A turn has bytes to read.
@@ -42,7 +42,7 @@ returns-then-read-bytes g c =
     let r =
     before.reaches s at in
     reaches-more _ s c.args.bytes.now r (before.some c.loop-turn-test.true)
-    (c.in-Ok.ensures.turned r.here r.is_at.are_at).turned))
+    (c.in-Ok.ensures.turned r.here r.is_at.engine_at).turned))
     (λ s at. c.if-read-bytes.true)
 
 -- The turn was refused memory.
@@ -56,7 +56,7 @@ returns-in-Err g c =
     read_until c.args.bytes.now
     (λ s at.
     (let r = c.loop-turn.invariant.reaches s at in
-    has_halted _ s b r c.loop-turn.invariant.within (c.in-Err.ensures.turned r.here r.is_at.are_at).halted))
+    has_halted _ s b r c.loop-turn.invariant.within (c.in-Err.ensures.turned r.here r.is_at.engine_at).halted))
     (omega (arith, c.loop-turn.invariant.within, c.in-Err.ensures.within, size))
     (rw left at c.in-Err.ensures.lacks)
 

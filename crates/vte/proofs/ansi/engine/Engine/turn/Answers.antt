@@ -45,7 +45,7 @@ returns-clause-turned g c = λ s at.
     ] in
     ends_turn pending
     (rw at.stands.timeout_is at c.pending_timeout-pending.ensures) parses here.memory _ c.take_open_turn.ensures.within
-    (c.take_open_turn.ensures.opened _ here.are_at)
+    (c.take_open_turn.ensures.opened _ here.engine_at)
 
 -- A hold turn: an update is pending, and there is room for all bytes and memory for them.
 pub returns-then-has_room-clause-turned : goal.returns-then-has_room-clause-turned
@@ -57,7 +57,8 @@ returns-then-has_room-clause-turned g c = λ s at.
     record {
       turned = turned_hold _ (rw at.stands.timeout_is at c.pending_timeout-pending.ensures) held refl
           (after-next here.memory
-          (c.hold_bytes.ensures s here.are_at (c.if-not-reserve.ensures.reserved.room refl _ _ _ here.are_at.stands)));
+          (c.hold_bytes.ensures s here.engine_at
+          (c.if-not-reserve.ensures.reserved.room refl _ _ _ here.engine_at.stands)));
       halted = tt;
     }
 

@@ -1,6 +1,6 @@
 -- What is stored is the open command (`open_is_stored`), so room for what is stored is room for it. Without an open
 -- command the store was cleared first.
-use Rattle.vte_core.proofs.Common.{◌≤◌, length, ap, sym, ◌∙◌, arith, false≢true, open_size}
+use Rattle.vte_core.proofs.Common.{◌≤◌, length, ap, sym, ◌∙◌, arith, false≢true, open_command_size}
 use Rattle.vte_core.proofs.calls.Refusals.{nothing_stored, open_is_stored, stored_is_open}
 use Rattle.vte_core.proofs.parser.long.LongParser.reserve.Goals.{then-not-matches, else-not-matches, in-SystemCommand, in_default}
 use Rattle.vte_core.proofs.parser.long.LongParser.reserve.Goals as goal
@@ -11,7 +11,7 @@ returns-clause-room g c =
 
 pub returns-clause-lacks_open : goal.returns-clause-lacks_open
 returns-clause-lacks_open g c = λ refused stream h.
-    let stored : length c.reserve.new.self.bytes ≤ open_size stream = elim c.if-not-matches.branch [
+    let stored : length c.reserve.new.self.bytes ≤ open_command_size stream = elim c.if-not-matches.branch [
       | then-not-matches w ↦
           omega (
             arith,

@@ -11,7 +11,7 @@ use Rattle.vte_core.proofs.parser.machine.Machine.end_device_data.Goals as goal
 
 pub returns-clause-advances : goal.returns-clause-advances
 returns-clause-advances g c =
-    let ordinary = sym c.ends_all.ensures ∙ c.if-ends_all.false in
+    let ordinary = sym c.ends_body.ensures ∙ c.if-ends_body.false in
     let parser = c.args.self.now in
     let r = c.requires.may_read in
     elim c.if-byte-eq-STRING_TERMINATOR.branch [

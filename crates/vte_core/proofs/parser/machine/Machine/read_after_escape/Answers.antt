@@ -11,12 +11,12 @@ use Rattle.vte_core.proofs.places.PlaceLeads.{byte-executed, escape-intermediate
 use Rattle.vte_core.proofs.bytes.PlainKeys.{below_finals}
 use Rattle.vte_core.proofs.parser.machine.Machine.read_after_escape.Goals as goal
 
--- A final byte is a key: what it begins is `begin_body`'s.
+-- A final byte is a key: what it begins is `read_key`'s.
 pub returns-then-is_final-clause-performs : goal.returns-then-is_final-clause-performs
 returns-then-is_final-clause-performs g c =
     let is = sym c.is_final.ensures ∙ c.if-is_final.true in
     performs-in c.requires.begun (final_ends_nothing (class_of c.args.byte) is)
-    (at_escape c.args.self.now (λ holds. c.begin_body.ensures.takes (stands-by c.requires.begun holds)))
+    (at_escape c.args.self.now (λ holds. c.read_key.ensures.takes (stands-by c.requires.begun holds)))
 
 -- An intermediate is the first of the sequence.
 pub returns-then-is_intermediate-clause-performs : goal.returns-then-is_intermediate-clause-performs
@@ -27,10 +27,10 @@ returns-then-is_intermediate-clause-performs g c =
     (record { by = c.collect.ensures.holds [] holds }) (escape-intermediate _ c.args.byte is)))
 
 -- Digits, `:`, `;` and markers dispatch: keys begin at `@`, which is later.
-pub returns-then-is_head-clause-performs : goal.returns-then-is_head-clause-performs
-returns-then-is_head-clause-performs g c =
+pub returns-then-is_head_byte-clause-performs : goal.returns-then-is_head_byte-clause-performs
+returns-then-is_head_byte-clause-performs g c =
     let b = c.args.byte in
-    let head = sym c.is_head.ensures ∙ c.if-is_head.true in
+    let head = sym c.is_head_byte.ensures ∙ c.if-is_head_byte.true in
     let ends = left_dispatches (class_of b) head (sym c.is_intermediate.ensures ∙ c.if-is_intermediate.false) in
     let d = c.dispatch_escape.ensures in
     performs-in c.requires.begun (head_ends_nothing (class_of b) head)
@@ -53,9 +53,9 @@ returns-then-is_plain_control-clause-performs g c =
 -- What is left is DEL and 80 to FF, which is dropped.
 pub returns-else-is_plain_control-clause-performs : goal.returns-else-is_plain_control-clause-performs
 returns-else-is_plain_control-clause-performs g c =
-    performs-dropped c.requires.begun (sym c.is_head.ensures ∙ c.if-is_head.false)
+    performs-dropped c.requires.begun (sym c.is_head_byte.ensures ∙ c.if-is_head_byte.false)
     (sym c.is_final.ensures ∙ c.if-is_final.false)
-    (sym c.ends_all.ensures ∙ c.if-ends_all.false) (sym c.is_plain_control.ensures ∙ c.if-is_plain_control.false)
+    (sym c.ends_body.ensures ∙ c.if-ends_body.false) (sym c.is_plain_control.ensures ∙ c.if-is_plain_control.false)
 
 pub returns-then-is_plain_control-clause-handles : goal.returns-then-is_plain_control-clause-handles
 returns-then-is_plain_control-clause-handles g c =
@@ -66,7 +66,7 @@ returns-then-is_plain_control-clause-handles g c =
       memory = search rules;
     }
 
-pub returns-then-is_head-clause-handles : goal.returns-then-is_head-clause-handles
-returns-then-is_head-clause-handles g c =
+pub returns-then-is_head_byte-clause-handles : goal.returns-then-is_head_byte-clause-handles
+returns-then-is_head_byte-clause-handles g c =
     let d = c.dispatch_escape.ensures in
     record { settled = settled-by _ _ d.text tt; count = omega arith; least = omega arith; memory = d.memory }

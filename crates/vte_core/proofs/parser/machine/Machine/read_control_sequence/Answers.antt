@@ -7,7 +7,7 @@ use Rattle.vte_core.proofs.calls.Heads.{ControlHead, advances-head, advances-pas
 use Rattle.vte_core.proofs.calls.Stretches.{advances-moved}
 use Rattle.vte_core.proofs.fields.PlaceOfState.{stands-by}
 use Rattle.vte_core.proofs.places.PlaceLeads.{byte-dropped, byte-executed}
-use Rattle.vte_core.proofs.parser.machine.Machine.read_control_sequence.Goals.{then-ends_all, else-ends_all+then-is_plain_control, else-ends_all+else-is_plain_control}
+use Rattle.vte_core.proofs.parser.machine.Machine.read_control_sequence.Goals.{then-ends_body, else-ends_body+then-is_plain_control, else-ends_body+else-is_plain_control}
 use Rattle.vte_core.proofs.parser.machine.Machine.read_control_sequence.Goals as goal
 
 -- A final byte ends the sequence.
@@ -36,14 +36,14 @@ returns-in-Some-clause-advances g c =
     let next = rw c.in-Some.is at read.reads.next in
     let part = c.read_head-head.result.part in
     let b = c.in-Some.byte in
-    elim c.if-ends_all.branch [
+    elim c.if-ends_body.branch [
       -- CAN, SUB or ESC.
-      | then-ends_all w ↦
+      | then-ends_body w ↦
           rw (w.self-is, w.performer-is)
           (advances-past ControlHead c.requires.begun read.reads.head next c.requires.may_go_on
           w.end_body.ensures.performs w.end_body.ensures.handles.settled)
       -- A control.
-      | else-ends_all+then-is_plain_control w ↦
+      | else-ends_body+then-is_plain_control w ↦
           let is = control _ (sym w.is_plain_control.ensures ∙ w.if-is_plain_control.true) in
           rw (w.self-is, w.performer-is)
           (advances-past ControlHead c.requires.begun read.reads.head next c.requires.may_go_on
@@ -51,8 +51,8 @@ returns-in-Some-clause-advances g c =
           taken (Execute b ∷ []) (InControlSequence bytes) w.execute_control.ensures.value (stands-by refl stands)
           (byte-executed _ (InControlSequence bytes) b refl is))) tt)
       -- A byte that is dropped.
-      | else-ends_all+else-is_plain_control w ↦
-          let ordinary = sym c.ends_all.ensures ∙ w.if-ends_all.false in
+      | else-ends_body+else-is_plain_control w ↦
+          let ordinary = sym c.ends_body.ensures ∙ w.if-ends_body.false in
           let dropped =
           left_is_dropped (class_of b) (rw c.in-Some.is at read.other)
           (sym c.is_final.ensures ∙ c.if-is_final.false) ordinary

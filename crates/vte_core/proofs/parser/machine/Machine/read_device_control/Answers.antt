@@ -5,7 +5,7 @@ use Rattle.vte_core.proofs.calls.Arms.{taken}
 use Rattle.vte_core.proofs.calls.Heads.{DeviceHead, advances-head, advances-past, at-none, performs-head}
 use Rattle.vte_core.proofs.fields.PlaceOfState.{stands-by}
 use Rattle.vte_core.proofs.places.PlaceLeads.{device-dropped}
-use Rattle.vte_core.proofs.parser.machine.Machine.read_device_control.Goals.{then-is_final, else-is_final+then-ends_all, else-is_final+else-ends_all}
+use Rattle.vte_core.proofs.parser.machine.Machine.read_device_control.Goals.{then-is_final, else-is_final+then-ends_body, else-is_final+else-ends_body}
 use Rattle.vte_core.proofs.parser.machine.Machine.read_device_control.Goals as goal
 
 -- A byte after the head: final, CAN, SUB or ESC, or any other.
@@ -25,13 +25,13 @@ returns-in-Some g c =
             (final_ends_nothing (class_of b) (sym c.is_final.ensures ∙ w.if-is_final.true)) w.hook.ensures.takes)
             w.hook.ensures.handles.settled)
         -- CAN, SUB or ESC.
-        | else-is_final+then-ends_all w ↦
+        | else-is_final+then-ends_body w ↦
             rw (w.self-is, w.performer-is)
             (advances-past DeviceHead c.requires.begun read.reads.head next c.requires.may_go_on
             w.end_body.ensures.performs w.end_body.ensures.handles.settled)
         -- A byte that is dropped.
-        | else-is_final+else-ends_all w ↦
-            let ordinary = sym w.ends_all.ensures ∙ w.if-ends_all.false in
+        | else-is_final+else-ends_body w ↦
+            let ordinary = sym w.ends_body.ensures ∙ w.if-ends_body.false in
             let dropped =
             left_in_head (class_of b) (rw c.in-Some.is at read.other)
             (sym c.is_final.ensures ∙ w.if-is_final.false) ordinary in

@@ -7,7 +7,7 @@ use Rattle.vte_core.proofs.calls.CallEnds.{settled-by}
 use Rattle.vte_core.proofs.calls.Stretches.{advances-byte, advances-nothing, advances-when, advances-then}
 use Rattle.vte_core.proofs.fields.PlaceOfState.{stands-by, stands-text_begun}
 use Rattle.vte_core.proofs.places.PlaceLeads.{byte-dropped, byte-executed, intermediate-end, intermediate-more}
-use Rattle.vte_core.proofs.parser.machine.Machine.read_intermediates.Goals.{then-is_intermediate, else-is_intermediate+else-dispatches_escape+else-ends_all+else-is_plain_control}
+use Rattle.vte_core.proofs.parser.machine.Machine.read_intermediates.Goals.{then-is_intermediate, else-is_intermediate+else-dispatches_escape+else-ends_body+else-is_plain_control}
 use Rattle.vte_core.proofs.parser.machine.Machine.read_intermediates.Goals as goal
 
 -- Nothing is read yet.
@@ -37,8 +37,8 @@ loop-position-preserved g c =
             (stands-by v.begun (w.collect.ensures.holds ints holds)) (intermediate-more _ ints b is)))
             (settled-by _ _ v.begun tt)))
         -- A byte that is dropped.
-        | else-is_intermediate+else-dispatches_escape+else-ends_all+else-is_plain_control w ↦
-            let ordinary = sym w.ends_all.ensures ∙ w.if-ends_all.false in
+        | else-is_intermediate+else-dispatches_escape+else-ends_body+else-is_plain_control w ↦
+            let ordinary = sym w.ends_body.ensures ∙ w.if-ends_body.false in
             let dropped =
             left_of_intermediates (class_of b) (sym c.is_intermediate.ensures ∙ w.if-is_intermediate.false)
             (sym w.dispatches_escape.ensures ∙ w.if-dispatches_escape.false) ordinary
@@ -53,7 +53,7 @@ loop-position-preserved g c =
       may_go_on = v.may_go_on;
       begun = elim c.if-is_intermediate.branch [
         | then-is_intermediate w ↦ rw w.self-is v.begun
-        | else-is_intermediate+else-dispatches_escape+else-ends_all+else-is_plain_control w ↦ rw w.self-is v.begun
+        | else-is_intermediate+else-dispatches_escape+else-ends_body+else-is_plain_control w ↦ rw w.self-is v.begun
       ];
       spends = search rules;
     }
@@ -74,8 +74,8 @@ returns-then-dispatches_escape-clause-advances g c =
     (intermediate-end _ ints b _ refl ends))) (settled-by _ _ d.text tt)))
 
 -- CAN, SUB or ESC: the sequence is left without being told.
-pub returns-then-ends_all-clause-advances : goal.returns-then-ends_all-clause-advances
-returns-then-ends_all-clause-advances g c =
+pub returns-then-ends_body-clause-advances : goal.returns-then-ends_body-clause-advances
+returns-then-ends_body-clause-advances g c =
     let v = c.loop-position.invariant in
     let d = c.end_body.ensures in
     advances-then v.advances

@@ -21,8 +21,8 @@ returns-in-None-clause-advances g c =
     (λ items k. c.push_data.ensures.keeps items (keeps-same _ _ _ items c.take_memory.ensures.same k))
 
 -- CAN, SUB or ESC after the data ends the command.
-pub returns-then-ends_all-clause-advances : goal.returns-then-ends_all-clause-advances
-returns-then-ends_all-clause-advances g c =
+pub returns-then-ends_body-clause-advances : goal.returns-then-ends_body-clause-advances
+returns-then-ends_body-clause-advances g c =
     let r = c.requires in
     let found = c.find_command_data_end-end.ensures in
     advances-then
@@ -43,7 +43,7 @@ returns-clause-advances g c =
     let after_data : Machine _ =
     record { state = c.args.self.now.state; collected = c.args.self.now.collected; command = c.push_data.new.self } in
     let within : c.find_command_data_end-end.result < length c.args.input.bytes.now = here.0 in
-    let ordinary = sym c.ends_all.ensures ∙ c.if-ends_all.false in
+    let ordinary = sym c.ends_body.ensures ∙ c.if-ends_body.false in
     let no_data : IsCommandData byte → ⊥ = λ d. found.ended within (rw here.1 at d) in
     advances-then
     (advances-items {next = after_data} begun refl found.low found.high

@@ -8,7 +8,7 @@ use Rattle.vte_core.proofs.calls.CallEnds.{settled-by}
 use Rattle.vte_core.proofs.fields.PlaceOfState.{stands-escape, stands-text_begun}
 use Rattle.vte_core.proofs.places.PlaceLeads.{escape-key, escape-end}
 use Rattle.vte_core.proofs.bytes.PlainKeys.{other_key}
-use Rattle.vte_core.proofs.parser.machine.Machine.begin_body.Goals as goal
+use Rattle.vte_core.proofs.parser.machine.Machine.read_key.Goals as goal
 
 -- `P`: a device control string.
 pub returns-then-byte-eq80-clause-takes : goal.returns-then-byte-eq80-clause-takes

@@ -129,7 +129,7 @@ impl<B: Buffer> Machine<B> {
     fn dispatch_escape<P: PerformAs<G>, G: Grain>(&mut self, performer: &mut P, byte: u8) {
         performer.esc_dispatch(
             self.collected.intermediates.as_slice(),
-            self.collected.too_many,
+            self.collected.too_many_intermediates,
             byte,
         );
         self.state = State::Text(Unfinished::Nothing);

@@ -90,7 +90,8 @@ VTE_CORE = dict(
         # a performer takes the parts of what is held of a sequence
         "vte_core/parser/escape": [
             ("esc_dispatch(looks, &self.collected, byte)",
-             "esc_dispatch(self.collected.intermediates.as_slice(), self.collected.too_many_intermediates, byte)")
+             "esc_dispatch(self.collected.intermediates.as_slice(), "
+             "self.collected.too_many_intermediates, byte)")
         ],
         **{f"vte_core/parser/{module}": [
             (f"{event}(looks, &self.collected, ignore, byte)",

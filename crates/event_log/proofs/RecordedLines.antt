@@ -40,7 +40,7 @@ kept_lines {whole} {n} {parser} {old} unread goes_on units empty before s parsed
       kept = ap (λ (r : Record). r.lost) empty;
     } in
     kept_by (told_before usual_limit since unread n) (resumed_stream since unread n) h
-        (λ more. goes_on since unread more n)
+    (λ more. goes_on since unread more n)
     parsed
     (s.comes.performed
     ∙ takes_told line_of lines_are_small units since unread old h.kept

@@ -76,7 +76,7 @@ impl<const KEEPS: bool> Perform for RunCheck<KEEPS> {
 }
 
 impl<const KEEPS: bool> PerformText for RunCheck<KEEPS> {
-    ghost keeps = { KEEPS };
+    ghost layout = { KEEPS };
 
     fn keeps_layout(&self) -> bool {
         KEEPS

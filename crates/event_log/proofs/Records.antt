@@ -107,7 +107,7 @@ module _ (text_of : Event → List ℕ) (small : IsSmall text_of) (units : Tells
         | inr t ↦
             let earlier : t.start < i = t.earlier in
             let before = takes_below m t.start (omega arith) (omega arith) (λ j h. rooms j (omega arith)) in
-            rw t.are
+            rw t.events_are
             (takes_unit (told_before usual_limit stream bytes t.start) u.unit before (rooms t.start earlier t.starts)
             u.brief)
       ])

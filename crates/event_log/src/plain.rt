@@ -123,7 +123,7 @@ impl Perform for Plain {
 }
 
 impl PerformText for Plain {
-    ghost keeps = { true };
+    ghost layout = { true };
 
     fn keeps_layout(&self) -> bool {
         true

@@ -68,7 +68,7 @@ impl Perform for Screen {
 }
 
 impl PerformText for Screen {
-    ghost keeps = { false };
+    ghost layout = { false };
 
     fn keeps_layout(&self) -> bool {
         false

@@ -144,7 +144,7 @@ impl Perform for EventLines {
 
 /// A run has the lines of its characters.
 impl PerformText for EventLines {
-    ghost keeps = { false };
+    ghost layout = { false };
 
     fn keeps_layout(&self) -> bool {
         false

@@ -43,14 +43,14 @@ pub use Rattle.vte.specs.CommandCalls.{dynamic_calls, id_of, link_to, palette_en
 unfoldable pub use Rattle.vte.specs.CommandCalls.{all_reset}
 pub use Rattle.vte.specs.machine.ColorReader.{component_at_front}
 pub use Rattle.vte.specs.machine.Hold.{Adds, IsAdded, IsHeldTail, released_of, still_held}
-pub use Rattle.vte.specs.ProcessorCalls.{Advanced, HasParsedAll, HasParsedAndHolds, IsAt, ReadsInTurns, Replayed, Replays, Standing, held_of}
+pub use Rattle.vte.specs.ProcessorCalls.{HasAdvanced, HasParsedAll, HasParsedAndHolds, IsAt, ReadsInTurns, HasReplayed, Replays, StandingPredicate, held_of}
 pub use Rattle.vte.specs.machine.Performing.{PerformsAll, PerformsUntilStop, performer_value, with_private_mode, with_private_modes}
 pub use Rattle.vte.specs.LongProcessor.{AdvancesLong, HasParsedAndHoldsLong, Reserves, StopsSyncLong}
 pub use Rattle.vte.specs.Memory.{HasMemory, ParserHasMemory, KeepsMemory, LacksMemoryForSome}
 pub use Rattle.vte.specs.Numbers.{decimal_number, first_number, first_numbers, number_from}
 pub use Rattle.vte.specs.Parts.{first_after, parts_of}
 pub use Rattle.vte.specs.machine.Performer.{FitsText, PerformerValue, with_event}
-pub use Rattle.vte.specs.machine.Engine.{EngineIsAt, EngineIsAtKeeping, EndsOpen, EndsTurn, Halted, HasParsedFront, HasParsedWithoutBegin, ArePartsAt, ArePartsAtKeeping, ArePartsAtWithMemory, Opened, Turned, EngineHasMemory, EngineLacksMemory, EngineReads, EngineReserves, EngineStandsAt, EngineStops}
+pub use Rattle.vte.specs.machine.Engine.{EngineIsAt, EngineIsAtKeeping, EndsOpen, EndsTurn, HasHalted, HasParsedFront, HasParsedWithoutBegin, ArePartsAt, ArePartsAtKeeping, ArePartsAtWithMemory, HasTakenOpenTurn, HasTurned, EngineHasMemory, EngineLacksMemory, EngineReads, EngineReserves, EngineStandsAt, EngineStops}
 pub use Rattle.vte.specs.machine.Meanings.{ParserMeaning, EngineMeaning, long_meaning, engine_meaning, limited_meaning, unlimited}
 pub use Rattle.vte.specs.Rendition.{attribute_calls, attributes_from}
 pub use Rattle.vte.specs.Synchronized.{begin_update, begins_ending_in_last, begins_with, after_last_end, end_update, from_begin_update, part_after_last_end}

@@ -42,7 +42,7 @@ pub use Rattle.vte_core.specs.Examples
 pub use Rattle.vte_core.specs.Head
 pub use Rattle.vte_core.specs.IgnoredString
 pub use Rattle.vte_core.specs.Intermediates
-pub use Rattle.vte_core.specs.Key
+pub use Rattle.vte_core.specs.SequenceKind
 pub use Rattle.vte_core.specs.Laws
 pub use Rattle.vte_core.specs.LongParser
 pub use Rattle.vte_core.specs.LongParserCalls
@@ -51,7 +51,7 @@ pub use Rattle.vte_core.specs.Outcome
 pub use Rattle.vte_core.specs.Parameters
 pub use Rattle.vte_core.specs.Parser
 pub use Rattle.vte_core.specs.Perform
-pub use Rattle.vte_core.specs.Quiet
+pub use Rattle.vte_core.specs.OutsideRuns
 pub use Rattle.vte_core.specs.Saved
 pub use Rattle.vte_core.specs.Stream
 pub use Rattle.vte_core.specs.SystemCommand

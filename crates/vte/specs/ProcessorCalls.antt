@@ -4,7 +4,7 @@
 -- Where a processor stands is a predicate, such as `HasParsedAndHolds T.value_of processor`: it is
 -- true of what was parsed, what is held, and the timeout's value. `IsAt` compares that and the
 -- handler's value with a state. The records below take such predicates, because they are true of
--- both processors: `Stood` is the one before a call, `Stands` the one after it, and `IsThere` says
+-- both processors: `Before` is the one before a call, `After` the one after it, and `IsNowAt` says
 -- `IsAt` of the latter.
 use Rattle.std.specs.Prelude.{◌≡◌, ℕ, List, ◌++◌, length, drop, [], ◌∷◌, Bool, false, ◌≤◌, None, ⊤}
 use Rattle.vte_core.specs.Parser.{HasRead}
@@ -39,31 +39,33 @@ pub record HasParsedAndHolds {T A W : Type 0} (timeout_of : T → W) (processor 
 
 -- A predicate of what a processor has parsed and holds, and of its timeout's value, as
 -- `HasParsedAndHolds` is.
-abbrev pub Standing : Type 0 → Type 1
-Standing W = (parsed held : List ℕ) → (timeout : W) → Type 0
+abbrev pub StandingPredicate : Type 0 → Type 1
+StandingPredicate W = (parsed held : List ℕ) → (timeout : W) → Type 0
 
 -- A processor of which `Stands` is true, and the handler's value, are as the state says.
-pub record IsAt {V W : Type 0} (Stands : Standing W) (value : V) (state : State V W) : Type 0 where
+pub record IsAt {V W : Type 0} (Stands : StandingPredicate W) (value : V)
+    (state : State V W) : Type 0 where
   pub stands : Stands state.parsed state.held state.timeout
   pub handler_is : value ≡ state.handler
 
--- A call led to a state by turns, and is there: `IsThere` says so of the processor and the
+-- A call led to a state by turns, and is there: `IsNowAt` says so of the processor and the
 -- handler's value, as `IsAt` does. Each given byte is parsed or held, once and in order.
 -- `HoldsWell` stays true.
-pub record Advanced {V W : Type 0} (meaning : Meaning V W) (state : State V W) (bytes : List ℕ)
-    (IsThere : State V W → Type 0) : Type 0 where
+pub record HasAdvanced {V W : Type 0} (meaning : Meaning V W) (state : State V W) (bytes : List ℕ)
+    (IsNowAt : State V W → Type 0) : Type 0 where
   pub next : State V W
   pub advances : TakesAllTurns meaning state bytes next
   pub each_once : all_bytes next ≡ all_bytes state ++ bytes
   pub holds_well : HoldsWellAt meaning state → HoldsWellAt meaning next
-  pub is_at : IsThere next
+  pub is_at : IsNowAt next
 
 -- Calls led to a state, and are there. The bytes held before and those given are those parsed since
 -- and held now, each once and in order. The handler has received the calls of the bytes parsed
 -- since, and one more at each stop on that way. `HoldsWell` stays true. If the timeout
 -- is steady, the calls lead to no other state.
-pub record Replayed {V W : Type 0} (meaning : Meaning V W) (state : State V W) (steps : List Step)
-    (IsThere : State V W → Type 0) : Type 0 where
+pub record HasReplayed {V W : Type 0} (meaning : Meaning V W) (state : State V W)
+    (steps : List Step)
+    (IsNowAt : State V W → Type 0) : Type 0 where
   pub next : State V W
   pub takes : TakesSteps meaning state steps next
   -- the bytes parsed since
@@ -81,14 +83,14 @@ pub record Replayed {V W : Type 0} (meaning : Meaning V W) (state : State V W) (
   pub only : IsSteady meaning.timeout → HoldsWellAt meaning state → (other : State V W)
       → TakesSteps meaning state steps other
       → other ≡ next
-  pub is_at : IsThere next
+  pub is_at : IsNowAt next
 
 -- No value allows the answer "pending".
 abbrev pub IsNeverPending : {W : Type 0} → (W → Bool → Type 0) → Type 0
 IsNeverPending {W} allows = (value : W) (pending : Bool) → allows value pending → pending ≡ false
 
 -- The whole stream was parsed, and nothing is held.
-pub record HasParsedAll {W : Type 0} (Stands : Standing W) (stream : List ℕ) : Type 0 where
+pub record HasParsedAll {W : Type 0} (Stands : StandingPredicate W) (stream : List ℕ) : Type 0 where
   pub timeout : W
   pub stands : Stands stream [] timeout
 
@@ -98,17 +100,17 @@ AreAdvances [] = ⊤
 AreAdvances (Advance bytes ∷ steps) = AreAdvances steps
 AreAdvances (StopSync ∷ steps) = ⊥
 
--- Calls that give these bytes, while nothing is held, parse all bytes. `Stood` and `old` say where
--- the processor and the handler stood before, `Stands` and `new` where they stand now.
-pub record ParsesAll {V W : Type 0} (meaning : Meaning V W) (Stood Stands : Standing W)
+-- Calls that give these bytes, while nothing is held, parse all bytes. `Before` and `old` say where
+-- the processor and the handler stood before, `After` and `new` where they stand now.
+pub record ParsesAll {V W : Type 0} (meaning : Meaning V W) (Before After : StandingPredicate W)
     (old new : V) (bytes : List ℕ) : Type 0 where
   -- If the handler was as after the calls of the stream, from the value `start` on, it is as after
   -- those of both. For a new processor take the value before the call as `start`.
-  pub follows : (start : V) (stream : List ℕ) → HasParsedAll Stood stream
+  pub follows : (start : V) (stream : List ℕ) → HasParsedAll Before stream
       → old ≡ after meaning.step start (calls (events meaning.limit stream))
       → new ≡ after meaning.step start (calls (events meaning.limit (stream ++ bytes)))
-  pub parses_all : (stream : List ℕ) → HasParsedAll Stood stream
-      → HasParsedAll Stands (stream ++ bytes)
+  pub parses_all : (stream : List ℕ) → HasParsedAll Before stream
+      → HasParsedAll After (stream ++ bytes)
 
 -- `clone`: the copy stands where the processor does, if the copy of the timeout has its value.
 pub record IsCopyOf {T A W : Type 0} (is_clone : T → T → Type 0) (timeout_of : T → W)
@@ -126,22 +128,23 @@ pub record CountsHeld (held : List ℕ) (result : ℕ) : Type 0 where
   pub no_end : after_last_end held ≡ None
 
 -- `stop_sync` and `stop_sync_text`
-abbrev pub StopsSync : {V W : Type 0} → Meaning V W → Standing W → Standing W → V → V → Type 0
-StopsSync meaning Stood Stands old new =
-    (state : State _ _) → IsAt Stood old state → IsAt Stands new (stop meaning state)
+abbrev pub StopsSync : {V W : Type 0} → Meaning V W → StandingPredicate W → StandingPredicate W → V
+    → V → Type 0
+StopsSync meaning Before After old new =
+    (state : State _ _) → IsAt Before old state → IsAt After new (stop meaning state)
 
 -- `advance` and `advance_text`, which read all bytes
-pub record ReadsInTurns {V W : Type 0} (meaning : Meaning V W) (Stood Stands : Standing W)
+pub record ReadsInTurns {V W : Type 0} (meaning : Meaning V W) (Before After : StandingPredicate W)
     (old new : V) (bytes : List ℕ) : Type 0 where
-  pub advances : (state : State V W) → IsAt Stood old state
-      → Advanced meaning state bytes (IsAt Stands new)
-  pub plain : IsNeverPending meaning.timeout.allows → ParsesAll meaning Stood Stands old new bytes
+  pub advances : (state : State V W) → IsAt Before old state
+      → HasAdvanced meaning state bytes (IsAt After new)
+  pub plain : IsNeverPending meaning.timeout.allows → ParsesAll meaning Before After old new bytes
 
 -- `replay`
-pub record Replays {V W : Type 0} (meaning : Meaning V W) (Stood Stands : Standing W)
+pub record Replays {V W : Type 0} (meaning : Meaning V W) (Before After : StandingPredicate W)
     (old new : V) (steps : List Step) : Type 0 where
-  pub told : (state : State V W) → IsAt Stood old state
-      → Replayed meaning state steps (IsAt Stands new)
+  pub told : (state : State V W) → IsAt Before old state
+      → HasReplayed meaning state steps (IsAt After new)
   -- calls of `advance` alone, with all their bytes
   pub plain : IsNeverPending meaning.timeout.allows → AreAdvances steps
-      → ParsesAll meaning Stood Stands old new (given_bytes steps)
+      → ParsesAll meaning Before After old new (given_bytes steps)

@@ -8,7 +8,7 @@ use Rattle.std.specs.Prelude.{◌≡◌, ℕ, ◌-◌, ◌<◌, ◌++◌, Bool, 
 use Rattle.vte_core.specs.Stream.{added}
 use Rattle.vte.specs.BeginUpdate.{begin_count}
 use Rattle.vte.specs.Processor.{HoldsWellAt, Meaning, State, TakesTurns, TurnKind, OpenTurn, ExpiredTurn, HoldTurn, FullTurn, all_bytes, kind_of, parse, stop}
-use Rattle.vte.specs.ProcessorCalls.{Replayed}
+use Rattle.vte.specs.ProcessorCalls.{HasReplayed}
 use Rattle.vte.specs.declared.ansi.laws.replays.RefusedStep.{RefusedStep}
 use Rattle.vte.specs.declared.ansi.laws.replays.Step.{Step}
 use Rattle.vte.specs.declared.ansi.laws.replays.Step.TheVariants.{Advance, StopSync}
@@ -53,28 +53,28 @@ module _ {V W : Type 0} (meaning : Meaning V W) where
   -- on the way, and is at the state to which they led. Each byte that was read is parsed or held,
   -- once and in order. `HoldsWell` stays true.
   pub record HasTaken (state : State V W) (bytes : List ℕ) (read : ℕ)
-      (IsThere : State V W → Type 0) : Type 0 where
+      (IsNowAt : State V W → Type 0) : Type 0 where
     pub next : State V W
     pub takes : TakesTurnsUntilRefused state bytes next (drop read bytes)
     pub each_once : all_bytes next ≡ all_bytes state ++ take read bytes
     pub holds_well : HoldsWellAt meaning state → HoldsWellAt meaning next
-    pub is_at : IsThere next
+    pub is_at : IsNowAt next
 
   -- A refused `Advance` has read `read` bytes, by its first turns. `StopSync` is never refused.
   abbrev pub IsRefused : State V W → Step → ℕ → (State V W → Type 0) → Type 0
-  IsRefused state (Advance bytes) read IsThere =
-      (read < length bytes.now) × HasTaken state bytes.now read IsThere
-  IsRefused state StopSync read IsThere = ⊥
+  IsRefused state (Advance bytes) read IsNowAt =
+      (read < length bytes.now) × HasTaken state bytes.now read IsNowAt
+  IsRefused state StopSync read IsNowAt = ⊥
 
   abbrev pub IsFirstRefused : State V W → List Step → ℕ → (State V W → Type 0) → Type 0
-  IsFirstRefused state [] read IsThere = ⊥
-  IsFirstRefused state (step ∷ steps) read IsThere = IsRefused state step read IsThere
+  IsFirstRefused state [] read IsNowAt = ⊥
+  IsFirstRefused state (step ∷ steps) read IsNowAt = IsRefused state step read IsNowAt
 
   -- The calls before the refused one led to a state, and there it was refused.
-  abbrev pub ReplayedUntil : State V W → List Step → RefusedStep → (State V W → Type 0) → Type 0
-  ReplayedUntil state steps refused IsThere =
-      Replayed meaning state (take refused.index steps)
-      (λ next. IsFirstRefused next (drop refused.index steps) refused.read IsThere)
+  abbrev pub HasReplayedUntil : State V W → List Step → RefusedStep → (State V W → Type 0) → Type 0
+  HasReplayedUntil state steps refused IsNowAt =
+      HasReplayed meaning state (take refused.index steps)
+      (λ next. IsFirstRefused next (drop refused.index steps) refused.read IsNowAt)
 
 -- How many bytes of the refused call are left.
 abbrev pub left_of : Step → ℕ → ℕ

@@ -221,7 +221,7 @@ module _ (old mid new : Room) (since bytes : List ℕ) (from : ℕ) (run : Retur
       → ReadsOn old new since (after_call ++ run_bytes run) bytes from run.end
   goes-some kind some is plain same =
       let here : take (length (run_bytes run)) (drop (from + run.start) bytes) ≡ run_bytes run =
-      ap (take (length (run_bytes run))) (sym (drop-drop run.start from bytes)) ∙ sym r.stands.is in
+      ap (take (length (run_bytes run))) (sym (drop-drop run.start from bytes)) ∙ sym r.stands.bytes_are in
       let within : from + run.start + length (run_bytes run) ≤ length bytes =
       omega (arith, begins, r.stands.end, r.stands.within, length-drop from bytes) in
       let open_room = r.may_go_on (omega (arith, r.stands.end)) in

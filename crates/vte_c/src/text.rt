@@ -111,7 +111,7 @@ impl Perform for Text<'_> {
 }
 
 impl PerformText for Text<'_> {
-    ghost keeps = { true };
+    ghost layout = { true };
 
     fn keeps_layout(&self) -> bool {
         true

@@ -32,12 +32,12 @@ pub use Rattle.vte_core.specs.Event.{CsiDispatch, EscDispatch, Event, Execute, H
 pub use Rattle.vte_core.specs.Head.{Head, head_after, reported_intermediates}
 unfoldable pub use Rattle.vte_core.specs.Head.{sequence_event, head_of, is_well_shaped}
 pub use Rattle.vte_core.specs.Intermediates.{are_too_many, first_two}
-pub use Rattle.vte_core.specs.Key.{EscapeSequence, Key}
-unfoldable pub use Rattle.vte_core.specs.Key.{key_of}
+pub use Rattle.vte_core.specs.SequenceKind.{EscapeSequence, SequenceKind}
+unfoldable pub use Rattle.vte_core.specs.SequenceKind.{sequence_kind}
 pub use Rattle.vte_core.specs.Laws.{AreParameters, CountsData, DispatchesShown}
 pub use Rattle.vte_core.specs.LongParser.{MeetsData, open_data_count, open_command_size, read_count}
 pub use Rattle.vte_core.specs.Looks.{looked}
-pub use Rattle.vte_core.specs.Quiet.{AddsQuietly, IsQuietEvent, PrintsNoAscii, TellsQuietly}
+pub use Rattle.vte_core.specs.OutsideRuns.{AddsOutsideRuns, IsOutsideRuns, PrintsNoAscii, TellsOutsideRuns}
 pub use Rattle.vte_core.specs.Outcome.{SaysLoss, NothingToClose, ToClose, CharacterToClose, CommandToClose, Outcome, events_before_escape, closing_events, leaves, tell, open_bytes}
 pub use Rattle.vte_core.specs.Parameters.{AreGroups, Number, colon, count_of, greatest_number, grouped, is_colon, is_separator, most_numbers, number_of, numbers_of, semicolon, with_number}
 unfoldable pub use Rattle.vte_core.specs.Parameters.{groups_of, has_too_many_numbers, numbers, shown}
@@ -47,7 +47,7 @@ pub use Rattle.vte_core.specs.Stream.{added, cut_at_escape, escape, with_bodies,
 unfoldable pub use Rattle.vte_core.specs.Stream.{events, open_character, outcome}
 pub use Rattle.vte_core.specs.SystemCommand.{IsCommandData, bell, ends_command, has_room, is_data_item, kept_after, most_pieces, system_command_rest}
 unfoldable pub use Rattle.vte_core.specs.SystemCommand.{loses_data, kept_items, pieces_of, system_command_outcome}
-pub use Rattle.vte_core.specs.Text.{EndsRun, is_control_character, is_layout, ends_run, StaysInRun, segments_outcome, run_event}
+pub use Rattle.vte_core.specs.Text.{HasNoRunAt, is_control_character, is_layout, ends_run, StaysInRun, segments_outcome, run_event}
 unfoldable pub use Rattle.vte_core.specs.Text.{character_event, executed_events, malformed_event, segment_event, text_outcome}
 pub use Rattle.vte_core.specs.Utf8.{Range, allowed_length, is_in, scalar_of, segments, segments_after, from_to, rows_after_bytes, rows_after_byte, is_complete}
 unfoldable pub use Rattle.vte_core.specs.Utf8.{trailing_count, is_truncated, is_well_formed, utf8_rows}
@@ -61,9 +61,9 @@ pub use Rattle.vte_core.specs.declared.parser.refused.Refused.{Refused}
 pub use Rattle.vte_core.specs.declared.utf8.Unfinished.{Unfinished}
 pub use Rattle.vte_core.specs.declared.utf8.Unfinished.TheVariants.{Nothing, One, Three, Two}
 pub use Rattle.vte_core.specs.machine.Data.{AreIgnored, ArePut, IsIgnored}
-pub use Rattle.vte_core.specs.machine.Leads.{Leads, Reads}
+pub use Rattle.vte_core.specs.machine.Leads.{Leads, BytesLead}
 pub use Rattle.vte_core.specs.machine.Moves.{SpendsWithin}
-pub use Rattle.vte_core.specs.machine.ParserFields.{CountsNumbers, HoldsIntermediates, HoldsHead, HasReadUnder, IsMarker, KeepsIntermediates, KeepsNumbers, numbers_from, HoldsNumbers, Stands, StandsBy, StandsInHead, StaysIllShaped}
+pub use Rattle.vte_core.specs.machine.ParserFields.{CountsNumbers, HoldsIntermediates, HoldsHead, HasReadWithLimit, IsMarker, SameIntermediates, SameNumbers, numbers_from, HoldsNumbers, StandsAtPlace, StandsBy, StandsInHead, StaysIllShaped}
 pub use Rattle.vte_core.specs.machine.Place.{AtEscape, InControlSequence, InDeviceData, InDeviceControl, InEscape, InIgnoredString, InSystemCommand, InText, IsAfter, IsSettledPlace, Place, closing_events_at, left_at, rest_outcome}
 unfoldable pub use Rattle.vte_core.specs.machine.Place.{outcome_from}
 pub use Rattle.vte_core.specs.machine.Progress.{Advances, ChunkCall, chunk_call, ProgressAt, ProgressInside, IsRefusedInCommand, IsSettled, MayGoOn, ReadsUpTo, ReadsUntilRefused, StandsAt, StandsInside}

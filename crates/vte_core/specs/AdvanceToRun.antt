@@ -9,10 +9,10 @@ use Rattle.vte_core.specs.Class.{IsDeviceData}
 use Rattle.vte_core.specs.EarlyStop.{ComesTo, resumed_stream}
 use Rattle.vte_core.specs.Event.{Event, Print, Put}
 use Rattle.vte_core.specs.Looks.{looks}
-use Rattle.vte_core.specs.Quiet.{TellsQuietly}
+use Rattle.vte_core.specs.OutsideRuns.{TellsOutsideRuns}
 use Rattle.vte_core.specs.Parser.{HasRead}
 use Rattle.vte_core.specs.Stream.{added}
-use Rattle.vte_core.specs.Text.{EndsRun, HasNoControls}
+use Rattle.vte_core.specs.Text.{HasNoRunAt, HasNoControls}
 
 -- The bytes of a run: those of its text, or its data.
 abbrev pub taken_bytes : Taken → List ℕ
@@ -36,7 +36,7 @@ run_events run = taken_events run.taken
 -- byte, and no byte that is put follows.
 abbrev pub IsLongestRun : List ℕ → ℕ → Taken → Type 0
 IsLongestRun bytes end (Text text) =
-    (0 < length text.now) × HasNoControls text.now × EndsRun false bytes end
+    (0 < length text.now) × HasNoControls text.now × HasNoRunAt false bytes end
 IsLongestRun bytes end (Data those) =
     (0 < length those.now) × (end < length bytes → IsDeviceData (slice_index bytes end) → ⊥)
 IsLongestRun bytes end Nothing = ⊤
@@ -45,7 +45,7 @@ IsLongestRun bytes end Nothing = ⊤
 pub record IsRunIn (bytes : List ℕ) (run : Run) : Type 0 where
   pub end : run.end ≡ run.start + length (run_bytes run)
   pub within : run.end ≤ length bytes
-  pub is : run_bytes run ≡ take (length (run_bytes run)) (drop run.start bytes)
+  pub bytes_are : run_bytes run ≡ take (length (run_bytes run)) (drop run.start bytes)
   pub whole : IsLongestRun bytes run.end run.taken
 
 -- A call returned the run. `HasReadBefore` says which streams the parser had read.
@@ -73,8 +73,8 @@ pub record ReadsToRun {V : Type 0} {N : ℕ} (step : V → Event → V) (is_term
   pub reads : (stream : List ℕ) → HasRead parser stream
       → HasRead next (resumed_stream stream bytes run.start ++ run_bytes run)
   -- Characters and data are left to the run.
-  pub quietly : (stream : List ℕ) → HasRead parser stream
-      → TellsQuietly (Some N) stream bytes run.start
+  pub outside_runs : (stream : List ℕ) → HasRead parser stream
+      → TellsOutsideRuns (Some N) stream bytes run.start
   -- At most 7 looks per byte read and 8 more, and at least one per byte read.
   pub count : looks next ≤ looks parser + 7 * run.end + 8
   pub least : looks parser + run.end ≤ looks next

@@ -1,21 +1,21 @@
 -- A body: the bytes between one ESC and the next.
 use Rattle.std.specs.Prelude.{ℕ, List, [], ◌∷◌, Option, if◌then◌else◌}
-use Rattle.vte_core.specs.Key.{Key}
-use Rattle.vte_core.specs.Key.{ControlSequence, DeviceControl, SystemCommand, IgnoredString, EscapeSequence}
+use Rattle.vte_core.specs.SequenceKind.{SequenceKind}
+use Rattle.vte_core.specs.SequenceKind.{ControlSequence, DeviceControl, SystemCommand, IgnoredString, EscapeSequence}
 use Rattle.vte_core.specs.Class.{class_of, is_cancel, is_key}
 use Rattle.vte_core.specs.ControlSequence.{control_sequence_outcome}
 use Rattle.vte_core.specs.DeviceControl.{device_control_outcome}
 use Rattle.vte_core.specs.Escape.{escape_outcome}
 use Rattle.vte_core.specs.Event.{Execute}
 use Rattle.vte_core.specs.IgnoredString.{ignored_string_outcome}
-use Rattle.vte_core.specs.Key.{key_of}
+use Rattle.vte_core.specs.SequenceKind.{sequence_kind}
 use Rattle.vte_core.specs.Outcome.{Outcome, NothingToClose, leaves, tell}
 use Rattle.vte_core.specs.CutBefore.{cut_before}
 use Rattle.vte_core.specs.SystemCommand.{system_command_outcome}
 use Rattle.vte_core.specs.Text.{text_outcome, executed_events}
 
 -- The bytes after the key, read as the kind of sequence that the key selects.
-abbrev pub sequence_outcome : Option ℕ → Key → ℕ → List ℕ → Outcome
+abbrev pub sequence_outcome : Option ℕ → SequenceKind → ℕ → List ℕ → Outcome
 sequence_outcome limit ControlSequence key bytes = control_sequence_outcome bytes
 sequence_outcome limit DeviceControl key bytes = device_control_outcome bytes
 sequence_outcome limit SystemCommand key bytes = system_command_outcome limit bytes
@@ -28,7 +28,7 @@ abbrev pub body_rest : Option ℕ → List ℕ → Outcome
 body_rest limit [] = leaves NothingToClose
 body_rest limit (key ∷ bytes) =
     if is_cancel (class_of key) then tell (Execute key ∷ []) (text_outcome bytes)
-    else sequence_outcome limit (key_of key) key bytes
+    else sequence_outcome limit (sequence_kind key) key bytes
 
 -- The key is the first byte among 20..7E, CAN and SUB. Before it, C0 is executed and everything
 -- else is dropped.

@@ -74,6 +74,6 @@ module _ {V : Type 0} (step : V → Event → V) (is_terminated : V → Bool) (o
 
 -- No character of a run terminates a performer.
 abbrev pub NoCharacterStops : {V : Type 0} → Bool → (V → Event → V) → (V → Bool) → Type 0
-NoCharacterStops {V = V} keeps step is_terminated =
+NoCharacterStops {V = V} layout step is_terminated =
     (value : V) (c : ℕ) → is_terminated value ≡ false
-    → is_terminated (step value (run_event keeps c)) ≡ false
+    → is_terminated (step value (run_event layout c)) ≡ false

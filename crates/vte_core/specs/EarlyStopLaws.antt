@@ -19,7 +19,7 @@ pub record AreToldAtStart (limit : Option ℕ) (stream bytes : List ℕ) (i : �
   pub start : ℕ
   pub earlier : start < i
   pub starts : IsStart stream bytes start
-  pub are : events ≡ told_before limit stream bytes start
+  pub events_are : events ≡ told_before limit stream bytes start
 
 -- What is reported before a position is what was reported at an earlier start, if any, and one
 -- brief unit.

@@ -12,14 +12,14 @@ use Rattle.vte_core.specs.CutBefore.{cut_before}
 -- intermediates.
 pub record Head : Type 0 where
   pub marker : List ℕ
-  pub parameters : List ℕ
-  pub intermediates : List ℕ
+  pub parameter_text : List ℕ
+  pub tail : List ℕ
 
 -- The head after its marker.
 abbrev pub head_after : List ℕ → List ℕ → Head
 head_after marker bytes =
     let cut = cut_before (λ b. not (is_parameter_text (class_of b))) bytes in
-    record { marker = marker; parameters = cut.inside; intermediates = cut.rest }
+    record { marker = marker; parameter_text = cut.inside; tail = cut.rest }
 
 unfoldable pub head_of : List ℕ → Head
 head_of [] = head_after [] []
@@ -28,18 +28,18 @@ head_of (b ∷ bytes) =
 
 -- Only intermediates follow the parameters.
 unfoldable pub is_well_shaped : Head → Bool
-is_well_shaped head = list_all (λ b. is_intermediate (class_of b)) head.intermediates
+is_well_shaped head = list_all (λ b. is_intermediate (class_of b)) head.tail
 
 -- A dispatch reports the marker as the first intermediate.
 abbrev pub reported_intermediates : Head → List ℕ
-reported_intermediates head = head.marker ++ head.intermediates
+reported_intermediates head = head.marker ++ head.tail
 
 -- The event of a well-shaped head: groups, intermediates, whether there were too many of either,
 -- final byte.
 unfoldable pub sequence_event : (List (List ℕ) → List ℕ → Bool → ℕ → Event) → Head → ℕ → Event
 sequence_event event head final =
-    event (groups_of head.parameters) (first_two (reported_intermediates head))
-    (are_too_many (reported_intermediates head) || has_too_many_numbers head.parameters) final
+    event (groups_of head.parameter_text) (first_two (reported_intermediates head))
+    (are_too_many (reported_intermediates head) || has_too_many_numbers head.parameter_text) final
 
 -- The bytes 20..3F.
 abbrev pub head_bytes : List ℕ → List ℕ

@@ -16,7 +16,7 @@ pub mod Examples
 pub mod Head
 pub mod IgnoredString
 pub mod Intermediates
-pub mod Key
+pub mod SequenceKind
 pub mod Laws
 pub mod LongParser
 pub mod LongParserCalls
@@ -26,7 +26,7 @@ pub mod Outcome
 pub mod Parameters
 pub mod Parser
 pub mod Perform
-pub mod Quiet
+pub mod OutsideRuns
 pub mod Saved
 pub mod Stream
 pub mod SystemCommand

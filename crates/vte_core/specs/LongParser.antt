@@ -3,7 +3,7 @@ use Rattle.std.specs.Prelude.{◌≡◌, ℕ, Bool, ◌+◌, ◌<◌, ◌≤◌,
 use Rattle.std.specs.List.{concat}
 use Rattle.vte_core.specs.declared.parser.long.LongParser.{LongParser}
 use Rattle.vte_core.specs.declared.parser.refused.Refused.{Refused}
-use Rattle.vte_core.specs.machine.ParserFields.{HasReadUnder}
+use Rattle.vte_core.specs.machine.ParserFields.{HasReadWithLimit}
 use Rattle.vte_core.specs.machine.Store.{LacksMemoryAt}
 use Rattle.vte_core.specs.Outcome.{ToClose, CommandToClose}
 use Rattle.vte_core.specs.Stream.{outcome}
@@ -11,7 +11,7 @@ use Rattle.vte_core.specs.SystemCommand.{IsCommandData, most_pieces}
 
 -- The parser continues as one that has read the stream; `HasRead` for a parser without a limit.
 abbrev pub HasReadLong : {A : Type 0} → LongParser A → List ℕ → Type 0
-HasReadLong parser stream = HasReadUnder None parser.machine stream
+HasReadLong parser stream = HasReadWithLimit None parser.machine stream
 
 -- Whether a parser lost data of the operating system command that is open, or else ended last.
 abbrev pub lost_data_long : {A : Type 0} → LongParser A → Bool

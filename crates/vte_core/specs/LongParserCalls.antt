@@ -8,7 +8,7 @@ use Rattle.vte_core.specs.EarlyStop.{HasPassedBytes, StopsExactly, resumed_strea
 use Rattle.vte_core.specs.Event.{Event}
 use Rattle.vte_core.specs.LongParser.{HasReadLong, LacksMemory, MeetsData, StoresPieces, bytes_read, memory_of, open_command_size, read_count}
 use Rattle.vte_core.specs.Looks.{looks_long}
-use Rattle.vte_core.specs.Quiet.{TellsQuietly}
+use Rattle.vte_core.specs.OutsideRuns.{TellsOutsideRuns}
 use Rattle.vte_core.specs.Perform.{after}
 use Rattle.vte_core.specs.Stream.{added}
 
@@ -35,7 +35,7 @@ pub record ContinuesLong {A Answer : Type 0} (rate : ℕ) (bytes : List ℕ)
   -- At most `rate` looks per byte of the call and 8 more; if no memory is refused, per byte read.
   -- At least one look per byte read.
   pub count : looks_long next ≤ looks_long parser + rate * length bytes + 8
-  pub paid : IfOk result (λ _. looks_long next ≤ looks_long parser + rate * n + 8)
+  pub count_if_ok : IfOk result (λ _. looks_long next ≤ looks_long parser + rate * n + 8)
   pub least : looks_long parser + n ≤ looks_long next
 
 -- If memory is refused to a call that may stop early, the performer has what the bytes read add,
@@ -55,7 +55,7 @@ pub record ReadsBytesLong {V A : Type 0} (step : V → Event → V) (old new : V
   pub performs : (stream : List ℕ) → HasReadLong parser stream
       → new ≡ after step old (added None stream (bytes_read result bytes))
   -- The parser has then read these bytes too.
-  pub goes_on : ContinuesLong 5 bytes result (length (bytes_read result bytes))
+  pub continues : ContinuesLong 5 bytes result (length (bytes_read result bytes))
       (λ stream. stream ++ bytes_read result bytes) parser next
 
 -- `advance_until_terminated` and `advance_text_until_terminated` of a `LongParser`
@@ -70,7 +70,7 @@ pub record ReadsUntilTerminatedLong {V A : Type 0} (step : V → Event → V) (i
   -- If memory is refused, it ends before that.
   pub refuses : PassesLong step is_terminated old new (HasReadLong parser) bytes result
   -- The parser goes on after the bytes read.
-  pub goes_on : ContinuesLong 5 bytes result (read_count result)
+  pub continues : ContinuesLong 5 bytes result (read_count result)
       (λ stream. resumed_stream stream bytes (read_count result)) parser next
 
 -- What a parser has read after `advance_to_run`: the run too.
@@ -79,14 +79,14 @@ stream_after_run (Ok run) stream bytes = resumed_stream stream bytes run.start +
 stream_after_run (Err refused) stream bytes = resumed_stream stream bytes refused.read
 
 -- How many bytes a call of `advance_to_run` read, with the run.
-abbrev pub run_count : Result Run Refused → ℕ
-run_count (Ok run) = run.end
-run_count (Err refused) = refused.read
+abbrev pub read_through_run : Result Run Refused → ℕ
+read_through_run (Ok run) = run.end
+read_through_run (Err refused) = refused.read
 
 -- How many bytes a call of `advance_to_run` performed: those before the run.
-abbrev pub performed_count : Result Run Refused → ℕ
-performed_count (Ok run) = run.start
-performed_count (Err refused) = refused.read
+abbrev pub read_before_run : Result Run Refused → ℕ
+read_before_run (Ok run) = run.start
+read_before_run (Err refused) = refused.read
 
 -- `advance_to_run` of a `LongParser`
 pub record ReadsToRunLong {V A : Type 0} (step : V → Event → V) (is_terminated : V → Bool)
@@ -95,8 +95,8 @@ pub record ReadsToRunLong {V A : Type 0} (step : V → Event → V) (is_terminat
   pub returns : IfOk result (ReturnsRun step is_terminated old new None (HasReadLong parser) bytes)
   pub refuses : PassesLong step is_terminated old new (HasReadLong parser) bytes result
   -- Characters and data are left to the run.
-  pub quietly : (stream : List ℕ) → HasReadLong parser stream
-      → TellsQuietly None stream bytes (performed_count result)
+  pub outside_runs : (stream : List ℕ) → HasReadLong parser stream
+      → TellsOutsideRuns None stream bytes (read_before_run result)
   -- The parser goes on after what was read.
-  pub goes_on : ContinuesLong 7 bytes result (run_count result)
+  pub continues : ContinuesLong 7 bytes result (read_through_run result)
       (λ stream. stream_after_run result stream bytes) parser next

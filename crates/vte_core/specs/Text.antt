@@ -17,20 +17,20 @@ is_layout c = c == 0x09 || c == 0x0a || c == 0x0d
 
 -- The controls that end a run of text: all of them, or all but HT, LF and CR if it keeps these.
 abbrev pub ends_run : Bool → ℕ → Bool
-ends_run keeps c = not (keeps && is_layout c) && is_control_character c
+ends_run layout c = not (layout && is_layout c) && is_control_character c
 
 abbrev pub StaysInRun : Bool → ℕ → Type 0
-StaysInRun keeps c = ends_run keeps c ≡ false
+StaysInRun layout c = ends_run layout c ≡ false
 
 -- No character of the text ends a run.
 abbrev pub IsRunText : Bool → List ℕ → Type 0
-IsRunText keeps text = All (StaysInRun keeps) (chars text)
+IsRunText layout text = All (StaysInRun layout) (chars text)
 
 -- No character of a run begins at the position: a well-formed sequence there ends the run.
-abbrev pub EndsRun : Bool → List ℕ → ℕ → Type 0
-EndsRun keeps bytes position =
+abbrev pub HasNoRunAt : Bool → List ℕ → ℕ → Type 0
+HasNoRunAt layout bytes position =
     (n : ℕ) → position + n ≤ length bytes → is_well_formed (take n (drop position bytes)) ≡ true
-    → ends_run keeps (scalar_of (take n (drop position bytes))) ≡ true
+    → ends_run layout (scalar_of (take n (drop position bytes))) ≡ true
 
 -- No character of a text is a control.
 abbrev pub HasNoControls : List ℕ → Type 0
@@ -39,7 +39,7 @@ HasNoControls text = IsRunText false text
 -- The event of a character of a run: HT, LF and CR, if it keeps these, are executed, and others
 -- printed.
 abbrev pub run_event : Bool → ℕ → Event
-run_event keeps c = if keeps && is_layout c then Execute c else Print c
+run_event layout c = if layout && is_layout c then Execute c else Print c
 
 -- A control character is executed as one byte; any other is printed.
 unfoldable pub character_event : ℕ → Event

@@ -121,19 +121,24 @@ fn step(state: u64, byte: u8) -> u64
 }
 
 impl<B> Looks<B> {
-    /// Skips blocks of a run, and returns where the last character ended. If it `keeps` them, the
+    /// Skips blocks of a run, and returns where the last character ended. If it `layout` them, the
     /// run may hold HT, LF and CR. A block with a byte that fits nowhere, or with a control that
     /// isn't kept, is read in vain.
     #[inline(never)]
-    pub(crate) fn skip_run_blocks(&mut self, input: Input<'_, B>, from: usize, keeps: bool) -> usize
+    pub(crate) fn skip_run_blocks(
+        &mut self,
+        input: Input<'_, B>,
+        from: usize,
+        layout: bool,
+    ) -> usize
         requires { from ≤ length input.bytes.now }
-        ensures scans { Scans (IsRun keeps) input.entry.bytes.now from result self.old self.new }
+        ensures scans { Scans (IsRun layout) input.entry.bytes.now from result self.old self.new }
         ensures count { looked self.new + 3 * from ≤ looked self.old + 3 * result + 16 }
     {
         let mut at = 0;
         let mut state = BETWEEN;
         while let Some(block) = self.get_block::<16>(input, from + at) {
-            if !keeps && has_control(&block) {
+            if !layout && has_control(&block) {
                 break;
             }
             let next = state_after_block(state, &block);

@@ -1,7 +1,7 @@
 //! What is collected of an escape sequence, and of the head of a control sequence or a device
 //! control string.
 ghost use Rattle.std.specs.Prelude.{◌≡◌, ◌<◌, ◌≤◌, ◌+◌, ◌*◌, ◌-◌, ◌↔◌, ◌⊎◌, min, IsTrue, List, ℕ, true, false, [], ◌∷◌, ◌++◌, length, slice_index, IfSome};
-ghost use Rattle.vte_core.specs.machine.Prelude.{CountsNumbers, HoldsIntermediates, HoldsHead, IsReady, KeepsIntermediates, KeepsNumbers, ReadsHeadUpTo, HoldsNumbers, StandsInHead, class_of, is_head_byte, is_parameter_text};
+ghost use Rattle.vte_core.specs.machine.Prelude.{CountsNumbers, HoldsIntermediates, HoldsHead, IsReady, SameIntermediates, SameNumbers, ReadsHeadUpTo, HoldsNumbers, StandsInHead, class_of, is_head_byte, is_parameter_text};
 ghost use Rattle.vte_core.specs.machine.Prelude.{is_separator, looked, with_open_number};
 
 use crate::class::{digit_of, is_head_byte, is_intermediate, is_parameter_text, is_separator};
@@ -34,7 +34,7 @@ impl HeadProgress {
 /// How far a head has been read, and up to which position. The byte there was looked at.
 #[derive(Clone, Copy)]
 pub(crate) struct HeadEnd {
-    pub(crate) part: HeadProgress,
+    pub(crate) progress: HeadProgress,
     pub(crate) position: usize,
     pub(crate) next: Option<u8>,
 }
@@ -88,7 +88,7 @@ impl Collected {
     pub(crate) fn collect(&mut self, byte: u8)
         ensures holds { (intermediates : List ℕ) → HoldsIntermediates self.old intermediates
             → HoldsIntermediates self.new (intermediates ++ byte ∷ []) }
-        ensures numbers { KeepsNumbers self.old self.new }
+        ensures numbers { SameNumbers self.old self.new }
     {
         if self.intermediates.try_push(byte).is_err() {
             self.too_many_intermediates = true;
@@ -100,7 +100,7 @@ impl Collected {
     fn settle_number(&mut self, number: u16) -> bool
         ensures settles { (text : List ℕ) → CountsNumbers (with_open_number self.old number) text
             → HoldsNumbers self.new result text }
-        ensures keeps { KeepsIntermediates self.old self.new }
+        ensures same { SameIntermediates self.old self.new }
     {
         if self.params.is_full() {
             return true;
@@ -112,14 +112,14 @@ impl Collected {
     /// Collects an intermediate or a marker, or finds the head malformed. Returns how far the head
     /// has been read then.
     #[inline(always)]
-    fn collect_head_byte(&mut self, part: HeadProgress, byte: u8) -> HeadProgress
-        requires is { is_head_byte (class_of byte) ≡ true }
-        requires no_number { (part ≡ HeadProgress.Entry) ⊎ (part ≡ HeadProgress.Parameters)
+    fn collect_head_byte(&mut self, progress: HeadProgress, byte: u8) -> HeadProgress
+        requires head_byte { is_head_byte (class_of byte) ≡ true }
+        requires no_number { (progress ≡ HeadProgress.Entry) ⊎ (progress ≡ HeadProgress.Parameters)
             → is_parameter_text (class_of byte) ≡ false }
-        ensures { (head : List ℕ) → StandsInHead self.old part head
+        ensures { (head : List ℕ) → StandsInHead self.old progress head
             → StandsInHead self.new result (head ++ byte ∷ []) }
     {
-        if let HeadProgress::IllShaped = part {
+        if let HeadProgress::IllShaped = progress {
             return HeadProgress::IllShaped;
         }
         if is_intermediate(byte) {
@@ -127,7 +127,7 @@ impl Collected {
             return HeadProgress::Intermediates;
         }
         // A marker stands only at the beginning.
-        if let HeadProgress::Entry = part {
+        if let HeadProgress::Entry = progress {
             self.collect(byte);
             return HeadProgress::Parameters;
         }
@@ -150,7 +150,7 @@ impl Collected {
         ensures reads { ReadsHeadUpTo input.entry.bytes.now from reached result self.old self.new }
         ensures progress { several ≡ true → from < length input.entry.bytes.now
             → is_parameter_text (class_of (slice_index input.entry.bytes.now from)) ≡ true
-            → (from < result.position) × (result.part ≡ HeadProgress.Parameters) }
+            → (from < result.position) × (result.progress ≡ HeadProgress.Parameters) }
         ensures count { looked looks.new + from
             ≡ looked looks.old + min (result.position + 1) (length input.entry.bytes.now) }
     {
@@ -175,13 +175,13 @@ impl Collected {
             position += 1;
         }
         self.number = number as u16;
-        let part = if from == position {
+        let progress = if from == position {
             reached
         } else {
             HeadProgress::Parameters
         };
         HeadEnd {
-            part,
+            progress,
             position,
             next,
         }
@@ -205,7 +205,7 @@ impl Collected {
         ensures least { looked looks.old + min (result.position + 1) (length input.entry.bytes.now)
             ≤ looked looks.new + from }
     {
-        let mut part = reached;
+        let mut progress = reached;
         let mut position = from;
         let mut next = None;
         while position < input.len() {
@@ -214,18 +214,18 @@ impl Collected {
                 next = Some(byte);
                 break;
             }
-            if is_parameter_text(byte) && part.may_have_parameters() {
-                let numbers = self.read_numbers(looks, part, true, input, position);
-                // As a constant, because the loop over numbers is longer with `numbers.part`.
-                part = HeadProgress::Parameters;
+            if is_parameter_text(byte) && progress.may_have_parameters() {
+                let numbers = self.read_numbers(looks, progress, true, input, position);
+                // As a constant, because the loop over numbers is longer with `numbers.progress`.
+                progress = HeadProgress::Parameters;
                 position = numbers.position;
             } else {
-                part = self.collect_head_byte(part, byte);
+                progress = self.collect_head_byte(progress, byte);
                 position += 1;
             }
         }
         HeadEnd {
-            part,
+            progress,
             position,
             next,
         }
@@ -235,7 +235,7 @@ impl Collected {
     /// or intermediates.
     #[inline(always)]
     pub(crate) fn end_head(&mut self) -> bool
-        ensures { (part : HeadProgress) (head : List ℕ) → HoldsHead self.old part head
+        ensures { (progress : HeadProgress) (head : List ℕ) → HoldsHead self.old progress head
             → IsReady self.new result head }
     {
         let too_many_numbers = self.settle_number(self.number);

@@ -202,7 +202,7 @@ impl<const OSC_RAW_BUF_SIZE: usize> Parser<OSC_RAW_BUF_SIZE> {
         bytes: &[u8],
     ) -> usize
         requires no_stop { G.IN_RUNS ≡ true → MAY_STOP ≡ true
-            → NoCharacterStops P.keeps P.step P.is_terminated }
+            → NoCharacterStops P.layout P.step P.is_terminated }
         ensures all { MAY_STOP ≡ false
             → ReadsBytes P.step (P.value_of performer.old)
             (P.value_of performer.new) bytes.now self.old self.new }

@@ -78,21 +78,21 @@ pub trait Perform {
 ///
 /// How text and data are cut into runs may change from version to version.
 pub trait PerformText: Perform {
-    ghost keeps: { Bool };
+    ghost layout: { Bool };
 
     /// Returns whether HT (09), LF (0A) and CR (0D) come by `print_text` instead of
     /// [`execute`](Perform::execute), always the same answer. A filter, which keeps these three as
     /// they are, is faster with longer runs.
     fn keeps_layout(&self) -> bool
-        ensures { result ≡ keeps };
+        ensures { result ≡ layout };
 
     /// Called for characters to print, at least one, in order. None is a control, except HT, LF and
-    /// CR if the performer [keeps](Self::keeps_layout) these.
+    /// CR if the performer [layout](Self::keeps_layout) these.
     fn print_text(&mut self, text: &str)
         requires some { 0 < length text.now }
-        requires plain { IsRunText keeps text.now }
+        requires plain { IsRunText layout text.now }
         ensures { Self.value_of self.new
-            ≡ after Self.step (Self.value_of self.old) (map (run_event keeps) (chars text.now)) };
+            ≡ after Self.step (Self.value_of self.old) (map (run_event layout) (chars text.now)) };
 
     /// Called for data bytes of the device control string, at least one, in order. By default each
     /// comes by [`put`](Perform::put).
@@ -119,5 +119,5 @@ pub trait PerformText: Perform {
 
 /// A performer that no character of a run terminates, so that it needn't be asked there.
 pub trait PerformThroughText: PerformText {
-    ghost goes_on: { NoCharacterStops Self.keeps Self.step Self.is_terminated };
+    ghost no_stop: { NoCharacterStops Self.layout Self.step Self.is_terminated };
 }

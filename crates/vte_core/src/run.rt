@@ -3,7 +3,7 @@
 //! A word is eight bytes. No word is tried before a run has begun with single bytes, so that no
 //! byte is read often.
 ghost use Rattle.std.specs.Prelude.{◌≡◌, ◌+◌, ◌*◌, ◌<◌, ◌≤◌, ◌↔◌, true, false, None, MatchOption, IfSome, IsTrue, length, slice_index};
-ghost use Rattle.vte_core.specs.machine.Prelude.{ArePrintedAscii, EndsRun, IsPrintedAscii, IsRange, IsRun, Scans, LooksAtMost, is_in, looked, from_to};
+ghost use Rattle.vte_core.specs.machine.Prelude.{ArePrintedAscii, HasNoRunAt, IsPrintedAscii, IsRange, IsRun, Scans, LooksAtMost, is_in, looked, from_to};
 
 use crate::class::is_layout;
 use crate::scan::{CountedPerform, Grain, Input, Looks};
@@ -17,7 +17,12 @@ impl<B> Looks<B> {
     /// Returns whether printed ASCII begins a run at a position: four bytes of it, of which the
     /// first was looked at, and `next` too.
     #[inline(always)]
-    pub(crate) fn begins_ascii(&mut self, input: Input<'_, B>, at: usize, next: Option<u8>) -> bool
+    pub(crate) fn begins_ascii_run(
+        &mut self,
+        input: Input<'_, B>,
+        at: usize,
+        next: Option<u8>,
+    ) -> bool
         requires within { at < length input.bytes.now }
         requires printed { IsPrintedAscii (slice_index input.bytes.now at) }
         requires next { IfSome next
@@ -44,7 +49,7 @@ impl<B> Looks<B> {
         requires printed { ArePrintedAscii input.bytes.now from (from + 4) }
         ensures progress { from < result }
         ensures high { result ≤ length input.entry.bytes.now }
-        ensures run { IsRun P.keeps input.entry.bytes.now from result }
+        ensures run { IsRun P.layout input.entry.bytes.now from result }
         ensures count { looked self.new + 4 * from + 4 ≤ looked self.old + 4 * result }
         ensures grows { looked self.old ≤ looked self.new }
     {
@@ -67,10 +72,10 @@ impl<B> Looks<B> {
         first: u8,
     ) -> usize
         requires within { from < length input.bytes.now }
-        requires is { first ≡ slice_index input.bytes.now from }
+        requires looked_at { first ≡ slice_index input.bytes.now from }
         requires lead { 0xc2 ≤ first }
         ensures range { IsRange input.entry.bytes.now from result }
-        ensures run { from < result → IsRun P.keeps input.entry.bytes.now from result }
+        ensures run { from < result → IsRun P.layout input.entry.bytes.now from result }
         ensures few { result ≡ from → looked self.new ≤ looked self.old + 2 }
         ensures count { from < result
             → looked self.new + 4 * from + 1 ≤ looked self.old + 4 * result }
@@ -80,14 +85,14 @@ impl<B> Looks<B> {
             Some(second) if is_continuation(second) => match self.get(input, from + 2) {
                 Some(third) if first < 0xe0 => {
                     if is_lead(third) && is_printed_pair(first, second) {
-                        self.find_run_end_of(performer, input, from + 2)
+                        self.find_run_end_for(performer, input, from + 2)
                     } else {
                         from
                     }
                 }
                 Some(third)
                     if first < 0xf0 && is_continuation(third) && may_begin_three(first, second) => {
-                    self.find_run_end_of(performer, input, from + 3)
+                    self.find_run_end_for(performer, input, from + 3)
                 }
                 _ => from,
             },
@@ -97,43 +102,43 @@ impl<B> Looks<B> {
 
     /// Finds where the run ends that has come to a position, for a performer.
     #[inline(never)]
-    pub(crate) fn find_run_end_of<P: CountedPerform<B, G>, G: Grain>(
+    pub(crate) fn find_run_end_for<P: CountedPerform<B, G>, G: Grain>(
         &mut self,
         performer: &P,
         input: Input<'_, B>,
         from: usize,
     ) -> usize
         requires { from ≤ length input.bytes.now }
-        ensures scans { Scans (IsRun P.keeps) input.entry.bytes.now from result self.old self.new }
+        ensures scans { Scans (IsRun P.layout) input.entry.bytes.now from result self.old self.new }
         ensures count { looked self.new + 4 * from ≤ looked self.old + 4 * result + 4 }
     {
         self.find_run_end(input, from, performer.keeps_layout())
     }
 
-    /// Finds where the run ends that has come to a position. If it `keeps` them, HT, LF and CR
+    /// Finds where the run ends that has come to a position. If it `layout` them, HT, LF and CR
     /// don't end it.
     #[inline(always)]
-    pub(crate) fn find_run_end(&mut self, input: Input<'_, B>, from: usize, keeps: bool) -> usize
+    pub(crate) fn find_run_end(&mut self, input: Input<'_, B>, from: usize, layout: bool) -> usize
         requires { from ≤ length input.bytes.now }
-        ensures scans { Scans (IsRun keeps) input.entry.bytes.now from result self.old self.new }
-        ensures ended { EndsRun keeps input.entry.bytes.now result }
+        ensures scans { Scans (IsRun layout) input.entry.bytes.now from result self.old self.new }
+        ensures ended { HasNoRunAt layout input.entry.bytes.now result }
         ensures count { looked self.new + 4 * from ≤ looked self.old + 4 * result + 4 }
     {
         let to = input.len().min(from + SHORT_RUN);
-        let end = self.find_end_up_to(input, from, to, keeps);
+        let end = self.find_end_up_to(input, from, to, layout);
         if end < to || end == input.len() {
             end
         } else {
-            self.find_run_end_by_blocks(input, end, keeps)
+            self.find_run_end_by_blocks(input, end, layout)
         }
     }
 
     /// Finds where the run ends that has come to a position, or where it comes to or past another.
     #[inline(always)]
-    fn find_end_up_to(&mut self, input: Input<'_, B>, from: usize, to: usize, keeps: bool) -> usize
+    fn find_end_up_to(&mut self, input: Input<'_, B>, from: usize, to: usize, layout: bool) -> usize
         requires range { IsRange input.bytes.now from to }
-        ensures scans { Scans (IsRun keeps) input.entry.bytes.now from result self.old self.new }
-        ensures ended { result < to → EndsRun keeps input.entry.bytes.now result }
+        ensures scans { Scans (IsRun layout) input.entry.bytes.now from result self.old self.new }
+        ensures ended { result < to → HasNoRunAt layout input.entry.bytes.now result }
         // One look per three bytes fewer than a run may take: these pay for the automaton.
         ensures count { 3 * looked self.new + 11 * from ≤ 3 * looked self.old + 11 * result + 12 }
         ensures spare { to ≤ result
@@ -145,7 +150,7 @@ impl<B> Looks<B> {
             if is_printed_ascii(byte) {
                 end = self.find_ascii_end(input, end + 1);
             } else {
-                match self.find_other_character_end(input, end, byte, keeps) {
+                match self.find_other_character_end(input, end, byte, layout) {
                     Some(next) => end = next,
                     None => return end,
                 }
@@ -156,14 +161,14 @@ impl<B> Looks<B> {
 
     /// Finds where a long run ends that has come to a position.
     #[inline(never)]
-    fn find_run_end_by_blocks(&mut self, input: Input<'_, B>, from: usize, keeps: bool) -> usize
+    fn find_run_end_by_blocks(&mut self, input: Input<'_, B>, from: usize, layout: bool) -> usize
         requires { from ≤ length input.bytes.now }
-        ensures scans { Scans (IsRun keeps) input.entry.bytes.now from result self.old self.new }
-        ensures ended { EndsRun keeps input.entry.bytes.now result }
+        ensures scans { Scans (IsRun layout) input.entry.bytes.now from result self.old self.new }
+        ensures ended { HasNoRunAt layout input.entry.bytes.now result }
         ensures count { 3 * looked self.new + 11 * from ≤ 3 * looked self.old + 11 * result + 60 }
     {
-        let end = self.skip_run_blocks(input, from, keeps);
-        self.find_end_up_to(input, end, input.len(), keeps)
+        let end = self.skip_run_blocks(input, from, layout);
+        self.find_end_up_to(input, end, input.len(), layout)
     }
 
     /// Finds where the character ends that stands at a position and is no printed ASCII, if a run
@@ -174,20 +179,20 @@ impl<B> Looks<B> {
         input: Input<'_, B>,
         from: usize,
         first: u8,
-        keeps: bool,
+        layout: bool,
     ) -> Option<usize>
         requires within { from < length input.bytes.now }
-        requires is { first ≡ slice_index input.bytes.now from }
+        requires looked_at { first ≡ slice_index input.bytes.now from }
         requires other { is_in (from_to 0x20 0x7f) first ≡ false }
         ensures progress { IfSome result (λ end. from < end) }
         ensures high { IfSome result (λ end. end ≤ length input.entry.bytes.now) }
-        ensures run { IfSome result (IsRun keeps input.entry.bytes.now from) }
-        ensures ended { result ≡ None → EndsRun keeps input.entry.bytes.now from }
+        ensures run { IfSome result (IsRun layout input.entry.bytes.now from) }
+        ensures ended { result ≡ None → HasNoRunAt layout input.entry.bytes.now from }
         ensures few { LooksAtMost 3 self.old self.new }
         ensures count { IfSome result (λ end. looked self.new + from + 1 ≡ looked self.old + end) }
     {
         if !is_lead(first) {
-            if keeps && is_layout(first) {
+            if layout && is_layout(first) {
                 return Some(from + 1);
             }
             return None;

@@ -221,7 +221,7 @@ impl<B> Looks<B> {
     /// alone.
     #[inline(always)]
     #[tactic(auto, unfolding(crate::specs::Text::character_event, crate::specs::Text::malformed_event))]
-    pub(crate) fn tell_single<P: CountedPerform<B, G>, G>(&mut self, performer: &mut P, byte: u8)
+    pub(crate) fn tell_lone_byte<P: CountedPerform<B, G>, G>(&mut self, performer: &mut P, byte: u8)
         requires { is_in (from_to 0x20 0x7f) byte ≡ false }
         ensures control { byte < 0x80
             → P.value_of performer.new ≡ P.step (P.value_of performer.old) (character_event byte) }
@@ -247,8 +247,8 @@ impl<B> Looks<B> {
     )
         requires some { from < to }
         requires within { to ≤ length input.bytes.now }
-        requires run { IsRun P.keeps input.bytes.now from to }
-        ensures printed { PrintsRun P.keeps P.step (P.value_of performer.old)
+        requires run { IsRun P.layout input.bytes.now from to }
+        ensures printed { PrintsRun P.layout P.step (P.value_of performer.old)
             (P.value_of performer.new) input.entry.bytes.now from to }
         ensures count { looked self.new + from ≡ looked self.old + to }
     {

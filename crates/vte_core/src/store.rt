@@ -44,7 +44,7 @@ impl<B: Buffer> Model for Store<B> {
 impl<B: Buffer> Store<B> {
     pub(crate) fn new(bytes: B) -> Self
         requires { B.held bytes ≡ [] }
-        ensures keeps { HoldsItems B.limit result [] }
+        ensures holds { HoldsItems B.limit result [] }
         ensures memory { result.capacity ≡ B.capacity bytes }
     {
         Store {
@@ -55,7 +55,7 @@ impl<B: Buffer> Store<B> {
     }
 
     pub(crate) fn clear(&mut self)
-        ensures keeps { HoldsItems B.limit self.new [] }
+        ensures holds { HoldsItems B.limit self.new [] }
         ensures memory { self.new.capacity ≡ self.old.capacity }
     {
         self.ends = ArrayVec::new();
@@ -94,7 +94,7 @@ impl<B: Buffer> Store<B> {
 
     /// Ends a piece at a `;`, if there is room.
     pub(crate) fn end_piece(&mut self)
-        ensures keeps { (items : List ℕ) → HoldsItems B.limit self.old items
+        ensures holds { (items : List ℕ) → HoldsItems B.limit self.old items
             → HoldsItems B.limit self.new (items ++ 0x3b ∷ []) }
         ensures memory { self.new.capacity ≡ self.old.capacity }
     {
@@ -116,7 +116,7 @@ impl<B: Buffer> Store<B> {
         requires data { All (λ b. b ≢ 0x3b) (take (to - from) (drop from input.bytes.now)) }
         requires memory { length self.old.ends < most_pieces
             → HasCapacity B.limit self.old.capacity (length self.old.bytes) (to - from) }
-        ensures keeps { (items : List ℕ) → HoldsItems B.limit self.old items → HoldsItems B.limit
+        ensures holds { (items : List ℕ) → HoldsItems B.limit self.old items → HoldsItems B.limit
             self.new (items ++ take (to - from) (drop from input.entry.bytes.now)) }
         ensures memory { self.old.capacity ≤ self.new.capacity }
         ensures few { LooksAtMost (to - from) looks.old looks.new }

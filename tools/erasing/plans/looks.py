@@ -43,7 +43,7 @@ COUNTS = [
 
 # The functions that only pass on whether they may stop: the parameter goes.
 PASSING = (
-    "complete_four", "complete_three", "continue_character", "continue_control_sequence",
+    "complete_four", "complete_three", "continue_character", "read_short_head",
     "finish_character", "read_at_lead", "read_character", "read_control_sequence",
     "read_device_control", "read_escape", "read_intermediates", "read_sequence")
 

@@ -36,11 +36,11 @@ VTE_CORE = dict(
         "vte_core": {
             "crate::proved::vte_core::automaton": "skip_run_blocks",
             "crate::proved::vte_core::run":
-                "begins_ascii find_ascii_run_end find_run_end_at_lead find_run_end "
-                "find_run_end_of",
+                "begins_ascii_run find_ascii_run_end find_run_end_at_lead find_run_end "
+                "find_run_end_for",
             "crate::proved::vte_core::scan":
                 "Grain InRuns Run RunKind RunRange Singly data get get_block take_run "
-                "tell_character tell_single text up_to",
+                "tell_character tell_lone_byte text up_to",
             "crate::proved::vte_core::scan::grain": "PerformAs",
             "crate::proved::vte_core::scan::search":
                 "find_command_data_end find_device_data_end find_string_end search_text",

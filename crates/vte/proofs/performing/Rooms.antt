@@ -120,14 +120,14 @@ module _ {A V W : Type 0} {step : PerformerValue V W → Event → PerformerValu
     parses = λ stream n read room. record {
       performs = r.performs stream read;
       fits = long_fits stream bytes n room;
-      reads = r.goes_on.reads stream read;
-      room = room_left stream bytes n room next r.goes_on.memory;
+      reads = r.continues.reads stream read;
+      room = room_left stream bytes n room next r.continues.memory;
     };
-    memory = λ size. keeps_room r.goes_on.memory (omega arith);
+    memory = λ size. keeps_room r.continues.memory (omega arith);
   }
   long_parses (Err refused) r = record {
-    parses = λ stream n read room. absurd (false≢true (r.goes_on.enough stream read (enough stream bytes n room)));
-    memory = λ size. keeps_room r.goes_on.memory (omega arith);
+    parses = λ stream n read room. absurd (false≢true (r.continues.enough stream read (enough stream bytes n room)));
+    memory = λ size. keeps_room r.continues.memory (omega arith);
   }
 
   pub long_stops : (result : Result ℕ Refused)
@@ -139,12 +139,12 @@ module _ {A V W : Type 0} {step : PerformerValue V W → Event → PerformerValu
         λ stream n reads room. record {
           stops = r.stops stream reads;
           fits = long_fits stream bytes n room;
-          reads = r.goes_on.reads stream reads;
+          reads = r.continues.reads stream reads;
         };
-    memory = λ size. keeps_room r.goes_on.memory (omega arith);
+    memory = λ size. keeps_room r.continues.memory (omega arith);
   }
   long_stops (Err refused) r = record {
     within = r.within;
-    stops = λ stream n reads room. absurd (false≢true (r.goes_on.enough stream reads (enough stream bytes n room)));
-    memory = λ size. keeps_room r.goes_on.memory (omega arith);
+    stops = λ stream n reads room. absurd (false≢true (r.continues.enough stream reads (enough stream bytes n room)));
+    memory = λ size. keeps_room r.continues.memory (omega arith);
   }

@@ -1,7 +1,7 @@
 -- With a timeout that is never pending nothing is ever held, so a list of calls has no stops, and makes the calls of
 -- the whole stream. By induction over turns: each one is open, and ends with nothing held.
 use Rattle.vte.proofs.Common.{◌≡◌, ℕ, true, false, List, [], ◌∷◌, ◌++◌, refl, ap, sym, ◌∙◌, Bor, append-nil, events, after, Step, Advance, StopSync, added_calls, calls}
-use Rattle.vte.proofs.Common.{Meaning, Advanced, HasParsedAll, IsAt, Replayed, Replays, TakesSteps, Standing, given_bytes, State, TakesAllTurns, done, turns, turn}
+use Rattle.vte.proofs.Common.{Meaning, HasAdvanced, HasParsedAll, IsAt, HasReplayed, Replays, TakesSteps, StandingPredicate, given_bytes, State, TakesAllTurns, done, turns, turn}
 use Rattle.vte.specs.ProcessorCalls.{AreAdvances, IsNeverPending, ParsesAll}
 use Rattle.vte.proofs.performing.CallLists.{after-append, calls_whole}
 use Rattle.vte.proofs.replays.Replays.{advance_runs}
@@ -35,16 +35,17 @@ module _ {V W : Type 0} (m : Meaning V W) (never : IsNeverPending m.timeout.allo
 
 -- ---- from the beginning of the stream on
 
-module _ {V W : Type 0} {Stood : Standing W} (old : V) {stream : List ℕ} (all : HasParsedAll Stood stream) where
+module _ {V W : Type 0} {Before : StandingPredicate W} (old : V) {stream : List ℕ}
+    (all : HasParsedAll Before stream) where
   abbrev here : State V W
   here = record { parsed = stream; stops = []; held = []; timeout = all.timeout; handler = old }
 
-  is_here : IsAt Stood old here
+  is_here : IsAt Before old here
   is_here = record { stands = all.stands; handler_is = refl }
 
-  module _ (m : Meaning V W) (never : IsNeverPending m.timeout.allows) {Stands : Standing W} {new : V}
+  module _ (m : Meaning V W) (never : IsNeverPending m.timeout.allows) {After : StandingPredicate W} {new : V}
       (steps : List Step) (only : AreAdvances steps)
-      (told : Replayed m here steps (IsAt Stands new)) where
+      (told : HasReplayed m here steps (IsAt After new)) where
     plain : IsPlain here told.next
     plain = plain_run m never here told.next steps told.takes only refl
 
@@ -64,7 +65,7 @@ module _ {V W : Type 0} {Stood : Standing W} (old : V) {stream : List ℕ} (all 
         (after-append m.step start (calls (events m.limit stream)) (added_calls m.limit stream (given_bytes steps))))
         ∙ ap (after m.step start) (sym (calls_whole m.limit stream (given_bytes steps)))
 
-    plain_parses : HasParsedAll Stands (stream ++ given_bytes steps)
+    plain_parses : HasParsedAll After (stream ++ given_bytes steps)
     plain_parses = record {
       timeout = told.next.timeout;
       stands = rw (parsed_all, plain.none_held) at told.is_at.stands;
@@ -72,24 +73,24 @@ module _ {V W : Type 0} {Stood : Standing W} (old : V) {stream : List ℕ} (all 
 
 -- ---- what calls ensure then
 
-module _ {V W : Type 0} (m : Meaning V W) {Stood Stands : Standing W} {old new : V} where
+module _ {V W : Type 0} (m : Meaning V W) {Before After : StandingPredicate W} {old new : V} where
   plain_calls : (steps : List Step)
-      → ((s : State V W) → IsAt Stood old s → Replayed m s steps (IsAt Stands new))
-      → IsNeverPending m.timeout.allows → AreAdvances steps → ParsesAll m Stood Stands old new (given_bytes steps)
+      → ((s : State V W) → IsAt Before old s → HasReplayed m s steps (IsAt After new))
+      → IsNeverPending m.timeout.allows → AreAdvances steps → ParsesAll m Before After old new (given_bytes steps)
   plain_calls steps told never only = record {
     follows = λ start stream all. plain_follows old all m never steps only (told _ (is_here old all)) start;
     parses_all = λ stream all. plain_parses old all m never steps only (told _ (is_here old all));
   }
 
   pub replays_all : (steps : List Step)
-      → ((s : State V W) → IsAt Stood old s → Replayed m s steps (IsAt Stands new))
-      → Replays m Stood Stands old new steps
+      → ((s : State V W) → IsAt Before old s → HasReplayed m s steps (IsAt After new))
+      → Replays m Before After old new steps
   replays_all steps told = record { told = told; plain = plain_calls steps told }
 
   -- a call is a list of one
   pub plain_call : (bytes : Bor (List ℕ))
-      → ((s : State V W) → IsAt Stood old s → Advanced m s bytes.now (IsAt Stands new))
-      → IsNeverPending m.timeout.allows → ParsesAll m Stood Stands old new bytes.now
+      → ((s : State V W) → IsAt Before old s → HasAdvanced m s bytes.now (IsAt After new))
+      → IsNeverPending m.timeout.allows → ParsesAll m Before After old new bytes.now
   plain_call bytes advances never =
       let r = replays_all (Advance bytes ∷ []) (λ s at. advance_runs m s bytes (advances s at)) in
       rw append-nil at (r.plain never tt)

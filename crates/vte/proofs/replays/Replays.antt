@@ -1,7 +1,7 @@
 -- From calls to a list of them: a loop over calls makes `TakesSteps`, call by call. A steady timeout allows one answer
 -- in each state, so where the list leads is then a function of its calls.
-use Rattle.vte.proofs.Common.{ℕ, ◌+◌, ◌<◌, List, [], ◌∷◌, ◌++◌, length, take, drop, get_or, refl, ap, append-nil, Bor, drop_more, take_more, Step, Advance, StopSync, Meaning, Advanced}
-use Rattle.vte.proofs.Common.{HoldsWellAt, TakesSteps, Replayed, State, stop, ◌≡◌, ◌-◌, HasTaken, inl, inr, Bool, sym, ◌∙◌, IsSteady, TakesAllTurns, done, turns}
+use Rattle.vte.proofs.Common.{ℕ, ◌+◌, ◌<◌, List, [], ◌∷◌, ◌++◌, length, take, drop, get_or, refl, ap, append-nil, Bor, drop_more, take_more, Step, Advance, StopSync, Meaning, HasAdvanced}
+use Rattle.vte.proofs.Common.{HoldsWellAt, TakesSteps, HasReplayed, State, stop, ◌≡◌, ◌-◌, HasTaken, inl, inr, Bool, sym, ◌∙◌, IsSteady, TakesAllTurns, done, turns}
 use Rattle.vte.specs.Refusal.{IsFirstRefused, left_of_first}
 use Rattle.vte.proofs.turns.EachOnce.{replay_grows}
 use Rattle.vte.proofs.replays.Tellings.{tells-replay}
@@ -54,8 +54,8 @@ module _ {V W : Type 0} (m : Meaning V W) where
   replay_on s t u (Advance bytes ∷ steps) more (next, (a, q)) r = (next, (a, replay_on next t u steps more q r))
   replay_on s t u (StopSync ∷ steps) more q r = replay_on (stop m s) t u steps more q r
 
-  pub replayed : (s t : State V W) (steps : List Step) {IsThere : State V W → Type 0} → TakesSteps m s steps t
-      → IsThere t → Replayed m s steps IsThere
+  pub replayed : (s t : State V W) (steps : List Step) {IsNowAt : State V W → Type 0} → TakesSteps m s steps t
+      → IsNowAt t → HasReplayed m s steps IsNowAt
   replayed s t steps run at =
       let g = replay_grows m s t steps run in
       let e = tells-replay m t s steps run in
@@ -75,28 +75,28 @@ module _ {V W : Type 0} (m : Meaning V W) where
       }
 
   -- a call of `advance` is such a list
-  pub advance_runs : (s : State V W) (bytes : Bor (List ℕ)) {IsThere : State V W → Type 0}
-      → Advanced m s bytes.now IsThere → Replayed m s (Advance bytes ∷ []) IsThere
+  pub advance_runs : (s : State V W) (bytes : Bor (List ℕ)) {IsNowAt : State V W → Type 0}
+      → HasAdvanced m s bytes.now IsNowAt → HasReplayed m s (Advance bytes ∷ []) IsNowAt
   advance_runs s bytes a = replayed s a.next (Advance bytes ∷ []) (a.next, (a.advances, refl)) a.is_at
 
   module _ (s : State V W) (steps : List Step) {i : ℕ} (d : Step) {old : State V W → Type 0} (new : State V W → Type 0)
-      (inside : i < length steps) (r : Replayed m s (take i steps) old) where
-    step_taken : Replayed m r.next (get_or steps i d ∷ []) new → Replayed m s (take (i + 1) steps) new
+      (inside : i < length steps) (r : HasReplayed m s (take i steps) old) where
+    step_taken : HasReplayed m r.next (get_or steps i d ∷ []) new → HasReplayed m s (take (i + 1) steps) new
     step_taken q =
         replayed s q.next (take (i + 1) steps)
         (rw (take_more steps i d inside)
         (replay_on s r.next q.next (take i steps) (get_or steps i d ∷ []) r.takes q.takes)) q.is_at
 
     -- the next step is taken, or refused
-    pub advance_taken : {bytes : Bor (List ℕ)} → get_or steps i d ≡ Advance bytes → Advanced m r.next bytes.now new
-        → Replayed m s (take (i + 1) steps) new
+    pub advance_taken : {bytes : Bor (List ℕ)} → get_or steps i d ≡ Advance bytes → HasAdvanced m r.next bytes.now new
+        → HasReplayed m s (take (i + 1) steps) new
     advance_taken {bytes} is a = step_taken (rw is (advance_runs r.next bytes a))
 
-    pub stop_taken : get_or steps i d ≡ StopSync → new (stop m r.next) → Replayed m s (take (i + 1) steps) new
+    pub stop_taken : get_or steps i d ≡ StopSync → new (stop m r.next) → HasReplayed m s (take (i + 1) steps) new
     stop_taken is at = step_taken (rw is (replayed r.next (stop m r.next) (StopSync ∷ []) refl at))
 
     pub advance_refused : {bytes : Bor (List ℕ)} {read : ℕ} → get_or steps i d ≡ Advance bytes → read < length bytes.now
         → HasTaken m r.next bytes.now read new
-        → Replayed m s (take i steps) (λ next. IsFirstRefused m next (drop i steps) read new)
+        → HasReplayed m s (take i steps) (λ next. IsFirstRefused m next (drop i steps) read new)
     advance_refused is less taken =
         replayed s r.next (take i steps) r.takes (rw (drop_more steps i d inside, is) (less, taken))

@@ -1,6 +1,6 @@
 -- A processor with a limit stands where its engine does: there is always memory. So it does what the engine ensures.
 use Rattle.vte.proofs.Common.{◌≤◌, ℕ, List, length, Result, Ok, Err, arith, Bor, Refused, EngineMeaning, Meaning, State, usual_limit}
-use Rattle.vte.proofs.Common.{Advanced, HasParsedAndHolds, HasTaken, IsAt, ReadsInTurns, EngineReads, Standing, EngineStandsAt}
+use Rattle.vte.proofs.Common.{HasAdvanced, HasParsedAndHolds, HasTaken, IsAt, ReadsInTurns, EngineReads, StandingPredicate, EngineStandsAt}
 use Rattle.vte.proofs.Common.{◌≡◌, refl, limited_meaning, engine_meaning}
 use Rattle.vte_core.specs.declared.parser.Parser.{Parser}
 use Rattle.vte.proofs.replays.PlainReplays.{plain_call}
@@ -38,13 +38,14 @@ module _ {T A V W : Type 0} {timeout_of : T → W} {processor : Processor T A} {
   }
 
 -- a call that has read all its bytes, of any processor
-module _ {V W : Type 0} {m : Meaning V W} {Stood Stands : Standing W} {old new : V} (bytes : Bor (List ℕ)) {read : ℕ}
-    (takes : (s : State V W) → IsAt Stood old s → HasTaken m s bytes.now read (IsAt Stands new))
+module _ {V W : Type 0} {m : Meaning V W} {Before After : StandingPredicate W} {old new : V}
+    (bytes : Bor (List ℕ)) {read : ℕ}
+    (takes : (s : State V W) → IsAt Before old s → HasTaken m s bytes.now read (IsAt After new))
     (all : read ≡ length bytes.now) where
-  advances_so : (s : State V W) → IsAt Stood old s → Advanced m s bytes.now (IsAt Stands new)
+  advances_so : (s : State V W) → IsAt Before old s → HasAdvanced m s bytes.now (IsAt After new)
   advances_so s at = has_advanced m s bytes.now (takes s at) (omega (arith, all))
 
-  pub reads_in_turns : ReadsInTurns m Stood Stands old new bytes.now
+  pub reads_in_turns : ReadsInTurns m Before After old new bytes.now
   reads_in_turns = record { advances = advances_so; plain = plain_call m bytes advances_so }
 
 pub never_refused : {T A V W : Type 0} {timeout_of : T → W} {m : Meaning V W} {processor next : Processor T A}

@@ -1,10 +1,10 @@
--- From turns to a call: what the private functions ensure of parser, hold and handler is put together into `Turned`
--- and `Halted`, and the loop over turns into `TakesTurns` and `TakesTurnsUntilRefused`.
+-- From turns to a call: what the private functions ensure of parser, hold and handler is put together into `HasTurned`
+-- and `HasHalted`, and the loop over turns into `TakesTurns` and `TakesTurnsUntilRefused`.
 use Rattle.vte.proofs.Common.{◌≡◌, ℕ, ◌+◌, ◌-◌, ◌<◌, ◌≤◌, Bool, true, List, [], ◌++◌, length, take, drop, refl, ap, sym, ◌∙◌, arith, length-drop}
 use Rattle.vte.proofs.Common.{append_assoc, Result, Ok, Err, append_cancel_right, drop_all, drop-drop, take_all, take-append-drop, Refused, PerformerState, Engine, Meaning}
 use Rattle.vte.proofs.Common.{held_of, false, MatchResult, EndsTurn, inside_turn}
-use Rattle.vte.proofs.Common.{Advanced, EngineIsAt, HasTaken, EngineMeaning, KeepsMemory, EngineHasMemory, EngineReads, EngineStops, EngineIsAtKeeping, EndsOpen, Halted, HasParsedFront, HasParsedWithoutBegin, ArePartsAt, ArePartsAtKeeping}
-use Rattle.vte.proofs.Common.{ArePartsAtWithMemory, Turned, State, TakesTurnsUntilRefused, TakesTurns, all_bytes, turn, hold_turn, parse, stop, between_turns, done, EngineLacksMemory, EngineReserves}
+use Rattle.vte.proofs.Common.{HasAdvanced, EngineIsAt, HasTaken, EngineMeaning, KeepsMemory, EngineHasMemory, EngineReads, EngineStops, EngineIsAtKeeping, EndsOpen, HasHalted, HasParsedFront, HasParsedWithoutBegin, ArePartsAt, ArePartsAtKeeping}
+use Rattle.vte.proofs.Common.{ArePartsAtWithMemory, HasTurned, State, TakesTurnsUntilRefused, TakesTurns, all_bytes, turn, hold_turn, parse, stop, between_turns, done, EngineLacksMemory, EngineReserves}
 use Rattle.vte.proofs.turns.EachOnce.{grown_bytes}
 use Rattle.vte.proofs.turns.Kinds.{halts_open, is_held, stop_if_due, turn_holds, turn_parses}
 use Rattle.vte.proofs.turns.Slices.{all_taken, halts, one_taken, some_grow, some_on, some_well, taken_on}
@@ -136,9 +136,9 @@ ends_turn {m} {s} {bytes} pending allowed parses keeps (Err refused) less e = re
 -- ---- one turn
 
 module _ {V W : Type 0} (m : Meaning V W) {s : State V W} {bytes : List ℕ} {n : ℕ}
-    {IsThere : State V W → Type 0} where
+    {IsNowAt : State V W → Type 0} where
   pub turned_hold : {pending : Bool} → m.timeout.allows s.timeout pending → is_held pending s bytes ≡ true
-      → n ≡ length bytes → IsThere (hold_turn m s bytes) → Turned m s bytes n IsThere
+      → n ≡ length bytes → IsNowAt (hold_turn m s bytes) → HasTurned m s bytes n IsNowAt
   turned_hold {pending} allowed held all at =
       record {
         pending = pending;
@@ -161,20 +161,20 @@ rest_size bytes read inside = rw (rest_is bytes read inside, length-drop)
 
 module _ {V W : Type 0} (m : Meaning V W) (s : State V W) (bytes : List ℕ) where
   -- `count` turns have read `read` bytes, at least one each.
-  pub record HasReached (count read : ℕ) (IsThere : State V W → Type 0) : Type 0 where
+  pub record HasReached (count read : ℕ) (IsNowAt : State V W → Type 0) : Type 0 where
     pub here : State V W
     pub enough : count ≤ read
     pub takes : TakesTurns m s bytes here (drop read bytes)
-    pub is_at : IsThere here
+    pub is_at : IsNowAt here
 
-  pub reaches-nothing : {IsThere : State V W → Type 0} → IsThere s → HasReached 0 0 IsThere
+  pub reaches-nothing : {IsNowAt : State V W → Type 0} → IsNowAt s → HasReached 0 0 IsNowAt
   reaches-nothing at = record { here = s; enough = omega arith; takes = done; is_at = at }
 
   pub reaches-more : {P B T A : Type 0} {parts : EngineMeaning P B T W} {first mid new : Engine P B T A}
       {before value : V}
       {count read n : ℕ}
       → (r : HasReached count read (EngineIsAtKeeping parts first mid before)) → read < length bytes
-      → Turned m r.here (take (length bytes - read) (drop read bytes)) n (EngineIsAtKeeping parts mid new value)
+      → HasTurned m r.here (take (length bytes - read) (drop read bytes)) n (EngineIsAtKeeping parts mid new value)
       → HasReached (count + 1) (read + n) (EngineIsAtKeeping parts first new value)
   reaches-more {count} {read} {n} r some turned =
       let slice = take (length bytes - read) (drop read bytes) in
@@ -190,9 +190,9 @@ module _ {V W : Type 0} (m : Meaning V W) (s : State V W) (bytes : List ℕ) whe
         is_at = after-next r.is_at.memory turned.is_at;
       }
 
-  taken : {read : ℕ} {IsThere : State V W → Type 0} (t : State V W)
+  taken : {read : ℕ} {IsNowAt : State V W → Type 0} (t : State V W)
       → TakesTurnsUntilRefused m s bytes t (drop read bytes)
-      → IsThere t → HasTaken m s bytes read IsThere
+      → IsNowAt t → HasTaken m s bytes read IsNowAt
   taken {read} t takes at = record {
     next = t;
     takes = takes;
@@ -204,8 +204,8 @@ module _ {V W : Type 0} (m : Meaning V W) (s : State V W) (bytes : List ℕ) whe
     is_at = at;
   }
 
-  pub has_taken : {count read : ℕ} {IsThere : State V W → Type 0} → HasReached count read IsThere
-      → HasTaken m s bytes read IsThere
+  pub has_taken : {count read : ℕ} {IsNowAt : State V W → Type 0} → HasReached count read IsNowAt
+      → HasTaken m s bytes read IsNowAt
   has_taken r = taken r.here (between_turns r.takes) r.is_at
 
   -- a turn was refused memory
@@ -213,7 +213,7 @@ module _ {V W : Type 0} (m : Meaning V W) (s : State V W) (bytes : List ℕ) whe
       {before value : V}
       {count read n : ℕ}
       → (r : HasReached count read (EngineIsAtKeeping parts first mid before)) → read ≤ length bytes
-      → Halted m r.here (take (length bytes - read) (drop read bytes)) n (EngineIsAtKeeping parts mid new value)
+      → HasHalted m r.here (take (length bytes - read) (drop read bytes)) n (EngineIsAtKeeping parts mid new value)
       → HasTaken m s bytes (read + n) (EngineIsAtKeeping parts first new value)
   has_halted {read} {n} r inside h =
       let slice = take (length bytes - read) (drop read bytes) in
@@ -223,8 +223,8 @@ module _ {V W : Type 0} (m : Meaning V W) (s : State V W) (bytes : List ℕ) whe
       (after-next r.is_at.memory h.is_at)
 
   -- a call that has read all its bytes
-  pub has_advanced : {read : ℕ} {IsThere : State V W → Type 0} → HasTaken m s bytes read IsThere → length bytes ≤ read
-      → Advanced m s bytes IsThere
+  pub has_advanced : {read : ℕ} {IsNowAt : State V W → Type 0} → HasTaken m s bytes read IsNowAt → length bytes ≤ read
+      → HasAdvanced m s bytes IsNowAt
   has_advanced {read} h all = record {
     next = h.next;
     advances = all_taken m s h.next bytes (rw (drop_all read bytes all) at h.takes);
@@ -235,8 +235,8 @@ module _ {V W : Type 0} (m : Meaning V W) (s : State V W) (bytes : List ℕ) whe
 
 -- what follows where a call is
 module _ {V W : Type 0} {m : Meaning V W} {s : State V W} {bytes : List ℕ} {read : ℕ} where
-  pub taken-to : {IsThere other : State V W → Type 0} → ((t : State V W) → IsThere t → other t)
-      → HasTaken m s bytes read IsThere → HasTaken m s bytes read other
+  pub taken-to : {IsNowAt other : State V W → Type 0} → ((t : State V W) → IsNowAt t → other t)
+      → HasTaken m s bytes read IsNowAt → HasTaken m s bytes read other
   taken-to follows h =
       record {
         next = h.next;

@@ -3,7 +3,7 @@
 -- came.
 use Rattle.vte.proofs.Common.{◌≡◌, ℕ, ◌+◌, ◌-◌, ◌<◌, ◌≤◌, inl, Bool, true, false, nat_lt, List, [], ◌∷◌, ◌++◌, length, take, drop, refl, ap, sym, subst}
 use Rattle.vte.proofs.Common.{◌∙◌, arith, length-append, length-drop, append_assoc, drop-append-add, take-add, nat_tests, append-nil, drop_all, length-take-le}
-use Rattle.vte.proofs.Common.{take-append-drop, take_all, take_at, added, IsSteady, begin_count, IsOutsideUpdate, Meaning, HoldsWellAt, Halted, HasParsedFront, HasParsedWithoutBegin, Opened}
+use Rattle.vte.proofs.Common.{take-append-drop, take_all, take_at, added, IsSteady, begin_count, IsOutsideUpdate, Meaning, HoldsWellAt, HasHalted, HasParsedFront, HasParsedWithoutBegin, HasTakenOpenTurn}
 use Rattle.vte.proofs.Common.{TakesAllTurns, OpenTurn, OpenTurnIsRefused, State, TakesTurnsUntilRefused, TakesTurns, front_to_begin, between_turns, done, kind_of, open_turn, parse, turn, turns, inside_turn}
 use Rattle.vte.proofs.performing.CallLists.{after-append, added_calls-append, added_calls-nothing, set_times-add}
 use Rattle.vte.proofs.turns.EachOnce.{Progresses, grows_on, stop_if_due_grows, stop_if_due_none, parse_grows, turns_grow}
@@ -47,8 +47,8 @@ module _ {V W : Type 0} (m : Meaning V W) where
       (ap (λ t. record { state = t; rest = drop (length front) left }) (parse-append s h.front front))
 
 -- where no update begins in bytes, they are their own front
-module _ {V W : Type 0} {m : Meaning V W} {s : State V W} {bytes : List ℕ} {n : ℕ} {b : Bool} {IsThere : State V W
-    → Type 0} (at : HasParsedFront m s bytes n b IsThere) (whole : b ≡ false) where
+module _ {V W : Type 0} {m : Meaning V W} {s : State V W} {bytes : List ℕ} {n : ℕ} {b : Bool} {IsNowAt : State V W
+    → Type 0} (at : HasParsedFront m s bytes n b IsNowAt) (whole : b ≡ false) where
   none_begins : begin_count (added m.limit s.parsed (front_to_begin m.limit s.parsed bytes)) ≡ 0
   none_begins =
       let test : nat_lt 0 (begin_count (added m.limit s.parsed (front_to_begin m.limit s.parsed bytes))) ≡ false =
@@ -61,12 +61,12 @@ module _ {V W : Type 0} {m : Meaning V W} {s : State V W} {bytes : List ℕ} {n 
   begin-whole = at.count ∙ ap length front_whole
 
 module _ {V W : Type 0} (m : Meaning V W) (s : State V W) (bytes : List ℕ) where
-  pub open-nothing : {IsThere : State V W → Type 0} → IsThere s → HasParsedWithoutBegin m s bytes 0 IsThere
+  pub open-nothing : {IsNowAt : State V W → Type 0} → IsNowAt s → HasParsedWithoutBegin m s bytes 0 IsNowAt
   open-nothing at = record { none_begin = none_begin m.limit s.parsed; is_at = rw (parse-nothing m s) at }
 
-  pub open-all : {read : ℕ} {IsThere : State V W → Type 0} → HasParsedWithoutBegin m s bytes read IsThere
+  pub open-all : {read : ℕ} {IsNowAt : State V W → Type 0} → HasParsedWithoutBegin m s bytes read IsNowAt
       → length bytes ≤ read
-      → Opened m s bytes read IsThere
+      → HasTakenOpenTurn m s bytes read IsNowAt
   open-all {read} o all =
       let whole = take_all read bytes all in
       let none : begin_count (added m.limit s.parsed bytes) ≡ 0 = rw whole at o.none_begin in
@@ -103,7 +103,7 @@ module _ {V W : Type 0} (m : Meaning V W) (s : State V W) (bytes : List ℕ) whe
   pub open-ends : {slice : List ℕ} {read n : ℕ} {b : Bool} {old new : State V W → Type 0} (k : ℕ)
       → HasParsedWithoutBegin m s bytes read old → read ≤ length bytes
       → slice ≡ take k (drop read bytes) → HasParsedFront m (parse m s (take read bytes)) slice n b new → b ≡ true
-      → Opened m s bytes (read + n) new
+      → HasTakenOpenTurn m s bytes (read + n) new
   open-ends {slice} {read} {n} k o inside is at begun =
       let front = front_to_begin m.limit (s.parsed ++ take read bytes) slice in
       let test : nat_lt 0 (begin_count (added m.limit (s.parsed ++ take read bytes) front)) ≡ true =
@@ -126,7 +126,7 @@ module _ {V W : Type 0} (m : Meaning V W) (s : State V W) (bytes : List ℕ) whe
         is_at = rw (all, ← parse-append m s (take read bytes) front) at.is_at;
       }
 
-  pub halts : {read : ℕ} {IsThere : State V W → Type 0} → HasParsedWithoutBegin m s bytes read IsThere
+  pub halts : {read : ℕ} {IsNowAt : State V W → Type 0} → HasParsedWithoutBegin m s bytes read IsNowAt
       → read < length bytes
       → OpenTurnIsRefused m s bytes (parse m s (take read bytes)) (drop read bytes)
   halts {read} o less = record {
@@ -139,8 +139,8 @@ module _ {V W : Type 0} (m : Meaning V W) (s : State V W) (bytes : List ℕ) whe
 
 -- ---- a turn that is refused memory
 
-pub halted_nothing : {V W : Type 0} (m : Meaning V W) {s : State V W} {bytes : List ℕ} {IsThere : State V W → Type 0}
-    → IsThere s → Halted m s bytes 0 IsThere
+pub halted_nothing : {V W : Type 0} (m : Meaning V W) {s : State V W} {bytes : List ℕ} {IsNowAt : State V W → Type 0}
+    → IsNowAt s → HasHalted m s bytes 0 IsNowAt
 halted_nothing m {s} at = record { next = s; takes = between_turns done; is_at = at }
 
 -- ---- turns of a call, and one after them that is refused memory

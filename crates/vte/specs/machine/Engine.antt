@@ -111,44 +111,44 @@ LeadOn parts engine next old new ends =
 module _ {V W : Type 0} (meaning : Meaning V W) (state : State V W) (bytes : List ℕ) where
   -- The first `read` bytes were parsed: those up to the one that begins an update, or all if none
   -- begins.
-  pub record HasParsedFront (read : ℕ) (begins : Bool) (IsThere : State V W → Type 0) : Type 0 where
+  pub record HasParsedFront (read : ℕ) (begins : Bool) (IsNowAt : State V W → Type 0) : Type 0 where
     pub count : read ≡ length (front_to_begin meaning.limit state.parsed bytes)
     pub begins_is : let front = front_to_begin meaning.limit state.parsed bytes in
         begins ≡ nat_lt 0 (begin_count (added meaning.limit state.parsed front))
-    pub is_at : IsThere (parse meaning state (front_to_begin meaning.limit state.parsed bytes))
+    pub is_at : IsNowAt (parse meaning state (front_to_begin meaning.limit state.parsed bytes))
 
   -- One turn has read `read` bytes, and at least one if there were any. It is at the state to which
   -- it leads.
-  pub record Turned (read : ℕ) (IsThere : State V W → Type 0) : Type 0 where
+  pub record HasTurned (read : ℕ) (IsNowAt : State V W → Type 0) : Type 0 where
     pub pending : Bool
     pub allowed : meaning.timeout.allows state.timeout pending
     pub progress : 0 < length bytes → 0 < read
     pub rest : (turn meaning pending state bytes).rest ≡ drop read bytes
-    pub is_at : IsThere (turn meaning pending state bytes).state
+    pub is_at : IsNowAt (turn meaning pending state bytes).state
 
   -- An open turn has read `read` bytes, and at least one if there were any.
-  pub record Opened (read : ℕ) (IsThere : State V W → Type 0) : Type 0 where
+  pub record HasTakenOpenTurn (read : ℕ) (IsNowAt : State V W → Type 0) : Type 0 where
     pub progress : 0 < length bytes → 0 < read
     pub rest : (open_turn meaning state bytes).rest ≡ drop read bytes
-    pub is_at : IsThere (open_turn meaning state bytes).state
+    pub is_at : IsNowAt (open_turn meaning state bytes).state
 
   -- An open turn has parsed the first `read` bytes, and no update begins in them.
-  pub record HasParsedWithoutBegin (read : ℕ) (IsThere : State V W → Type 0) : Type 0 where
+  pub record HasParsedWithoutBegin (read : ℕ) (IsNowAt : State V W → Type 0) : Type 0 where
     pub none_begin : begin_count (added meaning.limit state.parsed (take read bytes)) ≡ 0
-    pub is_at : IsThere (parse meaning state (take read bytes))
+    pub is_at : IsNowAt (parse meaning state (take read bytes))
 
   -- A turn that was refused memory has read `read` bytes.
-  pub record Halted (read : ℕ) (IsThere : State V W → Type 0) : Type 0 where
+  pub record HasHalted (read : ℕ) (IsNowAt : State V W → Type 0) : Type 0 where
     pub next : State V W
     pub takes : TakesTurnsUntilRefused meaning state bytes next (drop read bytes)
-    pub is_at : IsThere next
+    pub is_at : IsNowAt next
 
   -- How a turn ends, if memory for it may be refused.
-  pub record EndsTurn (result : Result ℕ Refused) (IsThere : State V W → Type 0) : Type 0 where
-    pub turned : IfOk result (λ read. Turned read IsThere)
-    pub halted : IfErr result (λ refused. Halted refused.read IsThere)
+  pub record EndsTurn (result : Result ℕ Refused) (IsNowAt : State V W → Type 0) : Type 0 where
+    pub turned : IfOk result (λ read. HasTurned read IsNowAt)
+    pub halted : IfErr result (λ refused. HasHalted refused.read IsNowAt)
 
   -- How an open turn ends, if memory for it may be refused.
-  pub record EndsOpen (result : Result ℕ Refused) (IsThere : State V W → Type 0) : Type 0 where
-    pub opened : IfOk result (λ read. Opened read IsThere)
-    pub halted : IfErr result (λ refused. HasParsedWithoutBegin refused.read IsThere)
+  pub record EndsOpen (result : Result ℕ Refused) (IsNowAt : State V W → Type 0) : Type 0 where
+    pub opened : IfOk result (λ read. HasTakenOpenTurn read IsNowAt)
+    pub halted : IfErr result (λ refused. HasParsedWithoutBegin refused.read IsNowAt)

@@ -242,9 +242,9 @@ impl<P: EventParser + Drop, B: TextBuffer + Drop, T: Timeout + Drop, A: Allocato
         requires room { length (held_of self.old.hold) + length bytes.now ≤ most_held }
         ensures { LeadOn (engine_meaning P.limit P.reading B.room T.value_of) self.old self.new
             (H.value_of handler.old) (H.value_of handler.new)
-            (λ s IsThere. P.reading.has_memory self.old.parser (B.room self.old.state.text) s.parsed
+            (λ s IsNowAt. P.reading.has_memory self.old.parser (B.room self.old.state.text) s.parsed
             (length s.held + length bytes.now) →
-            IsThere (hold_turn (meaning_of P.limit H.step T.set T.clear T.allows) s bytes.now)) }
+            IsNowAt (hold_turn (meaning_of P.limit H.step T.set T.clear T.allows) s bytes.now)) }
     {
         let begins = self.hold.add(bytes);
         set_timeout_times(&mut self.state.timeout, begins);

@@ -96,7 +96,7 @@ impl<'s, 'h, H: InputAs<G>, T: Timeout + Drop, B: TextBuffer + Drop, G> Perform
 
 impl<'s, 'h, H: HandlerText, T: Timeout + Drop, B: TextBuffer + Drop> PerformText
     for Performer<'s, 'h, H, T, B, InRuns> {
-    ghost keeps = { false };
+    ghost layout = { false };
 
     fn keeps_layout(&self) -> bool {
         false
@@ -116,7 +116,7 @@ impl<'s, 'h, H: HandlerText, T: Timeout + Drop, B: TextBuffer + Drop> PerformThr
     ghost use Rattle.std.proofs.Math.Bool.{or-false};
 
     // A character begins no update.
-    ghost goes_on = { λ lent c goes_on. or-false lent.terminated ∙ goes_on };
+    ghost no_stop = { λ lent c goes_on. or-false lent.terminated ∙ goes_on };
 }
 
 impl<'s, 'h, H: Handler, T: Timeout + Drop, B: TextBuffer + Drop, G> Performer<'s, 'h, H, T, B, G> {

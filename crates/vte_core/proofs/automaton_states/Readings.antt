@@ -26,8 +26,8 @@ has_read-more text more at n state after read within is steps fine =
     ap (state_after Between) (take-add at n text ∙ ap (λ x. take at text ++ x) (sym is))
     ∙ state_after-append Between (take at text) more in
     let same : after ≡ state_code (state_after Between (take (at + n) text)) =
-    steps here read.is ∙ ap state_code (sym joined) in
-    record { within = within; is = same; going = λ e. fine (same ∙ ap state_code e) }
+    steps here read.state_is ∙ ap state_code (sym joined) in
+    record { within = within; state_is = same; going = λ e. fine (same ∙ ap state_code e) }
 
 -- ---- the last end
 
@@ -51,7 +51,7 @@ wanted_ranges-some s not going = elim (phase s) [
 -- a character that has not ended
 pub unended : (text : List ℕ) (at state : ℕ) → HasScanned text at state → state ≢ 0
     → (s : ReadSoFar text at (state_after Between (take at text))) → IsBegun text s.end at
-unended text at state read inside s = s.begun (λ e. inside (read.is ∙ ap state_code e))
+unended text at state read inside s = s.begun (λ e. inside (read.state_is ∙ ap state_code e))
 
 -- the place of its first byte is the last end
 pub last_end-first : (text : List ℕ) (at state end : ℕ) → HasScanned text at state → state ≢ 0
@@ -65,7 +65,8 @@ last_end-first text at state end read inside s from before high =
     ] in
     record {
       before = omega (arith, before);
-      near = omega (arith, s.short, wanted_ranges-some _ (λ e. inside (read.is ∙ ap state_code e)) read.going, same);
+      near = omega
+          (arith, s.short, wanted_ranges-some _ (λ e. inside (read.state_is ∙ ap state_code e)) read.going, same);
       run = subst (λ n. IsUtf8Run true (take n text)) same s.printable;
     }
 
@@ -101,8 +102,9 @@ all_above (c ∷ cs) are all =
     (all_above cs rest (All-tail (StaysInRun true) c cs all))
 
 -- a run without bytes below 20 has none
-pub run-kept : (keeps : Bool) (text : List ℕ) (at end : ℕ) → (keeps ≡ false → Each (λ b. 0x20 ≤ b) text 0 at) → end ≤ at
-    → IsUtf8Run true (take end text) → IsUtf8Run keeps (take end text)
+pub run-kept : (layout : Bool) (text : List ℕ) (at end : ℕ) → (layout ≡ false → Each (λ b. 0x20 ≤ b) text 0 at)
+    → end ≤ at
+    → IsUtf8Run true (take end text) → IsUtf8Run layout (take end text)
 run-kept true text at end low within run = run
 run-kept false text at end low within run =
     let are : AreAbove (take end text) = λ k l.

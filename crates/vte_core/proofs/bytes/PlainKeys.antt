@@ -1,7 +1,7 @@
 -- Which keys after ESC begin no other shape than an escape sequence, and which bytes mean nothing there or in a head:
 -- by the key and by the class.
-use Rattle.vte_core.proofs.Common.{◌≡◌, ℕ, ◌<◌, Bool, true, false, ne_eqb, arith, refl, ◌∙◌, nat_tests, Class, Control, Delete, High, EscapeSequence, key_of, if◌then◌else◌}
-use Rattle.vte_core.specs.Key.{IgnoredString, begins_ignored_string}
+use Rattle.vte_core.proofs.Common.{◌≡◌, ℕ, ◌<◌, Bool, true, false, ne_eqb, arith, refl, ◌∙◌, nat_tests, Class, Control, Delete, High, EscapeSequence, sequence_kind, if◌then◌else◌}
+use Rattle.vte_core.specs.SequenceKind.{IgnoredString, begins_ignored_string}
 
 -- a class of bytes that are dropped after ESC
 abbrev pub is_dropped : Class → Bool
@@ -16,11 +16,11 @@ is_dropped_in_head k = is_dropped k
 
 -- what other keys than [, P and ] begin
 pub other_key : (b : ℕ) → (b ≡ 0x5b → ⊥) → (b ≡ 0x50 → ⊥) → (b ≡ 0x5d → ⊥)
-    → key_of b ≡ (if begins_ignored_string b then IgnoredString else EscapeSequence)
-unfolding key_of
+    → sequence_kind b ≡ (if begins_ignored_string b then IgnoredString else EscapeSequence)
+unfolding sequence_kind
 other_key b c d o = simp (ne_eqb b 0x5b c, ne_eqb b 0x50 d, ne_eqb b 0x5d o)
 
-pub below_finals : (b : ℕ) → b < 0x40 → key_of b ≡ EscapeSequence
+pub below_finals : (b : ℕ) → b < 0x40 → sequence_kind b ≡ EscapeSequence
 below_finals b h =
     let ignored : begins_ignored_string b ≡ false = grind (arith, nat_tests) in
     other_key b (λ e. omega (arith, e)) (λ e. omega (arith, e)) (λ e. omega (arith, e)) ∙ rw ignored refl

@@ -16,8 +16,8 @@ same-items (x ∷ xs) ys e = ap (λ t. x ∷ t) (same-items xs (map (λ x. x) xs
 
 -- ---- what ends a run
 
-pub no_control-stays : (keeps : Bool) (c : ℕ) → is_control_character c ≡ false → StaysInRun keeps c
-no_control-stays keeps c e = and_right (not (keeps && is_layout c)) (is_control_character c) e
+pub no_control-stays : (layout : Bool) (c : ℕ) → is_control_character c ≡ false → StaysInRun layout c
+no_control-stays layout c e = and_right (not (layout && is_layout c)) (is_control_character c) e
 
 pub layout-stays : (c : ℕ) → is_layout c ≡ true → StaysInRun true c
 layout-stays c e = rw e refl
@@ -31,49 +31,49 @@ layout-is_ascii c e = grind (arith, nat_tests)
 no_layout : (b : ℕ) → IsPrintedAscii b → is_layout b ≡ false
 no_layout b p = let low = p.0 in let high = p.1 in grind (arith, nat_tests)
 
-pub printed-event : (keeps : Bool) (b : ℕ) → IsPrintedAscii b → run_event keeps b ≡ Print b
+pub printed-event : (layout : Bool) (b : ℕ) → IsPrintedAscii b → run_event layout b ≡ Print b
 printed-event false b p = refl
 printed-event true b p = rw (no_layout b p) refl
 
-plain-stays : (keeps : Bool) (b : ℕ) → IsPrintedAscii b → StaysInRun keeps b
-plain-stays keeps b p =
-    let low = p.0 in let high = p.1 in no_control-stays keeps b (grind (arith, nat_tests))
+plain-stays : (layout : Bool) (b : ℕ) → IsPrintedAscii b → StaysInRun layout b
+plain-stays layout b p =
+    let low = p.0 in let high = p.1 in no_control-stays layout b (grind (arith, nat_tests))
 
 -- ---- ASCII
 
-run_of_ascii : (keeps : Bool) (bytes : List ℕ) → IsAscii bytes → All (StaysInRun keeps) bytes
-    → IsUtf8Run keeps bytes
-run_of_ascii keeps bytes a stay =
+run_of_ascii : (layout : Bool) (bytes : List ℕ) → IsAscii bytes → All (StaysInRun layout) bytes
+    → IsUtf8Run layout bytes
+run_of_ascii layout bytes a stay =
     record {
       utf8 = IsUtf8-from_ascii bytes a;
-      plain = subst (All (StaysInRun keeps)) (sym (chars-IsAscii bytes a)) stay;
+      plain = subst (All (StaysInRun layout)) (sym (chars-IsAscii bytes a)) stay;
     }
 
-pub printable-ascii : (keeps : Bool) (bytes : List ℕ) (n : ℕ) → ArePrintedAscii bytes 0 n
-    → IsUtf8Run keeps (take n bytes)
-printable-ascii keeps bytes n are =
+pub printable-ascii : (layout : Bool) (bytes : List ℕ) (n : ℕ) → ArePrintedAscii bytes 0 n
+    → IsUtf8Run layout (take n bytes)
+printable-ascii layout bytes n are =
     let printed : (k : ℕ) → k < length (take n bytes) → IsPrintedAscii (get_or (take n bytes) k 0) = λ k l.
     let below : k < n = omega (arith, l, length-take n bytes) in
     subst IsPrintedAscii (sym (get_or-take n bytes k 0 below)) (are k (omega arith) below) in
-    run_of_ascii keeps (take n bytes)
+    run_of_ascii layout (take n bytes)
     (IsAscii-from_reads (take n bytes) (length (take n bytes)) (omega arith) (λ k l. (printed k l).1))
-    (All-from_get_or (StaysInRun keeps) (take n bytes) 0 (λ k l. plain-stays keeps _ (printed k l)))
+    (All-from_get_or (StaysInRun layout) (take n bytes) 0 (λ k l. plain-stays layout _ (printed k l)))
 
-pub printable-nil : (keeps : Bool) → IsUtf8Run keeps []
-printable-nil keeps =
+pub printable-nil : (layout : Bool) → IsUtf8Run layout []
+printable-nil layout =
     record {
       utf8 = IsUtf8-nil;
       plain =
-          subst (All (StaysInRun keeps)) (sym chars-nil) (All-nil (StaysInRun keeps));
+          subst (All (StaysInRun layout)) (sym chars-nil) (All-nil (StaysInRun layout));
     }
 
-pub printable-append : (keeps : Bool) (xs ys : List ℕ) → IsUtf8Run keeps xs → IsUtf8Run keeps ys
-    → IsUtf8Run keeps (xs ++ ys)
-printable-append keeps xs ys a b = record {
+pub printable-append : (layout : Bool) (xs ys : List ℕ) → IsUtf8Run layout xs → IsUtf8Run layout ys
+    → IsUtf8Run layout (xs ++ ys)
+printable-append layout xs ys a b = record {
   utf8 = IsUtf8-append xs ys a.utf8 b.utf8;
   plain =
-      subst (All (StaysInRun keeps)) (sym (chars-append xs ys a.utf8))
-      (All-append (StaysInRun keeps) (chars xs) (chars ys) a.plain b.plain);
+      subst (All (StaysInRun layout)) (sym (chars-append xs ys a.utf8))
+      (All-append (StaysInRun layout) (chars xs) (chars ys) a.plain b.plain);
 }
 
 -- ---- one character
@@ -82,17 +82,17 @@ pub chars_encode : (c : ℕ) → IsScalar c → chars (encode c) ≡ c ∷ []
 chars_encode c is =
     chars_past_char (encode c) [] c (IsUtf8-encode c is) (sym (append-nil (encode c))) ∙ ap (λ cs. c ∷ cs) chars-nil
 
-pub run_one : (keeps : Bool) (c : ℕ) → IsScalar c → StaysInRun keeps c
-    → All (StaysInRun keeps) (chars (encode c))
-run_one keeps c is stays = subst (All (StaysInRun keeps)) (sym (chars_encode c is))
-    (All-cons (StaysInRun keeps) c [] stays (All-nil (StaysInRun keeps)))
+pub run_one : (layout : Bool) (c : ℕ) → IsScalar c → StaysInRun layout c
+    → All (StaysInRun layout) (chars (encode c))
+run_one layout c is stays = subst (All (StaysInRun layout)) (sym (chars_encode c is))
+    (All-cons (StaysInRun layout) c [] stays (All-nil (StaysInRun layout)))
 
-pub after_character : {V : Type 0} (keeps : Bool) (step : V → Event → V) (old : V) (c : ℕ) → IsScalar c
-    → after step old (map (run_event keeps) (chars (encode c))) ≡ step old (run_event keeps c)
-after_character keeps step old c is = ap (λ cs. after step old (map (run_event keeps) cs)) (chars_encode c is)
+pub after_character : {V : Type 0} (layout : Bool) (step : V → Event → V) (old : V) (c : ℕ) → IsScalar c
+    → after step old (map (run_event layout) (chars (encode c))) ≡ step old (run_event layout c)
+after_character layout step old c is = ap (λ cs. after step old (map (run_event layout) cs)) (chars_encode c is)
 
-pub no_control_event : (keeps : Bool) (c : ℕ) → is_control_character c ≡ false → run_event keeps c ≡ Print c
-no_control_event keeps c e = grind (arith, nat_tests, layout-is_plain_control c)
+pub no_control_event : (layout : Bool) (c : ℕ) → is_control_character c ≡ false → run_event layout c ≡ Print c
+no_control_event layout c e = grind (arith, nat_tests, layout-is_plain_control c)
 
 -- ---- runs among the bytes
 
@@ -113,23 +113,23 @@ run-layout bytes from b within is layout =
     (All-cons (StaysInRun true) b [] (layout-stays b layout)
     (All-nil (StaysInRun true))))
 
-pub run-none : (keeps : Bool) (bytes : List ℕ) (from : ℕ) → IsRun keeps bytes from from
-run-none keeps bytes from =
-    subst (λ n. IsUtf8Run keeps (take n (drop from bytes))) (let e : 0 ≡ from - from = omega arith in e)
-    (printable-nil keeps)
+pub run-none : (layout : Bool) (bytes : List ℕ) (from : ℕ) → IsRun layout bytes from from
+run-none layout bytes from =
+    subst (λ n. IsUtf8Run layout (take n (drop from bytes))) (let e : 0 ≡ from - from = omega arith in e)
+    (printable-nil layout)
 
-pub run-ascii : (keeps : Bool) (bytes : List ℕ) (from to : ℕ) → ArePrintedAscii bytes from to
-    → IsRun keeps bytes from to
-run-ascii keeps bytes from to are = printable-ascii keeps (drop from bytes) (to - from) (λ k low high.
+pub run-ascii : (layout : Bool) (bytes : List ℕ) (from to : ℕ) → ArePrintedAscii bytes from to
+    → IsRun layout bytes from to
+run-ascii layout bytes from to are = printable-ascii layout (drop from bytes) (to - from) (λ k low high.
     subst IsPrintedAscii (sym (get_or-drop from bytes k 0)) (are (from + k) (omega arith) (omega (arith, high))))
 
-pub run-append : (keeps : Bool) (bytes : List ℕ) (i j k : ℕ) → i ≤ j → j ≤ k → IsRun keeps bytes i j
-    → IsRun keeps bytes j k → IsRun keeps bytes i k
-run-append keeps bytes i j k first second a b =
+pub run-append : (layout : Bool) (bytes : List ℕ) (i j k : ℕ) → i ≤ j → j ≤ k → IsRun layout bytes i j
+    → IsRun layout bytes j k → IsRun layout bytes i k
+run-append layout bytes i j k first second a b =
     let same : drop (j - i) (drop i bytes) ≡ drop j bytes =
     drop-drop (j - i) i bytes ∙ ap (λ n. drop n bytes) (let e : i + (j - i) ≡ j = omega (arith, first) in e) in
     let whole : take (k - i) (drop i bytes) ≡ take (j - i) (drop i bytes) ++ take (k - j) (drop j bytes) =
     ap (λ n. take n (drop i bytes)) (let e : k - i ≡ j - i + (k - j) = omega (arith, first, second) in e)
     ∙ take-add (j - i) (k - j) (drop i bytes) ∙ ap (λ x. take (j - i) (drop i bytes) ++ take (k - j) x) same in
-    subst (IsUtf8Run keeps) (sym whole)
-    (printable-append keeps (take (j - i) (drop i bytes)) (take (k - j) (drop j bytes)) a b)
+    subst (IsUtf8Run layout) (sym whole)
+    (printable-append layout (take (j - i) (drop i bytes)) (take (k - j) (drop j bytes)) a b)

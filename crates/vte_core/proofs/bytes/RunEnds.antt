@@ -1,6 +1,6 @@
 -- Where a run ends: no sequence that is printed begins at a position. Of a sequence that would begin there, the rows
 -- say the bytes; each test of the search excludes one row.
-use Rattle.vte_core.proofs.Common.{◌≡◌, ℕ, zero, suc, ◌+◌, ◌<◌, ◌≤◌, inl, inr, Bool, utf8_rows, true, false, List, [], ◌∷◌, length, take, drop, refl, sym, ap, subst, ◌∙◌, arith, false≢true, cases_Bool, cases_lt, and_parts, nat_tests, drop_all, drop_more, slice_index, Range, from_to, is_in, is_layout, ends_run, is_control_character, is_well_formed, second_range, scalar_of, EndsRun}
+use Rattle.vte_core.proofs.Common.{◌≡◌, ℕ, zero, suc, ◌+◌, ◌<◌, ◌≤◌, inl, inr, Bool, utf8_rows, true, false, List, [], ◌∷◌, length, take, drop, refl, sym, ap, subst, ◌∙◌, arith, false≢true, cases_Bool, cases_lt, and_parts, nat_tests, drop_all, drop_more, slice_index, Range, from_to, is_in, is_layout, ends_run, is_control_character, is_well_formed, second_range, scalar_of, HasNoRunAt}
 use Rattle.vte_core.proofs.bytes.Scalars.{continuation-bounds, in_range-bounds}
 use Rattle.vte_core.proofs.bytes.FirstBytes.{rows_lone, rows_none, continuation, fits, second_plain, tests_ascii, tests_none, tests_two, tests_three, tests_four}
 
@@ -44,7 +44,7 @@ fits-one range bytes i m fit =
         let cut = drop_more bytes i 0 within in
         ap (take (suc m)) cut ∙ ap (λ x. slice_index bytes i ∷ x) (fits-none _ (and_parts _ _ (rw cut at fit)).1)
 
-module _ (keeps : Bool) (bytes : List ℕ) (from a : ℕ) (within : from < length bytes)
+module _ (layout : Bool) (bytes : List ℕ) (from a : ℕ) (within : from < length bytes)
     (is : a ≡ slice_index bytes from) where
   abbrev later : ℕ → List ℕ
   later m = take m (drop (from + 1) bytes)
@@ -63,17 +63,17 @@ module _ (keeps : Bool) (bytes : List ℕ) (from a : ℕ) (within : from < lengt
       ap (take (suc m)) (drop_more bytes from 0 within) ∙ ap (λ x. x ∷ later m) (sym is) in
       record { m = m; parts = parts; well = subst (λ (x : List ℕ). is_well_formed x ≡ true) parts whole }
 
-  control-ends : (c : ℕ) → is_control_character c ≡ true → (keeps ≡ true → is_layout c ≡ false)
-      → ends_run keeps c ≡ true
-  control-ends c control other = by_test keeps other
+  control-ends : (c : ℕ) → is_control_character c ≡ true → (layout ≡ true → is_layout c ≡ false)
+      → ends_run layout c ≡ true
+  control-ends c control other = by_test layout other
     where
-      by_test : (keeps : Bool) → (keeps ≡ true → is_layout c ≡ false) → ends_run keeps c ≡ true
+      by_test : (layout : Bool) → (layout ≡ true → is_layout c ≡ false) → ends_run layout c ≡ true
       by_test true other = rw (other refl) control
       by_test false other = control
 
   -- a byte that is neither printed nor kept, and begins no longer sequence
   pub ends-single : is_in (from_to 0x20 0x7f) a ≡ false → is_in (from_to 0xc2 0xf4) a ≡ false
-      → (keeps ≡ true → is_layout a ≡ false) → EndsRun keeps bytes from
+      → (layout ≡ true → is_layout a ≡ false) → HasNoRunAt layout bytes from
   ends-single other lone plain n far whole =
       let p = begins n whole in
       elim (cases_lt a 0x80) [
@@ -95,7 +95,7 @@ module _ (keeps : Bool) (bytes : List ℕ) (from a : ℕ) (within : from < lengt
   -- a sequence of two that is a control's
   pub ends-two : 0xc2 ≤ a → a < 0xe0
       → (from + 1 < length bytes → is_in continuation (slice_index bytes (from + 1)) ≡ true
-      → (a ≡ 0xc2 → 0xa0 ≤ slice_index bytes (from + 1)) → ⊥) → EndsRun keeps bytes from
+      → (a ≡ 0xc2 → 0xa0 ≤ slice_index bytes (from + 1)) → ⊥) → HasNoRunAt layout bytes from
   ends-two low high none n far whole =
       let p = begins n whole in
       let one =
@@ -119,7 +119,7 @@ module _ (keeps : Bool) (bytes : List ℕ) (from a : ℕ) (within : from < lengt
   -- a run ends at a byte E0..EF without a sequence of three
   pub ends-three : 0xe0 ≤ a → a < 0xf0
       → (from + 2 < length bytes → is_in (second_range a) (slice_index bytes (from + 1)) ≡ true
-      → is_in continuation (slice_index bytes (from + 2)) ≡ true → ⊥) → EndsRun keeps bytes from
+      → is_in continuation (slice_index bytes (from + 2)) ≡ true → ⊥) → HasNoRunAt layout bytes from
   ends-three low high none n far whole =
       let p = begins n whole in
       let those =
@@ -132,7 +132,7 @@ module _ (keeps : Bool) (bytes : List ℕ) (from a : ℕ) (within : from < lengt
   pub ends-four : 0xf0 ≤ a → is_in (from_to 0xc2 0xf4) a ≡ true
       → (from + 3 < length bytes → is_in (second_range a) (slice_index bytes (from + 1)) ≡ true
       → is_in continuation (slice_index bytes (from + 2)) ≡ true
-      → is_in continuation (slice_index bytes (from + 3)) ≡ true → ⊥) → EndsRun keeps bytes from
+      → is_in continuation (slice_index bytes (from + 3)) ≡ true → ⊥) → HasNoRunAt layout bytes from
   ends-four low lead none n far whole =
       let p = begins n whole in
       let high : a < 0xf5 = omega (arith, (in_range-bounds (from_to 0xc2 0xf4) a lead).1) in
@@ -144,7 +144,7 @@ module _ (keeps : Bool) (bytes : List ℕ) (from a : ℕ) (within : from < lengt
       absurd (none (rw (e, f) at those.2.2.0) those.1 (rw e at those.2.1) (rw (e, f) at those.2.2.1))
 
   -- no byte follows a first one
-  pub ends-long : is_in (from_to 0xc2 0xf4) a ≡ true → (from + 1 < length bytes → ⊥) → EndsRun keeps bytes from
+  pub ends-long : is_in (from_to 0xc2 0xf4) a ≡ true → (from + 1 < length bytes → ⊥) → HasNoRunAt layout bytes from
   ends-long lead none =
       let bounds = in_range-bounds (from_to 0xc2 0xf4) a lead in
       elim (cases_lt a 0xe0) [
@@ -157,13 +157,13 @@ module _ (keeps : Bool) (bytes : List ℕ) (from a : ℕ) (within : from < lengt
       ]
 
 -- with the bytes
-pub ends-all : (keeps : Bool) (bytes : List ℕ) (place : ℕ) → length bytes ≤ place → EndsRun keeps bytes place
+pub ends-all : (layout : Bool) (bytes : List ℕ) (place : ℕ) → length bytes ≤ place → HasNoRunAt layout bytes place
 unfolding is_well_formed utf8_rows
-ends-all keeps bytes place all zero far whole = absurd (false≢true whole)
-ends-all keeps bytes place all (suc n) far whole = absurd (omega (arith, all, far))
+ends-all layout bytes place all zero far whole = absurd (false≢true whole)
+ends-all layout bytes place all (suc n) far whole = absurd (omega (arith, all, far))
 
 -- ASCII that is printed begins a run
-pub ends-unprinted : (bytes : List ℕ) (from : ℕ) → from < length bytes → EndsRun false bytes from
+pub ends-unprinted : (bytes : List ℕ) (from : ℕ) → from < length bytes → HasNoRunAt false bytes from
     → is_in (from_to 0x20 0x7f) (slice_index bytes from) ≡ false
 unfolding is_well_formed utf8_rows
 ends-unprinted bytes from within ended = elim (cases_Bool (is_in (from_to 0x20 0x7f) (slice_index bytes from))) [

@@ -5,8 +5,8 @@ use Rattle.vte_core.specs.machine.Each.{Each}
 use Rattle.vte_core.proofs.bytes.EachLemmas.{each-both, each-block}
 use Rattle.vte_core.proofs.bytes.Printable.{run-append}
 
-pub scans-run : {B : Type 0} {keeps : Bool} {bytes : List ℕ} {i j k : ℕ} {s t u : Looks B}
-    → Scans (IsRun keeps) bytes i j s t → Scans (IsRun keeps) bytes j k t u → Scans (IsRun keeps) bytes i k s u
+pub scans-run : {B : Type 0} {layout : Bool} {bytes : List ℕ} {i j k : ℕ} {s t u : Looks B}
+    → Scans (IsRun layout) bytes i j s t → Scans (IsRun layout) bytes j k t u → Scans (IsRun layout) bytes i k s u
 scans-run a b =
     record {
       low = omega (arith, a.low, b.low);

@@ -1,10 +1,10 @@
 -- What is told from position to position. A call is followed with a performer that keeps all events; so what any
 -- performer receives is a function of the bytes, and a stretch that tells no run is known by its events.
-use Rattle.vte_core.proofs.Common.{◌≡◌, ℕ, ◌+◌, ◌-◌, ◌<◌, inl, inr, false, Option, List, [], ◌∷◌, ◌++◌, length, take, refl, ap, sym, ◌∙◌, append_assoc, append-nil, arith, cases_Bool, slice_index, false≢true, All, All-append, All-cons, All-nil, Event, Print, replacement, after, added, told_before, resumed_stream, breaks_at, State, Text, DeviceData, Machine, StandsBy, StandsAt, StandsInside, Reads, ChunkCall, chunk_call}
-use Rattle.vte_core.proofs.Common.{Place, InText, InDeviceData, IsAfter, AddsQuietly, IsQuietEvent}
+use Rattle.vte_core.proofs.Common.{◌≡◌, ℕ, ◌+◌, ◌-◌, ◌<◌, inl, inr, false, Option, List, [], ◌∷◌, ◌++◌, length, take, refl, ap, sym, ◌∙◌, append_assoc, append-nil, arith, cases_Bool, slice_index, false≢true, All, All-append, All-cons, All-nil, Event, Print, replacement, after, added, told_before, resumed_stream, breaks_at, State, Text, DeviceData, Machine, StandsBy, StandsAt, StandsInside, BytesLead, ChunkCall, chunk_call}
+use Rattle.vte_core.proofs.Common.{Place, InText, InDeviceData, IsAfter, AddsOutsideRuns, IsOutsideRuns}
 use Rattle.vte_core.specs.machine.Completes.{AddsCharacter}
 use Rattle.vte_core.specs.machine.Progress.{HasProgress}
-use Rattle.vte_core.specs.machine.ToRun.{IsQuietIn}
+use Rattle.vte_core.specs.machine.ToRun.{IsReadOutsideRuns}
 use Rattle.vte_core.proofs.calls.Progress.{stretch-added}
 use Rattle.vte_core.proofs.fields.PlaceOfState.{IsPlace}
 use Rattle.vte_core.proofs.places.PlaceSteps.{steps}
@@ -55,38 +55,38 @@ added-inside s = kept-is s.has_come
 
 -- ---- a byte outside of text and data
 
-all_others : (events : List Event) → AreQuietEvents events → All IsQuietEvent events
-all_others [] are = All-nil IsQuietEvent
-all_others (event ∷ []) are = All-cons IsQuietEvent event [] are (All-nil IsQuietEvent)
-all_others (event ∷ next ∷ events) are = All-cons IsQuietEvent event (next ∷ events) are.0
+all_others : (events : List Event) → AreQuietEvents events → All IsOutsideRuns events
+all_others [] are = All-nil IsOutsideRuns
+all_others (event ∷ []) are = All-cons IsOutsideRuns event [] are (All-nil IsOutsideRuns)
+all_others (event ∷ next ∷ events) are = All-cons IsOutsideRuns event (next ∷ events) are.0
     (all_others (next ∷ events) are.1)
 
-pub quiet-place : {B : Type 0} (limit : Option ℕ) (state : State) (parser : Machine B) (place : Place) (b : ℕ)
-    → IsQuietIn state b → StandsBy limit state parser place → IsQuietAt place b
-quiet-place limit (Text u) parser place b quiet s = absurd quiet
-quiet-place limit DeviceData parser InDeviceData b quiet s = quiet
-quiet-place limit _ parser (InText u) b quiet s = absurd s
-quiet-place limit _ parser InDeviceData b quiet s = absurd s
-quiet-place limit _ parser _ b quiet s = tt
+pub outside_runs-place : {B : Type 0} (limit : Option ℕ) (state : State) (parser : Machine B) (place : Place) (b : ℕ)
+    → IsReadOutsideRuns state b → StandsBy limit state parser place → IsQuietAt place b
+outside_runs-place limit (Text u) parser place b outside s = absurd outside
+outside_runs-place limit DeviceData parser InDeviceData b outside s = outside
+outside_runs-place limit _ parser (InText u) b outside s = absurd s
+outside_runs-place limit _ parser InDeviceData b outside s = absurd s
+outside_runs-place limit _ parser _ b outside s = tt
 
 -- ---- what is told between two places
 
 module _ {limit : Option ℕ} {stream bytes : List ℕ} {i : ℕ} where
   pub adds-same : {j : ℕ} → told_before limit stream bytes i ≡ told_before limit stream bytes j
-      → AddsQuietly limit stream bytes i j
+      → AddsOutsideRuns limit stream bytes i j
   adds-same e =
       record {
         events = [];
-        are = All-nil IsQuietEvent;
+        events_are = All-nil IsOutsideRuns;
         parts = sym e
             ∙ sym (append-nil (told_before limit stream bytes i));
       }
 
-  pub adds-then : {j k : ℕ} → AddsQuietly limit stream bytes i j
-      → AddsQuietly limit stream bytes j k → AddsQuietly limit stream bytes i k
+  pub adds-then : {j k : ℕ} → AddsOutsideRuns limit stream bytes i j
+      → AddsOutsideRuns limit stream bytes j k → AddsOutsideRuns limit stream bytes i k
   adds-then a b = record {
     events = a.events ++ b.events;
-    are = All-append IsQuietEvent a.events b.events a.are b.are;
+    events_are = All-append IsOutsideRuns a.events b.events a.events_are b.events_are;
     parts =
         b.parts ∙ ap (λ (es : List Event). es ++ b.events) a.parts
         ∙ append_assoc (told_before limit stream bytes i) a.events b.events;
@@ -94,8 +94,8 @@ module _ {limit : Option ℕ} {stream bytes : List ℕ} {i : ℕ} where
 
   pub adds-reads : {b : ℕ} {place next : Place} {these : List Event}
       → i < length bytes → b ≡ slice_index bytes i
-      → IsAfter limit (resumed_stream stream bytes i) place → Reads limit place (b ∷ []) these next → IsPlace next
-      → All IsQuietEvent these → AddsQuietly limit stream bytes i (i + 1)
+      → IsAfter limit (resumed_stream stream bytes i) place → BytesLead limit place (b ∷ []) these next → IsPlace next
+      → All IsOutsideRuns these → AddsOutsideRuns limit stream bytes i (i + 1)
   adds-reads {b} {place} {next} {these} within is a r is_place are =
       let one = one_byte bytes i b within is in
       let before : List Event = told_before limit stream bytes i in
@@ -107,26 +107,36 @@ module _ {limit : Option ℕ} {stream bytes : List ℕ} {i : ℕ} where
       elim (cases_Bool (breaks_at stream bytes (i + 1))) [
         | inl broken ↦ record {
           events = these ++ Print replacement ∷ [];
-          are =
-              All-append IsQuietEvent these (Print replacement ∷ []) are
-              (All-cons IsQuietEvent (Print replacement) [] refl (All-nil IsQuietEvent));
+          events_are =
+              All-append IsOutsideRuns these (Print replacement ∷ []) are
+              (All-cons IsOutsideRuns (Print replacement) [] refl (All-nil IsOutsideRuns));
           parts =
               told-broken limit stream bytes (i + 1) broken ∙ ap (λ (es : List Event). es ++ Print replacement ∷ []) all
               ∙ append_assoc before these (Print replacement ∷ []);
         }
-        | inr whole ↦ record { events = these; are = are; parts = told-settled limit stream bytes (i + 1) whole ∙ all }
+        | inr whole ↦ record {
+          events = these;
+          events_are = are;
+          parts = told-settled limit stream bytes (i + 1) whole
+              ∙ all;
+        }
       ]
 
-  pub adds-quiet : {b : ℕ} {place : Place} → i < length bytes
+  pub adds-outside_runs : {b : ℕ} {place : Place} → i < length bytes
       → b ≡ slice_index bytes i → IsAfter limit (resumed_stream stream bytes i) place
-      → IsPlace place → IsQuietAt place b → AddsQuietly limit stream bytes i (i + 1)
-  adds-quiet {b} {place} within is a is_place quiet =
+      → IsPlace place → IsQuietAt place b → AddsOutsideRuns limit stream bytes i (i + 1)
+  adds-outside_runs {b} {place} within is a is_place outside =
       let s = steps limit place b is_place in
-      adds-reads within is a s.reads s.is_place (all_others s.told (s.quietly quiet))
+      adds-reads within is a s.reads s.is_place (all_others s.told (s.outside_runs outside))
 
   -- what is told of a character whose first byte told nothing
   pub adds-character : {begun : List ℕ} {j : ℕ} (a : AddsCharacter limit stream begun bytes (i + 1) j)
-      → told_before limit stream bytes i ≡ added limit stream (take (i + 1) bytes) → All IsQuietEvent a.events
-      → AddsQuietly limit stream bytes i j
+      → told_before limit stream bytes i ≡ added limit stream (take (i + 1) bytes) → All IsOutsideRuns a.events
+      → AddsOutsideRuns limit stream bytes i j
   adds-character a silent are =
-      record { events = a.events; are = are; parts = a.parts ∙ ap (λ (es : List Event). es ++ a.events) (sym silent) }
+      record {
+        events = a.events;
+        events_are = are;
+        parts = a.parts
+            ∙ ap (λ (es : List Event). es ++ a.events) (sym silent);
+      }

@@ -1,16 +1,16 @@
 -- A byte that a state's function reads: the state says at which place the parser is, so what the byte does after that
 -- place is what the function must have done.
-use Rattle.vte_core.proofs.Common.{◌≡◌, ℕ, ◌+◌, ◌<◌, false, Option, List, [], ◌∷◌, sym, subst, length, slice_index, class_of, ends_body, Machine, State, Escape, EscapeIntermediate, DeviceData, SystemCommand, IgnoredString, Event, Advances, MayGoOn, IsSettled, Leads, Reads, HoldsIntermediates, Stands, StandsBy, TakesBytes, Place, AtEscape, InEscape, InDeviceData, InSystemCommand, InIgnoredString, IsSettledPlace, closing_events_at, HoldsItems, TakesByte, ChunkCall}
+use Rattle.vte_core.proofs.Common.{◌≡◌, ℕ, ◌+◌, ◌<◌, false, Option, List, [], ◌∷◌, sym, subst, length, slice_index, class_of, ends_body, Machine, State, Escape, EscapeIntermediate, DeviceData, SystemCommand, IgnoredString, Event, Advances, MayGoOn, IsSettled, Leads, BytesLead, HoldsIntermediates, StandsAtPlace, StandsBy, TakesBytes, Place, AtEscape, InEscape, InDeviceData, InSystemCommand, InIgnoredString, IsSettledPlace, closing_events_at, HoldsItems, TakesByte, ChunkCall}
 use Rattle.vte_core.proofs.Common.{after, escape}
 use Rattle.vte_core.proofs.calls.Stretches.{advances-byte, advances-if}
-use Rattle.vte_core.specs.machine.ToRun.{IsQuietIn}
+use Rattle.vte_core.specs.machine.ToRun.{IsReadOutsideRuns}
 use Rattle.vte_core.proofs.fields.PlaceOfState.{stands-by, stands-in, stands-place}
 use Rattle.vte_core.proofs.streams.Performing.{takes-performs}
 use Rattle.vte_core.proofs.places.StreamLemmas.{no_escape, reads-escape}
 
 module _ {V B : Type 0} {step : V → Event → V} {old new : V} {limit : Option ℕ} where
   pub taken : {place : Place} {byte : ℕ} {parser : Machine B} (told : List Event) (next : Place)
-      → new ≡ after step old told → Stands limit parser next → Leads limit place byte told next
+      → new ≡ after step old told → StandsAtPlace limit parser next → Leads limit place byte told next
       → TakesByte step old new limit place byte parser
   taken told next performed stands leads =
       record { told = told; next = next; performed = performed; stands = stands; leads = leads }
@@ -19,18 +19,18 @@ module _ {V B : Type 0} {step : V → Event → V} {old new : V} {limit : Option
   pub performs-in : {b : ℕ} {state : State} {parser next : Machine B}
       → parser.state ≡ state → ends_body (class_of b) ≡ false
       → ((place : Place) → StandsBy limit state parser place → TakesByte step old new limit place b next)
-      → (place : Place) → Stands limit parser place → IsSettledPlace place
+      → (place : Place) → StandsAtPlace limit parser place → IsSettledPlace place
       → TakesBytes step old new limit place (b ∷ []) next
   performs-in {b} {next} e ordinary takes place s settled =
       takes-performs step old new limit place b next (no_escape b ordinary) (takes place (stands-in e s))
 
   -- ESC closes what is open at a place
   pub performs-escape : {b : ℕ} {parser next : Machine B} → b ≡ escape
-      → next.state ≡ Escape → HoldsIntermediates next.collected [] → (place : Place) → Stands limit parser place
+      → next.state ≡ Escape → HoldsIntermediates next.collected [] → (place : Place) → StandsAtPlace limit parser place
       → new ≡ after step old (closing_events_at limit place)
       → TakesBytes step old new limit place (b ∷ []) next
   performs-escape {parser} {next} is e holds place s closed =
-      let reads : Reads limit place (escape ∷ []) (closing_events_at limit place) AtEscape =
+      let reads : BytesLead limit place (escape ∷ []) (closing_events_at limit place) AtEscape =
       reads-escape limit place (stands-place parser place s) in
       subst (λ c. TakesBytes step old new limit place (c ∷ []) next) (sym is)
       (record {
@@ -45,9 +45,9 @@ pub advances-in : {V B : Type 0} {call : ChunkCall V} {old new : V} {i b : ℕ} 
     → parser.state ≡ state → i < length call.bytes → b ≡ slice_index call.bytes i
     → MayGoOn call old → ends_body (class_of b) ≡ false
     → ((place : Place) → StandsBy call.limit state parser place → TakesByte call.step old new call.limit place b next)
-    → IsSettled next.state → Advances (IsQuietIn state b) call old new i (i + 1) parser next
+    → IsSettled next.state → Advances (IsReadOutsideRuns state b) call old new i (i + 1) parser next
 advances-in {b} e within is may_go_on ordinary takes settled =
-    advances-if (subst (λ (state : State). IsQuietIn state b) (sym e))
+    advances-if (subst (λ (state : State). IsReadOutsideRuns state b) (sym e))
     (advances-byte within is may_go_on (performs-in e ordinary takes) settled)
 
 -- ---- the place in each state

@@ -1,6 +1,6 @@
 -- What a call tells before a run is told by no run: nothing at its start, then what an open character is, then
 -- stretches of which each tells none.
-use Rattle.vte_core.proofs.Common.{◌≡◌, ℕ, inl, inr, Option, List, [], ◌++◌, ap, sym, subst, ◌∙◌, All, All-append, All-nil, Event, Machine, HasReadUnder, IsSettled, told_before, open_character, AddsQuietly, IsQuietEvent, TellsQuietly, PrintsNoAscii}
+use Rattle.vte_core.proofs.Common.{◌≡◌, ℕ, inl, inr, Option, List, [], ◌++◌, ap, sym, subst, ◌∙◌, All, All-append, All-nil, Event, Machine, HasReadWithLimit, IsSettled, told_before, open_character, AddsOutsideRuns, IsOutsideRuns, TellsOutsideRuns, PrintsNoAscii}
 use Rattle.vte_core.specs.machine.Completes.{AddsCharacter}
 use Rattle.vte_core.proofs.calls.CallEnds.{starts-at}
 use Rattle.vte_core.proofs.calls.AddedEvents.{keeping, told-at}
@@ -9,24 +9,24 @@ use Rattle.vte_core.proofs.streams.QuietEvents.{prints_no_ascii, prints_no_ascii
 
 -- nothing, at its start
 pub tells-nothing : {B : Type 0} {limit : Option ℕ} {stream bytes : List ℕ} {parser : Machine B}
-    → IsSettled parser.state → HasReadUnder limit parser stream → TellsQuietly limit stream bytes 0
+    → IsSettled parser.state → HasReadWithLimit limit parser stream → TellsOutsideRuns limit stream bytes 0
 tells-nothing {limit} {stream} {bytes} settled h =
     let none : [] ≡ told_before limit stream bytes 0 =
     told-at (starts-at {call = keeping limit bytes} settled h) in
     record {
-      quietly = λ _. subst (All IsQuietEvent) none (All-nil IsQuietEvent);
+      outside_runs = λ _. subst (All IsOutsideRuns) none (All-nil IsOutsideRuns);
       no_ascii = subst (All PrintsNoAscii) none (All-nil PrintsNoAscii);
     }
 
 -- what an open character is
 pub tells-open : {limit : Option ℕ} {stream begun bytes : List ℕ} {j : ℕ} → AddsCharacter limit stream begun bytes 0 j
-    → (open_character stream ≡ [] → ⊥) → TellsQuietly limit stream bytes j
+    → (open_character stream ≡ [] → ⊥) → TellsOutsideRuns limit stream bytes j
 tells-open {limit} {stream} {bytes} {j} a opened =
     let all : told_before limit stream bytes j ≡ a.events =
     a.parts ∙ ap (λ (es : List Event). es ++ a.events) (added-nothing limit stream) in
     record {
-      quietly = λ none. absurd (opened none);
-      no_ascii = subst (All PrintsNoAscii) (sym all) (elim a.are [
+      outside_runs = λ none. absurd (opened none);
+      no_ascii = subst (All PrintsNoAscii) (sym all) (elim a.events_are [
         | inl others ↦ prints_no_ascii-all a.events others
         | inr whole ↦
             subst (All PrintsNoAscii) (sym whole.same)
@@ -35,16 +35,16 @@ tells-open {limit} {stream} {bytes} {j} a opened =
     }
 
 -- what is told up to position i, and what follows up to position j
-pub tells-more : {limit : Option ℕ} {stream bytes : List ℕ} {i j : ℕ} → TellsQuietly limit stream bytes i
-    → AddsQuietly limit stream bytes i j → TellsQuietly limit stream bytes j
+pub tells-more : {limit : Option ℕ} {stream bytes : List ℕ} {i j : ℕ} → TellsOutsideRuns limit stream bytes i
+    → AddsOutsideRuns limit stream bytes i j → TellsOutsideRuns limit stream bytes j
 tells-more {limit} {stream} {bytes} {i} t a = record {
-  quietly =
+  outside_runs =
       λ none.
-      subst (All IsQuietEvent) (sym a.parts)
-      (All-append IsQuietEvent (told_before limit stream bytes i) a.events (t.quietly none)
-      a.are);
+      subst (All IsOutsideRuns) (sym a.parts)
+      (All-append IsOutsideRuns (told_before limit stream bytes i) a.events (t.outside_runs none)
+      a.events_are);
   no_ascii =
       subst (All PrintsNoAscii) (sym a.parts)
       (All-append PrintsNoAscii (told_before limit stream bytes i) a.events t.no_ascii
-      (prints_no_ascii-all a.events a.are));
+      (prints_no_ascii-all a.events a.events_are));
 }

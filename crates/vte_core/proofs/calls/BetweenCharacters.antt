@@ -1,7 +1,7 @@
 -- A byte between characters: it is one (`performs-printed`), a control or malformed (`performs-single`), or the first
 -- of one (`performs-opened`). What the code does is what `places/PlaceLeads` says of the byte, and the parser is at the
 -- next place. A single byte tells nothing that a run would (`advances-single`).
-use Rattle.vte_core.proofs.Common.{◌≡◌, ◌≢◌, ℕ, ◌+◌, ◌<◌, ◌≤◌, inl, inr, true, false, Option, List, [], ◌∷◌, length, refl, ap, sym, subst, ◌∙◌, arith, cases_lt, nat_tests, slice_index, Advances, Machine, Text, Nothing, Event, Print, replacement, Stands, TakesBytes, Place, InText, IsSettledPlace, Carries, escape, character_event, malformed_event, from_to, is_in, is_truncated, is_well_formed, Unfinished, All-cons, All-nil, IsQuietEvent, Execute, is_control_character, AddsQuietly, IsAfter, resumed_stream, Reads, All, cases_Bool, ChunkCall}
+use Rattle.vte_core.proofs.Common.{◌≡◌, ◌≢◌, ℕ, ◌+◌, ◌<◌, ◌≤◌, inl, inr, true, false, Option, List, [], ◌∷◌, length, refl, ap, sym, subst, ◌∙◌, arith, cases_lt, nat_tests, slice_index, Advances, Machine, Text, Nothing, Event, Print, replacement, StandsAtPlace, TakesBytes, Place, InText, IsSettledPlace, Carries, escape, character_event, malformed_event, from_to, is_in, is_truncated, is_well_formed, Unfinished, All-cons, All-nil, IsOutsideRuns, Execute, is_control_character, AddsOutsideRuns, IsAfter, resumed_stream, BytesLead, All, cases_Bool, ChunkCall}
 use Rattle.vte_core.specs.declared.utf8.Carried.TheVariants.{Unfinished as StillUnfinished}
 use Rattle.vte_core.proofs.bytes.CarriedLemmas.{begins_none}
 use Rattle.vte_core.proofs.bytes.FirstBytes.{ascii_alone}
@@ -22,7 +22,7 @@ prints b printed = grind (arith, nat_tests)
 module _ {V B : Type 0} {step : V → Event → V} {old new : V} {limit : Option ℕ} {b : ℕ} {parser : Machine B} where
   -- a byte that is a character
   performs-whole : parser.state ≡ Text Nothing → b ≢ escape → is_well_formed (b ∷ []) ≡ true
-      → new ≡ step old (character_event b) → (place : Place) → Stands limit parser place → IsSettledPlace place
+      → new ≡ step old (character_event b) → (place : Place) → StandsAtPlace limit parser place → IsSettledPlace place
       → TakesBytes step old new limit place (b ∷ []) parser
   performs-whole e n whole performed =
       performs-begun e n
@@ -37,7 +37,7 @@ module _ {V B : Type 0} {step : V → Event → V} {old new : V} {limit : Option
   -- a byte that begins none
   performs-lone : parser.state ≡ Text Nothing → b ≢ escape
       → is_well_formed (b ∷ []) ≡ false → is_truncated (b ∷ []) ≡ false → new ≡ step old (malformed_event (b ∷ []))
-      → (place : Place) → Stands limit parser place → IsSettledPlace place
+      → (place : Place) → StandsAtPlace limit parser place → IsSettledPlace place
       → TakesBytes step old new limit place (b ∷ []) parser
   performs-lone e n whole more performed =
       performs-begun e n
@@ -51,7 +51,7 @@ module _ {V B : Type 0} {step : V → Event → V} {old new : V} {limit : Option
 
   -- a character of ASCII that is printed
   pub performs-printed : {c : ℕ} → parser.state ≡ Text Nothing → is_in (from_to 0x20 0x7f) b ≡ true → c ≡ b
-      → new ≡ step old (Print c) → (place : Place) → Stands limit parser place → IsSettledPlace place
+      → new ≡ step old (Print c) → (place : Place) → StandsAtPlace limit parser place → IsSettledPlace place
       → TakesBytes step old new limit place (b ∷ []) parser
   performs-printed e printed same told =
       let low : 0x20 ≤ b = grind (arith, nat_tests) in
@@ -63,7 +63,7 @@ module _ {V B : Type 0} {step : V → Event → V} {old new : V} {limit : Option
   pub performs-single : parser.state ≡ Text Nothing → b ≢ escape
       → is_in (from_to 0xc2 0xf4) b ≡ false → (b < 0x80 → new ≡ step old (character_event b))
       → (0x80 ≤ b → new ≡ step old (malformed_event (b ∷ []))) → (place : Place)
-      → Stands limit parser place → IsSettledPlace place → TakesBytes step old new limit place (b ∷ []) parser
+      → StandsAtPlace limit parser place → IsSettledPlace place → TakesBytes step old new limit place (b ∷ []) parser
   performs-single e n no_lead control malformed = elim (cases_lt b 0x80) [
     | inl low ↦ performs-whole e n (ascii_alone b low).is_whole (control low)
     | inr high ↦
@@ -73,7 +73,8 @@ module _ {V B : Type 0} {step : V → Event → V} {old new : V} {limit : Option
 -- a byte that begins a longer one
 pub performs-opened : {V B : Type 0} {step : V → Event → V} {value : V} {limit : Option ℕ} {b : ℕ} {v : Unfinished}
     {parser next : Machine B} → parser.state ≡ Text Nothing
-    → b ≢ escape → Carries [] b (StillUnfinished v) → next.state ≡ Text v → (place : Place) → Stands limit parser place
+    → b ≢ escape → Carries [] b (StillUnfinished v) → next.state ≡ Text v → (place : Place)
+    → StandsAtPlace limit parser place
     → IsSettledPlace place
     → TakesBytes step value value limit place (b ∷ []) next
 performs-opened {limit} {b} {v} {next} e n carries state =
@@ -91,14 +92,14 @@ performs-opened {limit} {b} {v} {next} e n carries state =
 
 record Single (limit : Option ℕ) (b : ℕ) : Type 0 where
   told : List Event
-  reads : Reads limit (InText []) (b ∷ []) told (InText [])
-  are : All IsQuietEvent told
+  reads : BytesLead limit (InText []) (b ∷ []) told (InText [])
+  events_are : All IsOutsideRuns told
 
-malformed_other : (b : ℕ) → All IsQuietEvent (malformed_event (b ∷ []) ∷ [])
+malformed_other : (b : ℕ) → All IsOutsideRuns (malformed_event (b ∷ []) ∷ [])
 unfolding malformed_event
 malformed_other b = elim (cases_Bool (is_control_character b)) [
-  | inl is ↦ rw is (All-cons IsQuietEvent (Execute b) [] tt (All-nil IsQuietEvent))
-  | inr is ↦ rw is (All-cons IsQuietEvent (Print replacement) [] refl (All-nil IsQuietEvent))
+  | inl is ↦ rw is (All-cons IsOutsideRuns (Execute b) [] tt (All-nil IsOutsideRuns))
+  | inr is ↦ rw is (All-cons IsOutsideRuns (Print replacement) [] refl (All-nil IsOutsideRuns))
 ]
 
 single : (limit : Option ℕ) (b : ℕ) → b ≢ escape → is_in (from_to 0x20 0x7f) b ≡ false
@@ -110,7 +111,7 @@ single limit b n other no_lead = elim (cases_lt b 0x80) [
     reads =
         reads-byte limit (InText []) (InText []) b _ (not_escape b n)
         (text-whole limit [] b (ascii_alone b low).is_whole);
-    are = other_control b (grind (arith, nat_tests));
+    events_are = other_control b (grind (arith, nat_tests));
   }
   | inr high ↦
       let lone = begins_none b high no_lead in
@@ -119,7 +120,7 @@ single limit b n other no_lead = elim (cases_lt b 0x80) [
         reads =
             reads-byte limit (InText []) (InText []) b _ (not_escape b n)
             (text-lone limit b lone.is_whole lone.is_open);
-        are = malformed_other b;
+        events_are = malformed_other b;
       }
 ]
 
@@ -127,20 +128,21 @@ adds-single : {B : Type 0} {limit : Option ℕ} {stream bytes : List ℕ} {i b :
     → parser.state ≡ Text Nothing → b ≢ escape
     → is_in (from_to 0x20 0x7f) b ≡ false → is_in (from_to 0xc2 0xf4) b ≡ false → i < length bytes
     → b ≡ slice_index bytes i
-    → Stands limit parser place
-    → IsAfter limit (resumed_stream stream bytes i) place → AddsQuietly limit stream bytes i (i + 1)
+    → StandsAtPlace limit parser place
+    → IsAfter limit (resumed_stream stream bytes i) place → AddsOutsideRuns limit stream bytes i (i + 1)
 adds-single {limit} {stream} {bytes} {i} {b} {place} parser e n other no_lead within is s after =
     let one = single limit b n other no_lead in
     adds-reads within is
     (subst (IsAfter limit (resumed_stream stream bytes i)) (between_characters parser place e s) after)
-    one.reads refl one.are
+    one.reads refl one.events_are
 
-pub advances-single : {quiet V B : Type 0} {call : ChunkCall V} {old new : V} {i b : ℕ} {parser : Machine B}
+pub advances-single : {outside V B : Type 0} {call : ChunkCall V} {old new : V} {i b : ℕ} {parser : Machine B}
     → MayReadByte call old (Text Nothing) parser i b → b ≢ escape → is_in (from_to 0x20 0x7f) b ≡ false
     → is_in (from_to 0xc2 0xf4) b ≡ false → (b < 0x80 → new ≡ call.step old (character_event b))
-    → (0x80 ≤ b → new ≡ call.step old (malformed_event (b ∷ []))) → Advances quiet call old new i (i + 1) parser parser
+    → (0x80 ≤ b → new ≡ call.step old (malformed_event (b ∷ [])))
+    → Advances outside call old new i (i + 1) parser parser
 advances-single r n other no_lead control malformed =
     advances-telling
-    (advances-byte r.within r.is r.may_go_on (performs-single r.begun n no_lead control malformed)
+    (advances-byte r.within r.looked_at r.may_go_on (performs-single r.begun n no_lead control malformed)
     (settled-by _ _ r.begun tt))
-    (λ stream place s. adds-single _ r.begun n other no_lead r.within r.is s)
+    (λ stream place s. adds-single _ r.begun n other no_lead r.within r.looked_at s)

@@ -1,6 +1,6 @@
 -- Where a call starts (`starts-*`), stops or ends (`ends-*`), and where no character is open, so that something may
 -- start (`settles`).
-use Rattle.vte_core.proofs.Common.{◌≡◌, ℕ, ◌<◌, ◌≤◌, true, Option, List, [], ◌++◌, length, refl, sym, subst, arith, Machine, State, Text, Nothing, StopsExactly, resumed_stream, IsSettled, ReadsUpTo, StandsAt, StandsInside, Stands, StandsBy, HasReadUnder, after, Place, InText, ChunkCall}
+use Rattle.vte_core.proofs.Common.{◌≡◌, ℕ, ◌<◌, ◌≤◌, true, Option, List, [], ◌++◌, length, refl, sym, subst, arith, Machine, State, Text, Nothing, StopsExactly, resumed_stream, IsSettled, ReadsUpTo, StandsAt, StandsInside, StandsAtPlace, StandsBy, HasReadWithLimit, after, Place, InText, ChunkCall}
 use Rattle.vte_core.proofs.Common.{IsSettledPlace, added, bytes_of, Unfinished, ComesTo}
 use Rattle.vte_core.proofs.calls.Progress.{come-all, come-settled, come-nowhere, come-performs, come-starts, come-to}
 use Rattle.vte_core.proofs.fields.PlaceOfState.{stands-place}
@@ -16,7 +16,7 @@ by_settled limit _ parser (InText bytes) settled s = absurd s
 by_settled limit _ parser _ settled s = tt
 
 pub settled-place : {B : Type 0} {limit : Option ℕ} (parser : Machine B) → IsSettled parser.state → (place : Place)
-    → Stands limit parser place → IsSettledPlace place
+    → StandsAtPlace limit parser place → IsSettledPlace place
 settled-place {limit} parser settled place s = by_settled limit parser.state parser place settled s.by
 
 pub settled-by : (state other : State) → state ≡ other → IsSettled other → IsSettled state
@@ -61,12 +61,12 @@ module _ {V B : Type 0} {call : ChunkCall V} where
 
   -- ---- the start and the end of a call
 
-  pub starts-inside : {old : V} {stream : List ℕ} {parser : Machine B} → HasReadUnder call.limit parser stream
+  pub starts-inside : {old : V} {stream : List ℕ} {parser : Machine B} → HasReadWithLimit call.limit parser stream
       → StandsInside call old old stream 0 parser
   starts-inside h = record { place = h.place; stands = h.stands; has_come = come-nowhere h.is_after }
 
   pub starts-at : {old : V} {stream : List ℕ} {parser : Machine B} → IsSettled parser.state
-      → HasReadUnder call.limit parser stream → StandsAt call old old stream 0 parser
+      → HasReadWithLimit call.limit parser stream → StandsAt call old old stream 0 parser
   starts-at settled h = settles settled (starts-inside h)
 
   pub ends-comes : {old value : V} {stream : List ℕ} {n : ℕ} {parser : Machine B} → call.may_stop ≡ true
@@ -84,7 +84,8 @@ module _ {V B : Type 0} {call : ChunkCall V} where
       record { comes = ends-comes does within s; stops = stops; all = λ all. come-performs all s.has_come }
 
   pub ends-reads : {old value : V} {stream : List ℕ} {n : ℕ} {parser : Machine B}
-      → StandsAt call old value stream n parser → HasReadUnder call.limit parser (resumed_stream stream call.bytes n)
+      → StandsAt call old value stream n parser
+      → HasReadWithLimit call.limit parser (resumed_stream stream call.bytes n)
   ends-reads s = record { place = s.place; stands = s.stands; is_after = s.has_come.is_after }
 
   -- of a call that reads all bytes
@@ -93,21 +94,21 @@ module _ {V B : Type 0} {call : ChunkCall V} where
   ends-performs all s = come-performs all s.has_come
 
   pub ends-reads_all : {old value : V} {stream : List ℕ} {n : ℕ} {parser : Machine B} → n ≡ length call.bytes
-      → StandsAt call old value stream n parser → HasReadUnder call.limit parser (stream ++ call.bytes)
+      → StandsAt call old value stream n parser → HasReadWithLimit call.limit parser (stream ++ call.bytes)
   ends-reads_all {stream} {n} {parser} all s =
-      subst (HasReadUnder call.limit parser) (resumed_stream-all stream call.bytes n all) (ends-reads s)
+      subst (HasReadWithLimit call.limit parser) (resumed_stream-all stream call.bytes n all) (ends-reads s)
 
   -- ---- where the loop of a call ends: at a stop, or with all bytes read
 
   pub ends-at_stop : {old value : V} {n : ℕ} {before parser : Machine B} → call.may_stop ≡ true
       → call.is_terminated value ≡ true → n ≤ length call.bytes
-      → ((stream : List ℕ) → HasReadUnder call.limit before stream → StandsAt call old value stream n parser)
+      → ((stream : List ℕ) → HasReadWithLimit call.limit before stream → StandsAt call old value stream n parser)
       → ReadsUpTo call old value n before parser
   ends-at_stop does stopped within stands =
       record { within = within; asked = λ _. does; stops = λ _. stopped; stands_at = stands }
 
   pub ends-with_all : {old value : V} {n : ℕ} {before parser : Machine B} → n ≡ length call.bytes
-      → ((stream : List ℕ) → HasReadUnder call.limit before stream → StandsAt call old value stream n parser)
+      → ((stream : List ℕ) → HasReadWithLimit call.limit before stream → StandsAt call old value stream n parser)
       → ReadsUpTo call old value n before parser
   ends-with_all all stands =
       record {

@@ -1,7 +1,7 @@
 -- A call inside a character, over any number of its bytes: it tells nothing while the character goes on (`GoesOn`), and
 -- then completes it (`completes-all`, `completes-whole`, `completes-broken`), a byte at a time by
 -- `calls/InsideCharacters`.
-use Rattle.vte_core.proofs.Common.{◌≡◌, ◌≢◌, ℕ, ◌+◌, ◌<◌, ◌≤◌, inl, inr, true, List, [], ◌∷◌, ◌++◌, length, refl, ap, sym, subst, ◌∙◌, arith, slice_index, Machine, Text, Nothing, One, Two, Three, Event, Print, replacement, StandsInside, bytes_of, may_continue, second_range, Carries, character_event, from_to, is_in, is_truncated, is_well_formed, scalar_of, Unfinished, added, All-cons, All-nil, IsQuietEvent, append-nil, append_assoc, drop, drop_more, take, take-add, ChunkCall}
+use Rattle.vte_core.proofs.Common.{◌≡◌, ◌≢◌, ℕ, ◌+◌, ◌<◌, ◌≤◌, inl, inr, true, List, [], ◌∷◌, ◌++◌, length, refl, ap, sym, subst, ◌∙◌, arith, slice_index, Machine, Text, Nothing, One, Two, Three, Event, Print, replacement, StandsInside, bytes_of, may_continue, second_range, Carries, character_event, from_to, is_in, is_truncated, is_well_formed, scalar_of, Unfinished, added, All-cons, All-nil, IsOutsideRuns, append-nil, append_assoc, drop, drop_more, take, take-add, ChunkCall}
 use Rattle.vte_core.specs.declared.utf8.Carried.TheVariants.{Unfinished as StillUnfinished, Whole, Broken}
 use Rattle.vte_core.proofs.bytes.CarriedLemmas.{second_open, third_open}
 use Rattle.vte_core.specs.machine.Completes.{Completes}
@@ -44,7 +44,7 @@ pub record GoesOn {V B : Type 0} (call : ChunkCall V) (value : V) (i j : ℕ) (b
   pub more : may_continue (bytes_of begun) ≡ true → is_truncated (bytes_of u) ≡ true
   pub n : ℕ
   pub far : j ≡ i + n
-  pub are : may_continue (bytes_of begun) ≡ true → bytes_of u ≡ bytes_of begun ++ take n (drop i call.bytes)
+  pub bytes_are : may_continue (bytes_of begun) ≡ true → bytes_of u ≡ bytes_of begun ++ take n (drop i call.bytes)
 
 module _ {V B : Type 0} {call : ChunkCall V} {value : V} {i : ℕ} {begun : Unfinished} where
   pub goes-nowhere : (next : Machine B) → bytes_of begun ≢ [] → GoesOn call value i i begun begun next
@@ -54,7 +54,7 @@ module _ {V B : Type 0} {call : ChunkCall V} {value : V} {i : ℕ} {begun : Unfi
     more = λ opened. open_truncated (bytes_of begun) opened some;
     n = 0;
     far = omega arith;
-    are = λ _. sym (append-nil (bytes_of begun));
+    bytes_are = λ _. sym (append-nil (bytes_of begun));
   }
 
   pub goes-more : {j b : ℕ} {u v : Unfinished} {parser next : Machine B} → GoesOn call value i j begun u parser
@@ -68,9 +68,9 @@ module _ {V B : Type 0} {call : ChunkCall V} {value : V} {i : ℕ} {begun : Unfi
     more = λ opened. (carries (goes.more opened)).1;
     n = goes.n + 1;
     far = omega (arith, goes.far);
-    are =
+    bytes_are =
         λ opened. (carries (goes.more opened)).0
-        ∙ byte_more call.bytes i goes.n (bytes_of begun) within goes.far is (goes.are opened);
+        ∙ byte_more call.bytes i goes.n (bytes_of begun) within goes.far is (goes.bytes_are opened);
   }
 
   -- all bytes are read
@@ -84,7 +84,7 @@ module _ {V B : Type 0} {call : ChunkCall V} {value : V} {i : ℕ} {begun : Unfi
       parts =
           sym (told-at (inside-all (inside-moved end (goes.kept stream parser e (keeps-inside s))) all))
           ∙ sym (append-nil (added call.limit stream (take i call.bytes)));
-      are = inl (All-nil IsQuietEvent);
+      events_are = inl (All-nil IsOutsideRuns);
     };
   }
 
@@ -101,14 +101,14 @@ module _ {V B : Type 0} {call : ChunkCall V} {value : V} {i : ℕ} {begun : Unfi
         let opened = inside-open e s in
         let more = goes.more opened in
         let whole = carries more in
-        let same = byte_more call.bytes i goes.n (bytes_of begun) within goes.far is (goes.are opened) in
+        let same = byte_more call.bytes i goes.n (bytes_of begun) within goes.far is (goes.bytes_are opened) in
         record {
           events = character_event c ∷ [];
           parts =
               sym (told-at
               (carried-whole {next = next} refl more whole state refl
               (goes.kept stream parser e (keeps-inside s)) within is later));
-          are = inr (record {
+          events_are = inr (record {
             n = goes.n + 1;
             far = omega (arith, goes.far, within);
             well = subst (λ (x : List ℕ). is_well_formed x ≡ true) same whole.0;
@@ -135,7 +135,7 @@ module _ {V B : Type 0} {call : ChunkCall V} {value : V} {i : ℕ} {begun : Unfi
               sym (told-at
               (carried-broken {next = next} refl more (carries more) state refl
               (goes.kept stream parser e (keeps-inside s)) within is));
-          are = inl (All-cons IsQuietEvent (Print replacement) [] refl (All-nil IsQuietEvent));
+          events_are = inl (All-cons IsOutsideRuns (Print replacement) [] refl (All-nil IsOutsideRuns));
         };
   }
 
@@ -154,12 +154,12 @@ module _ {V B : Type 0} {call : ChunkCall V} {value : V} {i : ℕ} {begun : Unfi
         record {
           events = told.events;
           parts = told.parts ∙ ap (λ (es : List Event). es ++ told.events) (sym silent);
-          are = elim told.are [
+          events_are = elim told.events_are [
             | inl others ↦ inl others
             | inr whole ↦
                 let same : bytes_of u ++ take whole.n (drop j call.bytes)
                 ≡ bytes_of begun ++ take (goes.n + whole.n) (drop i call.bytes) =
-                bytes_more call.bytes i j goes.n whole.n (bytes_of begun) goes.far (goes.are opened) in
+                bytes_more call.bytes i j goes.n whole.n (bytes_of begun) goes.far (goes.bytes_are opened) in
                 inr (record {
                   n = goes.n + whole.n;
                   far = omega (arith, goes.far, whole.far);
@@ -192,5 +192,5 @@ module _ {V B : Type 0} {call : ChunkCall V} {value : V} {i x y : ℕ} where
         more = goes.more;
         n = goes.n;
         far = omega (arith, goes.far);
-        are = goes.are;
+        bytes_are = goes.bytes_are;
       }

@@ -1,7 +1,7 @@
 -- The bytes of a head: a function that reads several of them goes on by each. `ReadsHeadUpTo` says which, without the
 -- performer, which learns of a head only at its end; both shapes share it.
-use Rattle.vte_core.specs.machine.ToRun.{IsQuietIn}
-use Rattle.vte_core.proofs.Common.{◌≡◌, ℕ, zero, suc, ◌+◌, ◌-◌, ◌<◌, ◌≤◌, ◌⊎◌, inr, eqb, Option, List, [], ◌∷◌, ◌++◌, Bool, true, false, length, take, drop, refl, sym, subst, append_assoc, arith, nat_tests, append-nil, drop-drop, drop_more, take-add, slice_index, MatchOption, class_of, is_head_byte, is_parameter_text, AreInClass, Collected, HeadProgress, Entry, Parameters, Machine, State, ControlSequence, DeviceControl, Event, ChunkCall, Leads, CountsNumbers, KeepsIntermediates, Stands, StandsBy, StandsInHead, Place, InControlSequence, InDeviceControl, IsSettledPlace, Advances, ProgressAt, StandsAt, IsSettled, MayGoOn, TakesBytes, TakesByte, ends_body, part_after, ReadsHead, Some, None, false≢true}
+use Rattle.vte_core.specs.machine.ToRun.{IsReadOutsideRuns}
+use Rattle.vte_core.proofs.Common.{◌≡◌, ℕ, zero, suc, ◌+◌, ◌-◌, ◌<◌, ◌≤◌, ◌⊎◌, inr, eqb, Option, List, [], ◌∷◌, ◌++◌, Bool, true, false, length, take, drop, refl, sym, subst, append_assoc, arith, nat_tests, append-nil, drop-drop, drop_more, take-add, slice_index, MatchOption, class_of, is_head_byte, is_parameter_text, AreInClass, Collected, HeadProgress, Entry, Parameters, Machine, State, ControlSequence, DeviceControl, Event, ChunkCall, Leads, CountsNumbers, SameIntermediates, StandsAtPlace, StandsBy, StandsInHead, Place, InControlSequence, InDeviceControl, IsSettledPlace, Advances, ProgressAt, StandsAt, IsSettled, MayGoOn, TakesBytes, TakesByte, ends_body, part_after, ReadsHead, Some, None, false≢true}
 use Rattle.vte_core.proofs.bytes.ClassCases.{head_ends_nothing, AreInClass-append, parameter_is_head}
 use Rattle.vte_core.proofs.calls.Progress.{come-settled, come-byte}
 use Rattle.vte_core.proofs.calls.Arms.{performs-in}
@@ -23,36 +23,42 @@ between-then bytes i j k low high =
     let here : i + (j - i) ≡ j = omega (arith, low) in
     rw (whole, take-add (j - i) (k - j) (drop i bytes), drop-drop (j - i) i bytes, here) refl
 
-pub reads-nothing : {bytes : List ℕ} {i : ℕ} {part : HeadProgress} {held : Collected} → i ≤ length bytes
-    → ReadsHead bytes i i part part held held
-reads-nothing {bytes} {i} {part} {held} within =
+pub reads-nothing : {bytes : List ℕ} {i : ℕ} {progress : HeadProgress} {held : Collected} → i ≤ length bytes
+    → ReadsHead bytes i i progress progress held held
+reads-nothing {bytes} {i} {progress} {held} within =
     let none : i - i ≡ 0 = omega arith in
-    record { low = omega arith; high = within; are = rw none tt; stands = λ head s. rw (none, append-nil head) s }
+    record {
+      low = omega arith;
+      high = within;
+      head_bytes = rw none tt;
+      stands = λ head s. rw
+          (none, append-nil head) s;
+    }
 
-pub reads-then : {bytes : List ℕ} {i j k : ℕ} {reached part next : HeadProgress} {old mid new : Collected}
-    → ReadsHead bytes i j reached part old mid → ReadsHead bytes j k part next mid new
+pub reads-then : {bytes : List ℕ} {i j k : ℕ} {reached progress next : HeadProgress} {old mid new : Collected}
+    → ReadsHead bytes i j reached progress old mid → ReadsHead bytes j k progress next mid new
     → ReadsHead bytes i k reached next old new
 reads-then {bytes} {i} {j} {k} a b =
     let whole = between-then bytes i j k a.low b.low in
     record {
       low = omega (arith, a.low, b.low);
       high = b.high;
-      are = rw whole (AreInClass-append is_head_byte _ _ a.are b.are);
+      head_bytes = rw whole (AreInClass-append is_head_byte _ _ a.head_bytes b.head_bytes);
       stands =
           λ head s. rw (whole, ← append_assoc head (take (j - i) (drop i bytes)) (take (k - j) (drop j bytes)))
           (b.stands _ (a.stands head s));
     }
 
-pub reads-head_byte : {bytes : List ℕ} {i b : ℕ} {part next : HeadProgress} {old new : Collected} → i < length bytes
+pub reads-head_byte : {bytes : List ℕ} {i b : ℕ} {progress next : HeadProgress} {old new : Collected} → i < length bytes
     → b ≡ slice_index bytes i → is_head_byte (class_of b) ≡ true
-    → ((head : List ℕ) → StandsInHead old part head → StandsInHead new next (head ++ b ∷ []))
-    → ReadsHead bytes i (i + 1) part next old new
+    → ((head : List ℕ) → StandsInHead old progress head → StandsInHead new next (head ++ b ∷ []))
+    → ReadsHead bytes i (i + 1) progress next old new
 reads-head_byte {bytes} {i} {b} within at is stands =
     let one = one_byte bytes i b within at in
     record {
       low = omega arith;
       high = omega (arith, within);
-      are = rw one (is, tt);
+      head_bytes = rw one (is, tt);
       stands = λ head s. rw one (stands head s);
     }
 
@@ -81,7 +87,7 @@ part_after-may reached from to may = by_test (eqb from to) refl
 -- a digit or a separator
 pub reads-parameter : {bytes : List ℕ} {from i b : ℕ} {reached : HeadProgress} {first old new : Collected}
     → (reached ≡ Entry) ⊎ (reached ≡ Parameters)
-    → i < length bytes → b ≡ slice_index bytes i → is_parameter_text (class_of b) ≡ true → KeepsIntermediates old new
+    → i < length bytes → b ≡ slice_index bytes i → is_parameter_text (class_of b) ≡ true → SameIntermediates old new
     → ((text : List ℕ) → CountsNumbers old text → CountsNumbers new (text ++ b ∷ []))
     → ReadsHead bytes from i reached (part_after reached from i) first old
     → ReadsHead bytes from (i + 1) reached (part_after reached from (i + 1)) first new
@@ -98,31 +104,33 @@ pub data Shape : Type 0 where
   DeviceHead : Shape
 
 abbrev pub state_of : Shape → HeadProgress → State
-state_of ControlHead part = ControlSequence part
-state_of DeviceHead part = DeviceControl part
+state_of ControlHead progress = ControlSequence progress
+state_of DeviceHead progress = DeviceControl progress
 
 abbrev pub in_head : Shape → List ℕ → Place
 in_head ControlHead head = InControlSequence head
 in_head DeviceHead head = InDeviceControl head
 
-record InHeadAt (shape : Shape) (held : Collected) (part : HeadProgress) (place : Place) : Type 0 where
+record InHeadAt (shape : Shape) (held : Collected) (progress : HeadProgress) (place : Place) : Type 0 where
   head : List ℕ
   same : place ≡ in_head shape head
-  stands : StandsInHead held part head
+  stands : StandsInHead held progress head
 
-place_in : {B : Type 0} (shape : Shape) (limit : Option ℕ) (part : HeadProgress) (parser : Machine B) (place : Place)
-    → StandsBy limit (state_of shape part) parser place
-    → InHeadAt shape parser.collected part place
-place_in ControlHead limit part parser (InControlSequence head) s = record { head = head; same = refl; stands = s }
-place_in ControlHead limit part parser _ s = absurd s
-place_in DeviceHead limit part parser (InDeviceControl head) s = record { head = head; same = refl; stands = s }
-place_in DeviceHead limit part parser _ s = absurd s
+place_in : {B : Type 0} (shape : Shape) (limit : Option ℕ) (progress : HeadProgress) (parser : Machine B)
+    (place : Place)
+    → StandsBy limit (state_of shape progress) parser place
+    → InHeadAt shape parser.collected progress place
+place_in ControlHead limit progress parser (InControlSequence head) s = record { head = head; same = refl; stands = s }
+place_in ControlHead limit progress parser _ s = absurd s
+place_in DeviceHead limit progress parser (InDeviceControl head) s = record { head = head; same = refl; stands = s }
+place_in DeviceHead limit progress parser _ s = absurd s
 
-stands_in : {B : Type 0} (shape : Shape) (limit : Option ℕ) (part : HeadProgress) (parser : Machine B) (head : List ℕ)
-    → parser.state ≡ state_of shape part
-    → StandsInHead parser.collected part head → Stands limit parser (in_head shape head)
-stands_in ControlHead limit part parser head e s = record { by = rw e s }
-stands_in DeviceHead limit part parser head e s = record { by = rw e s }
+stands_in : {B : Type 0} (shape : Shape) (limit : Option ℕ) (progress : HeadProgress) (parser : Machine B)
+    (head : List ℕ)
+    → parser.state ≡ state_of shape progress
+    → StandsInHead parser.collected progress head → StandsAtPlace limit parser (in_head shape head)
+stands_in ControlHead limit progress parser head e s = record { by = rw e s }
+stands_in DeviceHead limit progress parser head e s = record { by = rw e s }
 
 leads : (shape : Shape) (limit : Option ℕ) (head : List ℕ) (b : ℕ) → is_head_byte (class_of b) ≡ true
     → Leads limit (in_head shape head) b [] (in_head shape (head ++ b ∷ []))
@@ -137,13 +145,13 @@ is_between : (shape : Shape) (head : List ℕ) → IsSettledPlace (in_head shape
 is_between ControlHead head = tt
 is_between DeviceHead head = tt
 
-quiet_head : (shape : Shape) (part : HeadProgress) (b : ℕ) → IsQuietIn (state_of shape part) b
-quiet_head ControlHead part b = tt
-quiet_head DeviceHead part b = tt
+outside_runs-head : (shape : Shape) (progress : HeadProgress) (b : ℕ) → IsReadOutsideRuns (state_of shape progress) b
+outside_runs-head ControlHead progress b = tt
+outside_runs-head DeviceHead progress b = tt
 
-settled : (shape : Shape) (part : HeadProgress) → IsSettled (state_of shape part)
-settled ControlHead part = tt
-settled DeviceHead part = tt
+settled : (shape : Shape) (progress : HeadProgress) → IsSettled (state_of shape progress)
+settled ControlHead progress = tt
+settled DeviceHead progress = tt
 
 module _ {V : Type 0} {call : ChunkCall V} where
   -- n bytes of a head
@@ -169,12 +177,12 @@ module _ {V : Type 0} {call : ChunkCall V} where
       rw (far, cut) (rw (append_assoc head (b ∷ []) (take n (drop (i + 1) call.bytes))) at rest)
 
   -- the bytes of a part of a head
-  stands-head : {B : Type 0} {old value : V} {stream : List ℕ} {i j : ℕ} {reached part : HeadProgress}
+  stands-head : {B : Type 0} {old value : V} {stream : List ℕ} {i j : ℕ} {reached progress : HeadProgress}
       {parser next : Machine B} (shape : Shape) → parser.state ≡ state_of shape reached
-      → ReadsHead call.bytes i j reached part parser.collected next.collected → MayGoOn call value
-      → next.state ≡ state_of shape part → StandsAt call old value stream i parser
+      → ReadsHead call.bytes i j reached progress parser.collected next.collected → MayGoOn call value
+      → next.state ≡ state_of shape progress → StandsAt call old value stream i parser
       → StandsAt call old value stream j next
-  stands-head {old} {value} {stream} {i} {j} {reached} {part}
+  stands-head {old} {value} {stream} {i} {j} {reached} {progress}
       {parser} {next} shape begun reads may_go_on state s =
       let k = place_in shape call.limit reached parser s.place (stands-in begun s.stands) in
       let here : ProgressAt call old value stream i (in_head shape k.head) =
@@ -183,48 +191,51 @@ module _ {V : Type 0} {call : ChunkCall V} where
       let run : List ℕ = take (j - i) (drop i call.bytes) in
       record {
         place = in_head shape (k.head ++ run);
-        stands = stands_in shape call.limit part next (k.head ++ run) state (reads.stands k.head k.stands);
+        stands = stands_in shape call.limit progress next (k.head ++ run) state (reads.stands k.head k.stands);
         settled = λ _. is_between shape (k.head ++ run);
-        has_come = rw end at (come-head shape (j - i) k.head (omega (arith, reads.high, end)) reads.are may_go_on here);
+        has_come = rw end at
+            (come-head shape (j - i) k.head (omega (arith, reads.high, end)) reads.head_bytes may_go_on here);
       }
 
 module _ {V : Type 0} {call : ChunkCall V} where
-  pub advances-head : {quiet B : Type 0} {value : V} {i j : ℕ} {reached part : HeadProgress} {parser next : Machine B}
+  pub advances-head : {outside B : Type 0} {value : V} {i j : ℕ} {reached progress : HeadProgress}
+      {parser next : Machine B}
       (shape : Shape) → parser.state ≡ state_of shape reached
-      → ReadsHead call.bytes i j reached part parser.collected next.collected → MayGoOn call value
-      → next.state ≡ state_of shape part → Advances quiet call value value i j parser next
-  advances-head {part} {next} shape begun reads may_go_on state = record {
+      → ReadsHead call.bytes i j reached progress parser.collected next.collected → MayGoOn call value
+      → next.state ≡ state_of shape progress → Advances outside call value value i j parser next
+  advances-head {progress} {next} shape begun reads may_go_on state = record {
     goes_on = λ old stream s. stands-head shape begun reads may_go_on state s;
-    settled = λ _. settled-by _ _ state (settled shape part);
-    quietly = λ _ old stream s.
+    settled = λ _. settled-by _ _ state (settled shape progress);
+    outside_runs = λ _ old stream s.
         adds-same (told-at
         (stands-head {next = next} shape begun reads (λ does. absurd (false≢true does)) state (keeps-at s)));
   }
 
   -- a part of a head and a byte after it, of which the caller says what it does there
-  pub advances-past : {quiet B : Type 0} {old new : V} {i j b : ℕ} {reached part : HeadProgress}
+  pub advances-past : {outside B : Type 0} {old new : V} {i j b : ℕ} {reached progress : HeadProgress}
       {parser next : Machine B}
       {held : Collected} (shape : Shape) → parser.state ≡ state_of shape reached
-      → ReadsHead call.bytes i j reached part parser.collected held
+      → ReadsHead call.bytes i j reached progress parser.collected held
       → (j < length call.bytes) × (b ≡ slice_index call.bytes j) → MayGoOn call old
-      → ((place : Place) → Stands {B = B} call.limit
-      (record { state = state_of shape part; collected = held; command = parser.command }) place → IsSettledPlace place
+      → ((place : Place) → StandsAtPlace {B = B} call.limit
+      (record { state = state_of shape progress; collected = held; command = parser.command }) place
+      → IsSettledPlace place
       → TakesBytes call.step old new call.limit place (b ∷ []) next) → IsSettled next.state
-      → Advances quiet call old new i (j + 1) parser next
-  advances-past {B} {part} {parser} {held} shape begun reads at may_go_on performs settled =
-      let head : Machine B = record { state = state_of shape part; collected = held; command = parser.command } in
+      → Advances outside call old new i (j + 1) parser next
+  advances-past {B} {progress} {parser} {held} shape begun reads at may_go_on performs settled =
+      let head : Machine B = record { state = state_of shape progress; collected = held; command = parser.command } in
       advances-then (advances-head {next = head} shape begun reads may_go_on refl)
-      (advances-when (quiet_head shape part _) (advances-byte at.0 at.1 may_go_on performs settled))
+      (advances-when (outside_runs-head shape progress _) (advances-byte at.0 at.1 may_go_on performs settled))
 
 -- a byte other than CAN, SUB and ESC there
 pub performs-head : {V B : Type 0} {step : V → Event → V} {old new : V} {limit : Option ℕ} {b : ℕ}
-    {parser next : Machine B} (shape : Shape) (part : HeadProgress)
-    → parser.state ≡ state_of shape part → ends_body (class_of b) ≡ false
-    → ((head : List ℕ) → StandsInHead parser.collected part head
+    {parser next : Machine B} (shape : Shape) (progress : HeadProgress)
+    → parser.state ≡ state_of shape progress → ends_body (class_of b) ≡ false
+    → ((head : List ℕ) → StandsInHead parser.collected progress head
     → TakesByte step old new limit (in_head shape head) b next)
-    → (place : Place) → Stands limit parser place → IsSettledPlace place
+    → (place : Place) → StandsAtPlace limit parser place → IsSettledPlace place
     → TakesBytes step old new limit place (b ∷ []) next
 performs-head {step} {old} {new} {limit} {b} {parser}
-    {next} shape part e ordinary takes = performs-in e ordinary (λ place s.
-    let k = place_in shape limit part parser place s in
+    {next} shape progress e ordinary takes = performs-in e ordinary (λ place s.
+    let k = place_in shape limit progress parser place s in
     subst (λ p. TakesByte step old new limit p b next) (sym k.same) (takes k.head k.stands))

@@ -1,7 +1,7 @@
 -- A byte inside a character, whose bytes the parser has: the character goes on with it, is whole, or is broken before
 -- it (`carried-more`, `carried-whole`, `carried-broken`). The place is a text with these bytes open, so
 -- `places/PlaceLeads` and `shapes/Told` say what the byte tells.
-use Rattle.vte_core.proofs.Common.{◌≡◌, ◌≢◌, ℕ, ◌+◌, ◌<◌, inl, inr, true, Option, List, [], ◌∷◌, ◌++◌, length, refl, ap, sym, subst, ◌∙◌, slice_index, Machine, Text, Nothing, Print, replacement, ProgressInside, StandsAt, StandsInside, Stands, StandsBy, Place, InText, bytes_of, may_continue, Carries, character_event, is_truncated, scalar_of, Unfinished, HasReadUnder, open_at, open_character, ChunkCall}
+use Rattle.vte_core.proofs.Common.{◌≡◌, ◌≢◌, ℕ, ◌+◌, ◌<◌, inl, inr, true, Option, List, [], ◌∷◌, ◌++◌, length, refl, ap, sym, subst, ◌∙◌, slice_index, Machine, Text, Nothing, Print, replacement, ProgressInside, StandsAt, StandsInside, StandsAtPlace, StandsBy, Place, InText, bytes_of, may_continue, Carries, character_event, is_truncated, scalar_of, Unfinished, HasReadWithLimit, open_at, open_character, ChunkCall}
 use Rattle.vte_core.specs.declared.utf8.Carried.TheVariants.{Unfinished as StillUnfinished, Whole, Broken}
 use Rattle.vte_core.proofs.fields.PlaceOfState.{may_continue-truncated, stands-by, stands-in, stands-place}
 use Rattle.vte_core.proofs.places.PlaceLeads.{text-unfinished, text-whole}
@@ -13,7 +13,7 @@ use Rattle.vte_core.proofs.places.StreamLemmas.{reads-byte}
 
 stands_in_text : {B : Type 0} {limit : Option ℕ} (parser : Machine B) (v : Unfinished) (u : List ℕ)
     → parser.state ≡ Text v → bytes_of v ≡ u
-    → may_continue u ≡ true → Stands limit parser (InText u)
+    → may_continue u ≡ true → StandsAtPlace limit parser (InText u)
 stands_in_text parser v u e same more = stands-by e (same, more)
 
 -- the parser, inside a character of these bytes
@@ -123,7 +123,7 @@ module _ {V B : Type 0} {call : ChunkCall V} {old mid : V} {stream : List ℕ} w
 
 -- what is open in a text
 pub opens-text : {B : Type 0} {limit : Option ℕ} {stream : List ℕ} {u : Unfinished} (parser : Machine B)
-    → parser.state ≡ Text u → bytes_of u ≢ [] → HasReadUnder limit parser stream
+    → parser.state ≡ Text u → bytes_of u ≢ [] → HasReadWithLimit limit parser stream
     → open_character stream ≡ [] → ⊥
 opens-text {limit} {stream} {u} parser e some h none =
     let t = by_text limit parser u h.place (stands-in e h.stands) in

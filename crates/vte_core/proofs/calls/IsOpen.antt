@@ -1,6 +1,6 @@
 -- Only between characters of a text does a parser go on as a new one: after every other place the digit 0 gives
 -- something else than after the empty stream.
-use Rattle.vte_core.proofs.Common.{◌≡◌, ◌≢◌, ℕ, Option, List, [], ◌∷◌, ◌++◌, refl, ap, sym, subst, ◌∙◌, arith, Digit, Machine, State, Text, Stands, StandsBy, HasReadUnder, Event, Print, replacement, Place, InText, AtEscape, InEscape, InControlSequence, InDeviceControl, InDeviceData, InSystemCommand, InIgnoredString, IsAfter, Leads, ◌≤◌, ◌<◌, true, false, eqb, EscapeSequence, Unfinished, class_of, escape, is_truncated, key_of}
+use Rattle.vte_core.proofs.Common.{◌≡◌, ◌≢◌, ℕ, Option, List, [], ◌∷◌, ◌++◌, refl, ap, sym, subst, ◌∙◌, arith, Digit, Machine, State, Text, StandsAtPlace, StandsBy, HasReadWithLimit, Event, Print, replacement, Place, InText, AtEscape, InEscape, InControlSequence, InDeviceControl, InDeviceData, InSystemCommand, InIgnoredString, IsAfter, Leads, ◌≤◌, ◌<◌, true, false, eqb, EscapeSequence, Unfinished, class_of, escape, is_truncated, sequence_kind}
 use Rattle.vte_core.proofs.Common.{added, bytes_of, events_from}
 use Rattle.vte_core.proofs.bytes.FirstBytes.{ascii_breaks}
 use Rattle.vte_core.proofs.fields.PlaceOfState.{IsPlace, stands-place}
@@ -14,13 +14,13 @@ use Rattle.vte_core.specs.Stream.{IsFinished, IsUnfinished}
 -- the byte is a digit
 record IsProbe (b : ℕ) : Type 0 where
   class : class_of b ≡ Digit
-  key : key_of b ≡ EscapeSequence
+  key : sequence_kind b ≡ EscapeSequence
   low : 0x20 ≤ b
   high : b < 0x80
   other : eqb b escape ≡ false
 
 zero_digit : IsProbe 0x30
-unfolding class_of key_of
+unfolding class_of sequence_kind
 zero_digit = record { class = refl; key = refl; low = omega arith; high = omega arith; other = refl }
 
 -- what a digit gives after a stream
@@ -78,10 +78,10 @@ by_state limit (Text u) parser s = record { unfinished = u; begun = refl; nothin
 by_state limit _ parser s = absurd s
 
 pub unfinished : {B : Type 0} {limit : Option ℕ} {stream : List ℕ} (parser : Machine B)
-    → HasReadUnder limit parser stream → (IsClosed parser.state → ⊥) → IsUnfinished limit stream
+    → HasReadWithLimit limit parser stream → (IsClosed parser.state → ⊥) → IsUnfinished limit stream
 unfinished {limit} {stream} parser h other =
     not_alone limit stream h.place 0x30 zero_digit (stands-place parser h.place h.stands) h.is_after
-    (λ here. other (by_state limit parser.state parser (subst (Stands limit parser) here h.stands).by))
+    (λ here. other (by_state limit parser.state parser (subst (StandsAtPlace limit parser) here h.stands).by))
 
 pub finished : {limit : Option ℕ} {stream : List ℕ} → IsAfter limit stream (InText []) → IsFinished limit stream
 finished {limit} {stream} a more =

@@ -3,7 +3,7 @@ use Rattle.vte_core.specs.declared.scan.taken.Run.{Run}
 use Rattle.vte_core.specs.declared.scan.taken.RunRange.{RunRange}
 use Rattle.vte_core.specs.LongParserCalls.{ReadsToRunLong, ContinuesLong, PassesLong, ReadsBytesLong, ReadsUntilTerminatedLong}
 use Rattle.vte_core.specs.machine.ToRun.{ComesToRun, IsTaken, bytes_at}
-use Rattle.vte_core.proofs.Common.{◌≡◌, TellsQuietly, ℕ, ◌+◌, ◌*◌, ◌≤◌, Bool, List, None, length, Result, Ok, Err, IfErr, IfOk, IfErr-weaker, IfOk-weaker, refl, arith, rules, false, read_count, ReadsUpTo, Event, Machine, HasReadUnder, ReadsUntilRefused, true, Refused, chunk_call}
+use Rattle.vte_core.proofs.Common.{◌≡◌, TellsOutsideRuns, ℕ, ◌+◌, ◌*◌, ◌≤◌, Bool, List, None, length, Result, Ok, Err, IfErr, IfOk, IfErr-weaker, IfOk-weaker, refl, arith, rules, false, read_count, ReadsUpTo, Event, Machine, HasReadWithLimit, ReadsUntilRefused, true, Refused, chunk_call}
 use Rattle.vte_core.proofs.calls.ToRun.{reads-run, returns-run}
 use Rattle.vte_core.specs.declared.parser.long.LongParser.{LongParser}
 use Rattle.vte_core.specs.LongParser.{HasReadLong, memory_of}
@@ -22,7 +22,7 @@ pub goes-on : {A V Answer : Type 0} (may_stop : Bool) (step : V → Event → V)
     → memory_of parser ≤ memory_of next → looks_long next ≤ looks_long parser + rate * length bytes + 8
     → IfOk result (λ _. looks_long next ≤ looks_long parser + rate * n + 8) → looks_long parser + n ≤ looks_long next
     → ContinuesLong rate bytes result n later parser next
-goes-on may_stop step is_terminated old new result reads refuses memory count paid least = record {
+goes-on may_stop step is_terminated old new result reads refuses memory count count_if_ok least = record {
   reads = reads;
   stores = λ stream h. stores_pieces _ _ (reads stream h);
   within = IfErr-weaker result _ _ (λ refused r. r.within) refuses;
@@ -31,7 +31,7 @@ goes-on may_stop step is_terminated old new result reads refuses memory count pa
   memory = memory;
   enough = λ stream h enough. ok_only result refuses (λ refused r. never_refused r stream h enough memory);
   count = count;
-  paid = paid;
+  count_if_ok = count_if_ok;
   least = least;
 }
 
@@ -39,7 +39,7 @@ pub passes : {V B Answer : Type 0} {step : V → Event → V} {is_terminated : V
     {before : Machine B} (parser : Machine B) (result : Result Answer Refused)
     → IfErr result
     (λ refused. ReadsUntilRefused (chunk_call true step is_terminated None bytes) old new refused.read before parser)
-    → PassesLong step is_terminated old new (HasReadUnder None before) bytes result
+    → PassesLong step is_terminated old new (HasReadWithLimit None before) bytes result
 passes parser result refuses = record {
   passes =
       IfErr-weaker result _ _ (λ refused r stream h. let come = (refuses-inside r stream h).has_come in
@@ -57,7 +57,7 @@ module _ {A V : Type 0} {step : V → Event → V} {is_terminated : V → Bool} 
       → ReadsBytesLong step old new bytes (Err refused) parser next
   reads_refused refused refuses costs = record {
     performs = λ stream h. (refuses-inside refuses stream h).has_come.performed;
-    goes_on =
+    continues =
         goes-on false step is_terminated old new (Err refused)
         (λ stream h. inside-reads (refuses-inside refuses stream h)) refuses costs.memory costs.count tt (search rules);
   }
@@ -71,7 +71,7 @@ module _ {A V : Type 0} {step : V → Event → V} {is_terminated : V → Bool} 
       let all = reads-all _ _ reads.within reads.asked in
       record {
         performs = λ stream h. ends-performs all (reads.stands_at stream h);
-        goes_on =
+        continues =
             goes-on false step is_terminated old new (Ok tt)
             (λ stream h. ends-reads_all all (reads.stands_at stream h)) tt costs.memory costs.count costs.count
             (search rules);
@@ -90,11 +90,11 @@ module _ {A V : Type 0} {step : V → Event → V} {is_terminated : V → Bool} 
     within = by_count result reads refuses (λ read r. r.within) (λ refused r. omega (arith, r.within));
     stops = IfOk-weaker result _ _ (λ read r stream h. ends-stops refl r.within r.stops (r.stands_at stream h)) reads;
     refuses = passes _ result refuses;
-    goes_on =
+    continues =
         goes-on true step is_terminated old new result
         (λ stream h. by_count result reads refuses (λ read r. ends-reads (r.stands_at stream h))
         (λ refused r. ends-reads (r.stands_at stream h)))
-        refuses costs.memory costs.count costs.paid costs.least;
+        refuses costs.memory costs.count costs.count_if_ok costs.least;
   }
 
   -- `advance_to_run`, if memory is refused
@@ -102,13 +102,13 @@ module _ {A V : Type 0} {step : V → Event → V} {is_terminated : V → Bool} 
       → ReadsUntilRefused (chunk_call true step is_terminated None bytes) old new refused.read parser.machine
       next.machine
       → Costs 7 bytes drove refused.read parser.machine next.machine parser.looks next.looks
-      → ((stream : List ℕ) → HasReadLong parser stream → TellsQuietly None stream bytes refused.read)
+      → ((stream : List ℕ) → HasReadLong parser stream → TellsOutsideRuns None stream bytes refused.read)
       → ReadsToRunLong step is_terminated old new bytes (Err refused) parser next
   to_run-refused refused refuses costs others = record {
     returns = tt;
     refuses = passes next.machine (Err refused) refuses;
-    quietly = others;
-    goes_on =
+    outside_runs = others;
+    continues =
         goes-on true step is_terminated old new (Err refused)
         (λ stream h. ends-reads (refuses.stands_at stream h)) refuses costs.memory costs.count tt costs.least;
   }
@@ -118,14 +118,14 @@ module _ {A V : Type 0} {step : V → Event → V} {is_terminated : V → Bool} 
       → ComesToRun (chunk_call true step is_terminated None bytes) old new place parser.machine next.machine
       → run.start ≡ place.start → run.end ≡ place.end → IsTaken place.kind (bytes_at bytes place) run.taken
       → Costs 7 bytes (Ok place) place.end parser.machine next.machine parser.looks next.looks
-      → ((stream : List ℕ) → HasReadLong parser stream → TellsQuietly None stream bytes place.start)
+      → ((stream : List ℕ) → HasReadLong parser stream → TellsOutsideRuns None stream bytes place.start)
       → ReadsToRunLong step is_terminated old new bytes (Ok run) parser next
   to_run-read run comes starts ends taken costs others = record {
     returns = returns-run run comes starts ends taken refl;
     refuses = passes next.machine (Ok run) tt;
-    quietly = λ stream h. rw starts (others stream h);
-    goes_on =
+    outside_runs = λ stream h. rw starts (others stream h);
+    continues =
         goes-on true step is_terminated old new (Ok run) (reads-run run comes starts ends taken) tt
         costs.memory costs.count
-        (rw ends costs.paid) (rw ends costs.least);
+        (rw ends costs.count_if_ok) (rw ends costs.least);
   }

@@ -8,7 +8,7 @@
 -- or the next byte breaks the open one; `come-command`: back from there
 -- `come-starts`: there something starts
 -- `come-to`, `come-performs`: the public clauses of a call that stops, and of one that reads all
-use Rattle.vte_core.proofs.Common.{◌≡◌, ℕ, zero, suc, ◌+◌, ◌-◌, ◌<◌, ◌≤◌, inl, inr, true, false, Option, List, [], ◌∷◌, ◌++◌, length, take, drop, refl, ap, sym, subst, ◌∙◌, append_assoc, arith, slice_index, cases_Bool, cases_lt, append-nil, drop_more, take-add, breaks, breaks_at, IsStart, told_before, resumed_stream, Event, Print, replacement, after, added, open_character, ProgressAt, ProgressInside, MayGoOn, Reads, Place, InText, ChunkCall}
+use Rattle.vte_core.proofs.Common.{◌≡◌, ℕ, zero, suc, ◌+◌, ◌-◌, ◌<◌, ◌≤◌, inl, inr, true, false, Option, List, [], ◌∷◌, ◌++◌, length, take, drop, refl, ap, sym, subst, ◌∙◌, append_assoc, arith, slice_index, cases_Bool, cases_lt, append-nil, drop_more, take-add, breaks, breaks_at, IsStart, told_before, resumed_stream, Event, Print, replacement, after, added, open_character, ProgressAt, ProgressInside, MayGoOn, BytesLead, Place, InText, ChunkCall}
 use Rattle.vte_core.proofs.Common.{InSystemCommand, IsAfter, IsSettledPlace, open_at, ComesTo}
 use Rattle.vte_core.proofs.streams.After.{after-left, after-nothing, after-open_character, after-reads, added-reads, added-nothing}
 use Rattle.vte_core.proofs.calls.States.{reads-item}
@@ -108,7 +108,7 @@ module _ {V : Type 0} {call : ChunkCall V} {old : V} {stream : List ℕ} where
       → (call.may_stop ≡ true → IsStart stream call.bytes i → call.is_terminated value ≡ false)
       → (call.may_stop ≡ true → (k : ℕ) → i < k → k < j
       → call.is_terminated (after call.step old (told_before call.limit stream call.bytes k)) ≡ false)
-      → Reads call.limit place (take (j - i) (drop i call.bytes)) these next → new ≡ after call.step value these
+      → BytesLead call.limit place (take (j - i) (drop i call.bytes)) these next → new ≡ after call.step value these
       → IsPlace next → ProgressAt call old value stream i place → ProgressInside call old new stream j next
   come-further {value} {i} {j} {place} {next}
       {these} in_order within here inside r performed is_place c = record {
@@ -139,16 +139,16 @@ module _ {V : Type 0} {call : ChunkCall V} {old : V} {stream : List ℕ} where
   further : {value new : V} {i b : ℕ} {place next : Place} {these : List Event} → i < length call.bytes
       → b ≡ slice_index call.bytes i
       → (call.may_stop ≡ true → IsStart stream call.bytes i → call.is_terminated value ≡ false)
-      → Reads call.limit place (b ∷ []) these next → new ≡ after call.step value these → IsPlace next
+      → BytesLead call.limit place (b ∷ []) these next → new ≡ after call.step value these → IsPlace next
       → ProgressAt call old value stream i place → ProgressInside call old new stream (i + 1) next
   further {i} {b} {place} {next} {these} within is here r =
       let one = one_byte call.bytes i b within is in
       come-further (omega arith) (omega (arith, within)) here (λ does k past below. absurd (omega (arith, past, below)))
-      (subst (λ x. Reads call.limit place x these next) (sym one) r)
+      (subst (λ x. BytesLead call.limit place x these next) (sym one) r)
 
   -- after an answer, whatever starts here; after a broken character too
   pub come-byte : {value new : V} {i b : ℕ} {place next : Place} {these : List Event} → i < length call.bytes
-      → b ≡ slice_index call.bytes i → MayGoOn call value → Reads call.limit place (b ∷ []) these next
+      → b ≡ slice_index call.bytes i → MayGoOn call value → BytesLead call.limit place (b ∷ []) these next
       → new ≡ after call.step value these → IsPlace next → ProgressAt call old value stream i place
       → ProgressInside call old new stream (i + 1) next
   come-byte within is may_go_on r performed is_place c =
@@ -157,7 +157,7 @@ module _ {V : Type 0} {call : ChunkCall V} {old : V} {stream : List ℕ} where
   -- inside a character
   pub come-carried : {value new : V} {i b : ℕ} {place next : Place} {these : List Event} → IsPlace place
       → i < length call.bytes → b ≡ slice_index call.bytes i → (open_at place ≡ [] → ⊥)
-      → breaks (open_at place) (b ∷ []) ≡ false → Reads call.limit place (b ∷ []) these next
+      → breaks (open_at place) (b ∷ []) ≡ false → BytesLead call.limit place (b ∷ []) these next
       → new ≡ after call.step value these → IsPlace next → ProgressInside call old value stream i place
       → ProgressInside call old new stream (i + 1) next
   come-carried {i} {b} {place} is_here within is some whole r performed is_place c =

@@ -1,6 +1,6 @@
 -- What a call without a limit stores, and where it stops for lack of memory. What is stored of an open command is said
 -- of its place, so it holds of every parser that is at one.
-use Rattle.vte_core.proofs.Common.{◌≡◌, ℕ, ◌+◌, ◌≤◌, Bool, None, List, [], ◌∷◌, ◌++◌, length, take, Result, Ok, Err, IfErr, IfOk, IsOk, refl, ap, sym, subst, ◌∙◌, length-take, IsAfter, arith, concat, slice_index, Machine, MeetsData, open_data_count, open_command_size, read_count, State, SystemCommand, ProgressAt, IsRefusedInCommand, ReadsUntilRefused, StandsInside, HasReadUnder, Stands, StandsBy, Place, InSystemCommand, InText, ChunkCall}
+use Rattle.vte_core.proofs.Common.{◌≡◌, ℕ, ◌+◌, ◌≤◌, Bool, None, List, [], ◌∷◌, ◌++◌, length, take, Result, Ok, Err, IfErr, IfOk, IsOk, refl, ap, sym, subst, ◌∙◌, length-take, IsAfter, arith, concat, slice_index, Machine, MeetsData, open_data_count, open_command_size, read_count, State, SystemCommand, ProgressAt, IsRefusedInCommand, ReadsUntilRefused, StandsInside, HasReadWithLimit, StandsAtPlace, StandsBy, Place, InSystemCommand, InText, ChunkCall}
 use Rattle.vte_core.proofs.Common.{left_at, Stored, HoldsItems, ToClose, CommandToClose, loses_data, outcome, pieces_of, Refused}
 use Rattle.vte_core.proofs.calls.States.{reads-item}
 use Rattle.vte_core.proofs.calls.Progress.{come-command}
@@ -11,18 +11,18 @@ use Rattle.vte_core.proofs.streams.After.{after-left, after-reads}
 use Rattle.vte_core.proofs.streams.CommandSizes.{counts_data}
 
 pub inside-reads : {V B : Type 0} {call : ChunkCall V} {old value : V} {stream : List ℕ} {i : ℕ} {parser : Machine B}
-    → StandsInside call old value stream i parser → HasReadUnder call.limit parser (stream ++ take i call.bytes)
+    → StandsInside call old value stream i parser → HasReadWithLimit call.limit parser (stream ++ take i call.bytes)
 inside-reads s = record { place = s.place; stands = s.stands; is_after = s.has_come.is_after }
 
 -- what a stream leaves is what its place leaves
-left_here : {B : Type 0} (parser : Machine B) (stream : List ℕ) (h : HasReadUnder None parser stream)
+left_here : {B : Type 0} (parser : Machine B) (stream : List ℕ) (h : HasReadWithLimit None parser stream)
     → (outcome None stream).left ≡ left_at None h.place
 left_here parser stream h = after-left None stream h.place h.is_after (stands-place parser h.place h.stands)
 
 -- a byte that is refused is a data byte of an open command
 pub meets_data : {B : Type 0} {parser : Machine B} {stream bytes : List ℕ} {from : ℕ}
     → IsRefusedInCommand None parser.state parser.command bytes from
-    → HasReadUnder None parser stream → MeetsData stream (slice_index bytes from)
+    → HasReadWithLimit None parser stream → MeetsData stream (slice_index bytes from)
 meets_data {parser} {stream} {bytes} {from} refused h =
     let byte : ℕ = slice_index bytes from in
     let k = in_command parser h.place refused.inside h.stands in
@@ -62,7 +62,7 @@ ok_only (Err refused) err never = absurd (never refused err)
 
 -- in a command no character is open
 pub refuses-inside : {V B : Type 0} {call : ChunkCall V} {old new : V} {n : ℕ} {before parser : Machine B}
-    → ReadsUntilRefused call old new n before parser → (stream : List ℕ) → HasReadUnder call.limit before stream
+    → ReadsUntilRefused call old new n before parser → (stream : List ℕ) → HasReadWithLimit call.limit before stream
     → StandsInside call old new stream n parser
 refuses-inside {call} {old} {new} {n} {parser} r stream h =
     let s = r.stands_at stream h in
@@ -77,7 +77,7 @@ refuses-inside {call} {old} {new} {n} {parser} r stream h =
 
 -- in a command as many bytes as are open
 pub stored_is_open : {B : Type 0} (parser : Machine B) (stream : List ℕ) → parser.state ≡ SystemCommand
-    → HasReadUnder None parser stream
+    → HasReadWithLimit None parser stream
     → length parser.command.bytes ≡ open_command_size stream
 stored_is_open parser stream e h =
     let k = in_command parser h.place e h.stands in
@@ -90,7 +90,7 @@ is_command SystemCommand parser items s = refl
 is_command _ parser items s = absurd s
 
 by_place : {B : Type 0} (parser : Machine B) (place : Place) (pieces : List (List ℕ)) (lost : Bool)
-    → Stands None parser place → left_at None place ≡ CommandToClose pieces lost
+    → StandsAtPlace None parser place → left_at None place ≡ CommandToClose pieces lost
     → parser.state ≡ SystemCommand
 by_place parser (InText []) pieces lost s e = cc
 by_place parser (InText (a ∷ u)) pieces lost s e = cc
@@ -98,14 +98,14 @@ by_place parser (InSystemCommand items) pieces lost s e = is_command parser.stat
 by_place parser _ pieces lost s e = cc
 
 -- a command is open in that state alone
-in_state : {B : Type 0} (parser : Machine B) (stream : List ℕ) → HasReadUnder None parser stream
+in_state : {B : Type 0} (parser : Machine B) (stream : List ℕ) → HasReadWithLimit None parser stream
     → (pieces : List (List ℕ)) (lost : Bool) → (outcome None stream).left ≡ CommandToClose pieces lost
     → parser.state ≡ SystemCommand
 in_state parser stream h pieces lost open_command =
     by_place parser h.place pieces lost h.stands (sym (left_here parser stream h) ∙ open_command)
 
 -- of an open command the bytes of its pieces
-pub stores_pieces : {B : Type 0} (parser : Machine B) (stream : List ℕ) → HasReadUnder None parser stream
+pub stores_pieces : {B : Type 0} (parser : Machine B) (stream : List ℕ) → HasReadWithLimit None parser stream
     → (pieces : List (List ℕ)) (lost : Bool)
     → (outcome None stream).left ≡ CommandToClose pieces lost → length parser.command.bytes ≡ length (concat pieces)
 stores_pieces parser stream h pieces lost open_command =
@@ -118,14 +118,14 @@ by_left (CommandToClose pieces lost) n stored = omega (arith, stored pieces lost
 by_left _ n stored = omega arith
 
 -- no more are open
-pub open_is_stored : {B : Type 0} (parser : Machine B) (stream : List ℕ) → HasReadUnder None parser stream
+pub open_is_stored : {B : Type 0} (parser : Machine B) (stream : List ℕ) → HasReadWithLimit None parser stream
     → open_command_size stream ≤ length parser.command.bytes
 open_is_stored parser stream h =
     by_left (outcome None stream).left (length parser.command.bytes) (stores_pieces parser stream h)
 
 -- outside a command no data bytes are open
 pub none_is_open : {B : Type 0} (parser : Machine B) (stream : List ℕ) → (parser.state ≡ SystemCommand → ⊥)
-    → HasReadUnder None parser stream → open_command_size stream ≡ 0
+    → HasReadWithLimit None parser stream → open_command_size stream ≡ 0
 none_is_open parser stream other h =
     omega (
       arith,
@@ -140,14 +140,14 @@ nothing_stored {held} keeps = pieces_stored None held [] keeps
 
 -- where there was memory for all bytes of the call, none is refused
 pub never_refused : {V B : Type 0} {call : ChunkCall V} {old new : V} {n : ℕ} {before parser : Machine B}
-    → ReadsUntilRefused call old new n before parser → (stream : List ℕ) → HasReadUnder call.limit before stream
+    → ReadsUntilRefused call old new n before parser → (stream : List ℕ) → HasReadWithLimit call.limit before stream
     → open_command_size stream + length call.bytes ≤ before.command.capacity
     → before.command.capacity ≤ parser.command.capacity → ⊥
 never_refused {call} {n} {parser} r stream h enough kept =
     let read : List ℕ = take n call.bytes in
     let stored =
     stored_is_open parser (stream ++ read) r.refused.inside
-    (subst (λ limit. HasReadUnder limit parser (stream ++ read)) r.refused.unlimited
+    (subst (λ limit. HasReadWithLimit limit parser (stream ++ read)) r.refused.unlimited
     (inside-reads (refuses-inside r stream h))) in
     omega (
       arith,

@@ -1,5 +1,5 @@
 -- What a parser's state says of its place: by cases of the state, of which all but one are absurd.
-use Rattle.vte_core.proofs.Common.{◌≡◌, ℕ, ◌<◌, ◌≤◌, inl, inr, true, false, not, eqb, Option, List, [], ◌∷◌, ◌++◌, ap, sym, arith, cases_lt, false≢true, nat_tests, Machine, Text, Nothing, Stands, StandsBy, Place, InText, InSystemCommand, escape, Reads}
+use Rattle.vte_core.proofs.Common.{◌≡◌, ℕ, ◌<◌, ◌≤◌, inl, inr, true, false, not, eqb, Option, List, [], ◌∷◌, ◌++◌, ap, sym, arith, cases_lt, false≢true, nat_tests, Machine, Text, Nothing, StandsAtPlace, StandsBy, Place, InText, InSystemCommand, escape, BytesLead}
 use Rattle.vte_core.proofs.fields.PlaceOfState.{stands-in}
 use Rattle.vte_core.proofs.places.PlaceLeads.{command-item}
 use Rattle.vte_core.proofs.places.StreamLemmas.{reads-byte}
@@ -13,7 +13,7 @@ by_text limit parser _ s = absurd s
 
 -- between characters of a text there is one place
 pub between_characters : {B : Type 0} {limit : Option ℕ} (parser : Machine B) (place : Place)
-    → parser.state ≡ Text Nothing → Stands limit parser place → place ≡ InText []
+    → parser.state ≡ Text Nothing → StandsAtPlace limit parser place → place ≡ InText []
 between_characters {limit} parser place e s = by_text limit parser place (stands-in e s)
 
 -- ---- whether a call asks
@@ -36,7 +36,7 @@ item_is_no_escape : (b : ℕ) → 0x20 ≤ b → eqb b escape ≡ false
 item_is_no_escape b low = grind (arith, nat_tests)
 
 pub reads-item : (limit : Option ℕ) (items : List ℕ) (b : ℕ) → 0x20 ≤ b
-    → Reads limit (InSystemCommand items) (b ∷ []) [] (InSystemCommand (items ++ b ∷ []))
+    → BytesLead limit (InSystemCommand items) (b ∷ []) [] (InSystemCommand (items ++ b ∷ []))
 reads-item limit items b low =
     reads-byte limit (InSystemCommand items) (InSystemCommand (items ++ b ∷ [])) b [] (item_is_no_escape b low)
     (command-item limit items b low)

@@ -1,6 +1,6 @@
 -- What a run of text does to a call's progress: its characters one by one do the same. By induction over the
 -- characters, and for the performer by its contract over the whole run.
-use Rattle.vte_core.proofs.Common.{cases_Bool, inl, inr, Bool, List, Option, [], ap, arith, drop, false, length, map, refl, subst, sym, take, true, ℕ, ◌++◌, ◌+◌, ◌-◌, ◌<◌, ◌∙◌, ◌∷◌, ◌≡◌, ◌≢◌, ◌≤◌, encode, false≢true, append-nil, take-append-drop, All-append, All-head, All-nil, All-tail, All, slice_index, breaks_at, resumed_stream, told_before, Event, Print, replacement, after, added, cut_at_escape, escape, with_bodies, events, ChunkCall, run_event, character_event, is_control_character, malformed_event, text_outcome, Text, Machine, Nothing, Reads, Stands, InText, encodes, nat_tests, outcome_from, Advances, ProgressAt, MayGoOn, StandsAt, StandsInside, chars, IsUtf8, NoCharacterStops, IsUtf8Run, IsPrintedAscii, PrintsRun, StaysInRun, ends_run}
+use Rattle.vte_core.proofs.Common.{cases_Bool, inl, inr, Bool, List, Option, [], ap, arith, drop, false, length, map, refl, subst, sym, take, true, ℕ, ◌++◌, ◌+◌, ◌-◌, ◌<◌, ◌∙◌, ◌∷◌, ◌≡◌, ◌≢◌, ◌≤◌, encode, false≢true, append-nil, take-append-drop, All-append, All-head, All-nil, All-tail, All, slice_index, breaks_at, resumed_stream, told_before, Event, Print, replacement, after, added, cut_at_escape, escape, with_bodies, events, ChunkCall, run_event, character_event, is_control_character, malformed_event, text_outcome, Text, Machine, Nothing, BytesLead, StandsAtPlace, InText, encodes, nat_tests, outcome_from, Advances, ProgressAt, MayGoOn, StandsAt, StandsInside, chars, IsUtf8, NoCharacterStops, IsUtf8Run, IsPrintedAscii, PrintsRun, StaysInRun, ends_run}
 use Rattle.std.proofs.lemmas.List.{take-take}
 use Rattle.std.proofs.lemmas.List.Elements.{All-from_get_or}
 use Rattle.std.proofs.lemmas.Str.{inside_one, encodes-chars, scalars-chars}
@@ -20,7 +20,7 @@ use Rattle.vte_core.proofs.streams.StreamSteps.{told_by_stream}
 -- ---- what a text gives, and a run
 
 reads-characters : (limit : Option ℕ) (text : List ℕ) → IsUtf8 text → All (λ b. b ≢ escape) text
-    → Reads limit (InText []) text (map character_event (chars text)) (InText [])
+    → BytesLead limit (InText []) text (map character_event (chars text)) (InText [])
 unfolding outcome_from
 reads-characters limit text is none = record {
   reads = λ more.
@@ -37,72 +37,72 @@ pub told_as_characters : (limit : Option ℕ) (text : List ℕ) → IsUtf8 text 
 told_as_characters limit text is none =
     told_by_stream limit (InText []) text (map character_event (chars text)) refl (reads-characters limit text is none)
 
-plain-event : (keeps : Bool) (c : ℕ) → StaysInRun keeps c → character_event c ≡ run_event keeps c
+plain-event : (layout : Bool) (c : ℕ) → StaysInRun layout c → character_event c ≡ run_event layout c
 unfolding character_event
-plain-event keeps c plain = grind (arith, nat_tests, layout-is_plain_control c)
+plain-event layout c plain = grind (arith, nat_tests, layout-is_plain_control c)
 
-plain-events : (keeps : Bool) (cs : List ℕ) → All (StaysInRun keeps) cs
-    → map character_event cs ≡ map (run_event keeps) cs
-plain-events keeps [] plain = refl
-plain-events keeps (c ∷ cs) plain =
-    let first = plain-event keeps c (All-head (StaysInRun keeps) c cs plain) in
-    let rest = plain-events keeps cs (All-tail (StaysInRun keeps) c cs plain) in
+plain-events : (layout : Bool) (cs : List ℕ) → All (StaysInRun layout) cs
+    → map character_event cs ≡ map (run_event layout) cs
+plain-events layout [] plain = refl
+plain-events layout (c ∷ cs) plain =
+    let first = plain-event layout c (All-head (StaysInRun layout) c cs plain) in
+    let rest = plain-events layout cs (All-tail (StaysInRun layout) c cs plain) in
     cc
 
-escape-ends_run : (keeps : Bool) → ends_run keeps escape ≡ true
-escape-ends_run keeps = grind arith
+escape-ends_run : (layout : Bool) → ends_run layout escape ≡ true
+escape-ends_run layout = grind arith
 
-replacement-event : (keeps : Bool) → run_event keeps replacement ≡ Print replacement
-replacement-event keeps = grind arith
+replacement-event : (layout : Bool) → run_event layout replacement ≡ Print replacement
+replacement-event layout = grind arith
 
-no_escape-encode : (keeps : Bool) (c : ℕ) → StaysInRun keeps c → All (λ b. b ≢ escape) (encode c)
-no_escape-encode keeps c plain = All-from_get_or (λ b. b ≢ escape) (encode c) 0 (λ k l e.
+no_escape-encode : (layout : Bool) (c : ℕ) → StaysInRun layout c → All (λ b. b ≢ escape) (encode c)
+no_escape-encode layout c plain = All-from_get_or (λ b. b ≢ escape) (encode c) 0 (λ k l e.
     let is : c ≡ escape = inside_one c [] (encode c) k (sym (append-nil (encode c))) l (omega (arith, e)) ∙ e in
-    absurd (false≢true (sym plain ∙ ap (ends_run keeps) is ∙ escape-ends_run keeps)))
+    absurd (false≢true (sym plain ∙ ap (ends_run layout) is ∙ escape-ends_run layout)))
 
-no_escape-encodes : (keeps : Bool) (cs : List ℕ) → All (StaysInRun keeps) cs → All (λ b. b ≢ escape) (encodes cs)
-no_escape-encodes keeps [] plain = All-nil (λ b. b ≢ escape)
-no_escape-encodes keeps (c ∷ cs) plain =
+no_escape-encodes : (layout : Bool) (cs : List ℕ) → All (StaysInRun layout) cs → All (λ b. b ≢ escape) (encodes cs)
+no_escape-encodes layout [] plain = All-nil (λ b. b ≢ escape)
+no_escape-encodes layout (c ∷ cs) plain =
     All-append (λ b. b ≢ escape) (encode c) (encodes cs)
-    (no_escape-encode keeps c (All-head (StaysInRun keeps) c cs plain))
-    (no_escape-encodes keeps cs (All-tail (StaysInRun keeps) c cs plain))
+    (no_escape-encode layout c (All-head (StaysInRun layout) c cs plain))
+    (no_escape-encodes layout cs (All-tail (StaysInRun layout) c cs plain))
 
-no_escape-run : (keeps : Bool) (run : List ℕ) → IsUtf8Run keeps run → All (λ b. b ≢ escape) run
-no_escape-run keeps run are =
-    subst (All (λ b. b ≢ escape)) (encodes-chars run are.utf8) (no_escape-encodes keeps (chars run) are.plain)
+no_escape-run : (layout : Bool) (run : List ℕ) → IsUtf8Run layout run → All (λ b. b ≢ escape) run
+no_escape-run layout run are =
+    subst (All (λ b. b ≢ escape)) (encodes-chars run are.utf8) (no_escape-encodes layout (chars run) are.plain)
 
-pub reads-text : (limit : Option ℕ) (keeps : Bool) (run : List ℕ) → IsUtf8Run keeps run
-    → Reads limit (InText []) run (map (run_event keeps) (chars run)) (InText [])
-reads-text limit keeps run are =
-    subst (λ es. Reads limit (InText []) run es (InText [])) (plain-events keeps (chars run) are.plain)
-    (reads-characters limit run are.utf8 (no_escape-run keeps run are))
+pub reads-text : (limit : Option ℕ) (layout : Bool) (run : List ℕ) → IsUtf8Run layout run
+    → BytesLead limit (InText []) run (map (run_event layout) (chars run)) (InText [])
+reads-text limit layout run are =
+    subst (λ es. BytesLead limit (InText []) run es (InText [])) (plain-events layout (chars run) are.plain)
+    (reads-characters limit run are.utf8 (no_escape-run layout run are))
 
 -- ---- what it does
 
 -- a run of one byte of ASCII
-pub prints-one : {V : Type 0} {keeps : Bool} {step : V → Event → V} {old new : V} {bytes : List ℕ} {from b c : ℕ}
+pub prints-one : {V : Type 0} {layout : Bool} {step : V → Event → V} {old new : V} {bytes : List ℕ} {from b c : ℕ}
     → from < length bytes → b ≡ slice_index bytes from → IsPrintedAscii b → c ≡ b
-    → new ≡ step old (Print c) → PrintsRun keeps step old new bytes from (from + 1)
-prints-one {keeps} {step} {old} {bytes} {from}
+    → new ≡ step old (Print c) → PrintsRun layout step old new bytes from (from + 1)
+prints-one {layout} {step} {old} {bytes} {from}
     {b} within is printed same e = record {
-      run = run-ascii keeps bytes from (from + 1)
+      run = run-ascii layout bytes from (from + 1)
           (each-one IsPrintedAscii bytes from (subst IsPrintedAscii is printed));
       printed = e ∙ ap (λ x. step old (Print x)) same
-          ∙ ap (λ event. step old event) (sym (printed-event keeps b printed))
-          ∙ ap (λ cs. after step old (map (run_event keeps) cs)) (sym (chars-one bytes from b within is printed));
+          ∙ ap (λ event. step old event) (sym (printed-event layout b printed))
+          ∙ ap (λ cs. after step old (map (run_event layout) cs)) (sym (chars-one bytes from b within is printed));
     }
 
 -- ---- a performer that no character stops
 
-module _ {V : Type 0} (keeps : Bool) (call : ChunkCall V)
-    (never : NoCharacterStops keeps call.step call.is_terminated) where
-  not_stopped : (value : V) (given rest : List Event) (cs : List ℕ) → given ++ rest ≡ map (run_event keeps) cs
+module _ {V : Type 0} (layout : Bool) (call : ChunkCall V)
+    (never : NoCharacterStops layout call.step call.is_terminated) where
+  not_stopped : (value : V) (given rest : List Event) (cs : List ℕ) → given ++ rest ≡ map (run_event layout) cs
       → call.is_terminated value ≡ false → call.is_terminated (after call.step value given) ≡ false
   not_stopped value [] rest cs e goes = goes
   not_stopped value (x ∷ given) rest [] e goes = cc
   not_stopped value (x ∷ given) rest (c ∷ cs) e goes =
-      let first : x ≡ run_event keeps c = cc in
-      let others : given ++ rest ≡ map (run_event keeps) cs = cc in
+      let first : x ≡ run_event layout c = cc in
+      let others : given ++ rest ≡ map (run_event layout) cs = cc in
       not_stopped (call.step value x) given rest cs others
       (ap (λ event. call.is_terminated (call.step value event)) first ∙ never value c goes)
 
@@ -116,41 +116,41 @@ module _ {V : Type 0} (keeps : Bool) (call : ChunkCall V)
           told-broken call.limit stream call.bytes k broken,
           after-append call.step value (added call.limit stream (take k call.bytes)) (Print replacement ∷ []),
         )
-        (rw (replacement-event keeps) at
+        (rw (replacement-event layout) at
         (never (after call.step value (added call.limit stream (take k call.bytes))) replacement goes))
     | inr whole ↦ rw (told-settled call.limit stream call.bytes k whole) goes
   ]
 
-pub may_go_on-text : {V : Type 0} {keeps : Bool} (call : ChunkCall V) {old new : V} {i j : ℕ}
-    → (call.may_stop ≡ true → NoCharacterStops keeps call.step call.is_terminated) → MayGoOn call old
-    → PrintsRun keeps call.step old new call.bytes i j → MayGoOn call new
-may_go_on-text {keeps} call {old} {i} {j} never may_go_on prints does =
+pub may_go_on-text : {V : Type 0} {layout : Bool} (call : ChunkCall V) {old new : V} {i j : ℕ}
+    → (call.may_stop ≡ true → NoCharacterStops layout call.step call.is_terminated) → MayGoOn call old
+    → PrintsRun layout call.step old new call.bytes i j → MayGoOn call new
+may_go_on-text {layout} call {old} {i} {j} never may_go_on prints does =
     let cs = chars (take (j - i) (drop i call.bytes)) in
     ap call.is_terminated prints.printed
-    ∙ not_stopped keeps call (never does) old (map (run_event keeps) cs) [] cs
-    (append-nil (map (run_event keeps) cs)) (may_go_on does)
+    ∙ not_stopped layout call (never does) old (map (run_event layout) cs) [] cs
+    (append-nil (map (run_event layout) cs)) (may_go_on does)
 
 -- What is malformed in runs is told by U+FFFD, which is a character too.
-pub may_go_on-malformed : {V : Type 0} (keeps : Bool) (call : ChunkCall V) {old new : V} {b : ℕ}
-    → (call.may_stop ≡ true → NoCharacterStops keeps call.step call.is_terminated) → MayGoOn call old → 0xa0 ≤ b
+pub may_go_on-malformed : {V : Type 0} (layout : Bool) (call : ChunkCall V) {old new : V} {b : ℕ}
+    → (call.may_stop ≡ true → NoCharacterStops layout call.step call.is_terminated) → MayGoOn call old → 0xa0 ≤ b
     → new ≡ call.step old (malformed_event (b ∷ [])) → MayGoOn call new
 unfolding malformed_event
-may_go_on-malformed keeps call {old} {b} never may_go_on high performed does =
+may_go_on-malformed layout call {old} {b} never may_go_on high performed does =
     let printed : is_control_character b ≡ false = grind (arith, nat_tests) in
-    let event : malformed_event (b ∷ []) ≡ run_event keeps replacement =
-    rw printed (sym (no_control_event keeps replacement refl)) in
+    let event : malformed_event (b ∷ []) ≡ run_event layout replacement =
+    rw printed (sym (no_control_event layout replacement refl)) in
     rw (performed, event) (never does old replacement (may_go_on does))
 
 -- a run more
-pub advances-text : {V B : Type 0} {call : ChunkCall V} {keeps : Bool} {old new : V} {i j : ℕ} {parser : Machine B}
-    → (call.may_stop ≡ true → NoCharacterStops keeps call.step call.is_terminated) → MayGoOn call old
+pub advances-text : {V B : Type 0} {call : ChunkCall V} {layout : Bool} {old new : V} {i j : ℕ} {parser : Machine B}
+    → (call.may_stop ≡ true → NoCharacterStops layout call.step call.is_terminated) → MayGoOn call old
     → parser.state ≡ Text Nothing → i < j → j ≤ length call.bytes
-    → PrintsRun keeps call.step old new call.bytes i j → Advances ⊥ call old new i j parser parser
-advances-text {V} {call} {keeps} {old} {new} {i} {j} {parser}
+    → PrintsRun layout call.step old new call.bytes i j → Advances ⊥ call old new i j parser parser
+advances-text {V} {call} {layout} {old} {new} {i} {j} {parser}
     never may_go_on e in_order high prints = record {
       goes_on = λ value stream s. settles (settled-by parser.state (Text Nothing) e tt) (inside-next value stream s);
       settled = λ _. settled-by parser.state (Text Nothing) e tt;
-      quietly = λ no. absurd no;
+      outside_runs = λ no. absurd no;
     }
   where
     run : List ℕ
@@ -168,16 +168,16 @@ advances-text {V} {call} {keeps} {old} {new} {i} {j} {parser}
         sym (take-append-drop (k - i) run)
         ∙ ap (λ x. x ++ rest) (take-take (k - i) (j - i) (drop i call.bytes) (omega (arith, below))) in
         let all : added call.limit from front ++ added call.limit (from ++ front) rest
-        ≡ map (run_event keeps) (chars run) =
+        ≡ map (run_event layout) (chars run) =
         sym (added_both call.limit from front rest) ∙ ap (added call.limit from) (sym parts)
         ∙ added-reads call.limit from run (InText []) (InText []) _ c.is_after
-        (reads-text call.limit keeps run prints.run) refl in
-        not_stopped-told keeps call (never does) value stream k
+        (reads-text call.limit layout run prints.run) refl in
+        not_stopped-told layout call (never does) value stream k
         (ap (λ es. call.is_terminated (after call.step value es)) (stretch-added call.limit stream call.bytes i k past)
         ∙ ap call.is_terminated
         (after-append call.step value (told_before call.limit stream call.bytes i) (added call.limit from front)
         ∙ ap (λ v. after call.step v (added call.limit from front)) (sym c.performed))
-        ∙ not_stopped keeps call (never does) old (added call.limit from front)
+        ∙ not_stopped layout call (never does) old (added call.limit from front)
         (added call.limit (from ++ front) rest) (chars run) all (may_go_on does))
 
     inside-next : (value : V) (stream : List ℕ) → StandsAt call value old stream i parser
@@ -188,8 +188,8 @@ advances-text {V} {call} {keeps} {old} {new} {i} {j} {parser}
         subst (ProgressAt call value old stream i) here s.has_come in
         record {
           place = InText [];
-          stands = subst (Stands call.limit parser) here s.stands;
+          stands = subst (StandsAtPlace call.limit parser) here s.stands;
           has_come =
               come-further in_order high (λ does _. may_go_on does) (inside value stream c)
-              (reads-text call.limit keeps run prints.run) prints.printed refl c;
+              (reads-text call.limit layout run prints.run) prints.printed refl c;
         }

@@ -1,7 +1,7 @@
 -- Runs that a caller takes from its own input: bytes that lead from the parser's place back to it, so the parser
 -- needn't change, and that no further printed character or data byte follows.
-use Rattle.vte_core.proofs.Common.{◌≡◌, ℕ, zero, suc, ◌+◌, ◌-◌, ◌<◌, ◌≤◌, false, true, Option, List, [], ◌∷◌, ◌++◌, drop, length, length-take, length-drop, map, take, refl, ap, sym, subst, ◌∙◌, arith, append-nil, drop_more, slice_index, Machine, DeviceData, Text, State, Nothing, class_of, resumed_stream, Event, Print, Put, Reads, Stands, StandsBy, HasReadUnder, Place, InDeviceData, InText, IsAfter, IsSettled, StandsAt, ChunkCall}
-use Rattle.vte_core.proofs.Common.{EndsRun, IsRun, chars, Unfinished, IsRange}
+use Rattle.vte_core.proofs.Common.{◌≡◌, ℕ, zero, suc, ◌+◌, ◌-◌, ◌<◌, ◌≤◌, false, true, Option, List, [], ◌∷◌, ◌++◌, drop, length, length-take, length-drop, map, take, refl, ap, sym, subst, ◌∙◌, arith, append-nil, drop_more, slice_index, Machine, DeviceData, Text, State, Nothing, class_of, resumed_stream, Event, Print, Put, BytesLead, StandsAtPlace, StandsBy, HasReadWithLimit, Place, InDeviceData, InText, IsAfter, IsSettled, StandsAt, ChunkCall}
+use Rattle.vte_core.proofs.Common.{HasNoRunAt, IsRun, chars, Unfinished, IsRange}
 use Rattle.vte_core.specs.machine.Prelude.{ArePut, AreOfKind, ComesToRun, IsOutsideTextAndData, IsDeviceData, IsTaken}
 use Rattle.vte_core.specs.machine.ToRun.{HasRun, IsWholeAt, bytes_at, kind_events}
 use Rattle.vte_core.specs.AdvanceToRun.{IsRunIn, IsLongestRun, ReturnsRun, run_bytes, taken_bytes, taken_events}
@@ -35,7 +35,7 @@ has-nowhere {limit} {bytes} {from} {place} {parser} within starts ends kind =
       kind = rw kind tt;
       whole = rw kind (starts ∙ sym ends);
       adds = λ stream h. rw (kind, none) (added-nothing limit stream);
-      reads = λ stream h. rw none (subst (HasReadUnder limit parser) (sym (append-nil stream)) h);
+      reads = λ stream h. rw none (subst (HasReadWithLimit limit parser) (sym (append-nil stream)) h);
     }
 
 -- in no other state
@@ -58,8 +58,8 @@ settled-text unfinished e settled = e ∙ by_unfinished unfinished (subst IsSett
 -- bytes that lead from the parser's place to the same
 has-run : {B : Type 0} {limit : Option ℕ} {bytes : List ℕ} {place : RunRange} {parser : Machine B} (here : Place)
     → IsPlace here
-    → ((at : Place) → Stands limit parser at → at ≡ here)
-    → Reads limit here (bytes_at bytes place) (kind_events place.kind (bytes_at bytes place)) here
+    → ((at : Place) → StandsAtPlace limit parser at → at ≡ here)
+    → BytesLead limit here (bytes_at bytes place) (kind_events place.kind (bytes_at bytes place)) here
     → IsRange bytes place.start place.end → AreOfKind place.kind (bytes_at bytes place)
     → IsWholeAt bytes place place.kind → HasRun limit bytes place parser
 has-run {limit} {bytes} {place} {parser} here is only reads range kind whole =
@@ -75,7 +75,7 @@ has-run {limit} {bytes} {place} {parser} here is only reads range kind whole =
           (subst (IsAfter limit stream) (only h.place h.stands) h.is_after) reads is;
       reads = λ stream h. record {
         place = here;
-        stands = subst (Stands limit parser) (only h.place h.stands) h.stands;
+        stands = subst (StandsAtPlace limit parser) (only h.place h.stands) h.stands;
         is_after =
             after-reads limit stream these here here events
             (subst (IsAfter limit stream) (only h.place h.stands) h.is_after) reads is;
@@ -85,7 +85,7 @@ has-run {limit} {bytes} {place} {parser} here is only reads range kind whole =
 -- the text that stands from one position to another
 pub has-text : {B : Type 0} {limit : Option ℕ} {bytes : List ℕ} {from end : ℕ} {parser : Machine B}
     → parser.state ≡ Text Nothing → from < end → end ≤ length bytes
-    → IsRun false bytes from end → EndsRun false bytes end
+    → IsRun false bytes from end → HasNoRunAt false bytes end
     → HasRun limit bytes (record { start = from; end = end; kind = OfText }) parser
 has-text {limit} {bytes} {from} {end} {parser} between low high are ended =
     has-run (InText []) refl (λ place s. between_characters parser place between s)
@@ -100,7 +100,7 @@ by_data limit parser InDeviceData s = refl
 by_data limit parser _ s = absurd s
 
 reads-data : (limit : Option ℕ) (bytes : List ℕ) (n i : ℕ) → i + n ≤ length bytes → ArePut bytes i (i + n)
-    → Reads limit InDeviceData (take n (drop i bytes)) (map Put (take n (drop i bytes))) InDeviceData
+    → BytesLead limit InDeviceData (take n (drop i bytes)) (map Put (take n (drop i bytes))) InDeviceData
 reads-data limit bytes zero i within are = reads-nothing limit InDeviceData
 reads-data limit bytes (suc n) i within are =
     let b : ℕ = slice_index bytes i in
@@ -128,10 +128,10 @@ has-data {limit} {bytes} {from} {end} {parser} begun low high are ended =
 
 -- between characters a parser goes on as a new one
 pub anew : {B : Type 0} {limit : Option ℕ} {stream : List ℕ} (parser : Machine B) → parser.state ≡ Text Nothing
-    → HasReadUnder limit parser stream → HasReadUnder limit parser []
+    → HasReadWithLimit limit parser stream → HasReadWithLimit limit parser []
 anew {limit} parser begun h = record {
   place = InText [];
-  stands = subst (Stands limit parser) (between_characters parser h.place begun h.stands) h.stands;
+  stands = subst (StandsAtPlace limit parser) (between_characters parser h.place begun h.stands) h.stands;
   is_after = after-nothing limit;
 }
 
@@ -141,7 +141,8 @@ module _ {V B : Type 0} {call : ChunkCall V} {old new : V} {place : RunRange} {b
   -- the call comes to a run
   pub comes-to_run : HasRun call.limit call.bytes place parser → place.start < place.end
       → call.is_terminated new ≡ false
-      → ((stream : List ℕ) → HasReadUnder call.limit before stream → StandsAt call old new stream place.start parser)
+      → ((stream : List ℕ) → HasReadWithLimit call.limit before stream
+      → StandsAt call old new stream place.start parser)
       → ComesToRun call old new place before parser
   comes-to_run has some goes stands = record {
     has = has;
@@ -152,7 +153,7 @@ module _ {V B : Type 0} {call : ChunkCall V} {old new : V} {place : RunRange} {b
 
   -- the call ends without a run
   pub comes-nowhere : {from : ℕ} → from ≤ length call.bytes → place.start ≡ from → place.end ≡ from → place.kind ≡ Empty
-      → ((stream : List ℕ) → HasReadUnder call.limit before stream → StandsAt call old new stream from parser)
+      → ((stream : List ℕ) → HasReadWithLimit call.limit before stream → StandsAt call old new stream from parser)
       → (from < length call.bytes → call.is_terminated new ≡ true) → ComesToRun call old new place before parser
   comes-nowhere within starts ends kind stands stops = record {
     has = has-nowhere within starts ends kind;
@@ -218,7 +219,7 @@ stands-run {bytes} {run} {place} h starts ends taken =
     record {
       end = rw (these.are, size, starts, ends) (omega (arith, h.is_range.in_order));
       within = rw ends h.is_range.within;
-      is = rw (these.are, size, starts) refl;
+      bytes_are = rw (these.are, size, starts) refl;
       whole = rw ends these.whole;
     }
 
@@ -227,7 +228,7 @@ module _ {V B : Type 0} {call : ChunkCall V} {old new : V} (run : Run) {place : 
     (c : ComesToRun call old new place before parser) (starts : run.start ≡ place.start) (ends : run.end ≡ place.end)
     (taken : IsTaken place.kind (bytes_at call.bytes place) run.taken) where
   pub returns-run : call.may_stop ≡ true
-      → ReturnsRun call.step call.is_terminated old new call.limit (HasReadUnder call.limit before) call.bytes run
+      → ReturnsRun call.step call.is_terminated old new call.limit (HasReadWithLimit call.limit before) call.bytes run
   returns-run does =
       let these = takes-run run.taken c.has taken in
       record {
@@ -241,7 +242,7 @@ module _ {V B : Type 0} {call : ChunkCall V} {old new : V} (run : Run) {place : 
         stops = λ none left. c.stops (omega (arith, none, starts, ends)) (omega (arith, left, starts));
       }
 
-  pub reads-run : (stream : List ℕ) → HasReadUnder call.limit before stream
-      → HasReadUnder call.limit parser (resumed_stream stream call.bytes run.start ++ run_bytes run)
+  pub reads-run : (stream : List ℕ) → HasReadWithLimit call.limit before stream
+      → HasReadWithLimit call.limit parser (resumed_stream stream call.bytes run.start ++ run_bytes run)
   reads-run stream h =
       rw (starts, (takes-run run.taken c.has taken).are) (c.has.reads _ (ends-reads (c.stands_at stream h)))

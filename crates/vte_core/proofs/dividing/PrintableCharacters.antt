@@ -7,18 +7,18 @@ use Rattle.vte_core.proofs.bytes.Printable.{no_control-stays}
 use Rattle.vte_core.proofs.bytes.Scalars.{sequence, whole_one, whole_two, whole_three, whole_four, well_formed_is_scalar}
 use Rattle.vte_core.proofs.dividing.Utf8Agrees.{four_from, three_from, well_formed_is_encoded}
 
-printable-whole : {keeps : Bool} (p : List ℕ) → is_well_formed p ≡ true → is_control_character (scalar_of p) ≡ false
-    → IsUtf8Run keeps p
-printable-whole {keeps} p whole plain =
+printable-whole : {layout : Bool} (p : List ℕ) → is_well_formed p ≡ true → is_control_character (scalar_of p) ≡ false
+    → IsUtf8Run layout p
+printable-whole {layout} p whole plain =
     let c : ℕ = scalar_of p in
     let same : encodes (c ∷ []) ≡ p = append-nil (encode c) ∙ well_formed_is_encoded p whole in
     let is : chars p ≡ c ∷ [] =
     ap chars (sym same) ∙ chars-encodes (c ∷ []) (and_from (scalar c) true (well_formed_is_scalar p whole) refl) in
     record {
       utf8 = subst IsUtf8 (well_formed_is_encoded p whole) (IsUtf8-encode c (well_formed_is_scalar p whole));
-      plain = subst (All (StaysInRun keeps)) (sym is)
-          (All-cons (StaysInRun keeps) c [] (no_control-stays keeps c plain)
-          (All-nil (StaysInRun keeps)));
+      plain = subst (All (StaysInRun layout)) (sym is)
+          (All-cons (StaysInRun layout) c [] (no_control-stays layout c plain)
+          (All-nil (StaysInRun layout)));
     }
 
 -- a control of two bytes is C2 and less than A0
@@ -42,8 +42,8 @@ past_controls b u low plain whole = elim (sequence (b ∷ u) whole) [
 no_control : (c : ℕ) → 0xa0 ≤ c → is_control_character c ≡ false
 no_control c low = grind (arith, nat_tests)
 
-pub printable : {keeps : Bool} (b : ℕ) (u : List ℕ) → 0xc2 ≤ b → (b ≡ 0xc2 → 0xa0 ≤ get_or u 0 0)
-    → is_well_formed (b ∷ u) ≡ true → IsUtf8Run keeps (b ∷ u)
+pub printable : {layout : Bool} (b : ℕ) (u : List ℕ) → 0xc2 ≤ b → (b ≡ 0xc2 → 0xa0 ≤ get_or u 0 0)
+    → is_well_formed (b ∷ u) ≡ true → IsUtf8Run layout (b ∷ u)
 printable b u low plain whole =
     printable-whole (b ∷ u) whole (no_control (scalar_of (b ∷ u)) (past_controls b u low plain whole))
 
@@ -64,22 +64,22 @@ stand-take bytes from k (b ∷ u) at =
     ∙ ap (λ c. c ∷ take (length u) (drop (from + k + 1) bytes)) (sym at.1)
     ∙ ap (λ x. b ∷ x) (ap (λ i. take (length u) (drop i bytes)) e ∙ stand-take bytes from (suc k) u at.2)
 
-run-of : {keeps : Bool} (bytes : List ℕ) (from b : ℕ) (u : List ℕ) → from < length bytes → b ≡ slice_index bytes from
+run-of : {layout : Bool} (bytes : List ℕ) (from b : ℕ) (u : List ℕ) → from < length bytes → b ≡ slice_index bytes from
     → StandAt bytes from 1 u
     → 0xc2 ≤ b → (b ≡ 0xc2 → 0xa0 ≤ get_or u 0 0) → is_well_formed (b ∷ u) ≡ true
-    → IsRun keeps bytes from (from + suc (length u))
-run-of {keeps} bytes from b u within is at low plain whole =
+    → IsRun layout bytes from (from + suc (length u))
+run-of {layout} bytes from b u within is at low plain whole =
     let same : take (suc (length u)) (drop from bytes) ≡ b ∷ u =
     ap (take (suc (length u))) (drop_more bytes from 0 within)
     ∙ ap (λ c. c ∷ take (length u) (drop (from + 1) bytes)) (sym is) ∙ ap (λ x. b ∷ x) (stand-take bytes from 1 u at) in
-    subst (λ n. IsUtf8Run keeps (take n (drop from bytes)))
+    subst (λ n. IsUtf8Run layout (take n (drop from bytes)))
     (let e : suc (length u) ≡ from + suc (length u) - from = omega arith in e)
-    (subst (IsUtf8Run keeps) (sym same) (printable b u low plain whole))
+    (subst (IsUtf8Run layout) (sym same) (printable b u low plain whole))
 
-pub run-two : {keeps : Bool} (bytes : List ℕ) (from first second : ℕ) → from + 2 ≤ length bytes
+pub run-two : {layout : Bool} (bytes : List ℕ) (from first second : ℕ) → from + 2 ≤ length bytes
     → first ≡ slice_index bytes from → second ≡ slice_index bytes (from + 1)
     → 0xc2 ≤ first → first < 0xe0 → is_in (from_to 0x80 0xbf) second ≡ true → (first ≡ 0xc2 → 0xa0 ≤ second)
-    → IsRun keeps bytes from (from + 2)
+    → IsRun layout bytes from (from + 2)
 run-two bytes from first second long is_first is_second low high continues plain =
     let e : second_range first ≡ from_to 0x80 0xbf =
     second_plain first (λ e. omega (arith, e, high)) (λ e. omega (arith, e, high)) (λ e. omega (arith, e, high))
@@ -87,23 +87,23 @@ run-two bytes from first second long is_first is_second low high continues plain
     run-of bytes from first (second ∷ []) (omega (arith, long)) is_first (omega (arith, long), is_second, tt) low plain
     ((tests_two first low high (second ∷ [])).is_whole ∙ and_from _ _ (ap (λ r. is_in r second) e ∙ continues) refl)
 
-pub run-three : {keeps : Bool} (bytes : List ℕ) (from first second third : ℕ) → from + 3 ≤ length bytes
+pub run-three : {layout : Bool} (bytes : List ℕ) (from first second third : ℕ) → from + 3 ≤ length bytes
     → first ≡ slice_index bytes from → second ≡ slice_index bytes (from + 1)
     → third ≡ slice_index bytes (from + 2) → 0xe0 ≤ first → first < 0xf0 → is_in (second_range first) second ≡ true
-    → is_in (from_to 0x80 0xbf) third ≡ true → IsRun keeps bytes from (from + 3)
+    → is_in (from_to 0x80 0xbf) third ≡ true → IsRun layout bytes from (from + 3)
 run-three bytes from first second third long is_first is_second is_third low high begins continues =
     run-of bytes from first (second ∷ third ∷ []) (omega (arith, long)) is_first
     (omega (arith, long), is_second, (omega (arith, long), is_third, tt))
     (omega (arith, low)) (λ e. absurd (omega (arith, e, low)))
     ((tests_three first low high (second ∷ third ∷ [])).is_whole ∙ and_from _ _ begins (and_from _ _ continues refl))
 
-pub run-four : {keeps : Bool} (bytes : List ℕ) (from first second third fourth : ℕ) → from + 4 ≤ length bytes
+pub run-four : {layout : Bool} (bytes : List ℕ) (from first second third fourth : ℕ) → from + 4 ≤ length bytes
     → first ≡ slice_index bytes from
     → second ≡ slice_index bytes (from + 1) → third ≡ slice_index bytes (from + 2)
     → fourth ≡ slice_index bytes (from + 3) → 0xf0 ≤ first → first < 0xf5
     → is_in (second_range first) second ≡ true → is_in (from_to 0x80 0xbf) third ≡ true
     → is_in (from_to 0x80 0xbf) fourth ≡ true
-    → IsRun keeps bytes from (from + 4)
+    → IsRun layout bytes from (from + 4)
 run-four bytes from first second third fourth long is_first is_second is_third is_fourth low high begins
     continues ends =
     run-of bytes from first (second ∷ third ∷ fourth ∷ []) (omega (arith, long)) is_first

@@ -2,13 +2,13 @@
 --
 -- `holds-X`: the head is held after X (`HoldsHead`); `malformed-X`, `ill_shaped-X`: it stays ill-shaped after X.
 use Rattle.vte_core.proofs.Common.{◌≡◌, ℕ, ◌⊎◌, inl, inr, Bool, true, false, ◌||◌, List, [], ◌∷◌, ◌++◌, length, refl, ap, ◌∙◌, append_assoc, arith, length-append, append-nil, Class, Intermediate, Marker, class_of, is_head_byte, is_intermediate, is_marker, is_parameter_text, Collected, HeadProgress, Entry, Parameters, Intermediates, IllShaped, Event, head_of, is_well_shaped, sequence_event, HoldsIntermediates, CountsNumbers, HoldsNumbers, HoldsHead}
-use Rattle.vte_core.proofs.Common.{KeepsNumbers, KeepsIntermediates, StandsInHead, StaysIllShaped}
+use Rattle.vte_core.proofs.Common.{SameNumbers, SameIntermediates, StandsInHead, StaysIllShaped}
 use Rattle.vte_core.specs.machine.Ready.{IsReady}
 use Rattle.vte_core.proofs.shapes.HeadLemmas.{begins-intermediates, head_of-parts, held-parts, held-well_shaped, list_all-not}
 use Rattle.vte_core.proofs.bytes.ClassCases.{AreInClass-append}
 
 -- the numbers that are held are those of the same text
-pub CountsNumbers-kept : (old new : Collected) (text : List ℕ) → KeepsNumbers old new → CountsNumbers old text
+pub CountsNumbers-kept : (old new : Collected) (text : List ℕ) → SameNumbers old new → CountsNumbers old text
     → CountsNumbers new text
 CountsNumbers-kept old new text k c = record {
   front = c.front;
@@ -18,7 +18,7 @@ CountsNumbers-kept old new text k c = record {
   number = k.number ∙ c.number;
 }
 
-Holds-kept : (old new : Collected) (ints : List ℕ) → KeepsIntermediates old new → HoldsIntermediates old ints
+Holds-kept : (old new : Collected) (ints : List ℕ) → SameIntermediates old new → HoldsIntermediates old ints
     → HoldsIntermediates new ints
 Holds-kept old new ints k h = record {
   kept = cc;
@@ -27,11 +27,12 @@ Holds-kept old new ints k h = record {
 }
 
 -- an intermediate, wherever the head has come
-pub holds-intermediate : (old new : Collected) (part : HeadProgress) (head : List ℕ) (b : ℕ) → HoldsHead old part head
+pub holds-intermediate : (old new : Collected) (progress : HeadProgress) (head : List ℕ) (b : ℕ)
+    → HoldsHead old progress head
     → class_of b ≡ Intermediate
-    → KeepsNumbers old new → ((ints : List ℕ) → HoldsIntermediates old ints → HoldsIntermediates new (ints ++ b ∷ []))
+    → SameNumbers old new → ((ints : List ℕ) → HoldsIntermediates old ints → HoldsIntermediates new (ints ++ b ∷ []))
     → HoldsHead new Intermediates (head ++ b ∷ [])
-holds-intermediate old new part head b h e k more = record {
+holds-intermediate old new progress head b h e k more = record {
   marker = h.marker;
   parameters = h.parameters;
   intermediates = h.intermediates ++ b ∷ [];
@@ -46,7 +47,7 @@ holds-intermediate old new part head b h e k more = record {
 
 -- a marker, where nothing has come
 pub holds-marker : (old new : Collected) (head : List ℕ) (b : ℕ) → HoldsHead old Entry head → class_of b ≡ Marker
-    → KeepsNumbers old new
+    → SameNumbers old new
     → ((ints : List ℕ) → HoldsIntermediates old ints → HoldsIntermediates new (ints ++ b ∷ []))
     → HoldsHead new Parameters (head ++ b ∷ [])
 holds-marker old new head b h e k more =
@@ -66,13 +67,13 @@ holds-marker old new head b h e k more =
     }
 
 -- a byte of the parameters
-after_no_intermediate : (old new : Collected) (part : HeadProgress) (head : List ℕ) (b : ℕ)
-    (h : HoldsHead old part head)
+after_no_intermediate : (old new : Collected) (progress : HeadProgress) (head : List ℕ) (b : ℕ)
+    (h : HoldsHead old progress head)
     → h.intermediates ≡ []
-    → is_parameter_text (class_of b) ≡ true → KeepsIntermediates old new
+    → is_parameter_text (class_of b) ≡ true → SameIntermediates old new
     → ((text : List ℕ) → CountsNumbers old text → CountsNumbers new (text ++ b ∷ []))
     → HoldsHead new Parameters (head ++ b ∷ [])
-after_no_intermediate old new part head b h none is k more =
+after_no_intermediate old new progress head b h none is k more =
     let kept : HoldsIntermediates old (h.marker ++ []) = rw none at h.holds in
     record {
       marker = h.marker;
@@ -88,14 +89,14 @@ after_no_intermediate old new part head b h none is k more =
     }
 
 -- no intermediate is held where the head may have parameters
-pub holds-parameter : (old new : Collected) (part : HeadProgress) (head : List ℕ) (b : ℕ)
-    → (part ≡ Entry) ⊎ (part ≡ Parameters) → StandsInHead old part head
-    → is_parameter_text (class_of b) ≡ true → KeepsIntermediates old new
+pub holds-parameter : (old new : Collected) (progress : HeadProgress) (head : List ℕ) (b : ℕ)
+    → (progress ≡ Entry) ⊎ (progress ≡ Parameters) → StandsInHead old progress head
+    → is_parameter_text (class_of b) ≡ true → SameIntermediates old new
     → ((text : List ℕ) → CountsNumbers old text → CountsNumbers new (text ++ b ∷ []))
     → HoldsHead new Parameters (head ++ b ∷ [])
-holds-parameter old new part head b (inl e) s is k more =
+holds-parameter old new progress head b (inl e) s is k more =
     let h : HoldsHead old Entry head = rw e at s in after_no_intermediate old new Entry head b h h.reaches.2 is k more
-holds-parameter old new part head b (inr e) s is k more =
+holds-parameter old new progress head b (inr e) s is k more =
     let h : HoldsHead old Parameters head =
     rw e at s in after_no_intermediate old new Parameters head b h h.reaches.1 is k more
 
@@ -137,11 +138,11 @@ pub ill_shaped-now : (head : List ℕ) → StaysIllShaped head → is_well_shape
 ill_shaped-now head s = rw append-nil at (s.stays [])
 
 -- at the end of a head that is well shaped
-pub ready : (old new : Collected) (more ignored : Bool) (part : HeadProgress) (head : List ℕ)
+pub ready : (old new : Collected) (more ignored : Bool) (progress : HeadProgress) (head : List ℕ)
     → ((text : List ℕ) → CountsNumbers old text → HoldsNumbers new more text)
-    → KeepsIntermediates old new → HoldsHead old part head → ignored ≡ (new.too_many_intermediates || more)
+    → SameIntermediates old new → HoldsHead old progress head → ignored ≡ (new.too_many_intermediates || more)
     → IsReady new ignored head
-ready old new more ignored part head settles k h is =
+ready old new more ignored progress head settles k h is =
     let parts = held-parts h.marker h.parameters h.intermediates h.is_marker h.are_parameters h.are_intermediates in
     let s = settles h.parameters h.counts in
     let holds = Holds-kept old new (h.marker ++ h.intermediates) k h.holds in
@@ -175,11 +176,12 @@ left_is_marker Marker h p i = refl
 left_is_marker _ h p i = cc
 
 -- a marker that does not come first, or a digit or a separator that may not come next
-pub ill_shaped-late : (old : Collected) (part : HeadProgress) (head : List ℕ) (b : ℕ) → StandsInHead old part head
+pub ill_shaped-late : (old : Collected) (progress : HeadProgress) (head : List ℕ) (b : ℕ)
+    → StandsInHead old progress head
     → is_head_byte (class_of b) ≡ true
     → is_intermediate (class_of b) ≡ false
-    → ((part ≡ Entry) ⊎ (part ≡ Parameters) → is_parameter_text (class_of b) ≡ false)
-    → (part ≡ Entry → ⊥) → StaysIllShaped (head ++ b ∷ [])
+    → ((progress ≡ Entry) ⊎ (progress ≡ Parameters) → is_parameter_text (class_of b) ≡ false)
+    → (progress ≡ Entry → ⊥) → StaysIllShaped (head ++ b ∷ [])
 ill_shaped-late old Entry head b s h i p n = absurd (n refl)
 ill_shaped-late old Parameters head b s h i p n = malformed-marker old head b s (left_is_marker _ h (p (inr refl)) i)
 ill_shaped-late old Intermediates head b s h i p n = ill_shaped-after_intermediate old head b s i
@@ -193,7 +195,7 @@ pub dispatched-ready : (call : List (List ℕ) → List ℕ → Bool → ℕ →
 unfolding sequence_event
 dispatched-ready call held ignored head final f = rw (f.groups, f.intermediates, f.ignore) refl
 
-pub head-holds : (held : Collected) (part : HeadProgress) (head : List ℕ) → (part ≡ IllShaped → ⊥)
-    → StandsInHead held part head → HoldsHead held part head
+pub head-holds : (held : Collected) (progress : HeadProgress) (head : List ℕ) → (progress ≡ IllShaped → ⊥)
+    → StandsInHead held progress head → HoldsHead held progress head
 head-holds held IllShaped head n s = absurd (n refl)
-head-holds held part head n s = s
+head-holds held progress head n s = s

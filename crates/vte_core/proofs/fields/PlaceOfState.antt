@@ -1,5 +1,5 @@
 -- What is known of a parser that is at a place: by cases of its state, to each of which belongs one kind of place.
-use Rattle.vte_core.proofs.Common.{◌≡◌, ℕ, true, Option, List, [], ◌∷◌, ◌++◌, refl, ap, sym, subst, ◌∙◌, append-nil, Machine, State, Text, Escape, SystemCommand, body_outcome, device_data_outcome, executed_events, leaves, open_bytes, HoldsIntermediates, StandsBy, Stands, Place, InText, AtEscape, InSystemCommand, open_at, left_at, rest_outcome, outcome_from, events_from, IsSettledPlace, Stored, HoldsItems, SameItems, text_outcome, is_truncated, Nothing}
+use Rattle.vte_core.proofs.Common.{◌≡◌, ℕ, true, Option, List, [], ◌∷◌, ◌++◌, refl, ap, sym, subst, ◌∙◌, append-nil, Machine, State, Text, Escape, SystemCommand, body_outcome, device_data_outcome, executed_events, leaves, open_bytes, HoldsIntermediates, StandsBy, StandsAtPlace, Place, InText, AtEscape, InSystemCommand, open_at, left_at, rest_outcome, outcome_from, events_from, IsSettledPlace, Stored, HoldsItems, SameItems, text_outcome, is_truncated, Nothing}
 use Rattle.vte_core.proofs.Common.{may_continue}
 use Rattle.vte_core.specs.IgnoredString.{ignored_string_outcome}
 use Rattle.vte_core.specs.machine.Place.{control_sequence_from, device_control_from, escape_from, system_command_from}
@@ -7,7 +7,7 @@ use Rattle.vte_core.proofs.shapes.TextLemmas.{text_end, text_nothing}
 
 -- what a state says of the place, if the parser is in it
 pub stands-in : {B : Type 0} {limit : Option ℕ} {state : State} {parser : Machine B} {place : Place}
-    → parser.state ≡ state → Stands limit parser place
+    → parser.state ≡ state → StandsAtPlace limit parser place
     → StandsBy limit state parser place
 stands-in {limit} {parser} {place} e s =
     subst (λ state. StandsBy limit state parser place) e s.by
@@ -15,7 +15,7 @@ stands-in {limit} {parser} {place} e s =
 -- a parser in a state stands at the place of which that state says so
 pub stands-by : {B : Type 0} {limit : Option ℕ} {state : State} {parser : Machine B} {place : Place}
     → parser.state ≡ state → StandsBy limit state parser place
-    → Stands limit parser place
+    → StandsAtPlace limit parser place
 stands-by {limit} {parser} {place} e by =
     record { by = subst (λ state. StandsBy limit state parser place) (sym e) by }
 
@@ -24,7 +24,7 @@ by_escape : {B : Type 0} (limit : Option ℕ) (state : State) (parser : Machine 
 by_escape limit Escape parser s = s
 by_escape limit _ parser s = absurd s
 
-pub stands-escape : {B : Type 0} {limit : Option ℕ} (parser : Machine B) → Stands limit parser AtEscape
+pub stands-escape : {B : Type 0} {limit : Option ℕ} (parser : Machine B) → StandsAtPlace limit parser AtEscape
     → HoldsIntermediates parser.collected []
 stands-escape {limit} parser s = by_escape limit parser.state parser s.by
 
@@ -40,7 +40,7 @@ by_items limit parser (InSystemCommand items) s = record { items = items; same =
 by_items limit parser _ s = absurd s
 
 pub in_command : {B : Type 0} {limit : Option ℕ} (parser : Machine B) (place : Place) → parser.state ≡ SystemCommand
-    → Stands limit parser place → InCommandAt limit parser place
+    → StandsAtPlace limit parser place → InCommandAt limit parser place
 in_command {limit} parser place e s = by_items limit parser place (stands-in e s)
 
 -- what is true of a place where some parser stands
@@ -54,7 +54,8 @@ by_place limit (Text unfinished) parser (InText u) s = s.1
 by_place limit _ parser (InText u) s = absurd s
 by_place limit _ parser _ s = tt
 
-pub stands-place : {B : Type 0} {limit : Option ℕ} (parser : Machine B) (place : Place) → Stands limit parser place
+pub stands-place : {B : Type 0} {limit : Option ℕ} (parser : Machine B) (place : Place)
+    → StandsAtPlace limit parser place
     → IsPlace place
 stands-place {limit} parser place s = by_place limit parser.state parser place s.by
 
@@ -95,7 +96,7 @@ open_at-settled _ none = refl
 
 -- between characters
 pub stands-text_begun : {B : Type 0} {limit : Option ℕ} (parser : Machine B) → parser.state ≡ Text Nothing
-    → Stands limit parser (InText [])
+    → StandsAtPlace limit parser (InText [])
 stands-text_begun parser e = stands-by e (refl, refl)
 
 pub keeps-same : (limit : Option ℕ) (old new : Stored) (items : List ℕ) → SameItems old new → HoldsItems limit old items

@@ -1,5 +1,5 @@
 -- A machine that is made of what was saved of another is at the place where that one was: by cases of the state.
-use Rattle.vte_core.proofs.Common.{◌≡◌, ℕ, Option, List, take, arith, refl, subst, ◌∙◌, Machine, State, Text, Escape, EscapeIntermediate, ControlSequence, DeviceControl, DeviceData, SystemCommand, IgnoredString, HoldsIntermediates, HasReadUnder, StandsBy, StandsInHead, Place, InText, AtEscape, InEscape, InControlSequence, InDeviceControl, InDeviceData, InSystemCommand, InIgnoredString, SameItems}
+use Rattle.vte_core.proofs.Common.{◌≡◌, ℕ, Option, List, take, arith, refl, subst, ◌∙◌, Machine, State, Text, Escape, EscapeIntermediate, ControlSequence, DeviceControl, DeviceData, SystemCommand, IgnoredString, HoldsIntermediates, HasReadWithLimit, StandsBy, StandsInHead, Place, InText, AtEscape, InEscape, InControlSequence, InDeviceControl, InDeviceData, InSystemCommand, InIgnoredString, SameItems}
 use Rattle.vte_core.specs.declared.parser.saved.Saved.{Saved}
 use Rattle.vte_core.specs.machine.SavedLayout.{IsInHead, IsRestored, flag_of, state_bytes}
 use Rattle.vte_core.specs.machine.Groups.{AreParts}
@@ -54,10 +54,10 @@ by_saved : {B C : Type 0} (limit : Option ℕ) {saved : Saved} (state : State) (
 by_saved limit (Text unfinished) old new (InText u) h r o n s = s
 by_saved limit Escape old new AtEscape h r o n s = holds-saved h r s
 by_saved limit EscapeIntermediate old new (InEscape bytes) h r o n s = holds-saved h r s
-by_saved limit (ControlSequence part) old new (InControlSequence head) h r o n s =
-    subst (λ collected. StandsInHead collected part head) (same_collected h r (rw o tt) (rw n tt)) s
-by_saved limit (DeviceControl part) old new (InDeviceControl head) h r o n s =
-    subst (λ collected. StandsInHead collected part head) (same_collected h r (rw o tt) (rw n tt)) s
+by_saved limit (ControlSequence progress) old new (InControlSequence head) h r o n s =
+    subst (λ collected. StandsInHead collected progress head) (same_collected h r (rw o tt) (rw n tt)) s
+by_saved limit (DeviceControl progress) old new (InDeviceControl head) h r o n s =
+    subst (λ collected. StandsInHead collected progress head) (same_collected h r (rw o tt) (rw n tt)) s
 by_saved limit DeviceData old new InDeviceData h r o n s = tt
 by_saved limit SystemCommand old new (InSystemCommand items) h r o n s =
     keeps-same limit old.command new.command items (same_items h r o n) s
@@ -66,7 +66,7 @@ by_saved limit _ old new _ h r o n s = absurd s
 
 -- what was saved has read what the machine has
 pub reads_saved : {B : Type 0} (saved : Saved) (machine : Machine B) → HasSaved saved machine
-    → (stream : List ℕ) → HasReadUnder usual_limit machine stream → HasReadSaved saved stream
+    → (stream : List ℕ) → HasReadWithLimit usual_limit machine stream → HasReadSaved saved stream
 reads_saved saved machine h stream has_read = record {
   reads = λ parser r. record {
     place = has_read.place;

@@ -2,11 +2,11 @@
 -- definition of that shape alone.
 --
 -- A lemma is named by the place and what comes there, as `escape-end` for the end of a sequence right after ESC.
-use Rattle.vte_core.proofs.Common.{◌≡◌, ℕ, ◌≤◌, true, false, eqb, Option, List, [], ◌∷◌, ◌++◌, ap, sym, append_assoc, append-nil, arith, nat_tests, Class, Control, Intermediate, Delete, Digit, Colon, Semicolon, Marker, Final, High, dispatches_escape, class_of, is_cancel, is_device_data, is_head_byte, EscapeSequence, key_of, body_outcome, control_sequence_end, control_sequence_outcome, device_data_outcome, device_control_after_head, ends_command}
+use Rattle.vte_core.proofs.Common.{◌≡◌, ℕ, ◌≤◌, true, false, eqb, Option, List, [], ◌∷◌, ◌++◌, ap, sym, append_assoc, append-nil, arith, nat_tests, Class, Control, Intermediate, Delete, Digit, Colon, Semicolon, Marker, Final, High, dispatches_escape, class_of, is_cancel, is_device_data, is_head_byte, EscapeSequence, sequence_kind, body_outcome, control_sequence_end, control_sequence_outcome, device_data_outcome, device_control_after_head, ends_command}
 use Rattle.vte_core.proofs.Common.{ends_device_data, device_control_outcome, escape_outcome, executed_events, first_two, are_too_many, Execute, Hook, Put, Unhook, OscDispatch, CsiDispatch, EscDispatch, head_of, is_well_shaped, sequence_event, Leads, InText, AtEscape, InEscape, InControlSequence, InDeviceControl, InDeviceData, InSystemCommand, InIgnoredString, pieces_of, bell, system_command_outcome, text_outcome, character_event, Bool}
 use Rattle.vte_core.proofs.Common.{Place, refl, malformed_event, is_truncated, is_well_formed, scalar_of, nat_le}
 use Rattle.vte_core.specs.IgnoredString.{ignored_string_outcome}
-use Rattle.vte_core.specs.Key.{ControlSequence, DeviceControl, SystemCommand, IgnoredString, Key}
+use Rattle.vte_core.specs.SequenceKind.{ControlSequence, DeviceControl, SystemCommand, IgnoredString, SequenceKind}
 use Rattle.vte_core.specs.machine.Place.{control_sequence_from, device_control_from, escape_from, system_command_from}
 use Rattle.vte_core.proofs.bytes.ClassLemmas.{spans}
 use Rattle.vte_core.proofs.bytes.ClassCases.{head_is_no_control, head_is_no_end}
@@ -58,18 +58,19 @@ escape-intermediate limit b e =
     let s = spans b Intermediate e in record { leads = λ rest. simp (e, below_finals b (omega arith)) }
 
 -- the place after a key that begins a body
-abbrev pub begun_by : Key → Place
+abbrev pub begun_by : SequenceKind → Place
 begun_by ControlSequence = InControlSequence []
 begun_by DeviceControl = InDeviceControl []
 begun_by SystemCommand = InSystemCommand []
 begun_by IgnoredString = InIgnoredString
 begun_by EscapeSequence = AtEscape
 
-abbrev pub begins_body : Key → Bool
+abbrev pub begins_body : SequenceKind → Bool
 begins_body EscapeSequence = false
 begins_body _ = true
 
-pub escape-key : (limit : Option ℕ) (b : ℕ) (k : Key) → class_of b ≡ Final → key_of b ≡ k → begins_body k ≡ true
+pub escape-key : (limit : Option ℕ) (b : ℕ) (k : SequenceKind) → class_of b ≡ Final → sequence_kind b ≡ k
+    → begins_body k ≡ true
     → Leads limit AtEscape b [] (begun_by k)
 unfolding body_outcome executed_events control_sequence_outcome control_sequence_from device_control_outcome
     device_control_from system_command_outcome system_command_from
@@ -96,7 +97,7 @@ intermediate-end limit ints b _ e h = cc
 
 -- where it has no other meaning after ESC
 pub escape-end : (limit : Option ℕ) (b : ℕ) (k : Class) → class_of b ≡ k → dispatches_escape k ≡ true
-    → key_of b ≡ EscapeSequence
+    → sequence_kind b ≡ EscapeSequence
     → Leads limit AtEscape b (EscDispatch [] false b ∷ []) (InText [])
 unfolding body_outcome executed_events escape_outcome
 escape-end limit b Digit e h key = record { leads = λ rest. simp (e, key) }

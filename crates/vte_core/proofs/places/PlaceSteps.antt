@@ -1,6 +1,6 @@
 -- After every place every byte reports at most two events, of which the second is short, and leads to a place
 -- (`steps`): by cases of the place and of the byte's class, each by a lemma of `PlaceLeads`.
-use Rattle.vte_core.proofs.Common.{◌≡◌, ℕ, inl, inr, false, eqb, Option, List, refl, arith, cases_Bool, nat_tests, Class, Control, Cancel, Intermediate, Final, Delete, High, class_of, ends_body, Key, EscapeSequence, key_of, AreFromOneByte, Event, head_of, is_well_shaped, sequence_event, Leads, Place, InText, AtEscape, InEscape, InControlSequence, InDeviceControl, InDeviceData, InSystemCommand, InIgnoredString, closing_events_at, escape, bell, pieces_of}
+use Rattle.vte_core.proofs.Common.{◌≡◌, ℕ, inl, inr, false, eqb, Option, List, refl, arith, cases_Bool, nat_tests, Class, Control, Cancel, Intermediate, Final, Delete, High, class_of, ends_body, SequenceKind, EscapeSequence, sequence_kind, AreFromOneByte, Event, head_of, is_well_shaped, sequence_event, Leads, Place, InText, AtEscape, InEscape, InControlSequence, InDeviceControl, InDeviceData, InSystemCommand, InIgnoredString, closing_events_at, escape, bell, pieces_of}
 use Rattle.vte_core.proofs.Common.{kept_items, open_data_count, left_at, breaks, open_at, sym, false≢true, ◌∙◌, [], ◌∷◌, ◌++◌, Execute}
 use Rattle.vte_core.proofs.bytes.FirstBytes.{Tests, ascii_breaks}
 use Rattle.vte_core.proofs.shapes.Told.{breaks-broken}
@@ -78,7 +78,8 @@ module _ {limit : Option ℕ} {place next : Place} {b : ℕ} where
 
 -- ---- after ESC
 
-step-final : (limit : Option ℕ) (b : ℕ) (k : Key) → class_of b ≡ Final → key_of b ≡ k → Steps limit AtEscape b
+step-final : (limit : Option ℕ) (b : ℕ) (k : SequenceKind) → class_of b ≡ Final → sequence_kind b ≡ k
+    → Steps limit AtEscape b
 step-final limit b EscapeSequence is k =
     let s = spans b Final is in
     sequenced is refl outside (escape-end limit b Final is refl k) (λ _ _. (omega arith, s.1, omega arith)) (λ _. tt)
@@ -87,7 +88,7 @@ step-final limit b key is k = silent is refl outside (escape-key limit b key is 
 step-escape : (limit : Option ℕ) (b : ℕ) (k : Class) → class_of b ≡ k → ends_body k ≡ false → Steps limit AtEscape b
 step-escape limit b Control is no_end = executed is outside (byte-executed limit AtEscape b refl is)
 step-escape limit b Intermediate is no_end = silent is no_end outside (escape-intermediate limit b is)
-step-escape limit b Final is no_end = step-final limit b (key_of b) is refl
+step-escape limit b Final is no_end = step-final limit b (sequence_kind b) is refl
 step-escape limit b Delete is no_end = silent is no_end outside (byte-dropped limit AtEscape b Delete refl is refl)
 step-escape limit b High is no_end = silent is no_end outside (byte-dropped limit AtEscape b High refl is refl)
 step-escape limit b Cancel is no_end = cc
@@ -171,7 +172,7 @@ step-data limit b Cancel is no_end = cc
 step-data limit b Escape is no_end = cc
 step-data limit b k is no_end =
     sequenced is no_end outside (data-put limit b (rw is refl)) (λ _ _. rw is refl)
-    (λ quiet. absurd (false≢true (sym quiet ∙ rw is refl)))
+    (λ outside. absurd (false≢true (sym outside ∙ rw is refl)))
 
 -- ---- in an operating system command
 
@@ -218,17 +219,17 @@ escape_little limit _ is text unbroken = absurd text
 
 closing_others : (limit : Option ℕ) (place : Place) (b : ℕ) → IsQuietAt place b
     → AreQuietEvents (closing_events_at limit place)
-closing_others limit (InText u) b quiet = absurd quiet
-closing_others limit InDeviceData b quiet = tt
-closing_others limit (InSystemCommand items) b quiet = tt
-closing_others limit _ b quiet = tt
+closing_others limit (InText u) b outside = absurd outside
+closing_others limit InDeviceData b outside = tt
+closing_others limit (InSystemCommand items) b outside = tt
+closing_others limit _ b outside = tt
 
 cancel_others : (limit : Option ℕ) (place : Place) (b : ℕ) → IsQuietAt place b
     → AreQuietEvents (closing_events_at limit place ++ Execute b ∷ [])
-cancel_others limit (InText u) b quiet = absurd quiet
-cancel_others limit InDeviceData b quiet = (tt, tt)
-cancel_others limit (InSystemCommand items) b quiet = (tt, tt)
-cancel_others limit _ b quiet = tt
+cancel_others limit (InText u) b outside = absurd outside
+cancel_others limit InDeviceData b outside = (tt, tt)
+cancel_others limit (InSystemCommand items) b outside = (tt, tt)
+cancel_others limit _ b outside = tt
 
 by_class : (limit : Option ℕ) (place : Place) (b : ℕ) (k : Class) → IsPlace place → class_of b ≡ k → Steps limit place b
 by_class limit place b Escape placed is =
@@ -242,7 +243,7 @@ by_class limit place b Escape placed is =
       grows = λ _. omega arith;
       leaves = inl refl;
       little = escape_little limit place placed;
-      quietly = closing_others limit place _;
+      outside_runs = closing_others limit place _;
     })
 by_class limit (InText u) b Cancel placed is = steps-text limit u b (cancel_is_no_escape b is) placed
 by_class limit place b Cancel placed is =

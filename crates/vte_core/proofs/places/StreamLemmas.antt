@@ -1,5 +1,5 @@
 -- From a text or a body to the whole stream: what a byte does in its part, it does in the stream, since only ESC cuts.
-use Rattle.vte_core.proofs.Common.{◌≡◌, ℕ, false, eqb, Option, List, [], ◌∷◌, ◌++◌, refl, ap, sym, ◌∙◌, append_assoc, arith, nat_tests, Cancel, class_of, ends_body, Event, Leads, Reads, tell, events_before_escape, Place, InText, AtEscape, closing_events_at, rest_outcome, outcome_from, events_from, cut_at_escape, with_bodies, outcome, events, escape}
+use Rattle.vte_core.proofs.Common.{◌≡◌, ℕ, false, eqb, Option, List, [], ◌∷◌, ◌++◌, refl, ap, sym, ◌∙◌, append_assoc, arith, nat_tests, Cancel, class_of, ends_body, Event, Leads, BytesLead, tell, events_before_escape, Place, InText, AtEscape, closing_events_at, rest_outcome, outcome_from, events_from, cut_at_escape, with_bodies, outcome, events, escape}
 use Rattle.vte_core.proofs.shapes.OutcomeLemmas.{tell-append, with_bodies-tell}
 use Rattle.vte_core.proofs.fields.PlaceOfState.{IsPlace, rest_outcome-nothing}
 
@@ -22,7 +22,7 @@ outcome_from-byte limit place b more e = simp e
 
 -- what a byte does in a text or a body, it does in the stream
 pub reads-byte : (limit : Option ℕ) (place next : Place) (b : ℕ) (told : List Event) → eqb b escape ≡ false
-    → Leads limit place b told next → Reads limit place (b ∷ []) told next
+    → Leads limit place b told next → BytesLead limit place (b ∷ []) told next
 unfolding outcome_from
 reads-byte limit place next b told e l = record {
   reads = λ more.
@@ -53,15 +53,15 @@ outcome_from-escape limit place more is =
     (rest_outcome-nothing limit place is)
 
 pub reads-escape : (limit : Option ℕ) (place : Place) → IsPlace place
-    → Reads limit place (escape ∷ []) (closing_events_at limit place) AtEscape
+    → BytesLead limit place (escape ∷ []) (closing_events_at limit place) AtEscape
 reads-escape limit place is = record { reads = λ more. outcome_from-escape limit place more is }
 
-pub reads-nothing : (limit : Option ℕ) (place : Place) → Reads limit place [] [] place
+pub reads-nothing : (limit : Option ℕ) (place : Place) → BytesLead limit place [] [] place
 reads-nothing limit place = record { reads = λ more. refl }
 
 pub reads-append : (limit : Option ℕ) (place next last : Place) (bytes these : List ℕ) (told more_told : List Event)
-    → Reads limit place bytes told next → Reads limit next these more_told last
-    → Reads limit place (bytes ++ these) (told ++ more_told) last
+    → BytesLead limit place bytes told next → BytesLead limit next these more_told last
+    → BytesLead limit place (bytes ++ these) (told ++ more_told) last
 reads-append limit place next last bytes these told more_told r s = record {
   reads = λ more.
       ap (outcome_from limit place) (append_assoc bytes these more)

@@ -1,5 +1,5 @@
 -- What one byte reports in a text, whatever it is: by whether it ends, continues or breaks the open character.
-use Rattle.vte_core.proofs.Common.{◌≡◌, ℕ, ◌⊎◌, inl, inr, true, false, eqb, Option, List, [], ◌∷◌, ◌++◌, refl, ap, sym, subst, ◌∙◌, cases_Bool, false≢true, AreFromOneByte, IsAtMostOneShort, IsQuietEvent, class_of, is_device_data, Event, Print, ◌≤◌, ◌+◌, None, arith, FitsStore, ToClose, CommandToClose, open_data_count, left_at, replacement, tell, Place, InDeviceData, InText, breaks, open_at, escape, Leads, Reads, may_continue, is_truncated, is_well_formed}
+use Rattle.vte_core.proofs.Common.{◌≡◌, ℕ, ◌⊎◌, inl, inr, true, false, eqb, Option, List, [], ◌∷◌, ◌++◌, refl, ap, sym, subst, ◌∙◌, cases_Bool, false≢true, AreFromOneByte, IsAtMostOneShort, IsOutsideRuns, class_of, is_device_data, Event, Print, ◌≤◌, ◌+◌, None, arith, FitsStore, ToClose, CommandToClose, open_data_count, left_at, replacement, tell, Place, InDeviceData, InText, breaks, open_at, escape, Leads, BytesLead, may_continue, is_truncated, is_well_formed}
 use Rattle.vte_core.proofs.places.PlaceLeads.{text-unfinished, text-whole, text-lone}
 use Rattle.vte_core.proofs.shapes.TextLemmas.{text_broken}
 use Rattle.vte_core.proofs.places.BriefLemmas.{short-character, short-malformed, tiny_brief, tiny-both}
@@ -40,8 +40,8 @@ IsQuietAt _ b = Unit {0}
 
 abbrev pub AreQuietEvents : List Event → Type 0
 AreQuietEvents [] = Unit {0}
-AreQuietEvents (event ∷ []) = IsQuietEvent event
-AreQuietEvents (event ∷ events) = IsQuietEvent event × AreQuietEvents events
+AreQuietEvents (event ∷ []) = IsOutsideRuns event
+AreQuietEvents (event ∷ events) = IsOutsideRuns event × AreQuietEvents events
 
 -- what the byte tells after the place, and where it leads
 pub record Steps (limit : Option ℕ) (place : Place) (b : ℕ) : Type 0 where
@@ -49,7 +49,7 @@ pub record Steps (limit : Option ℕ) (place : Place) (b : ℕ) : Type 0 where
   pub next : Place
   pub is_place : IsPlace next
   -- for `after-reads`
-  pub reads : Reads limit place (b ∷ []) told next
+  pub reads : BytesLead limit place (b ∷ []) told next
   -- for `laws::bytes_are_brief`
   pub brief : (size : Option ℕ) → FitsLeft size (left_at limit place) → AreFromOneByte size told
   -- for the size of a command without a limit
@@ -58,7 +58,7 @@ pub record Steps (limit : Option ℕ) (place : Place) (b : ℕ) : Type 0 where
   pub leaves : LeavesOpen next told
   pub little : IsText place → breaks (open_at place) (b ∷ []) ≡ false → IsLittle next told
   -- for `advance_to_run`
-  pub quietly : IsQuietAt place b → AreQuietEvents told
+  pub outside_runs : IsQuietAt place b → AreQuietEvents told
 
 -- a step of a byte that is not ESC
 pub leads_on : {limit : Option ℕ} {place next : Place} {b : ℕ} {told : List Event} → (IsText place → IsLittle next told)
@@ -78,7 +78,7 @@ leads_on {limit} {place} {next} {b} {told} little leaves grows e l is brief othe
   grows = grows;
   leaves = leaves;
   little = λ text _. little text;
-  quietly = others;
+  outside_runs = others;
 }
 
 tiny_of : (next : Place) (told : List Event) → IsLittle next told → IsAtMostOneShort told
@@ -90,7 +90,7 @@ leads_little : {limit : Option ℕ} {u v : List ℕ} {b : ℕ} {told : List Even
 leads_little {limit} {v} {told} little e l is =
     leads_on (λ _. little) (elim little [ inl nothing ↦ inr (inl nothing) | inr closed ↦ inl closed.0 ])
     (λ _. omega (arith, text_left limit v)) e l is
-    (λ size _. tiny_brief size told (tiny_of (InText v) told little)) (λ quiet. absurd quiet)
+    (λ size _. tiny_brief size told (tiny_of (InText v) told little)) (λ outside. absurd outside)
 
 -- the byte ends the character, or belongs to it, or neither
 by_tests : (limit : Option ℕ) (u : List ℕ) (b : ℕ) → eqb b escape ≡ false
@@ -132,7 +132,7 @@ broken limit u b e more part none =
             | inr closed ↦ inl closed.0
           ];
       little = λ _ unbroken. absurd (false≢true (sym unbroken ∙ breaks-broken u b more part none));
-      quietly = λ quiet. absurd quiet;
+      outside_runs = λ outside. absurd outside;
     }
 
 pub steps-text : (limit : Option ℕ) (u : List ℕ) (b : ℕ) → eqb b escape ≡ false → may_continue u ≡ true

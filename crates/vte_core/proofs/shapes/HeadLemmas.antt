@@ -15,7 +15,7 @@ parameter_is_no_marker _ h = refl
 head_after-parts : (marker parameters rest : List ℕ) → AreInClass is_parameter_text parameters
     → BeginsWithout is_parameter_text rest
     → head_after marker (parameters ++ rest)
-    ≡ record { marker = marker; parameters = parameters; intermediates = rest }
+    ≡ record { marker = marker; parameter_text = parameters; tail = rest }
 head_after-parts marker [] [] are none = refl
 head_after-parts marker [] (b ∷ rest) are none = rw none refl
 head_after-parts marker (p ∷ parameters) rest are none =
@@ -23,8 +23,8 @@ head_after-parts marker (p ∷ parameters) rest are none =
     rw are.0
     (ap (λ head. record {
       marker = marker;
-      parameters = p ∷ head.parameters;
-      intermediates = head.intermediates;
+      parameter_text = p ∷ head.parameter_text;
+      tail = head.tail;
     }) more)
 
 -- the parts of a head
@@ -32,7 +32,7 @@ pub head_of-parts : (marker parameters rest : List ℕ) → IsMarker marker → 
     → BeginsWithout is_parameter_text rest
     → (marker ++ parameters ≡ [] → BeginsWithout is_marker rest)
     → head_of (marker ++ (parameters ++ rest))
-    ≡ record { marker = marker; parameters = parameters; intermediates = rest }
+    ≡ record { marker = marker; parameter_text = parameters; tail = rest }
 unfolding head_of
 head_of-parts [] [] [] is are none no_marker = refl
 head_of-parts [] [] (b ∷ rest) is are none no_marker = rw (no_marker refl, none) refl
@@ -61,7 +61,7 @@ list_all-not (a ∷ bytes) b more h = grind (arith, nat_tests, list_all-not byte
 pub held-parts : (marker parameters intermediates : List ℕ) → IsMarker marker → AreInClass is_parameter_text parameters
     → AreInClass is_intermediate intermediates
     → head_of (marker ++ (parameters ++ intermediates))
-    ≡ record { marker = marker; parameters = parameters; intermediates = intermediates }
+    ≡ record { marker = marker; parameter_text = parameters; tail = intermediates }
 held-parts marker parameters intermediates is are these =
     let none = begins-intermediates is_parameter_text refl intermediates [] these (λ _. tt) in
     let no_marker = begins-intermediates is_marker refl intermediates [] these (λ _. tt) in

@@ -1,6 +1,6 @@
 -- Groups sent in a control sequence come back: its head leads byte by byte to its final byte, and the head is read as
 -- the groups that it shows (`ShownGroups`).
-use Rattle.vte_core.proofs.Common.{◌≡◌, ℕ, true, Option, List, [], ◌∷◌, ◌++◌, refl, ◌∙◌, append_assoc, append-nil, class_of, is_parameter_text, AreInClass, CsiDispatch, sequence_event, head_of, is_well_shaped, key_of, AreParameters, DispatchesShown, shown, Reads, AtEscape, InControlSequence, InText, escape}
+use Rattle.vte_core.proofs.Common.{◌≡◌, ℕ, true, Option, List, [], ◌∷◌, ◌++◌, refl, ◌∙◌, append_assoc, append-nil, class_of, is_parameter_text, AreInClass, CsiDispatch, sequence_event, head_of, is_well_shaped, sequence_kind, AreParameters, DispatchesShown, shown, BytesLead, AtEscape, InControlSequence, InText, escape}
 use Rattle.vte_core.proofs.bytes.ClassCases.{head_ends_nothing, parameter_is_head}
 use Rattle.vte_core.proofs.places.PlaceLeads.{control-dispatched, control-head, escape-key}
 use Rattle.vte_core.proofs.shapes.HeadLemmas.{held-parts, held-well_shaped}
@@ -9,7 +9,7 @@ use Rattle.vte_core.proofs.places.StreamLemmas.{no_escape, reads-append, reads-b
 use Rattle.vte_core.proofs.streams.StreamSteps.{told_by_stream}
 
 reads-head : (limit : Option ℕ) (head bytes : List ℕ) → AreInClass is_parameter_text bytes
-    → Reads limit (InControlSequence head) bytes [] (InControlSequence (head ++ bytes))
+    → BytesLead limit (InControlSequence head) bytes [] (InControlSequence (head ++ bytes))
 reads-head limit head [] are = rw append-nil (reads-nothing limit (InControlSequence head))
 reads-head limit head (b ∷ bytes) are =
     let is = parameter_is_head (class_of b) are.0 in
@@ -21,9 +21,9 @@ reads-head limit head (b ∷ bytes) are =
 
 -- ESC, `[`, the bytes and `m`
 reads-shown : (limit : Option ℕ) (bytes : List ℕ) → AreInClass is_parameter_text bytes
-    → Reads limit (InText []) (0x1b ∷ 0x5b ∷ (bytes ++ 0x6d ∷ []))
+    → BytesLead limit (InText []) (0x1b ∷ 0x5b ∷ (bytes ++ 0x6d ∷ []))
     (sequence_event CsiDispatch (head_of bytes) 0x6d ∷ []) (InText [])
-unfolding class_of key_of
+unfolding class_of sequence_kind
 reads-shown limit bytes are =
     let well_shaped : is_well_shaped (head_of bytes) ≡ true =
     rw append-nil at (held-well_shaped [] bytes [] tt are tt) in

@@ -20,8 +20,8 @@ module _ {limit : Option ℕ} (P Q : List Event → Type 0) (stream bytes : List
         | inr t ↦
             let earlier : t.start < i = t.earlier in
             let before = kept_below m t.start (omega arith) (omega arith) (λ j first. asked j (omega arith)) in
-            kept u.before u.unit (subst P (sym t.are) before)
-            (subst Q (sym t.are) (asked t.start earlier t.starts)) u.brief
+            kept u.before u.unit (subst P (sym t.events_are) before)
+            (subst Q (sym t.events_are) (asked t.start earlier t.starts)) u.brief
       ])
 
   pub kept_at : (i : ℕ) → i ≤ length bytes → ((j : ℕ) → j < i → IsStart stream bytes j

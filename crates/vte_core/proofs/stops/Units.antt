@@ -134,7 +134,7 @@ module _ (limit : Option ℕ) (stream bytes : List ℕ) (i : ℕ) (within : i < 
         tiny =
             λ some.
             opens_tiny limit from b (λ e. some (joined ∙ ends_from here (b ∷ []) (breaks_at stream bytes i) is ∙ e));
-        begun = inr (record { start = i; earlier = omega arith; starts = starts; are = refl });
+        begun = inr (record { start = i; earlier = omega arith; starts = starts; events_are = refl });
       }
 
   -- the byte belongs to an open character
@@ -163,7 +163,7 @@ module _ (limit : Option ℕ) (stream bytes : List ℕ) (i : ℕ) (within : i < 
                 start = t.start;
                 earlier = (let h : t.start < i = t.earlier in omega arith);
                 starts = t.starts;
-                are = t.are;
+                events_are = t.events_are;
               })
         ];
       }

@@ -2,7 +2,7 @@
 -- do after the bytes that lead from the place to another, whose events are added.
 --
 -- `added-X` says what `added` is in the case X, and `after-X` what `IsAfter` says of X.
-use Rattle.vte_core.proofs.Common.{◌≡◌, ℕ, Option, List, [], ◌++◌, length, drop, refl, ap, sym, ◌∙◌, append_assoc, append-nil, arith, drop_all, drop-append_seam, Machine, Stands, HasReadUnder, Event, tell, open_bytes, added, events, outcome, open_character, Place, InText, IsAfter, open_at, left_at, outcome_from, events_from, Reads}
+use Rattle.vte_core.proofs.Common.{◌≡◌, ℕ, Option, List, [], ◌++◌, length, drop, refl, ap, sym, ◌∙◌, append_assoc, append-nil, arith, drop_all, drop-append_seam, Machine, StandsAtPlace, HasReadWithLimit, Event, tell, open_bytes, added, events, outcome, open_character, Place, InText, IsAfter, open_at, left_at, outcome_from, events_from, BytesLead}
 use Rattle.vte_core.proofs.fields.PlaceOfState.{IsPlace, outcome_from-nothing, events_from-nothing, open_bytes-at}
 use Rattle.vte_core.proofs.streams.Performing.{events-empty}
 use Rattle.vte_core.proofs.shapes.OutcomeLemmas.{tell-append}
@@ -44,7 +44,7 @@ after-open_character limit stream place a is =
 
 -- the bytes lead from one place to another
 pub after-reads : (limit : Option ℕ) (stream bytes : List ℕ) (place next : Place) (these : List Event)
-    → IsAfter limit stream place → Reads limit place bytes these next → IsPlace next
+    → IsAfter limit stream place → BytesLead limit place bytes these next → IsPlace next
     → IsAfter limit (stream ++ bytes) next
 after-reads limit stream bytes place next these a r is = record {
   goes_on = λ more. go more ∙ ap (λ es. tell es (outcome_from limit next more)) (sym all);
@@ -76,7 +76,7 @@ added-after limit stream bytes place a =
 
 -- what bytes that lead to a place add is what they tell
 pub added-reads : (limit : Option ℕ) (stream bytes : List ℕ) (place next : Place) (these : List Event)
-    → IsAfter limit stream place → Reads limit place bytes these next → IsPlace next
+    → IsAfter limit stream place → BytesLead limit place bytes these next → IsPlace next
     → added limit stream bytes ≡ these
 added-reads limit stream bytes place next these a r is =
     added-after limit stream bytes place a
@@ -84,6 +84,6 @@ added-reads limit stream bytes place next these a r is =
     ∙ ap (λ es. these ++ es) (events_from-nothing limit next is) ∙ append-nil these
 
 -- a parser between characters of a text has read nothing
-pub begins : {B : Type 0} (limit : Option ℕ) (parser : Machine B) → Stands limit parser (InText [])
-    → HasReadUnder limit parser []
+pub begins : {B : Type 0} (limit : Option ℕ) (parser : Machine B) → StandsAtPlace limit parser (InText [])
+    → HasReadWithLimit limit parser []
 begins limit parser s = record { place = InText []; stands = s; is_after = after-nothing limit }

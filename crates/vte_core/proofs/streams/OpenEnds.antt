@@ -1,7 +1,7 @@
 -- The size of the store has no say in what is unfinished at the end: by the definitions, part by part, only what is
 -- kept of a command depends on it.
-use Rattle.vte_core.proofs.Common.{◌≡◌, ℕ, Bool, cases_Bool, inl, inr, Option, None, List, [], ◌∷◌, refl, Key, key_of, body_rest, body_outcome, sequence_outcome, class_of, is_cancel, is_key, Outcome, open_bytes, from_first, cut_at_escape, with_bodies, outcome, open_character, ends_command, system_command_outcome, system_command_rest, text_outcome}
-use Rattle.vte_core.specs.Key.{SystemCommand}
+use Rattle.vte_core.proofs.Common.{◌≡◌, ℕ, Bool, cases_Bool, inl, inr, Option, None, List, [], ◌∷◌, refl, SequenceKind, sequence_kind, body_rest, body_outcome, sequence_outcome, class_of, is_cancel, is_key, Outcome, open_bytes, from_first, cut_at_escape, with_bodies, outcome, open_character, ends_command, system_command_outcome, system_command_rest, text_outcome}
+use Rattle.vte_core.specs.SequenceKind.{SystemCommand}
 
 by_pieces : (pieces others : List (List ℕ)) (lost other : Bool) (rest : List ℕ)
     → open_bytes (system_command_rest pieces lost rest).left
@@ -9,7 +9,7 @@ by_pieces : (pieces others : List (List ℕ)) (lost other : Bool) (rest : List �
 by_pieces pieces others lost other [] = refl
 by_pieces pieces others lost other (end ∷ text) = refl
 
-by_shape : (limit : Option ℕ) (k : Key) (key : ℕ) (bytes : List ℕ)
+by_shape : (limit : Option ℕ) (k : SequenceKind) (key : ℕ) (bytes : List ℕ)
     → open_bytes (sequence_outcome limit k key bytes).left ≡ open_bytes (sequence_outcome None k key bytes).left
 unfolding system_command_outcome
 by_shape limit SystemCommand key bytes = by_pieces _ _ _ _ (from_first ends_command bytes)
@@ -21,7 +21,7 @@ by_rest limit [] = refl
 by_rest limit (key ∷ bytes) =
     elim (cases_Bool (is_cancel (class_of key))) [
       | inl cancels ↦ rw cancels refl
-      | inr other ↦ rw other (by_shape limit (key_of key) key bytes)
+      | inr other ↦ rw other (by_shape limit (sequence_kind key) key bytes)
     ]
 
 by_body : (limit : Option ℕ) (body : List ℕ)

@@ -1,6 +1,6 @@
 -- Events that no run tells: a control, and a character of two bytes or more only where its event is no printed one.
 -- Such a character is never ASCII.
-use Rattle.vte_core.proofs.Common.{◌≡◌, ◌≢◌, ℕ, ◌<◌, ◌≤◌, true, inl, inr, List, [], ◌∷◌, ◌++◌, length, length-append, refl, ap, sym, ◌∙◌, arith, cases_Bool, cases_lt, nat_tests, Event, Print, Execute, Put, character_event, is_control_character, is_well_formed, scalar_of, IsQuietEvent, PrintsNoAscii, All, All-cons, All-nil, All-weaker}
+use Rattle.vte_core.proofs.Common.{◌≡◌, ◌≢◌, ℕ, ◌<◌, ◌≤◌, true, inl, inr, List, [], ◌∷◌, ◌++◌, length, length-append, refl, ap, sym, ◌∙◌, arith, cases_Bool, cases_lt, nat_tests, Event, Print, Execute, Put, character_event, is_control_character, is_well_formed, scalar_of, IsOutsideRuns, PrintsNoAscii, All, All-cons, All-nil, All-weaker}
 use Rattle.std.proofs.lemmas.Str.{length-encode}
 use Rattle.vte_core.proofs.dividing.Utf8Agrees.{well_formed_is_encoded}
 
@@ -24,15 +24,15 @@ prints_no_ascii-character c high = elim (cases_Bool (is_control_character c)) [
   | inr is ↦ rw is (All-cons PrintsNoAscii (Print c) [] high (All-nil PrintsNoAscii))
 ]
 
-pub other_control : (c : ℕ) → is_control_character c ≡ true → All IsQuietEvent (character_event c ∷ [])
+pub other_control : (c : ℕ) → is_control_character c ≡ true → All IsOutsideRuns (character_event c ∷ [])
 unfolding character_event
-other_control c is = rw is (All-cons IsQuietEvent (Execute c) [] tt (All-nil IsQuietEvent))
+other_control c is = rw is (All-cons IsOutsideRuns (Execute c) [] tt (All-nil IsOutsideRuns))
 
 -- U+FFFD isn't ASCII
-prints_no_ascii-event : (event : Event) → IsQuietEvent event → PrintsNoAscii event
+prints_no_ascii-event : (event : Event) → IsOutsideRuns event → PrintsNoAscii event
 prints_no_ascii-event (Print c) is = omega (arith, is)
 prints_no_ascii-event (Put byte) is = absurd is
 prints_no_ascii-event _ is = tt
 
-pub prints_no_ascii-all : (events : List Event) → All IsQuietEvent events → All PrintsNoAscii events
-prints_no_ascii-all events are = All-weaker IsQuietEvent PrintsNoAscii prints_no_ascii-event events are
+pub prints_no_ascii-all : (events : List Event) → All IsOutsideRuns events → All PrintsNoAscii events
+prints_no_ascii-all events are = All-weaker IsOutsideRuns PrintsNoAscii prints_no_ascii-event events are

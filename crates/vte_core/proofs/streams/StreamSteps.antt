@@ -1,7 +1,7 @@
 -- A stream of any bytes, from its front: each byte leads from a place to a place (`arrives`), so what a stream gives
 -- stays as it is whatever follows, and it begins anew where all places lead to the same.
 use Rattle.vte_core.specs.Laws.{Resyncs, ResyncsAfter, Grows, OpensSilently}
-use Rattle.vte_core.proofs.Common.{◌≡◌, ℕ, ◌+◌, ◌≤◌, inl, inr, Option, None, List, [], ◌∷◌, ◌++◌, arith, open_data_count, drop, length, refl, ap, sym, ◌∙◌, append_assoc, All, All-append, All-cons, All-nil, Cancel, class_of, IsBounded, AreFromOneByte, Event, Place, InText, AtEscape, open_at, events_from, IsAfter, added, events, open_character, escape, Reads, InSystemCommand, left_at}
+use Rattle.vte_core.proofs.Common.{◌≡◌, ℕ, ◌+◌, ◌≤◌, inl, inr, Option, None, List, [], ◌∷◌, ◌++◌, arith, open_data_count, drop, length, refl, ap, sym, ◌∙◌, append_assoc, All, All-append, All-cons, All-nil, Cancel, class_of, IsBounded, AreFromOneByte, Event, Place, InText, AtEscape, open_at, events_from, IsAfter, added, events, open_character, escape, BytesLead, InSystemCommand, left_at}
 use Rattle.vte_core.proofs.places.BriefLemmas.{short_bounded}
 use Rattle.vte_core.proofs.places.CancelLemmas.{cancel}
 use Rattle.vte_core.proofs.streams.After.{added-after, added-reads, after-events, after-nothing, after-open_character, after-reads}
@@ -26,7 +26,7 @@ pub record Arrives (limit size : Option ℕ) (place : Place) (bytes : List ℕ) 
   pub told : List Event
   pub next : Place
   pub is_place : IsPlace next
-  pub reads : Reads limit place bytes told next
+  pub reads : BytesLead limit place bytes told next
   pub bounded : All (IsBounded size) told
   pub grows : limit ≡ None → size_at limit next ≤ size_at limit place + length bytes
 
@@ -69,7 +69,7 @@ arrives limit size place (b ∷ bytes) is fits =
 -- ---- the events of a stream from the events that it tells
 
 pub told_by_stream : (limit : Option ℕ) (next : Place) (stream : List ℕ) (told : List Event) → IsPlace next
-    → Reads limit (InText []) stream told next → events limit stream ≡ told
+    → BytesLead limit (InText []) stream told next → events limit stream ≡ told
 told_by_stream limit next stream told is r =
     ap (λ es. drop (length es) (events limit stream)) (sym (events-empty limit))
     ∙ added-reads limit [] stream (InText []) next told (after-nothing limit) r is
@@ -102,7 +102,7 @@ events_grow limit stream more =
 
 grows_after : (limit : Option ℕ) (stream bytes more : List ℕ) (a : LeadsTo limit stream) (next : Place)
     (told : List Event) → IsPlace next
-    → Reads limit a.place bytes told next
+    → BytesLead limit a.place bytes told next
     → events limit (stream ++ (bytes ++ more)) ≡ events limit (stream ++ bytes) ++ events_from limit next more
 grows_after limit stream bytes more a next told is reads =
     ap (events limit) (sym (append_assoc stream bytes more))

@@ -67,7 +67,7 @@ state_after state (b ∷ bytes) = state_after (next_state state b) bytes
 -- on.
 pub record HasScanned (text : List ℕ) (at state : ℕ) : Type 0 where
   pub within : at ≤ length text
-  pub is : state ≡ state_code (state_after Between (take at text))
+  pub state_is : state ≡ state_code (state_after Between (take at text))
   pub going : state_after Between (take at text) ≢ Failed
 
 -- Up to `end` stand whole characters, and up to `at` at most three bytes of another.

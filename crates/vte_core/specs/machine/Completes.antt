@@ -10,7 +10,7 @@ use Rattle.vte_core.specs.Stream.{added}
 use Rattle.vte_core.specs.Event.{Event}
 use Rattle.vte_core.specs.machine.Progress.{ChunkCall, StandsAt, StandsInside}
 use Rattle.vte_core.specs.machine.Unfinished.{bytes_of}
-use Rattle.vte_core.specs.Quiet.{IsQuietEvent}
+use Rattle.vte_core.specs.OutsideRuns.{IsOutsideRuns}
 use Rattle.vte_core.specs.Text.{character_event}
 use Rattle.vte_core.specs.Utf8.{is_well_formed, scalar_of}
 
@@ -27,7 +27,7 @@ pub record IsOneCharacter (begun bytes : List ℕ) (i : ℕ) (events : List Even
 pub record AddsCharacter (limit : Option ℕ) (stream begun bytes : List ℕ) (i j : ℕ) : Type 0 where
   pub events : List Event
   pub parts : told_before limit stream bytes j ≡ added limit stream (take i bytes) ++ events
-  pub are : All IsQuietEvent events ⊎ IsOneCharacter begun bytes i events
+  pub events_are : All IsOutsideRuns events ⊎ IsOneCharacter begun bytes i events
 
 -- The call goes on to position j, in a text if bytes are left, and tells a character or none. At
 -- position i a parser would stand inside the character that `begun` begins.

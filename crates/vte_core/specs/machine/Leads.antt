@@ -11,7 +11,7 @@ pub record Leads (limit : Option ℕ) (place : Place) (byte : ℕ) (told : List 
       → rest_outcome limit place (byte ∷ rest) ≡ tell told (rest_outcome limit next rest)
 
 -- The bytes, which may include ESC, give these events and lead to the next place.
-pub record Reads (limit : Option ℕ) (place : Place) (bytes : List ℕ) (told : List Event)
+pub record BytesLead (limit : Option ℕ) (place : Place) (bytes : List ℕ) (told : List Event)
     (next : Place) : Type 0 where
   pub reads : (more : List ℕ)
       → outcome_from limit place (bytes ++ more) ≡ tell told (outcome_from limit next more)

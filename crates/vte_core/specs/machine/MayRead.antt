@@ -25,4 +25,4 @@ pub record MayReadByte {V B : Type 0} (call : ChunkCall V) (value : V) (state : 
   pub begun : parser.state ≡ state
   pub may_go_on : MayGoOn call value
   pub within : i < length call.bytes
-  pub is : byte ≡ slice_index call.bytes i
+  pub looked_at : byte ≡ slice_index call.bytes i

@@ -49,7 +49,7 @@ pub record HandlesByte (most : ℕ) {B : Type 0} (parser next : Machine B)
 pub record Costs (rate : ℕ) {Answer B : Type 0} (bytes : List ℕ) (result : Result Answer Refused)
     (n : ℕ) (parser next : Machine B) (before after : Looks B) : Type 0 where
   pub count : looked after ≤ looked before + rate * length bytes + 8
-  pub paid : IfOk result (λ _. looked after ≤ looked before + rate * n + 8)
+  pub count_if_ok : IfOk result (λ _. looked after ≤ looked before + rate * n + 8)
   pub least : looked before + n ≤ looked after
   pub memory : parser.command.capacity ≤ next.command.capacity
 

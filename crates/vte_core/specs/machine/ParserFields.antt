@@ -43,13 +43,13 @@ pub record HoldsNumbers (collected : Collected) (has_more : Bool) (text : List �
   pub more : has_more ≡ has_too_many_numbers text
 
 -- The held numbers are the same.
-pub record KeepsNumbers (old new : Collected) : Type 0 where
+pub record SameNumbers (old new : Collected) : Type 0 where
   pub params : new.params ≡ old.params
   pub joined : new.joined ≡ old.joined
   pub number : new.number ≡ old.number
 
 -- The held intermediates are the same.
-pub record KeepsIntermediates (old new : Collected) : Type 0 where
+pub record SameIntermediates (old new : Collected) : Type 0 where
   pub intermediates : new.intermediates ≡ old.intermediates
   pub too_many_intermediates : new.too_many_intermediates ≡ old.too_many_intermediates
 
@@ -69,7 +69,8 @@ Reaches Intermediates marker parameters intermediates = 0 < length intermediates
 Reaches IllShaped marker parameters intermediates = ⊥
 
 -- The head is well shaped so far, and its numbers and intermediates are held.
-pub record HoldsHead (collected : Collected) (part : HeadProgress) (head : List ℕ) : Type 0 where
+pub record HoldsHead (collected : Collected) (progress : HeadProgress)
+    (head : List ℕ) : Type 0 where
   pub marker : List ℕ
   pub parameters : List ℕ
   pub intermediates : List ℕ
@@ -77,7 +78,7 @@ pub record HoldsHead (collected : Collected) (part : HeadProgress) (head : List 
   pub is_marker : IsMarker marker
   pub are_parameters : AreInClass is_parameter_text parameters
   pub are_intermediates : AreInClass is_intermediate intermediates
-  pub reaches : Reaches part marker parameters intermediates
+  pub reaches : Reaches progress marker parameters intermediates
   pub holds : HoldsIntermediates collected (marker ++ intermediates)
   pub counts : CountsNumbers collected parameters
 
@@ -87,7 +88,7 @@ pub record StaysIllShaped (head : List ℕ) : Type 0 where
 
 abbrev pub StandsInHead : Collected → HeadProgress → List ℕ → Type 0
 StandsInHead collected IllShaped head = StaysIllShaped head
-StandsInHead collected part head = HoldsHead collected part head
+StandsInHead collected progress head = HoldsHead collected progress head
 
 -- What the state says of the place.
 abbrev pub StandsBy : {B : Type 0} → Option ℕ → State → Machine B → Place → Type 0
@@ -96,23 +97,23 @@ StandsBy limit (Text unfinished) parser (InText bytes) =
 StandsBy limit Escape parser AtEscape = HoldsIntermediates parser.collected []
 StandsBy limit EscapeIntermediate parser (InEscape intermediates) =
     HoldsIntermediates parser.collected intermediates
-StandsBy limit (ControlSequence part) parser (InControlSequence head) =
-    StandsInHead parser.collected part head
-StandsBy limit (DeviceControl part) parser (InDeviceControl head) =
-    StandsInHead parser.collected part head
+StandsBy limit (ControlSequence progress) parser (InControlSequence head) =
+    StandsInHead parser.collected progress head
+StandsBy limit (DeviceControl progress) parser (InDeviceControl head) =
+    StandsInHead parser.collected progress head
 StandsBy limit DeviceData parser InDeviceData = ⊤
 StandsBy limit SystemCommand parser (InSystemCommand items) = HoldsItems limit parser.command items
 StandsBy limit IgnoredString parser InIgnoredString = ⊤
 StandsBy limit _ parser _ = ⊥
 
-pub record Stands {B : Type 0} (limit : Option ℕ) (parser : Machine B)
+pub record StandsAtPlace {B : Type 0} (limit : Option ℕ) (parser : Machine B)
     (place : Place) : Type 0 where
   pub by : StandsBy limit parser.state parser place
 
 -- The parser continues as one that has read the stream: with more bytes, the stream gives its own
 -- events and then what those bytes give after a place at which the parser stands.
-pub record HasReadUnder {B : Type 0} (limit : Option ℕ) (parser : Machine B)
+pub record HasReadWithLimit {B : Type 0} (limit : Option ℕ) (parser : Machine B)
     (stream : List ℕ) : Type 0 where
   pub place : Place
-  pub stands : Stands limit parser place
+  pub stands : StandsAtPlace limit parser place
   pub is_after : IsAfter limit stream place

@@ -2,10 +2,10 @@
 pub use Rattle.vte_core.specs.Class.{IsDeviceData, class_of, dispatches_escape, ends_body, is_plain_control, is_device_data, is_final, is_head_byte, is_intermediate, is_parameter_text}
 pub use Rattle.vte_core.specs.EarlyStop.{NoCharacterStops}
 pub use Rattle.vte_core.specs.Event.{CsiDispatch, EscDispatch, Event, Execute, Hook, OscDispatch, Print, Put, Unhook}
-pub use Rattle.vte_core.specs.Key.{begins_ignored_string}
+pub use Rattle.vte_core.specs.SequenceKind.{begins_ignored_string}
 pub use Rattle.vte_core.specs.LongParser.{read_count}
 pub use Rattle.vte_core.specs.Looks.{looked}
-pub use Rattle.vte_core.specs.Quiet.{TellsQuietly}
+pub use Rattle.vte_core.specs.OutsideRuns.{TellsOutsideRuns}
 pub use Rattle.vte_core.specs.Parameters.{is_separator}
 pub use Rattle.vte_core.specs.Perform.{after}
 pub use Rattle.vte_core.specs.Outcome.{SaysLoss}
@@ -13,7 +13,7 @@ pub use Rattle.vte_core.specs.Stream.{IsFinished, IsUnfinished}
 unfoldable pub use Rattle.vte_core.specs.Stream.{outcome}
 unfoldable pub use Rattle.vte_core.specs.SystemCommand.{loses_data}
 pub use Rattle.vte_core.specs.SystemCommand.{IsCommandData, has_room, most_pieces}
-pub use Rattle.vte_core.specs.Text.{EndsRun, character_event, is_control_character, is_layout, malformed_event, run_event}
+pub use Rattle.vte_core.specs.Text.{HasNoRunAt, character_event, is_control_character, is_layout, malformed_event, run_event}
 pub use Rattle.vte_core.specs.Utf8.{is_in, is_truncated, scalar_of, from_to}
 pub use Rattle.vte_core.specs.declared.scan.taken.RunKind.TheVariants.{Empty}
 pub use Rattle.vte_core.specs.declared.parser.State.TheVariants.{DeviceData, Escape, EscapeIntermediate, IgnoredString, SystemCommand, Text}
@@ -23,7 +23,7 @@ pub use Rattle.vte_core.specs.machine.Completes.{Completes}
 pub use Rattle.vte_core.specs.machine.Data.{AreIgnored, ArePut}
 pub use Rattle.vte_core.specs.machine.MayRead.{MayRead, MayReadAt, MayReadByte}
 pub use Rattle.vte_core.specs.machine.Moves.{Costs, HandlesByte, MovesWithin, Refuses, SpendsWithin}
-pub use Rattle.vte_core.specs.machine.ParserFields.{CountsNumbers, HoldsIntermediates, HoldsHead, HasReadUnder, KeepsIntermediates, KeepsNumbers, HoldsNumbers, Stands, StandsInHead}
+pub use Rattle.vte_core.specs.machine.ParserFields.{CountsNumbers, HoldsIntermediates, HoldsHead, HasReadWithLimit, SameIntermediates, SameNumbers, HoldsNumbers, StandsAtPlace, StandsInHead}
 pub use Rattle.vte_core.specs.machine.Place.{AtEscape, InControlSequence, InDeviceControl, IsSettledPlace, Place, closing_events_at}
 pub use Rattle.vte_core.specs.machine.Progress.{Advances, IsSettled, ReadsUpTo, ReadsUntilRefused, StandsAt, chunk_call}
 pub use Rattle.vte_core.specs.machine.Reading.{ReadsHeadUpTo, with_open_number}
@@ -33,5 +33,5 @@ pub use Rattle.vte_core.specs.machine.Scans.{FindsEnd, IsRange, Scans, LooksAtMo
 pub use Rattle.vte_core.specs.machine.Store.{ArePieceEnds, HasCapacity, Stored, HoldsItems, ReservesCapacity, SameItems, cut_pieces, fitting}
 pub use Rattle.vte_core.specs.machine.Takes.{Dispatches, TakesBytes, TakesByte}
 pub use Rattle.vte_core.specs.machine.Tells.{Tells, TellsAll}
-pub use Rattle.vte_core.specs.machine.ToRun.{AreOfKind, ComesToRun, IsOutsideTextAndData, IsQuietIn, IsTaken, read_up_to, performed_up_to}
+pub use Rattle.vte_core.specs.machine.ToRun.{AreOfKind, ComesToRun, IsOutsideTextAndData, IsReadOutsideRuns, IsTaken, read_through_range, read_before_range}
 pub use Rattle.vte_core.specs.machine.Unfinished.{BeginsFour, BeginsThree, BeginsTwo, Carries, bytes_of, second_range}

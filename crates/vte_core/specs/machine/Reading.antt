@@ -17,17 +17,17 @@ with_open_number collected number = record {
 }
 
 -- The bytes from position i to position j are read as part of a head, whatever its shape.
-pub record ReadsHead (bytes : List ℕ) (i j : ℕ) (reached part : HeadProgress)
+pub record ReadsHead (bytes : List ℕ) (i j : ℕ) (reached progress : HeadProgress)
     (old new : Collected) : Type 0 where
   pub low : i ≤ j
   pub high : j ≤ length bytes
-  pub are : AreInClass is_head_byte (take (j - i) (drop i bytes))
+  pub head_bytes : AreInClass is_head_byte (take (j - i) (drop i bytes))
   pub stands : (head : List ℕ) → StandsInHead old reached head
-      → StandsInHead new part (head ++ take (j - i) (drop i bytes))
+      → StandsInHead new progress (head ++ take (j - i) (drop i bytes))
 
 -- A head is read from position i up to `end`, and the byte there, if there is one, was looked at.
 pub record ReadsHeadUpTo (bytes : List ℕ) (i : ℕ) (reached : HeadProgress) (end : HeadEnd)
     (old new : Collected) : Type 0 where
-  pub head : ReadsHead bytes i end.position reached end.part old new
+  pub head : ReadsHead bytes i end.position reached end.progress old new
   pub next : MatchOption end.next (end.position ≡ length bytes)
       (λ byte. (end.position < length bytes) × (byte ≡ slice_index bytes end.position))

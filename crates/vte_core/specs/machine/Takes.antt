@@ -6,8 +6,8 @@ use Rattle.vte_core.specs.declared.parser.machine.Machine.{Machine}
 use Rattle.vte_core.specs.declared.parser.State.TheVariants.{Text}
 use Rattle.vte_core.specs.declared.utf8.Unfinished.TheVariants.{Nothing}
 use Rattle.vte_core.specs.Event.{Event}
-use Rattle.vte_core.specs.machine.Leads.{Leads, Reads}
-use Rattle.vte_core.specs.machine.ParserFields.{Stands}
+use Rattle.vte_core.specs.machine.Leads.{Leads, BytesLead}
+use Rattle.vte_core.specs.machine.ParserFields.{StandsAtPlace}
 use Rattle.vte_core.specs.machine.Place.{Place}
 use Rattle.vte_core.specs.machine.Tells.{Tells}
 use Rattle.vte_core.specs.Perform.{after}
@@ -19,7 +19,7 @@ pub record TakesByte {V B : Type 0} (step : V → Event → V) (old new : V) (li
   pub told : List Event
   pub next : Place
   pub performed : new ≡ after step old told
-  pub stands : Stands limit parser next
+  pub stands : StandsAtPlace limit parser next
   pub leads : Leads limit place byte told next
 
 -- The performer received a sequence, as one event. The parser stands in a text then, and gave back
@@ -36,5 +36,5 @@ pub record TakesBytes {V B : Type 0} (step : V → Event → V) (old new : V) (l
   pub told : List Event
   pub next : Place
   pub performed : new ≡ after step old told
-  pub stands : Stands limit parser next
-  pub reads : Reads limit place bytes told next
+  pub stands : StandsAtPlace limit parser next
+  pub reads : BytesLead limit place bytes told next

@@ -14,24 +14,24 @@ IsPrintedAscii b = (0x20 ≤ b) × (b < 0x80)
 abbrev pub ArePrintedAscii : List ℕ → ℕ → ℕ → Type 0
 ArePrintedAscii = Each IsPrintedAscii
 
--- The bytes are characters, and none of these is a control, but for HT, LF and CR if it `keeps`
+-- The bytes are characters, and none of these is a control, but for HT, LF and CR if it `layout`
 -- these.
-pub record IsUtf8Run (keeps : Bool) (bytes : List ℕ) : Type 0 where
+pub record IsUtf8Run (layout : Bool) (bytes : List ℕ) : Type 0 where
   pub utf8 : IsUtf8 bytes
-  pub plain : IsRunText keeps bytes
+  pub plain : IsRunText layout bytes
 
 -- The text of one run, which isn't empty.
-pub record IsNonEmptyRun (keeps : Bool) (text : List ℕ) : Type 0 where
+pub record IsNonEmptyRun (layout : Bool) (text : List ℕ) : Type 0 where
   pub some : 0 < length text
-  pub plain : IsRunText keeps text
+  pub plain : IsRunText layout text
 
 -- The bytes from `from` up to `to` are a run.
 abbrev pub IsRun : Bool → List ℕ → ℕ → ℕ → Type 0
-IsRun keeps bytes from to = IsUtf8Run keeps (take (to - from) (drop from bytes))
+IsRun layout bytes from to = IsUtf8Run layout (take (to - from) (drop from bytes))
 
 -- The performer has received the characters from `from` up to `to`, which are a run.
-pub record PrintsRun {V : Type 0} (keeps : Bool) (step : V → Event → V) (old new : V)
+pub record PrintsRun {V : Type 0} (layout : Bool) (step : V → Event → V) (old new : V)
     (bytes : List ℕ) (from to : ℕ) : Type 0 where
-  pub run : IsRun keeps bytes from to
+  pub run : IsRun layout bytes from to
   pub printed : new
-      ≡ after step old (map (run_event keeps) (chars (take (to - from) (drop from bytes))))
+      ≡ after step old (map (run_event layout) (chars (take (to - from) (drop from bytes))))

@@ -12,12 +12,12 @@ use Rattle.vte_core.specs.declared.parser.State.{State}
 use Rattle.vte_core.specs.declared.parser.State.TheVariants.{Text, DeviceData}
 use Rattle.vte_core.specs.Class.{IsDeviceData, class_of, is_device_data}
 use Rattle.vte_core.specs.Event.{Event, Print, Put}
-use Rattle.vte_core.specs.machine.ParserFields.{HasReadUnder}
+use Rattle.vte_core.specs.machine.ParserFields.{HasReadWithLimit}
 use Rattle.vte_core.specs.machine.Progress.{ChunkCall, StandsAt}
 use Rattle.vte_core.specs.machine.TextRun.{IsUtf8Run}
 use Rattle.vte_core.specs.machine.Scans.{IsRange}
 use Rattle.vte_core.specs.Stream.{added}
-use Rattle.vte_core.specs.Text.{EndsRun}
+use Rattle.vte_core.specs.Text.{HasNoRunAt}
 
 -- The state is neither in a text nor in data.
 abbrev pub IsOutsideTextAndData : State → Type 0
@@ -26,10 +26,10 @@ IsOutsideTextAndData DeviceData = ⊥
 IsOutsideTextAndData _ = ⊤
 
 -- A byte is read in a sequence or a string, and isn't put.
-abbrev pub IsQuietIn : State → ℕ → Type 0
-IsQuietIn (Text _) b = ⊥
-IsQuietIn DeviceData b = is_device_data (class_of b) ≡ false
-IsQuietIn _ b = ⊤
+abbrev pub IsReadOutsideRuns : State → ℕ → Type 0
+IsReadOutsideRuns (Text _) b = ⊥
+IsReadOutsideRuns DeviceData b = is_device_data (class_of b) ≡ false
+IsReadOutsideRuns _ b = ⊤
 
 -- The bytes of the range.
 abbrev pub bytes_at : List ℕ → RunRange → List ℕ
@@ -55,7 +55,7 @@ kind_events Empty bytes = []
 
 -- Nothing of the kind stands where the run ends. A run isn't empty.
 abbrev pub IsWholeAt : List ℕ → RunRange → RunKind → Type 0
-IsWholeAt bytes range OfText = (range.start < range.end) × EndsRun false bytes range.end
+IsWholeAt bytes range OfText = (range.start < range.end) × HasNoRunAt false bytes range.end
 IsWholeAt bytes range OfData =
     (range.start < range.end) × (range.end < length bytes
     → IsDeviceData (slice_index bytes range.end) → ⊥)
@@ -67,27 +67,27 @@ pub record HasRun {B : Type 0} (limit : Option ℕ) (bytes : List ℕ) (range : 
   pub is_range : IsRange bytes range.start range.end
   pub kind : AreOfKind range.kind (bytes_at bytes range)
   pub whole : IsWholeAt bytes range range.kind
-  pub adds : (stream : List ℕ) → HasReadUnder limit parser stream
+  pub adds : (stream : List ℕ) → HasReadWithLimit limit parser stream
       → added limit stream (bytes_at bytes range) ≡ kind_events range.kind (bytes_at bytes range)
-  pub reads : (stream : List ℕ) → HasReadUnder limit parser stream
-      → HasReadUnder limit parser (stream ++ bytes_at bytes range)
+  pub reads : (stream : List ℕ) → HasReadWithLimit limit parser stream
+      → HasReadWithLimit limit parser (stream ++ bytes_at bytes range)
 
 -- The call came to a run, to its end or to a stop.
 pub record ComesToRun {V B : Type 0} (call : ChunkCall V) (old new : V) (range : RunRange)
     (parser next : Machine B) : Type 0 where
   pub has : HasRun call.limit call.bytes range next
-  pub stands_at : (stream : List ℕ) → HasReadUnder call.limit parser stream
+  pub stands_at : (stream : List ℕ) → HasReadWithLimit call.limit parser stream
       → StandsAt call old new stream range.start next
   pub may_go_on : range.start < range.end → call.is_terminated new ≡ false
   pub stops : range.end ≡ range.start → range.start < length call.bytes
       → call.is_terminated new ≡ true
 
 -- How many bytes a call with this result performed.
-abbrev pub performed_up_to : Result RunRange Refused → ℕ
-performed_up_to (Ok range) = range.start
-performed_up_to (Err refused) = refused.read
+abbrev pub read_before_range : Result RunRange Refused → ℕ
+read_before_range (Ok range) = range.start
+read_before_range (Err refused) = refused.read
 
 -- How many bytes a call with this result read.
-abbrev pub read_up_to : Result RunRange Refused → ℕ
-read_up_to (Ok range) = range.end
-read_up_to (Err refused) = refused.read
+abbrev pub read_through_range : Result RunRange Refused → ℕ
+read_through_range (Ok range) = range.end
+read_through_range (Err refused) = refused.read

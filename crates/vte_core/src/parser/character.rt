@@ -1,6 +1,6 @@
 //! The bytes of a character after the first.
 ghost use Rattle.std.specs.Prelude.{◌≡◌, ◌≢◌, ◌+◌, ◌*◌, ◌<◌, ◌≤◌, false, true, [], length, slice_index};
-ghost use Rattle.vte_core.specs.machine.Prelude.{Advances, BeginsFour, BeginsThree, Completes, EndsRun, MayReadByte, MovesWithin, NoCharacterStops, Nothing, One, SpendsWithin, Text, bytes_of, chunk_call, looked};
+ghost use Rattle.vte_core.specs.machine.Prelude.{Advances, BeginsFour, BeginsThree, Completes, HasNoRunAt, MayReadByte, MovesWithin, NoCharacterStops, Nothing, One, SpendsWithin, Text, bytes_of, chunk_call, looked};
 
 use crate::buffer::Buffer;
 use crate::parser::{Machine, State};
@@ -29,8 +29,9 @@ impl<B: Buffer> Machine<B> {
         requires lead { 0xc2 ≤ first }
         requires fits { first < 0xf5 }
         requires no_stop { G.IN_RUNS ≡ true → MAY_STOP ≡ true
-            → NoCharacterStops P.keeps P.step P.is_terminated }
-        ensures advances { Advances ((G.IN_RUNS ≡ false) × EndsRun false input.entry.bytes.now from)
+            → NoCharacterStops P.layout P.step P.is_terminated }
+        ensures advances { Advances
+            ((G.IN_RUNS ≡ false) × HasNoRunAt false input.entry.bytes.now from)
             (chunk_call MAY_STOP P.step P.is_terminated B.limit input.entry.bytes.now)
             (P.value_of performer.old) (P.value_of performer.new) from result self.old self.new }
         ensures text { result < length input.entry.bytes.now → self.new.state ≡ Text Nothing }
@@ -116,10 +117,11 @@ impl<B: Buffer> Machine<B> {
             (P.value_of performer.old) (Text Nothing) self.old from first }
         requires lead { BeginsFour first }
         requires within { from + 1 < length input.bytes.now }
-        requires is { second ≡ slice_index input.bytes.now (from + 1) }
+        requires looked_at { second ≡ slice_index input.bytes.now (from + 1) }
         requires no_stop { G.IN_RUNS ≡ true → MAY_STOP ≡ true
-            → NoCharacterStops P.keeps P.step P.is_terminated }
-        ensures advances { Advances ((G.IN_RUNS ≡ false) × EndsRun false input.entry.bytes.now from)
+            → NoCharacterStops P.layout P.step P.is_terminated }
+        ensures advances { Advances
+            ((G.IN_RUNS ≡ false) × HasNoRunAt false input.entry.bytes.now from)
             (chunk_call MAY_STOP P.step P.is_terminated B.limit input.entry.bytes.now)
             (P.value_of performer.old) (P.value_of performer.new) from result self.old self.new }
         ensures text { result < length input.entry.bytes.now → self.new.state ≡ Text Nothing }
@@ -154,7 +156,7 @@ impl<B: Buffer> Machine<B> {
             return next + 2;
         }
         if G::IN_RUNS {
-            let end = looks.find_run_end_of(performer, input, next + 3);
+            let end = looks.find_run_end_for(performer, input, next + 3);
             looks.tell_text(performer, input, from, end);
             return end;
         }

@@ -14,11 +14,7 @@ impl<B: Buffer> Machine<B> {
     /// most one number: for them this calls nothing before the dispatch. If calls have one byte
     /// each, most bytes of long sequences come this way.
     #[inline(always)]
-    pub(crate) fn continue_control_sequence<
-        P: CountedPerform<B, G>,
-        G: Grain,
-        const MAY_STOP: bool,
-    >(
+    pub(crate) fn read_short_head<P: CountedPerform<B, G>, G: Grain, const MAY_STOP: bool>(
         &mut self,
         looks: &mut Looks<B>,
         performer: &mut P,
@@ -45,10 +41,16 @@ impl<B: Buffer> Machine<B> {
             .read_numbers(looks, reached, several, input, from);
         if let Some(byte) = head.next {
             if is_final(byte) {
-                return self.end_control_sequence(looks, performer, head.part, byte, head.position);
+                return self.end_control_sequence(
+                    looks,
+                    performer,
+                    head.progress,
+                    byte,
+                    head.position,
+                );
             }
         }
-        self.state = State::ControlSequence(head.part);
+        self.state = State::ControlSequence(head.progress);
         if head.next.is_none() {
             return head.position;
         }
@@ -56,7 +58,7 @@ impl<B: Buffer> Machine<B> {
             looks,
             performer,
             input,
-            head.part,
+            head.progress,
             head.position,
         )
     }
@@ -80,10 +82,16 @@ impl<B: Buffer> Machine<B> {
             looks.old looks.new }
     {
         let head = self.collected.read_head(looks, reached, input, from);
-        self.state = State::ControlSequence(head.part);
+        self.state = State::ControlSequence(head.progress);
         if let Some(byte) = head.next {
             if is_final(byte) {
-                return self.end_control_sequence(looks, performer, head.part, byte, head.position);
+                return self.end_control_sequence(
+                    looks,
+                    performer,
+                    head.progress,
+                    byte,
+                    head.position,
+                );
             }
             if ends_body(byte) {
                 self.end_body(looks, performer, byte);
@@ -103,19 +111,19 @@ impl<B: Buffer> Machine<B> {
         &mut self,
         looks: &mut Looks<B>,
         performer: &mut P,
-        part: HeadProgress,
+        progress: HeadProgress,
         byte: u8,
         position: usize,
     ) -> usize
-        requires is { is_final (class_of byte) ≡ true }
+        requires final_byte { is_final (class_of byte) ≡ true }
         requires room { position + 1 < 2 ^ 64 }
         ensures next { result ≡ position + 1 }
-        ensures takes { (head : List ℕ) → StandsInHead self.old.collected part head
+        ensures takes { (head : List ℕ) → StandsInHead self.old.collected progress head
             → TakesByte P.step (P.value_of performer.old) (P.value_of performer.new) B.limit
             (InControlSequence head) byte self.new }
         ensures handles { HandlesByte 1 self.old self.new looks.old looks.new }
     {
-        if let HeadProgress::IllShaped = part {
+        if let HeadProgress::IllShaped = progress {
             self.state = State::Text(Unfinished::Nothing);
             return position + 1;
         }

@@ -31,10 +31,10 @@ impl<B: Buffer> Machine<B> {
             looks.old looks.new }
     {
         let head = self.collected.read_head(looks, reached, input, from);
-        self.state = State::DeviceControl(head.part);
+        self.state = State::DeviceControl(head.progress);
         if let Some(byte) = head.next {
             if is_final(byte) {
-                self.hook(looks, performer, head.part, byte);
+                self.hook(looks, performer, head.progress, byte);
             } else if ends_body(byte) {
                 self.end_body(looks, performer, byte);
             }
@@ -49,16 +49,16 @@ impl<B: Buffer> Machine<B> {
         &mut self,
         looks: &mut Looks<B>,
         performer: &mut P,
-        part: HeadProgress,
+        progress: HeadProgress,
         byte: u8,
     )
         requires { is_final (class_of byte) ≡ true }
-        ensures takes { (head : List ℕ) → StandsInHead self.old.collected part head
+        ensures takes { (head : List ℕ) → StandsInHead self.old.collected progress head
             → TakesByte P.step (P.value_of performer.old) (P.value_of performer.new) B.limit
             (InDeviceControl head) byte self.new }
         ensures handles { HandlesByte 1 self.old self.new looks.old looks.new }
     {
-        if let HeadProgress::IllShaped = part {
+        if let HeadProgress::IllShaped = progress {
             self.state = State::IgnoredString;
             return;
         }
@@ -88,7 +88,7 @@ impl<B: Buffer> Machine<B> {
         for position in from..input.len() {
             let byte = looks.at(input, position);
             if !is_device_data(byte) {
-                return self.end_device_data::<P, G, MAY_STOP>(
+                return self.read_other_in_data::<P, G, MAY_STOP>(
                     looks, performer, input, position, byte,
                 );
             }
@@ -107,7 +107,7 @@ impl<B: Buffer> Machine<B> {
 
     /// Reads a byte among the data that isn't put: it ends them, or is dropped.
     #[inline(never)]
-    pub(crate) fn end_device_data<P: CountedPerform<B, G>, G: Grain, const MAY_STOP: bool>(
+    pub(crate) fn read_other_in_data<P: CountedPerform<B, G>, G: Grain, const MAY_STOP: bool>(
         &mut self,
         looks: &mut Looks<B>,
         performer: &mut P,

@@ -1,6 +1,6 @@
 //! The loop over the bytes of a call.
 ghost use Rattle.std.specs.Prelude.{◌≡◌, ◌<◌, true, List, ℕ, length, IfErr, IfOk};
-ghost use Rattle.vte_core.specs.machine.Prelude.{Advances, Costs, HasReadUnder, IsOutsideTextAndData, IsSettled, MayReadAt, MovesWithin, NoCharacterStops, ReadsUpTo, Refuses, ReadsUntilRefused, SpendsWithin, StandsAt, TellsQuietly, chunk_call};
+ghost use Rattle.vte_core.specs.machine.Prelude.{Advances, Costs, HasReadWithLimit, IsOutsideTextAndData, IsSettled, MayReadAt, MovesWithin, NoCharacterStops, ReadsUpTo, Refuses, ReadsUntilRefused, SpendsWithin, StandsAt, TellsOutsideRuns, chunk_call};
 ghost use Rattle.vte_core.specs.machine.Prelude.{chunk_call, read_count};
 
 use crate::buffer::Buffer;
@@ -17,7 +17,7 @@ impl<B: Buffer> Machine<B> {
         input: Input<'_, B>,
     ) -> Result<usize, Refused>
         requires no_stop { G.IN_RUNS ≡ true → MAY_STOP ≡ true
-            → NoCharacterStops P.keeps P.step P.is_terminated }
+            → NoCharacterStops P.layout P.step P.is_terminated }
         ensures reads { IfOk result
             (λ read. ReadsUpTo
             (chunk_call MAY_STOP P.step P.is_terminated B.limit input.entry.bytes.now)
@@ -46,14 +46,14 @@ impl<B: Buffer> Machine<B> {
         performer: &mut P,
         input: Input<'_, B>,
     ) -> usize
-        ensures stands_at { (stream : List ℕ) → HasReadUnder B.limit self.old stream →
+        ensures stands_at { (stream : List ℕ) → HasReadWithLimit B.limit self.old stream →
             StandsAt (chunk_call MAY_STOP P.step P.is_terminated B.limit input.entry.bytes.now)
             (P.value_of performer.old) (P.value_of performer.new) stream result self.new }
         ensures settled { result < length input.entry.bytes.now → IsSettled self.new.state }
         ensures spends { SpendsWithin 2 0 2 input.entry.bytes.now 0 result self.old self.new
             looks.old looks.new }
-        ensures quietly { (stream : List ℕ) → HasReadUnder B.limit self.old stream
-            → TellsQuietly B.limit stream input.entry.bytes.now result }
+        ensures outside_runs { (stream : List ℕ) → HasReadWithLimit B.limit self.old stream
+            → TellsOutsideRuns B.limit stream input.entry.bytes.now result }
     {
         match self.state {
             State::Text(begun) => {
@@ -81,7 +81,7 @@ impl<B: Buffer> Machine<B> {
             (P.value_of performer.old) self.old.state self.old from }
         requires settled { IsSettled self.old.state }
         requires no_stop { G.IN_RUNS ≡ true → MAY_STOP ≡ true
-            → NoCharacterStops P.keeps P.step P.is_terminated }
+            → NoCharacterStops P.layout P.step P.is_terminated }
         ensures advances { Advances (IsOutsideTextAndData self.old.state)
             (chunk_call MAY_STOP P.step P.is_terminated B.limit input.entry.bytes.now)
             (P.value_of performer.old) (P.value_of performer.new) from (read_count result) self.old
@@ -105,13 +105,13 @@ impl<B: Buffer> Machine<B> {
             State::EscapeIntermediate => {
                 self.read_intermediates::<P, G, MAY_STOP>(looks, performer, input, from)
             }
-            State::ControlSequence(part) => {
-                self.continue_control_sequence::<P, G, MAY_STOP>(
-                    looks, performer, input, part, true, from,
+            State::ControlSequence(progress) => {
+                self.read_short_head::<P, G, MAY_STOP>(
+                    looks, performer, input, progress, true, from,
                 )
             }
-            State::DeviceControl(part) => {
-                self.read_device_control::<P, G, MAY_STOP>(looks, performer, input, part, from)
+            State::DeviceControl(progress) => {
+                self.read_device_control::<P, G, MAY_STOP>(looks, performer, input, progress, from)
             }
             State::DeviceData => {
                 self.read_device_data::<P, G, MAY_STOP>(looks, performer, input, from)

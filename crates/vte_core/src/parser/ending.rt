@@ -1,6 +1,6 @@
 //! ESC, CAN and SUB, which end whatever is open, in every state.
 ghost use Rattle.std.specs.Prelude.{◌≡◌, true, [], ◌∷◌, ⊤};
-ghost use Rattle.vte_core.specs.machine.Prelude.{Advances, Escape, HandlesByte, IsSettledPlace, IsQuietIn, MayReadByte, MovesWithin, TakesBytes, Place, Stands, LooksAtMost, after, chunk_call, class_of, closing_events_at, ends_body};
+ghost use Rattle.vte_core.specs.machine.Prelude.{Advances, Escape, HandlesByte, IsSettledPlace, IsReadOutsideRuns, MayReadByte, MovesWithin, TakesBytes, Place, StandsAtPlace, LooksAtMost, after, chunk_call, class_of, closing_events_at, ends_body};
 
 use crate::buffer::Buffer;
 use crate::class::ESCAPE;
@@ -17,7 +17,8 @@ impl<B: Buffer> Machine<B> {
         byte: u8,
     )
         requires { ends_body (class_of byte) ≡ true }
-        ensures performs { (place : Place) → Stands B.limit self.old place → IsSettledPlace place
+        ensures performs { (place : Place) → StandsAtPlace B.limit self.old place
+            → IsSettledPlace place
             → TakesBytes P.step (P.value_of performer.old)
             (P.value_of performer.new) B.limit place (byte ∷ []) self.new }
         ensures escape { byte ≡ 0x1b → self.new.state ≡ Escape }
@@ -46,7 +47,7 @@ impl<B: Buffer> Machine<B> {
             (chunk_call MAY_STOP P.step P.is_terminated B.limit input.bytes.now)
             (P.value_of performer.old) self.old.state self.old from byte }
         requires ends { ends_body (class_of byte) ≡ true }
-        requires quiet { IsQuietIn self.old.state byte }
+        requires outside { IsReadOutsideRuns self.old.state byte }
         ensures advances { Advances ⊤
             (chunk_call MAY_STOP P.step P.is_terminated B.limit input.entry.bytes.now)
             (P.value_of performer.old) (P.value_of performer.new) from result self.old self.new }
@@ -62,7 +63,7 @@ impl<B: Buffer> Machine<B> {
 
     /// Reports the end of a string: `unhook`, or the operating system command.
     fn report_end<P: CountedPerform<B, G>, G: Grain>(&self, looks: &mut Looks<B>, performer: &mut P)
-        ensures told { (place : Place) → Stands B.limit self.now place → IsSettledPlace place
+        ensures told { (place : Place) → StandsAtPlace B.limit self.now place → IsSettledPlace place
             → P.value_of performer.new
             ≡ after P.step (P.value_of performer.old) (closing_events_at B.limit place) }
         ensures few { LooksAtMost 1 looks.old looks.new }

@@ -1,7 +1,7 @@
 //! Escape sequences, and what ESC begins.
 ghost use Rattle.std.specs.Prelude.{◌≡◌, ◌≢◌, ◌+◌, ◌*◌, ◌<◌, ◌≤◌, true, [], ◌∷◌, slice_index, ⊤};
 ghost use Rattle.vte_core.specs.machine.Prelude.{Advances, AtEscape, Dispatches, EscDispatch, Escape, EscapeIntermediate, HandlesByte, IsSettledPlace, MayRead, MayReadAt, MovesWithin, Nothing, TakesBytes, Place, chunk_call};
-ghost use Rattle.vte_core.specs.machine.Prelude.{Stands, TakesByte, Text, chunk_call, class_of, is_final, looked};
+ghost use Rattle.vte_core.specs.machine.Prelude.{StandsAtPlace, TakesByte, Text, chunk_call, class_of, is_final, looked};
 
 use crate::buffer::Buffer;
 use crate::class::{
@@ -26,13 +26,14 @@ impl<B: Buffer> Machine<B> {
         requires may_read { MayReadAt
             (chunk_call MAY_STOP P.step P.is_terminated B.limit input.bytes.now)
             (P.value_of performer.old) (Text Nothing) self.old from }
-        requires is { slice_index input.bytes.now from ≡ 0x1b }
+        requires escape { slice_index input.bytes.now from ≡ 0x1b }
         ensures advances { Advances ⊤
             (chunk_call MAY_STOP P.step P.is_terminated B.limit input.entry.bytes.now)
             (P.value_of performer.old) (P.value_of performer.new) from result self.old self.new }
         ensures moves { MovesWithin 5 1 input.entry.bytes.now from result self.old self.new
             looks.old looks.new }
-        // The caller paid one look for ESC; the four others that a byte may cost are left for
+        // The caller count_if_ok one look for ESC; the four others that a byte may cost are left
+        // for
         // `search_text`.
         ensures count { looked looks.new + 5 * from + 5 ≤ looked looks.old + 5 * result }
     {
@@ -41,7 +42,7 @@ impl<B: Buffer> Machine<B> {
         if next < input.len() && looks.at(input, next) == b'[' {
             self.collected.begin_head();
             self.state = State::ControlSequence(HeadProgress::Entry);
-            return self.continue_control_sequence::<P, G, MAY_STOP>(
+            return self.read_short_head::<P, G, MAY_STOP>(
                 looks,
                 performer,
                 input,
@@ -105,14 +106,15 @@ impl<B: Buffer> Machine<B> {
     )
         requires begun { self.old.state ≡ Escape }
         requires other { byte ≢ 0x5b }
-        ensures performs { (place : Place) → Stands B.limit self.old place → IsSettledPlace place
+        ensures performs { (place : Place) → StandsAtPlace B.limit self.old place
+            → IsSettledPlace place
             → TakesBytes P.step
             (P.value_of performer.old) (P.value_of performer.new) B.limit place
             (byte ∷ []) self.new }
         ensures handles { HandlesByte 2 self.old self.new looks.old looks.new }
     {
         if is_final(byte) {
-            self.read_key(looks, performer, byte);
+            self.begin_or_dispatch(looks, performer, byte);
         } else if is_intermediate(byte) {
             self.collected.collect(byte);
             self.state = State::EscapeIntermediate;
@@ -129,7 +131,7 @@ impl<B: Buffer> Machine<B> {
     /// Begins the string that a byte 40..7E other than `[` begins after ESC, or dispatches an
     /// escape sequence that ends with it.
     #[inline(never)]
-    fn read_key<P: CountedPerform<B, G>, G: Grain>(
+    fn begin_or_dispatch<P: CountedPerform<B, G>, G: Grain>(
         &mut self,
         looks: &mut Looks<B>,
         performer: &mut P,
@@ -137,7 +139,7 @@ impl<B: Buffer> Machine<B> {
     )
         requires ends { is_final (class_of byte) ≡ true }
         requires other { byte ≢ 0x5b }
-        ensures takes { Stands B.limit self.old AtEscape
+        ensures takes { StandsAtPlace B.limit self.old AtEscape
             → TakesByte P.step (P.value_of performer.old) (P.value_of performer.new)
             B.limit AtEscape byte self.new }
         ensures handles { HandlesByte 1 self.old self.new looks.old looks.new }

@@ -1,6 +1,6 @@
 //! The state of a parser, and what it has collected.
 ghost use Rattle.std.specs.Prelude.{◌≡◌, true, false, ℕ, List, []};
-ghost use Rattle.vte_core.specs.machine.Prelude.{HasReadUnder, IsFinished, SaysLoss, IsUnfinished, outcome};
+ghost use Rattle.vte_core.specs.machine.Prelude.{HasReadWithLimit, IsFinished, SaysLoss, IsUnfinished, outcome};
 
 use crate::buffer::Buffer;
 use crate::head::Collected;
@@ -20,7 +20,7 @@ impl<B: Buffer> Machine<B> {
     /// Creates a machine that has read nothing, over an empty buffer.
     pub(crate) fn new(bytes: B) -> Self
         requires { B.held bytes ≡ [] }
-        ensures reads { HasReadUnder B.limit result [] }
+        ensures reads { HasReadWithLimit B.limit result [] }
         ensures memory { result.command.capacity ≡ B.capacity bytes }
     {
         Machine {
@@ -34,7 +34,7 @@ impl<B: Buffer> Machine<B> {
     /// else ended last.
     pub(crate) fn command_lost_data(&self) -> bool
         ensures lost { result ≡ self.now.command.lost }
-        ensures open { (stream : List ℕ) → HasReadUnder B.limit self.now stream
+        ensures open { (stream : List ℕ) → HasReadWithLimit B.limit self.now stream
             → SaysLoss (outcome B.limit stream).left result }
     {
         self.command.has_lost_data()
@@ -42,9 +42,10 @@ impl<B: Buffer> Machine<B> {
 
     /// Returns whether a character or a sequence is unfinished.
     pub(crate) fn is_open(&self) -> bool
-        ensures closed { result ≡ false → (stream : List ℕ) → HasReadUnder B.limit self.now stream
-            → HasReadUnder B.limit self.now [] × IsFinished B.limit stream }
-        ensures opens { result ≡ true → (stream : List ℕ) → HasReadUnder B.limit self.now stream
+        ensures closed { result ≡ false → (stream : List ℕ)
+            → HasReadWithLimit B.limit self.now stream
+            → HasReadWithLimit B.limit self.now [] × IsFinished B.limit stream }
+        ensures opens { result ≡ true → (stream : List ℕ) → HasReadWithLimit B.limit self.now stream
             → IsUnfinished B.limit stream }
     {
         match self.state {

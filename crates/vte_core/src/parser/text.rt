@@ -30,9 +30,9 @@ fn print_ascii<B, P: CountedPerform<B, G>, G: Grain>(
     first: u8,
 ) -> AsciiRun
     requires within { from < length input.bytes.now }
-    requires is { first ≡ slice_index input.bytes.now from }
+    requires looked_at { first ≡ slice_index input.bytes.now from }
     requires printed { IsPrintedAscii first }
-    ensures prints { PrintsRun P.keeps P.step (P.value_of performer.old)
+    ensures prints { PrintsRun P.layout P.step (P.value_of performer.old)
         (P.value_of performer.new) input.entry.bytes.now from result.end }
     ensures next { IfSome result.next (λ byte. (result.end < length input.entry.bytes.now)
         × (byte ≡ slice_index input.entry.bytes.now result.end)) }
@@ -43,7 +43,7 @@ fn print_ascii<B, P: CountedPerform<B, G>, G: Grain>(
     ensures least { looked looks.old + result.end ≤ looked looks.new + from }
 {
     let next = looks.get(input, from + 1);
-    if looks.begins_ascii(input, from, next) {
+    if looks.begins_ascii_run(input, from, next) {
         let end = looks.find_ascii_run_end(performer, input, from);
         looks.tell_text(performer, input, from, end);
         return AsciiRun { end, next: None };
@@ -69,7 +69,7 @@ impl<B: Buffer> Machine<B> {
             (chunk_call MAY_STOP P.step P.is_terminated B.limit input.bytes.now)
             (P.value_of performer.old) (Text Nothing) self.old from }
         requires no_stop { G.IN_RUNS ≡ true → MAY_STOP ≡ true
-            → NoCharacterStops P.keeps P.step P.is_terminated }
+            → NoCharacterStops P.layout P.step P.is_terminated }
         ensures advances { Advances ⊥
             (chunk_call MAY_STOP P.step P.is_terminated B.limit input.entry.bytes.now)
             (P.value_of performer.old) (P.value_of performer.new) from result self.old self.new }
@@ -110,7 +110,7 @@ impl<B: Buffer> Machine<B> {
                             return position;
                         }
                     } else {
-                        looks.tell_single(performer, byte);
+                        looks.tell_lone_byte(performer, byte);
                         position += 1;
                     }
                     continue;
@@ -131,7 +131,7 @@ impl<B: Buffer> Machine<B> {
                 } else if byte == ESCAPE {
                     return self.read_sequence::<P, G, MAY_STOP>(looks, performer, input, position);
                 } else {
-                    looks.tell_single(performer, byte);
+                    looks.tell_lone_byte(performer, byte);
                 }
                 position += 1;
                 if MAY_STOP && performer.terminated() {
@@ -162,7 +162,7 @@ impl<B: Buffer> Machine<B> {
             (P.value_of performer.old) (Text Nothing) self.old from first }
         requires lead { 0xc2 ≤ first }
         requires fits { first < 0xf5 }
-        requires no_stop { MAY_STOP ≡ true → NoCharacterStops P.keeps P.step P.is_terminated }
+        requires no_stop { MAY_STOP ≡ true → NoCharacterStops P.layout P.step P.is_terminated }
         ensures advances { Advances ⊥
             (chunk_call MAY_STOP P.step P.is_terminated B.limit input.entry.bytes.now)
             (P.value_of performer.old) (P.value_of performer.new) from result self.old self.new }

@@ -1,7 +1,7 @@
 //! Runs of text and data in the input, for callers that take them from there.
 ghost use Rattle.std.specs.Prelude.{◌≡◌, ◌+◌, ◌*◌, ◌≤◌, true, false, ℕ, List, IfErr, IfOk, ⊤};
 ghost use Rattle.vte_core.specs.AdvanceToRun.{ReadsToRun};
-ghost use Rattle.vte_core.specs.machine.Prelude.{Advances, ComesToRun, Costs, EndsRun, HasReadUnder, MayReadAt, MovesWithin, Nothing, ReadsUntilRefused, TellsQuietly, Text, chunk_call, looked, read_up_to, performed_up_to};
+ghost use Rattle.vte_core.specs.machine.Prelude.{Advances, ComesToRun, Costs, HasNoRunAt, HasReadWithLimit, MayReadAt, MovesWithin, Nothing, ReadsUntilRefused, TellsOutsideRuns, Text, chunk_call, looked, read_through_range, read_before_range};
 
 use crate::buffer::Buffer;
 use crate::class::ESCAPE;
@@ -60,9 +60,9 @@ impl<B: Buffer> Machine<B> {
             (chunk_call true P.step P.is_terminated B.limit input.entry.bytes.now)
             (P.value_of performer.old) (P.value_of performer.new) refused.read self.old self.new) }
         ensures costs { Costs 7 input.entry.bytes.now result
-            (read_up_to result) self.old self.new looks.old looks.new }
-        ensures quietly { (stream : List ℕ) → HasReadUnder B.limit self.old stream
-            → TellsQuietly B.limit stream input.entry.bytes.now (performed_up_to result) }
+            (read_through_range result) self.old self.new looks.old looks.new }
+        ensures outside_runs { (stream : List ℕ) → HasReadWithLimit B.limit self.old stream
+            → TellsOutsideRuns B.limit stream input.entry.bytes.now (read_before_range result) }
     {
         let mut position = self.finish_character::<P, Singly, true>(looks, performer, input);
         while position < input.len() && !performer.terminated() {
@@ -88,7 +88,9 @@ impl<B: Buffer> Machine<B> {
                         });
                     }
                     let byte = looks.at(input, position);
-                    self.end_device_data::<P, Singly, true>(looks, performer, input, position, byte)
+                    self.read_other_in_data::<P, Singly, true>(
+                        looks, performer, input, position, byte,
+                    )
                 }
                 _ => self.read_by_state::<P, Singly, true>(looks, performer, input, position)?,
             };
@@ -108,7 +110,7 @@ impl<B: Buffer> Machine<B> {
         requires may_read { MayReadAt
             (chunk_call true P.step P.is_terminated B.limit input.bytes.now)
             (P.value_of performer.old) (Text Nothing) self.old from }
-        requires other { EndsRun false input.bytes.now from }
+        requires other { HasNoRunAt false input.bytes.now from }
         ensures advances { Advances ⊤
             (chunk_call true P.step P.is_terminated B.limit input.entry.bytes.now)
             (P.value_of performer.old) (P.value_of performer.new) from result self.old self.new }
@@ -122,7 +124,7 @@ impl<B: Buffer> Machine<B> {
             return self.read_character::<P, Singly, true>(looks, performer, input, from, byte);
         }
         while byte != ESCAPE {
-            looks.tell_single(performer, byte);
+            looks.tell_lone_byte(performer, byte);
             position += 1;
             if position == input.len() || performer.terminated() {
                 return position;

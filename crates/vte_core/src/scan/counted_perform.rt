@@ -17,11 +17,11 @@ pub(crate) trait CountedPerform<B, G> {
 
     ghost is_terminated: { Value → Bool };
 
-    ghost keeps: { Bool };
+    ghost layout: { Bool };
 
     /// Returns whether HT, LF and CR come as text.
     fn keeps_layout(&self) -> bool
-        ensures { result ≡ keeps };
+        ensures { result ≡ layout };
 
     fn print_char(&mut self, looks: &mut Looks<B>, c: char)
         requires { is_control_character c ≡ false }
@@ -30,9 +30,9 @@ pub(crate) trait CountedPerform<B, G> {
 
     /// Counts a text's bytes, which are no fewer than its characters.
     fn print_text(&mut self, looks: &mut Looks<B>, text: &str)
-        requires { IsNonEmptyRun keeps text.now }
+        requires { IsNonEmptyRun layout text.now }
         ensures { TellsAll step (value_of self.old) (value_of self.new)
-            (map (run_event keeps) (chars text.now)) (length text.now) looks.old looks.new };
+            (map (run_event layout) (chars text.now)) (length text.now) looks.old looks.new };
 
     fn execute_control(&mut self, looks: &mut Looks<B>, byte: u8)
         ensures { Tells step (value_of self.old) (value_of self.new)
@@ -82,7 +82,7 @@ impl<P: PerformAs<G>, B, G> CountedPerform<B, G> for P {
 
     ghost is_terminated = { P.is_terminated };
 
-    ghost keeps = { P.keeps };
+    ghost layout = { P.layout };
 
     #[inline(always)]
     fn keeps_layout(&self) -> bool {

@@ -33,11 +33,11 @@ impl Grain for InRuns {
 
 /// A performer that takes text and data in a grain.
 pub(crate) trait PerformAs<G>: Perform {
-    ghost keeps: { Bool };
+    ghost layout: { Bool };
 
     /// Returns whether HT, LF and CR come as text.
     fn keeps_layout(&self) -> bool
-        ensures { result ≡ keeps };
+        ensures { result ≡ layout };
 
     /// Receives a character to print.
     fn print_char(&mut self, c: char)
@@ -54,9 +54,9 @@ pub(crate) trait PerformAs<G>: Perform {
 
     /// Receives characters to print, at least one.
     fn print_text(&mut self, text: &str)
-        requires { IsNonEmptyRun keeps text.now }
+        requires { IsNonEmptyRun layout text.now }
         ensures { Self.value_of self.new
-            ≡ after Self.step (Self.value_of self.old) (map (run_event keeps) (chars text.now)) };
+            ≡ after Self.step (Self.value_of self.old) (map (run_event layout) (chars text.now)) };
 
     /// Receives data of a device control string, at least one byte.
     fn put_slice(&mut self, bytes: &[u8])
@@ -66,7 +66,7 @@ pub(crate) trait PerformAs<G>: Perform {
 }
 
 impl<P: Perform> PerformAs<Singly> for P {
-    ghost keeps = { false };
+    ghost layout = { false };
 
     #[inline(always)]
     fn keeps_layout(&self) -> bool {
@@ -104,7 +104,7 @@ impl<P: Perform> PerformAs<Singly> for P {
 }
 
 impl<P: PerformText> PerformAs<InRuns> for P {
-    ghost keeps = { P.keeps };
+    ghost layout = { P.layout };
 
     #[inline(always)]
     fn keeps_layout(&self) -> bool {

@@ -4,7 +4,7 @@ ghost use Rattle.vte.specs.LongProcessor.{HasParsedAndHoldsLong};
 ghost use Rattle.vte.specs.Memory.{LacksMemoryForSome};
 ghost use Rattle.vte.specs.Processor.{State, meaning_of};
 ghost use Rattle.vte.specs.ProcessorCalls.{HasParsedAndHolds, IsAt, Replays};
-ghost use Rattle.vte.specs.Refusal.{ReplayedUntil, left_by};
+ghost use Rattle.vte.specs.Refusal.{HasReplayedUntil, left_by};
 ghost use Rattle.vte_core.specs.Stream.{usual_limit};
 
 use crate::ansi::long_processor::LongProcessor;
@@ -66,7 +66,7 @@ pub fn replay_long<H: Handler, T: Timeout + Drop, A: Allocator>(
         (H.value_of handler.old) (H.value_of handler.new) steps.now) }
     ensures refuses { IfErr result (λ refused. (state : State H.Value T.Value)
         → IsAt (HasParsedAndHoldsLong T.value_of processor.old) (H.value_of handler.old) state →
-        ReplayedUntil (meaning_of None H.step T.set T.clear T.allows) state steps.now refused
+        HasReplayedUntil (meaning_of None H.step T.set T.clear T.allows) state steps.now refused
         (IsAt (HasParsedAndHoldsLong T.value_of processor.new) (H.value_of handler.new))) }
     ensures lacks { IfErr result
         (λ refused. LacksMemoryForSome processor.new (left_by steps.now refused)) }

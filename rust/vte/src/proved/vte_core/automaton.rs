@@ -115,15 +115,15 @@ fn step(state: u64, byte: u8) -> u64 {
     TABLE[byte as usize] >> (state % 64)
 }
 
-/// Skips blocks of a run, and returns where the last character ended. If it `keeps` them, the
+/// Skips blocks of a run, and returns where the last character ended. If it `layout` them, the
 /// run may hold HT, LF and CR. A block with a byte that fits nowhere, or with a control that
 /// isn't kept, is read in vain.
 #[inline(never)]
-pub(crate) fn skip_run_blocks(input: &[u8], from: usize, keeps: bool) -> usize {
+pub(crate) fn skip_run_blocks(input: &[u8], from: usize, layout: bool) -> usize {
     let mut at = 0;
     let mut state = BETWEEN;
     while let Some(block) = get_block::<16>(input, from + at) {
-        if !keeps && has_control(&block) {
+        if !layout && has_control(&block) {
             break;
         }
         let next = state_after_block(state, &block);

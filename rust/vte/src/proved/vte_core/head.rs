@@ -31,7 +31,7 @@ impl HeadProgress {
 /// How far a head has been read, and up to which position. The byte there was looked at.
 #[derive(Clone, Copy)]
 pub(crate) struct HeadEnd {
-    pub(crate) part: HeadProgress,
+    pub(crate) progress: HeadProgress,
     pub(crate) position: usize,
     pub(crate) next: Option<u8>,
 }
@@ -95,8 +95,8 @@ impl Collected {
     /// Collects an intermediate or a marker, or finds the head malformed. Returns how far the head
     /// has been read then.
     #[inline(always)]
-    fn collect_head_byte(&mut self, part: HeadProgress, byte: u8) -> HeadProgress {
-        if let HeadProgress::IllShaped = part {
+    fn collect_head_byte(&mut self, progress: HeadProgress, byte: u8) -> HeadProgress {
+        if let HeadProgress::IllShaped = progress {
             return HeadProgress::IllShaped;
         }
         if is_intermediate(byte) {
@@ -104,7 +104,7 @@ impl Collected {
             return HeadProgress::Intermediates;
         }
         // A marker stands only at the beginning.
-        if let HeadProgress::Entry = part {
+        if let HeadProgress::Entry = progress {
             self.collect(byte);
             return HeadProgress::Parameters;
         }
@@ -142,13 +142,13 @@ impl Collected {
             position += 1;
         }
         self.number = number as u16;
-        let part = if from == position {
+        let progress = if from == position {
             reached
         } else {
             HeadProgress::Parameters
         };
         HeadEnd {
-            part,
+            progress,
             position,
             next,
         }
@@ -162,7 +162,7 @@ impl Collected {
         input: &[u8],
         from: usize,
     ) -> HeadEnd {
-        let mut part = reached;
+        let mut progress = reached;
         let mut position = from;
         let mut next = None;
         while position < input.len() {
@@ -171,18 +171,18 @@ impl Collected {
                 next = Some(byte);
                 break;
             }
-            if is_parameter_text(byte) && part.may_have_parameters() {
-                let numbers = self.read_numbers(part, true, input, position);
-                // As a constant, because the loop over numbers is longer with `numbers.part`.
-                part = HeadProgress::Parameters;
+            if is_parameter_text(byte) && progress.may_have_parameters() {
+                let numbers = self.read_numbers(progress, true, input, position);
+                // As a constant, because the loop over numbers is longer with `numbers.progress`.
+                progress = HeadProgress::Parameters;
                 position = numbers.position;
             } else {
-                part = self.collect_head_byte(part, byte);
+                progress = self.collect_head_byte(progress, byte);
                 position += 1;
             }
         }
         HeadEnd {
-            part,
+            progress,
             position,
             next,
         }

@@ -18,7 +18,7 @@ const SHORT_RUN: usize = 48;
 /// Returns whether printed ASCII begins a run at a position: four bytes of it, of which the
 /// first was looked at, and `next` too.
 #[inline(always)]
-pub(crate) fn begins_ascii(input: &[u8], at: usize, next: Option<u8>) -> bool {
+pub(crate) fn begins_ascii_run(input: &[u8], at: usize, next: Option<u8>) -> bool {
     matches!(next, Some(second) if is_printed_ascii(second))
         && matches!(get(input, at + 2), Some(third) if is_printed_ascii(third))
         && matches!(get(input, at + 3), Some(fourth) if is_printed_ascii(fourth))
@@ -52,7 +52,7 @@ pub(crate) fn find_run_end_at_lead<P: PerformAs<G>, G: Grain>(
         Some(second) if is_continuation(second) => match get(input, from + 2) {
             Some(third) if first < 0xe0 => {
                 if is_lead(third) && is_printed_pair(first, second) {
-                    find_run_end_of(performer, input, from + 2)
+                    find_run_end_for(performer, input, from + 2)
                 } else {
                     from
                 }
@@ -60,7 +60,7 @@ pub(crate) fn find_run_end_at_lead<P: PerformAs<G>, G: Grain>(
             Some(third)
                 if first < 0xf0 && is_continuation(third) && may_begin_three(first, second) =>
             {
-                find_run_end_of(performer, input, from + 3)
+                find_run_end_for(performer, input, from + 3)
             }
             _ => from,
         },
@@ -70,7 +70,7 @@ pub(crate) fn find_run_end_at_lead<P: PerformAs<G>, G: Grain>(
 
 /// Finds where the run ends that has come to a position, for a performer.
 #[inline(never)]
-pub(crate) fn find_run_end_of<P: PerformAs<G>, G: Grain>(
+pub(crate) fn find_run_end_for<P: PerformAs<G>, G: Grain>(
     performer: &P,
     input: &[u8],
     from: usize,
@@ -78,29 +78,29 @@ pub(crate) fn find_run_end_of<P: PerformAs<G>, G: Grain>(
     find_run_end(input, from, performer.keeps_layout())
 }
 
-/// Finds where the run ends that has come to a position. If it `keeps` them, HT, LF and CR
+/// Finds where the run ends that has come to a position. If it `layout` them, HT, LF and CR
 /// don't end it.
 #[inline(always)]
-pub(crate) fn find_run_end(input: &[u8], from: usize, keeps: bool) -> usize {
+pub(crate) fn find_run_end(input: &[u8], from: usize, layout: bool) -> usize {
     let to = input.len().min(from + SHORT_RUN);
-    let end = find_end_up_to(input, from, to, keeps);
+    let end = find_end_up_to(input, from, to, layout);
     if end < to || end == input.len() {
         end
     } else {
-        find_run_end_by_blocks(input, end, keeps)
+        find_run_end_by_blocks(input, end, layout)
     }
 }
 
 /// Finds where the run ends that has come to a position, or where it comes to or past another.
 #[inline(always)]
-fn find_end_up_to(input: &[u8], from: usize, to: usize, keeps: bool) -> usize {
+fn find_end_up_to(input: &[u8], from: usize, to: usize, layout: bool) -> usize {
     let mut end = from;
     while end < to {
         let byte = input[end];
         if is_printed_ascii(byte) {
             end = find_ascii_end(input, end + 1);
         } else {
-            match find_other_character_end(input, end, byte, keeps) {
+            match find_other_character_end(input, end, byte, layout) {
                 Some(next) => end = next,
                 None => return end,
             }
@@ -111,17 +111,17 @@ fn find_end_up_to(input: &[u8], from: usize, to: usize, keeps: bool) -> usize {
 
 /// Finds where a long run ends that has come to a position.
 #[inline(never)]
-fn find_run_end_by_blocks(input: &[u8], from: usize, keeps: bool) -> usize {
-    let end = skip_run_blocks(input, from, keeps);
-    find_end_up_to(input, end, input.len(), keeps)
+fn find_run_end_by_blocks(input: &[u8], from: usize, layout: bool) -> usize {
+    let end = skip_run_blocks(input, from, layout);
+    find_end_up_to(input, end, input.len(), layout)
 }
 
 /// Finds where the character ends that stands at a position and is no printed ASCII, if a run
 /// may hold it. Its first byte was looked at.
 #[inline(always)]
-fn find_other_character_end(input: &[u8], from: usize, first: u8, keeps: bool) -> Option<usize> {
+fn find_other_character_end(input: &[u8], from: usize, first: u8, layout: bool) -> Option<usize> {
     if !is_lead(first) {
-        if keeps && is_layout(first) {
+        if layout && is_layout(first) {
             return Some(from + 1);
         }
         return None;

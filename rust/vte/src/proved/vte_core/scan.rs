@@ -78,7 +78,7 @@ pub(crate) fn tell_character<P: PerformAs<G>, G>(performer: &mut P, c: char) {
 /// Tells a byte that is neither printed nor a lead byte: a control, or a malformed sequence
 /// alone.
 #[inline(always)]
-pub(crate) fn tell_single<P: PerformAs<G>, G>(performer: &mut P, byte: u8) {
+pub(crate) fn tell_lone_byte<P: PerformAs<G>, G>(performer: &mut P, byte: u8) {
     match byte {
         0x00..=0x1f | 0x80..=0x9f => performer.execute_control(byte),
         _ => performer.print_char(char::REPLACEMENT_CHARACTER),

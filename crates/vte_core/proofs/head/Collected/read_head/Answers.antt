@@ -31,7 +31,7 @@ loop-position-preserved g c =
     record {
       reads =
           reads-then v.reads
-          (reads-head_byte (omega arith) c.at-byte.ensures.value is c.collect_head_byte-part.ensures);
+          (reads-head_byte (omega arith) c.at-byte.ensures.value is c.collect_head_byte-progress.ensures);
       count = omega arith;
       least = omega arith;
       none = v.none;

@@ -43,9 +43,9 @@ loop-position-preserved g c =
             rw (w.self-is, w.number-is)
             (reads-parameter c.requires.may (omega arith) c.at-byte.ensures.value (separator.parameter is)
             (record {
-              intermediates = settled.keeps.intermediates;
+              intermediates = settled.same.intermediates;
               too_many_intermediates =
-                  settled.keeps.too_many_intermediates;
+                  settled.same.too_many_intermediates;
             })
             (λ text k. counts-separator _ _ _ _ text c.at-byte.result k (settled.settles text k)
             (sym separator.value ∙ is) refl refl refl) v.reads)

@@ -10,7 +10,7 @@ returns-in-Ok g c =
     rw (← c.new-input.ensures) (record {
       returns = returns-run _ d t.start t.end t.taken refl;
       reads = reads-run c.take_run.result d t.start t.end t.taken;
-      quietly = λ stream h. rw t.start (c.in-Ok.ensures.quietly stream h);
+      outside_runs = λ stream h. rw t.start (c.in-Ok.ensures.outside_runs stream h);
       count = search rules;
       least = search rules;
     })

@@ -5,12 +5,12 @@ use Rattle.vte_core.proofs.parser.text.print_ascii.Goals as goal
 
 pub returns-in-Some-clause-prints : goal.returns-in-Some-clause-prints
 returns-in-Some-clause-prints g c =
-    prints-one c.requires.within c.requires.is c.requires.printed c.from.ensures c.print_char.ensures.value
+    prints-one c.requires.within c.requires.looked_at c.requires.printed c.from.ensures c.print_char.ensures.value
 
 pub returns-in_default-clause-prints : goal.returns-in_default-clause-prints
 returns-in_default-clause-prints g c =
-    prints-one c.requires.within c.requires.is c.requires.printed c.from.ensures c.print_char.ensures.value
+    prints-one c.requires.within c.requires.looked_at c.requires.printed c.from.ensures c.print_char.ensures.value
 
 pub returns-in_default-2-clause-prints : goal.returns-in_default-2-clause-prints
 returns-in_default-2-clause-prints g c =
-    prints-one c.requires.within c.requires.is c.requires.printed c.from.ensures c.print_char.ensures.value
+    prints-one c.requires.within c.requires.looked_at c.requires.printed c.from.ensures c.print_char.ensures.value

@@ -8,7 +8,7 @@ pub returns-clause-run : goal.returns-clause-run
 returns-clause-run g c =
     let ascii = c.find_end_by_words-end.ensures in
     let rest = c.find_run_end.ensures in
-    run-append g.P.CountedPerform.keeps c.args.input.bytes.now c.args.from c.find_end_by_words-end.result
+    run-append g.P.CountedPerform.layout c.args.input.bytes.now c.args.from c.find_end_by_words-end.result
     c.find_run_end.result (omega (arith, ascii.scans.low)) rest.scans.low
-    (run-ascii g.P.CountedPerform.keeps _ _ _ (each-both IsPrintedAscii _ _ _ _ c.requires.printed ascii.scans.are))
+    (run-ascii g.P.CountedPerform.layout _ _ _ (each-both IsPrintedAscii _ _ _ _ c.requires.printed ascii.scans.are))
     (rw c.keeps_layout.ensures at rest.scans.are)

@@ -11,7 +11,7 @@ loop-end-init g c = record {
       record {
         low = omega arith;
         high = omega (arith, c.requires.range.in_order, c.requires.range.within);
-        are = run-none c.args.keeps c.args.input.bytes.now c.args.from;
+        are = run-none c.args.layout c.args.input.bytes.now c.args.from;
         least = omega arith;
       };
   count = omega arith;

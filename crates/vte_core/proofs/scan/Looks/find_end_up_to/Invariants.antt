@@ -4,7 +4,7 @@ use Rattle.vte_core.proofs.scan.Looks.find_end_up_to.Given as goal
 
 abbrev pub invariant-loop-end : goal.invariant-loop-end
 invariant-loop-end g l = record {
-  scans : Scans (IsRun l.keeps) l.input.bytes.now l.from l.end l.initial.self l.self;
+  scans : Scans (IsRun l.layout) l.input.bytes.now l.from l.end l.initial.self l.self;
   count : 3 * looked l.self + 11 * l.from ≤ 3 * looked l.initial.self + 11 * l.end;
 }
 

@@ -11,7 +11,7 @@ pub returns-then-state-eq-BETWEEN : goal.returns-then-state-eq-BETWEEN
 returns-then-state-eq-BETWEEN g c = record {
   last =
       last_end-here (drop c.args.from c.args.input.bytes.now) c.args.at c.requires.read.within
-      (is_between _ (sym c.requires.read.is ∙ c.if-state-eq-BETWEEN.true));
+      (is_between _ (sym c.requires.read.state_is ∙ c.if-state-eq-BETWEEN.true));
   count = omega arith;
 }
 

@@ -3,7 +3,7 @@ use Rattle.vte_core.proofs.Common.{drop-drop, false≢true, ◌≡◌, ◌≤◌
 use Rattle.vte_core.specs.machine.Each.{Each}
 use Rattle.vte_core.proofs.bytes.EachLemmas.{each-both, each-block}
 use Rattle.vte_core.proofs.automaton_states.Readings.{has_read-more, run-kept}
-use Rattle.vte_core.proofs.scan.Looks.skip_run_blocks.Goals.{else-not-keeps-via-then-not-keeps+else-has_control, else-not-keeps-via-else-not-keeps}
+use Rattle.vte_core.proofs.scan.Looks.skip_run_blocks.Goals.{else-not-layout-via-then-not-layout+else-has_control, else-not-layout-via-else-not-layout}
 use Rattle.vte_core.proofs.scan.Looks.skip_run_blocks.Goals as goal
 
 pub loop-block-preserved : goal.loop-block-preserved
@@ -13,10 +13,10 @@ loop-block-preserved g c =
     let v = c.loop-block.invariant in
     let block = c.in-Some.ensures in
     let here = block.1 ∙ ap (take 16) (sym (drop-drop c.loop-block.at c.args.from bytes)) in
-    let plain : c.args.keeps ≡ false → Each (λ byte. 0x20 ≤ byte) c.in-Some.block 0 16 =
-    λ no. elim c.else-not-keeps.branch [
-      | else-not-keeps-via-then-not-keeps+else-has_control w ↦ w.has_control.ensures w.if-has_control.false
-      | else-not-keeps-via-else-not-keeps w ↦ absurd (false≢true (sym no ∙ w.if-not-keeps.false))
+    let plain : c.args.layout ≡ false → Each (λ byte. 0x20 ≤ byte) c.in-Some.block 0 16 =
+    λ no. elim c.else-not-layout.branch [
+      | else-not-layout-via-then-not-layout+else-has_control w ↦ w.has_control.ensures w.if-has_control.false
+      | else-not-layout-via-else-not-layout w ↦ absurd (false≢true (sym no ∙ w.if-not-layout.false))
     ] in
     record {
       read =
@@ -44,9 +44,9 @@ returns g c =
         low = omega arith;
         high = omega (arith, c.requires, last.before, v.read.within, length-drop c.args.from c.args.input.bytes.now);
         are =
-            subst (λ n. IsUtf8Run c.args.keeps (take n text))
+            subst (λ n. IsUtf8Run c.args.layout (take n text))
             (let e : end ≡ c.args.from + end - c.args.from = omega arith in e)
-            (run-kept c.args.keeps text c.loop-block.at end v.kept last.before last.run);
+            (run-kept c.args.layout text c.loop-block.at end v.kept last.before last.run);
         least = omega (arith, v.count, least, c.last_end.ensures.count, last.before);
       };
       count = elim (cases_lt c.loop-block.at 16) [

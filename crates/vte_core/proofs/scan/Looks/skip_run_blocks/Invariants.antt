@@ -7,7 +7,7 @@ use Rattle.vte_core.proofs.scan.Looks.skip_run_blocks.Given as goal
 abbrev pub invariant-loop-block : goal.invariant-loop-block
 invariant-loop-block g l = record {
   read : HasScanned (drop l.from l.input.bytes.now) l.at l.state;
-  kept : l.keeps ≡ false → Each (λ byte. 0x20 ≤ byte) (drop l.from l.input.bytes.now) 0 l.at;
+  kept : l.layout ≡ false → Each (λ byte. 0x20 ≤ byte) (drop l.from l.input.bytes.now) 0 l.at;
   whole : l.at < 16 → l.at ≡ 0;
   count : looked l.self ≡ looked l.initial.self + l.at;
 }

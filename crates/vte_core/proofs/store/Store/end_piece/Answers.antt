@@ -5,16 +5,16 @@ use Rattle.vte_core.proofs.fields.StoreLemmas.{after_full, done-complete, keeps-
 use Rattle.vte_core.proofs.store.Store.end_piece.Goals as goal
 use Rattle.vte_core.proofs.store.Store.end_piece.Goals.{else-not-is_full-via-then-not-is_full+else-not-is_full-2, else-not-is_full-via-else-not-is_full}
 
-pub returns-then-not-is_full-2-clause-keeps : goal.returns-then-not-is_full-2-clause-keeps
-returns-then-not-is_full-2-clause-keeps g c = λ items keeps.
+pub returns-then-not-is_full-2-clause-holds : goal.returns-then-not-is_full-2-clause-holds
+returns-then-not-is_full-2-clause-holds g c = λ items keeps.
     let before = subst (λ held. HoldsItems g.B.Buffer.limit held items) (sym c.self.view_is) keeps in
     let some = eqb-false _ _ (sym c.is_full.ensures.value ∙ c.if-not-is_full.true) in
     let room = not-false _ (sym c.is_full-then-not-is_full.ensures ∙ c.if-not-is_full-2.true) in
     keeps-end _ _ _ items (omega (arith, c.is_full.ensures.fits, some)) room refl
     (rw c.bytes.ensures at c.push.ensures.items) refl before
 
-pub returns-else-not-is_full-clause-keeps : goal.returns-else-not-is_full-clause-keeps
-returns-else-not-is_full-clause-keeps g c = λ items keeps.
+pub returns-else-not-is_full-clause-holds : goal.returns-else-not-is_full-clause-holds
+returns-else-not-is_full-clause-holds g c = λ items keeps.
     let before = subst (λ held. HoldsItems g.B.Buffer.limit held items) (sym c.self.view_is) keeps in
     subst (λ held. HoldsItems g.B.Buffer.limit held (items ++ 59 ∷ [])) c.self.view_is (elim c.else-not-is_full.branch [
       | else-not-is_full-via-then-not-is_full+else-not-is_full-2 w ↦

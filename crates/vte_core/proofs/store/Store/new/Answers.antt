@@ -3,5 +3,5 @@ use Rattle.vte_core.proofs.Common.{refl}
 use Rattle.vte_core.proofs.fields.StoreLemmas.{keeps-nothing}
 use Rattle.vte_core.proofs.store.Store.new.Goals as goal
 
-pub returns-clause-keeps : goal.returns-clause-keeps
-returns-clause-keeps g c = keeps-nothing _ _ c.requires c.new.ensures refl
+pub returns-clause-holds : goal.returns-clause-holds
+returns-clause-holds g c = keeps-nothing _ _ c.requires c.new.ensures refl

@@ -4,8 +4,8 @@ use Rattle.vte_core.proofs.fields.StoreLemmas.{keeps-later, keeps-run}
 use Rattle.vte_core.proofs.store.Store.push_data.Goals as goal
 use Rattle.vte_core.proofs.store.Store.push_data.Goals.{then-not-is_full, else-not-is_full}
 
-pub returns-clause-keeps : goal.returns-clause-keeps
-returns-clause-keeps g c = λ items keeps.
+pub returns-clause-holds : goal.returns-clause-holds
+returns-clause-holds g c = λ items keeps.
     let a = c.args in
     let run = take (a.to - a.from) (drop a.from a.input.bytes.now) in
     let before = subst (λ held. HoldsItems g.B.Buffer.limit held items) (sym c.self.view_is) keeps in

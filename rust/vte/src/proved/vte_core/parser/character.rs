@@ -3,7 +3,7 @@
 
 use crate::proved::vte_core::buffer::Buffer;
 use crate::proved::vte_core::parser::{Machine, State};
-use crate::proved::vte_core::run::find_run_end_of;
+use crate::proved::vte_core::run::find_run_end_for;
 use crate::proved::vte_core::scan::grain::PerformAs;
 use crate::proved::vte_core::scan::{tell_character, text, Grain};
 use crate::proved::vte_core::utf8::{
@@ -106,7 +106,7 @@ impl<B: Buffer> Machine<B> {
             return next + 2;
         }
         if G::IN_RUNS {
-            let end = find_run_end_of(performer, input, next + 3);
+            let end = find_run_end_for(performer, input, next + 3);
             performer.print_text(text(input, from, end));
             return end;
         }

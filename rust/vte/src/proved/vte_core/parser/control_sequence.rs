@@ -14,7 +14,7 @@ impl<B: Buffer> Machine<B> {
     /// most one number: for them this calls nothing before the dispatch. If calls have one byte
     /// each, most bytes of long sequences come this way.
     #[inline(always)]
-    pub(crate) fn continue_control_sequence<P: PerformAs<G>, G: Grain>(
+    pub(crate) fn read_short_head<P: PerformAs<G>, G: Grain>(
         &mut self,
         performer: &mut P,
         input: &[u8],
@@ -28,14 +28,14 @@ impl<B: Buffer> Machine<B> {
         let head = self.collected.read_numbers(reached, several, input, from);
         if let Some(byte) = head.next {
             if is_final(byte) {
-                return self.end_control_sequence(performer, head.part, byte, head.position);
+                return self.end_control_sequence(performer, head.progress, byte, head.position);
             }
         }
-        self.state = State::ControlSequence(head.part);
+        self.state = State::ControlSequence(head.progress);
         if head.next.is_none() {
             return head.position;
         }
-        self.read_control_sequence(performer, input, head.part, head.position)
+        self.read_control_sequence(performer, input, head.progress, head.position)
     }
 
     /// Reads the head of a control sequence, which has come so far, and the byte after it.
@@ -48,10 +48,10 @@ impl<B: Buffer> Machine<B> {
         from: usize,
     ) -> usize {
         let head = self.collected.read_head(reached, input, from);
-        self.state = State::ControlSequence(head.part);
+        self.state = State::ControlSequence(head.progress);
         if let Some(byte) = head.next {
             if is_final(byte) {
-                return self.end_control_sequence(performer, head.part, byte, head.position);
+                return self.end_control_sequence(performer, head.progress, byte, head.position);
             }
             if ends_body(byte) {
                 self.end_body(performer, byte);
@@ -70,11 +70,11 @@ impl<B: Buffer> Machine<B> {
     fn end_control_sequence<P: PerformAs<G>, G: Grain>(
         &mut self,
         performer: &mut P,
-        part: HeadProgress,
+        progress: HeadProgress,
         byte: u8,
         position: usize,
     ) -> usize {
-        if let HeadProgress::IllShaped = part {
+        if let HeadProgress::IllShaped = progress {
             self.state = State::Text(Unfinished::Nothing);
             return position + 1;
         }

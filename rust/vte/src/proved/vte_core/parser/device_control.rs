@@ -24,10 +24,10 @@ impl<B: Buffer> Machine<B> {
         from: usize,
     ) -> usize {
         let head = self.collected.read_head(reached, input, from);
-        self.state = State::DeviceControl(head.part);
+        self.state = State::DeviceControl(head.progress);
         if let Some(byte) = head.next {
             if is_final(byte) {
-                self.hook(performer, head.part, byte);
+                self.hook(performer, head.progress, byte);
             } else if ends_body(byte) {
                 self.end_body(performer, byte);
             }
@@ -38,8 +38,13 @@ impl<B: Buffer> Machine<B> {
     }
 
     /// Hooks the string at the final byte of its head, or ignores it if the head is malformed.
-    fn hook<P: PerformAs<G>, G: Grain>(&mut self, performer: &mut P, part: HeadProgress, byte: u8) {
-        if let HeadProgress::IllShaped = part {
+    fn hook<P: PerformAs<G>, G: Grain>(
+        &mut self,
+        performer: &mut P,
+        progress: HeadProgress,
+        byte: u8,
+    ) {
+        if let HeadProgress::IllShaped = progress {
             self.state = State::IgnoredString;
             return;
         }
@@ -65,7 +70,7 @@ impl<B: Buffer> Machine<B> {
         for position in from..input.len() {
             let byte = input[position];
             if !is_device_data(byte) {
-                return self.end_device_data::<P, G, MAY_STOP>(performer, input, position, byte);
+                return self.read_other_in_data::<P, G, MAY_STOP>(performer, input, position, byte);
             }
             if G::IN_RUNS && !MAY_STOP {
                 let end = find_device_data_end(input, position + 1);
@@ -82,7 +87,7 @@ impl<B: Buffer> Machine<B> {
 
     /// Reads a byte among the data that isn't put: it ends them, or is dropped.
     #[inline(never)]
-    pub(crate) fn end_device_data<P: PerformAs<G>, G: Grain, const MAY_STOP: bool>(
+    pub(crate) fn read_other_in_data<P: PerformAs<G>, G: Grain, const MAY_STOP: bool>(
         &mut self,
         performer: &mut P,
         input: &[u8],

@@ -60,10 +60,12 @@ impl<B: Buffer> Machine<B> {
             State::Text(_) => self.read_text::<P, G, MAY_STOP>(performer, input, from),
             State::Escape => self.read_escape(performer, input, from),
             State::EscapeIntermediate => self.read_intermediates(performer, input, from),
-            State::ControlSequence(part) => {
-                self.continue_control_sequence(performer, input, part, true, from)
+            State::ControlSequence(progress) => {
+                self.read_short_head(performer, input, progress, true, from)
             }
-            State::DeviceControl(part) => self.read_device_control(performer, input, part, from),
+            State::DeviceControl(progress) => {
+                self.read_device_control(performer, input, progress, from)
+            }
             State::DeviceData => self.read_device_data::<P, G, MAY_STOP>(performer, input, from),
             State::SystemCommand => {
                 self.read_system_command::<P, G, MAY_STOP>(performer, input, from)?

@@ -26,13 +26,7 @@ impl<B: Buffer> Machine<B> {
         if next < input.len() && input[next] == b'[' {
             self.collected.begin_head();
             self.state = State::ControlSequence(HeadProgress::Entry);
-            return self.continue_control_sequence(
-                performer,
-                input,
-                HeadProgress::Entry,
-                false,
-                next + 1,
-            );
+            return self.read_short_head(performer, input, HeadProgress::Entry, false, next + 1);
         }
         self.state = State::Escape;
         self.read_escape(performer, input, next)
@@ -68,7 +62,7 @@ impl<B: Buffer> Machine<B> {
     /// Reads a byte after ESC, other than `[`.
     fn read_after_escape<P: PerformAs<G>, G: Grain>(&mut self, performer: &mut P, byte: u8) {
         if is_final(byte) {
-            self.read_key(performer, byte);
+            self.begin_or_dispatch(performer, byte);
         } else if is_intermediate(byte) {
             self.collected.collect(byte);
             self.state = State::EscapeIntermediate;
@@ -85,7 +79,7 @@ impl<B: Buffer> Machine<B> {
     /// Begins the string that a byte 40..7E other than `[` begins after ESC, or dispatches an
     /// escape sequence that ends with it.
     #[inline(never)]
-    fn read_key<P: PerformAs<G>, G: Grain>(&mut self, performer: &mut P, byte: u8) {
+    fn begin_or_dispatch<P: PerformAs<G>, G: Grain>(&mut self, performer: &mut P, byte: u8) {
         if byte == b'P' {
             self.collected.begin_head();
             self.state = State::DeviceControl(HeadProgress::Entry);

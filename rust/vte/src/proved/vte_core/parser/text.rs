@@ -4,10 +4,10 @@
 use crate::proved::vte_core::buffer::Buffer;
 use crate::proved::vte_core::class::ESCAPE;
 use crate::proved::vte_core::parser::Machine;
-use crate::proved::vte_core::run::{begins_ascii, find_ascii_run_end, find_run_end_at_lead};
+use crate::proved::vte_core::run::{begins_ascii_run, find_ascii_run_end, find_run_end_at_lead};
 use crate::proved::vte_core::scan::grain::PerformAs;
 use crate::proved::vte_core::scan::search::search_text;
-use crate::proved::vte_core::scan::{get, tell_single, text, up_to, Grain};
+use crate::proved::vte_core::scan::{get, tell_lone_byte, text, up_to, Grain};
 use crate::proved::vte_core::utf8::{is_lead, is_printed_ascii};
 
 /// The bytes of a text that are read before it is searched for ESC. Shorter texts, and so most,
@@ -31,7 +31,7 @@ fn print_ascii<P: PerformAs<G>, G: Grain>(
     first: u8,
 ) -> AsciiRun {
     let next = get(input, from + 1);
-    if begins_ascii(input, from, next) {
+    if begins_ascii_run(input, from, next) {
         let end = find_ascii_run_end(performer, input, from);
         performer.print_text(text(input, from, end));
         return AsciiRun { end, next: None };
@@ -85,7 +85,7 @@ impl<B: Buffer> Machine<B> {
                             return position;
                         }
                     } else {
-                        tell_single(performer, byte);
+                        tell_lone_byte(performer, byte);
                         position += 1;
                     }
                     continue;
@@ -104,7 +104,7 @@ impl<B: Buffer> Machine<B> {
                 } else if byte == ESCAPE {
                     return self.read_sequence(performer, input, position);
                 } else {
-                    tell_single(performer, byte);
+                    tell_lone_byte(performer, byte);
                 }
                 position += 1;
                 if MAY_STOP && performer.terminated() {

@@ -8,7 +8,7 @@ use crate::proved::vte_core::perform::Perform;
 use crate::proved::vte_core::run::find_run_end;
 use crate::proved::vte_core::scan::grain::PerformAs;
 use crate::proved::vte_core::scan::search::find_device_data_end;
-use crate::proved::vte_core::scan::{take_run, tell_single, Run, RunKind, RunRange, Singly};
+use crate::proved::vte_core::scan::{take_run, tell_lone_byte, Run, RunKind, RunRange, Singly};
 use crate::proved::vte_core::utf8::{is_lead, is_printed_ascii};
 
 impl<const OSC_RAW_BUF_SIZE: usize> Parser<OSC_RAW_BUF_SIZE> {
@@ -81,7 +81,7 @@ impl<B: Buffer> Machine<B> {
                         });
                     }
                     let byte = input[position];
-                    self.end_device_data::<P, Singly, true>(performer, input, position, byte)
+                    self.read_other_in_data::<P, Singly, true>(performer, input, position, byte)
                 }
                 _ => self.read_by_state::<P, Singly, true>(performer, input, position)?,
             };
@@ -103,7 +103,7 @@ impl<B: Buffer> Machine<B> {
             return self.read_character::<P, Singly>(performer, input, from, byte);
         }
         while byte != ESCAPE {
-            tell_single(performer, byte);
+            tell_lone_byte(performer, byte);
             position += 1;
             if position == input.len() || performer.terminated() {
                 return position;

@@ -15,7 +15,7 @@ returns-clause-lacks_open g c = λ refused stream h.
       | then-not-matches w ↦
           omega (
             arith,
-            nothing_stored w.clear.ensures.keeps,
+            nothing_stored w.clear.ensures.holds,
             ap length c.reserve.ensures.same.bytes,
             ap
                 (λ self. length self.machine.command.bytes) w.self-is,

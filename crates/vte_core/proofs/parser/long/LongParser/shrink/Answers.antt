@@ -7,7 +7,7 @@ use Rattle.vte_core.proofs.parser.long.LongParser.shrink.Goals as goal
 pub returns-clause-frees : goal.returns-clause-frees
 returns-clause-frees g c = λ stream h none. c.shrink_to_fit.ensures.frees (elim c.if-not-matches.branch [
   | then-not-matches w ↦
-      omega (arith, nothing_stored w.clear.ensures.keeps, ap (λ self. length self.machine.command.bytes) w.self-is)
+      omega (arith, nothing_stored w.clear.ensures.holds, ap (λ self. length self.machine.command.bytes) w.self-is)
   | else-not-matches w ↦ elim c.match-matches.branch [
     | in-SystemCommand v ↦
         omega (

@@ -1,5 +1,5 @@
 -- Data of a command were dropped if the store says so: by the state, and so the place, of the parser.
-use Rattle.vte_core.proofs.Common.{ℕ, Option, List, [], ◌∷◌, sym, subst, Machine, State, SystemCommand, Stands, StandsBy, Place, InText, InSystemCommand, HoldsItems, SaysLoss, left_at}
+use Rattle.vte_core.proofs.Common.{ℕ, Option, List, [], ◌∷◌, sym, subst, Machine, State, SystemCommand, StandsAtPlace, StandsBy, Place, InText, InSystemCommand, HoldsItems, SaysLoss, left_at}
 use Rattle.vte_core.proofs.fields.PlaceOfState.{stands-place}
 use Rattle.vte_core.proofs.fields.StoreLemmas.{loses_held}
 use Rattle.vte_core.proofs.streams.After.{after-left}
@@ -11,7 +11,7 @@ by_state limit SystemCommand parser items s = s
 by_state limit _ parser items s = absurd s
 
 by_place : {B : Type 0} (limit : Option ℕ) (parser : Machine B) (place : Place)
-    → Stands limit parser place → SaysLoss (left_at limit place) parser.command.lost
+    → StandsAtPlace limit parser place → SaysLoss (left_at limit place) parser.command.lost
 by_place limit parser (InText []) s = tt
 by_place limit parser (InText (a ∷ u)) s = tt
 by_place limit parser (InSystemCommand items) s =

@@ -35,7 +35,7 @@ returns-then-not-may_begin_four-clause-advances g c =
     -- So the definition says, and U+FFFD is what the code printed.
     (λ more. second_broken c.args.first c.args.second more misfits) r.may_read.begun c.print_char.ensures.value
     -- The next byte is within the call, and the one that was read.
-    r.within r.is)
+    r.within r.looked_at)
 
 -- The call has two bytes or three: another function reads the last ones, one at a time.
 pub returns-then-next-len-clause-advances : goal.returns-then-next-len-clause-advances
@@ -43,7 +43,7 @@ returns-then-next-len-clause-advances g c =
     let r = c.requires in
     let second = sym c.may_begin_four.ensures ∙ c.if-not-may_begin_four.false in
     advances-first r.may_read (lead_of_two _ r.lead.low) r.lead.high
-    (completes-then (goes-second c.args.self.now (lead_of_three _ r.lead.low) second r.within r.is)
+    (completes-then (goes-second c.args.self.now (lead_of_three _ r.lead.low) second r.within r.looked_at)
     c.continue_character.ensures.completes)
 
 -- The third byte does not continue: broken after two.
@@ -53,7 +53,7 @@ returns-then-not-is_continuation-clause-advances g c =
     let second = sym c.may_begin_four.ensures ∙ c.if-not-may_begin_four.false in
     let misfits = sym c.is_continuation.ensures ∙ c.if-not-is_continuation.true in
     advances-first r.may_read (lead_of_two _ r.lead.low) r.lead.high
-    (completes-broken (goes-second c.args.self.now (lead_of_three _ r.lead.low) second r.within r.is)
+    (completes-broken (goes-second c.args.self.now (lead_of_three _ r.lead.low) second r.within r.looked_at)
     (λ more. third_broken c.args.first c.args.second c.at-third.result more misfits)
     r.may_read.begun c.print_char-then-not-is_continuation.ensures.value
     (omega (arith, r.within, c.if-next-len.false)) c.at-third.ensures.value)
@@ -67,7 +67,7 @@ returns-then-not-is_continuation-2-clause-advances g c =
     let misfits = sym c.is_continuation-2.ensures ∙ c.if-not-is_continuation-2.true in
     let within : c.args.from + 1 + 2 < length c.args.input.bytes.now = omega (arith, r.within, c.if-next-len.false) in
     advances-first r.may_read (lead_of_two _ r.lead.low) r.lead.high
-    (completes-broken (goes-third c.args.self.now r.lead.low second third within r.is c.at-third.ensures.value)
+    (completes-broken (goes-third c.args.self.now r.lead.low second third within r.looked_at c.at-third.ensures.value)
     (λ more. fourth_broken c.args.first c.args.second c.at-third.result c.at-fourth.result more misfits)
     r.may_read.begun c.print_char-then-not-is_continuation-2.ensures.value within c.at-fourth.ensures.value)
 
@@ -77,20 +77,20 @@ tell_text-requires-clause-run g c =
     let r = c.requires in
     let bytes = c.args.input.bytes.now in
     let from = c.args.from in
-    let rest = c.find_run_end_of-end.ensures in
+    let rest = c.find_run_end_for-end.ensures in
     let past : from + 1 + 3 ≡ from + 4 = omega arith in
     let to_third : from + 1 + 1 ≡ from + 2 = omega arith in
     let to_fourth : from + 1 + 2 ≡ from + 3 = omega arith in
-    run-append g.P.CountedPerform.keeps bytes from (from + 4) c.find_run_end_of-end.result (omega arith)
+    run-append g.P.CountedPerform.layout bytes from (from + 4) c.find_run_end_for-end.result (omega arith)
     (omega (arith, rest.scans.low))
     (run-four bytes from c.args.first c.args.second c.at-third.result c.at-fourth.result
-    (omega (arith, r.within, c.if-next-len.false)) r.may_read.is r.is
+    (omega (arith, r.within, c.if-next-len.false)) r.may_read.looked_at r.looked_at
     (c.at-third.ensures.value ∙ ap (slice_index bytes) to_third)
     (c.at-fourth.ensures.value ∙ ap (slice_index bytes) to_fourth) r.lead.low r.lead.high
     (sym c.may_begin_four.ensures ∙ c.if-not-may_begin_four.false)
     (sym c.is_continuation.ensures ∙ c.if-not-is_continuation.false)
     (sym c.is_continuation-2.ensures ∙ c.if-not-is_continuation-2.false))
-    (subst (λ place. IsRun g.P.CountedPerform.keeps bytes place c.find_run_end_of-end.result) past rest.scans.are)
+    (subst (λ place. IsRun g.P.CountedPerform.layout bytes place c.find_run_end_for-end.result) past rest.scans.are)
 
 -- In runs, it is told with the run that it begins.
 pub returns-then-IN_RUNS-clause-advances : goal.returns-then-IN_RUNS-clause-advances
@@ -99,7 +99,7 @@ returns-then-IN_RUNS-clause-advances g c =
     let in_runs = sym c.IN_RUNS.ensures ∙ c.if-IN_RUNS.true in
     advances-if (λ given. absurd (false≢true (sym given.0 ∙ in_runs)))
     (advances-text (r.no_stop in_runs) r.may_read.may_go_on r.may_read.begun
-    (omega (arith, c.find_run_end_of-end.ensures.scans.low)) c.find_run_end_of-end.ensures.scans.high
+    (omega (arith, c.find_run_end_for-end.ensures.scans.low)) c.find_run_end_for-end.ensures.scans.high
     c.tell_text.ensures.printed)
 
 -- Four bytes spell a character.
@@ -114,6 +114,6 @@ returns-clause-advances g c =
     second third fourth in
     let within : c.args.from + 1 + 2 < length c.args.input.bytes.now = omega (arith, r.within, c.if-next-len.false) in
     advances-first r.may_read (lead_of_two _ r.lead.low) r.lead.high
-    (completes-whole (goes-third c.args.self.now r.lead.low second third within r.is c.at-third.ensures.value)
+    (completes-whole (goes-third c.args.self.now r.lead.low second third within r.looked_at c.at-third.ensures.value)
     (λ more. (spells.is_whole, c.character_of_four.ensures)) r.may_read.begun
     c.tell_character.ensures.value within c.at-fourth.ensures.value (next_counted _))

@@ -15,14 +15,15 @@ returns-then-not-may_begin_three-clause-completes g c =
     let r = c.requires.may_read in
     let misfits = sym c.may_begin_three.ensures ∙ c.if-not-may_begin_three.true in
     completes-broken (goes-nowhere c.args.self.now (some _ _))
-    (λ more. second_broken c.args.first c.args.second more misfits) r.begun c.print_char.ensures.value r.within r.is
+    (λ more. second_broken c.args.first c.args.second more misfits) r.begun c.print_char.ensures.value r.within
+    r.looked_at
 
 -- The call ends after two bytes: still open.
 pub returns-then-from-len-clause-completes : goal.returns-then-from-len-clause-completes
 returns-then-from-len-clause-completes g c =
     let r = c.requires.may_read in
     let second = sym c.may_begin_three.ensures ∙ c.if-not-may_begin_three.false in
-    completes-all (goes-second c.args.self.now c.requires.lead.low second r.within r.is) refl (omega arith)
+    completes-all (goes-second c.args.self.now c.requires.lead.low second r.within r.looked_at) refl (omega arith)
 
 -- The third byte does not continue: broken after two.
 pub returns-then-not-is_continuation-clause-completes : goal.returns-then-not-is_continuation-clause-completes
@@ -30,7 +31,7 @@ returns-then-not-is_continuation-clause-completes g c =
     let r = c.requires.may_read in
     let second = sym c.may_begin_three.ensures ∙ c.if-not-may_begin_three.false in
     let misfits = sym c.is_continuation.ensures ∙ c.if-not-is_continuation.true in
-    completes-broken (goes-second c.args.self.now c.requires.lead.low second r.within r.is)
+    completes-broken (goes-second c.args.self.now c.requires.lead.low second r.within r.looked_at)
     (λ more. third_broken c.args.first c.args.second c.at-third.result more misfits) r.begun
     c.print_char-then-not-is_continuation.ensures.value
     (omega (arith, r.within, c.if-from-len.false)) c.at-third.ensures.value
@@ -43,6 +44,6 @@ returns-clause-completes g c =
     let third = sym c.is_continuation.ensures ∙ c.if-not-is_continuation.false in
     let spells =
     spells_three c.args.first c.args.second c.at-third.result c.requires.lead.low c.requires.lead.high second third in
-    completes-whole (goes-second c.args.self.now c.requires.lead.low second r.within r.is)
+    completes-whole (goes-second c.args.self.now c.requires.lead.low second r.within r.looked_at)
     (λ more. (spells.is_whole, c.character_of_three.ensures)) r.begun c.tell_character.ensures.value
     (omega (arith, r.within, c.if-from-len.false)) c.at-third.ensures.value (counted _)

@@ -10,7 +10,7 @@ use Rattle.vte_core.proofs.parser.machine.Machine.drive_to_run.Goals as goal
 pub loop-position-init : goal.loop-position-init
 loop-position-init g c =
     let f = c.finish_character-position.ensures in
-    record { stands_at = f.stands_at; settled = f.settled; quietly = f.quietly; spends = search rules }
+    record { stands_at = f.stands_at; settled = f.settled; outside_runs = f.outside_runs; spends = search rules }
 
 -- In a text: what the search has found is a run of text, and the machine is between characters.
 pub returns-then-end-position-clause-comes : goal.returns-then-end-position-clause-comes
@@ -37,7 +37,8 @@ loop-position-preserved-else-end-position g c =
     record {
       stands_at = λ stream h. read.goes_on _ stream (v.stands_at stream h);
       settled = read.settled;
-      quietly = λ stream h. tells-more (v.quietly stream h) (read.quietly tt _ stream (v.stands_at stream h));
+      outside_runs = λ stream h. tells-more (v.outside_runs stream h)
+          (read.outside_runs tt _ stream (v.stands_at stream h));
       spends = search rules;
     }
 
@@ -45,11 +46,12 @@ loop-position-preserved-else-end-position g c =
 pub loop-position-preserved-else-end-position-2 : goal.loop-position-preserved-else-end-position-2
 loop-position-preserved-else-end-position-2 g c =
     let v = c.loop-position.invariant in
-    let read = c.end_device_data-position.ensures.advances in
+    let read = c.read_other_in_data-position.ensures.advances in
     record {
       stands_at = λ stream h. read.goes_on _ stream (v.stands_at stream h);
       settled = read.settled;
-      quietly = λ stream h. tells-more (v.quietly stream h) (read.quietly tt _ stream (v.stands_at stream h));
+      outside_runs = λ stream h. tells-more (v.outside_runs stream h)
+          (read.outside_runs tt _ stream (v.stands_at stream h));
       spends = search rules;
     }
 
@@ -61,10 +63,11 @@ loop-position-preserved g c =
     record {
       stands_at = λ stream h. read.goes_on _ stream (v.stands_at stream h);
       settled = read.settled;
-      quietly =
+      outside_runs =
           λ stream h.
-          tells-more (v.quietly stream h)
-          (read.quietly (outside _ c.in_default.not-Text c.in_default.not-DeviceData) _ stream (v.stands_at stream h));
+          tells-more (v.outside_runs stream h)
+          (read.outside_runs (outside _ c.in_default.not-Text c.in_default.not-DeviceData) _ stream
+          (v.stands_at stream h));
       spends = search rules;
     }
 
@@ -83,11 +86,11 @@ returns-in_err-position-in_default g c =
         refused = r.refuses.refused;
       });
       costs = search rules;
-      quietly =
+      outside_runs =
           λ stream h.
           rw (e.1 ∙ ap Err e.2)
-          (tells-more (v.quietly stream h)
-          (r.advances.quietly (outside _ c.in_default.not-Text c.in_default.not-DeviceData) _ stream
+          (tells-more (v.outside_runs stream h)
+          (r.advances.outside_runs (outside _ c.in_default.not-Text c.in_default.not-DeviceData) _ stream
           (v.stands_at stream h)));
     }
 
@@ -101,5 +104,5 @@ returns-clause-comes g c =
       | else-loop-position-test w ↦ absurd (omega (arith, left, w.loop-position-test.false, c.len.ensures))
     ])
 
-pub returns-clause-quietly : goal.returns-clause-quietly
-returns-clause-quietly g c stream h = rw c.empty.ensures.start (c.loop-position.invariant.quietly stream h)
+pub returns-clause-outside_runs : goal.returns-clause-outside_runs
+returns-clause-outside_runs g c stream h = rw c.empty.ensures.start (c.loop-position.invariant.outside_runs stream h)

@@ -1,16 +1,16 @@
 -- As for `drive`; and what is told so far is told by no run.
-use Rattle.vte_core.proofs.Common.{ℕ, ◌-◌, ◌<◌, true, List, length, SpendsWithin, HasReadUnder, IsSettled, StandsAt, TellsQuietly, chunk_call}
+use Rattle.vte_core.proofs.Common.{ℕ, ◌-◌, ◌<◌, true, List, length, SpendsWithin, HasReadWithLimit, IsSettled, StandsAt, TellsOutsideRuns, chunk_call}
 use Rattle.vte_core.proofs.parser.machine.Machine.drive_to_run.Given as goal
 
 abbrev pub invariant-loop-position : goal.invariant-loop-position
 invariant-loop-position g l = record {
-  stands_at : (stream : List ℕ) → HasReadUnder g.B.Buffer.limit l.fn.self stream
+  stands_at : (stream : List ℕ) → HasReadWithLimit g.B.Buffer.limit l.fn.self stream
       → StandsAt
       (chunk_call true g.P.CountedPerform.step g.P.CountedPerform.is_terminated g.B.Buffer.limit l.input.bytes.now)
       (g.P.CountedPerform.value_of l.fn.performer) (g.P.CountedPerform.value_of l.performer) stream l.position l.self;
   settled : l.position < length l.input.bytes.now → IsSettled l.self.state;
-  quietly : (stream : List ℕ) → HasReadUnder g.B.Buffer.limit l.fn.self stream
-      → TellsQuietly g.B.Buffer.limit stream l.input.bytes.now l.position;
+  outside_runs : (stream : List ℕ) → HasReadWithLimit g.B.Buffer.limit l.fn.self stream
+      → TellsOutsideRuns g.B.Buffer.limit stream l.input.bytes.now l.position;
   spends : SpendsWithin 7 0 2 l.input.bytes.now 0 l.position l.fn.self l.self l.fn.looks l.looks;
 }
 

@@ -16,13 +16,13 @@ returns-in-IllShaped-clause-takes g c = λ head s.
       next = InText [];
       performed = refl;
       stands = record { by = (refl, refl) };
-      leads = control-silent _ head _ (final _ c.requires.is) ill;
+      leads = control-silent _ head _ (final _ c.requires.final_byte) ill;
     }
 
 -- A whole one.
 pub returns-clause-takes : goal.returns-clause-takes
 returns-clause-takes g c = λ head s.
-    let ready = c.end_head-ignore.ensures c.args.part head (head-holds _ _ head c.in_default.not-IllShaped s) in
+    let ready = c.end_head-ignore.ensures c.args.progress head (head-holds _ _ head c.in_default.not-IllShaped s) in
     let d = c.dispatch_control_sequence.ensures.dispatches in
     record {
       told = sequence_event CsiDispatch (head_of head) c.args.byte ∷ [];
@@ -31,7 +31,7 @@ returns-clause-takes g c = λ head s.
           ∙ ap (g.P.CountedPerform.step (g.P.CountedPerform.value_of c.args.performer.now))
           (dispatched-ready CsiDispatch _ _ head c.args.byte ready);
       stands = stands-text_begun _ d.text;
-      leads = control-dispatched _ head _ (final _ c.requires.is) ready.well_shaped;
+      leads = control-dispatched _ head _ (final _ c.requires.final_byte) ready.well_shaped;
     }
 
 pub returns-clause-handles : goal.returns-clause-handles

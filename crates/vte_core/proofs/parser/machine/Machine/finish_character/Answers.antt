@@ -21,16 +21,16 @@ pub returns-in_default-clause-stands_at : goal.returns-in_default-clause-stands_
 returns-in_default-clause-stands_at g c = λ stream h. starts-at (settled-outside _ c.in_default.not-Text) h
 
 -- The same three, of what is told by no run.
-pub returns-then-is_nothing-clause-quietly : goal.returns-then-is_nothing-clause-quietly
-returns-then-is_nothing-clause-quietly g c stream h =
+pub returns-then-is_nothing-clause-outside_runs : goal.returns-then-is_nothing-clause-outside_runs
+returns-then-is_nothing-clause-outside_runs g c stream h =
     tells-nothing
     (settled-by _ _ c.in-Text.is (settled-nothing c.in-Text.begun (c.is_nothing.ensures.0 c.if-is_nothing.true))) h
 
-pub returns-in_default-clause-quietly : goal.returns-in_default-clause-quietly
-returns-in_default-clause-quietly g c stream h = tells-nothing (settled-outside _ c.in_default.not-Text) h
+pub returns-in_default-clause-outside_runs : goal.returns-in_default-clause-outside_runs
+returns-in_default-clause-outside_runs g c stream h = tells-nothing (settled-outside _ c.in_default.not-Text) h
 
-pub returns-else-is_nothing-clause-quietly : goal.returns-else-is_nothing-clause-quietly
-returns-else-is_nothing-clause-quietly g c stream h =
+pub returns-else-is_nothing-clause-outside_runs : goal.returns-else-is_nothing-clause-outside_runs
+returns-else-is_nothing-clause-outside_runs g c stream h =
     let told = c.continue_character.ensures.completes.adds _ stream c.args.self.now c.in-Text.is (starts-inside h) in
     tells-open told
     (λ none.

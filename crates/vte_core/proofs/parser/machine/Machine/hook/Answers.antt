@@ -20,7 +20,7 @@ returns-in-IllShaped-clause-takes g c = λ head s.
 -- A whole one.
 pub returns-clause-takes : goal.returns-clause-takes
 returns-clause-takes g c = λ head s.
-    let f = c.end_head-ignore.ensures c.args.part head (head-holds _ _ head c.in_default.not-IllShaped s) in
+    let f = c.end_head-ignore.ensures c.args.progress head (head-holds _ _ head c.in_default.not-IllShaped s) in
     record {
       told = sequence_event Hook (head_of head) c.args.byte ∷ [];
       next = InDeviceData;

@@ -11,12 +11,12 @@ use Rattle.vte_core.proofs.places.PlaceLeads.{byte-executed, escape-intermediate
 use Rattle.vte_core.proofs.bytes.PlainKeys.{below_finals}
 use Rattle.vte_core.proofs.parser.machine.Machine.read_after_escape.Goals as goal
 
--- A final byte is a key: what it begins is `read_key`'s.
+-- A final byte is a key: what it begins is `begin_or_dispatch`'s.
 pub returns-then-is_final-clause-performs : goal.returns-then-is_final-clause-performs
 returns-then-is_final-clause-performs g c =
     let is = sym c.is_final.ensures ∙ c.if-is_final.true in
     performs-in c.requires.begun (final_ends_nothing (class_of c.args.byte) is)
-    (at_escape c.args.self.now (λ holds. c.read_key.ensures.takes (stands-by c.requires.begun holds)))
+    (at_escape c.args.self.now (λ holds. c.begin_or_dispatch.ensures.takes (stands-by c.requires.begun holds)))
 
 -- An intermediate is the first of the sequence.
 pub returns-then-is_intermediate-clause-performs : goal.returns-then-is_intermediate-clause-performs

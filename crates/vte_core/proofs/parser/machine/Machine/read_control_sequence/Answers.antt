@@ -20,7 +20,7 @@ returns-then-is_final g c =
       advances =
           advances-moved (sym d.next)
           (advances-past ControlHead c.requires.begun read.reads.head next c.requires.may_go_on
-          (performs-head ControlHead c.read_head-head.result.part refl
+          (performs-head ControlHead c.read_head-head.result.progress refl
           (final_ends_nothing _ (sym c.is_final.ensures ∙ c.if-is_final.true)) d.takes) d.handles.settled);
       moves = search rules;
     }
@@ -34,7 +34,7 @@ pub returns-in-Some-clause-advances : goal.returns-in-Some-clause-advances
 returns-in-Some-clause-advances g c =
     let read = c.read_head-head.ensures in
     let next = rw c.in-Some.is at read.reads.next in
-    let part = c.read_head-head.result.part in
+    let progress = c.read_head-head.result.progress in
     let b = c.in-Some.byte in
     elim c.if-ends_body.branch [
       -- CAN, SUB or ESC.
@@ -47,7 +47,7 @@ returns-in-Some-clause-advances g c =
           let is = control _ (sym w.is_plain_control.ensures ∙ w.if-is_plain_control.true) in
           rw (w.self-is, w.performer-is)
           (advances-past ControlHead c.requires.begun read.reads.head next c.requires.may_go_on
-          (performs-head ControlHead part refl (rw is refl) (λ bytes stands.
+          (performs-head ControlHead progress refl (rw is refl) (λ bytes stands.
           taken (Execute b ∷ []) (InControlSequence bytes) w.execute_control.ensures.value (stands-by refl stands)
           (byte-executed _ (InControlSequence bytes) b refl is))) tt)
       -- A byte that is dropped.
@@ -59,7 +59,7 @@ returns-in-Some-clause-advances g c =
           (sym w.is_plain_control.ensures ∙ w.if-is_plain_control.false) in
           rw (w.self-is, w.performer-is)
           (advances-past ControlHead c.requires.begun read.reads.head next c.requires.may_go_on
-          (performs-head ControlHead part refl ordinary (λ bytes stands.
+          (performs-head ControlHead progress refl ordinary (λ bytes stands.
           taken [] (InControlSequence bytes) refl (stands-by refl stands)
           (byte-dropped _ (InControlSequence bytes) b _ refl refl dropped))) tt)
     ]

@@ -13,7 +13,7 @@ pub returns-in-Some : goal.returns-in-Some
 returns-in-Some g c =
     let read = c.read_head-head.ensures in
     let next = rw c.in-Some.is at read.reads.next in
-    let part = c.read_head-head.result.part in
+    let progress = c.read_head-head.result.progress in
     let b = c.in-Some.byte in
     record {
       advances = elim c.if-is_final.branch [
@@ -21,7 +21,7 @@ returns-in-Some g c =
         | then-is_final w ↦
             rw (w.self-is, w.performer-is)
             (advances-past DeviceHead c.requires.begun read.reads.head next c.requires.may_go_on
-            (performs-head DeviceHead part refl
+            (performs-head DeviceHead progress refl
             (final_ends_nothing (class_of b) (sym c.is_final.ensures ∙ w.if-is_final.true)) w.hook.ensures.takes)
             w.hook.ensures.handles.settled)
         -- CAN, SUB or ESC.
@@ -37,7 +37,7 @@ returns-in-Some g c =
             (sym c.is_final.ensures ∙ w.if-is_final.false) ordinary in
             rw (w.self-is, w.performer-is)
             (advances-past DeviceHead c.requires.begun read.reads.head next c.requires.may_go_on
-            (performs-head DeviceHead part refl ordinary (λ bytes stands.
+            (performs-head DeviceHead progress refl ordinary (λ bytes stands.
             taken [] (InDeviceControl bytes) refl (stands-by refl stands)
             (device-dropped _ bytes b _ refl dropped))) tt)
       ];

@@ -65,7 +65,7 @@ returns-then-not-this-clause-advances g c =
 -- A byte that is no data ends them or is dropped.
 pub returns-then-not-is_device_data-clause-advances : goal.returns-then-not-is_device_data-clause-advances
 returns-then-not-is_device_data-clause-advances g c =
-    advances-then c.loop-position.invariant.advances (advances-part c.end_device_data.ensures.advances)
+    advances-then c.loop-position.invariant.advances (advances-part c.read_other_in_data.ensures.advances)
 
 pub returns-clause-advances : goal.returns-clause-advances
 returns-clause-advances g c = advances-moved (omega arith) c.loop-position.invariant.advances

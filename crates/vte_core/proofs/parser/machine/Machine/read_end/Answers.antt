@@ -6,12 +6,12 @@ pub returns-then-byte-ne-ESCAPE-clause-advances : goal.returns-then-byte-ne-ESCA
 returns-then-byte-ne-ESCAPE-clause-advances g c =
     let r = c.requires.may_read in
     let d = c.end_body.ensures in
-    advances-when c.requires.quiet (advances-byte r.within r.is r.may_go_on d.performs d.handles.settled)
+    advances-when c.requires.outside (advances-byte r.within r.looked_at r.may_go_on d.performs d.handles.settled)
 
 pub returns-clause-advances : goal.returns-clause-advances
 returns-clause-advances g c =
     let r = c.requires.may_read in
     let d = c.end_body.ensures in
     advances-then
-    (advances-when c.requires.quiet (advances-byte r.within r.is r.may_go_on d.performs d.handles.settled))
+    (advances-when c.requires.outside (advances-byte r.within r.looked_at r.may_go_on d.performs d.handles.settled))
     c.read_escape.ensures.advances

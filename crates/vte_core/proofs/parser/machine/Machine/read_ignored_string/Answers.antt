@@ -9,9 +9,9 @@ use Rattle.vte_core.proofs.places.PlaceLeads.{ignored-more}
 use Rattle.vte_core.proofs.parser.machine.Machine.read_ignored_string.Goals as goal
 
 -- n ignored bytes
-advances-by : {quiet V B : Type 0} {call : ChunkCall V} {value : V} {parser : Machine B} (n i : ℕ)
+advances-by : {outside V B : Type 0} {call : ChunkCall V} {value : V} {parser : Machine B} (n i : ℕ)
     → parser.state ≡ IgnoredString → i + n ≤ length call.bytes → AreIgnored call.bytes i (i + n) → MayGoOn call value
-    → Advances quiet call value value i (i + n) parser parser
+    → Advances outside call value value i (i + n) parser parser
 advances-by zero i begun within are may_go_on =
     advances-moved (omega arith) (advances-nothing (λ _. settled-by _ _ begun tt))
 advances-by {call} {parser} (suc n) i begun within are may_go_on =
@@ -24,9 +24,9 @@ advances-by {call} {parser} (suc n) i begun within are may_go_on =
     (advances-by n (i + 1) begun (omega (arith, within))
     (λ k low high. are k (omega (arith, low)) (omega (arith, high))) may_go_on))
 
-advances-ignored : {quiet V B : Type 0} {call : ChunkCall V} {value : V} {i j : ℕ} {parser : Machine B}
+advances-ignored : {outside V B : Type 0} {call : ChunkCall V} {value : V} {i j : ℕ} {parser : Machine B}
     → parser.state ≡ IgnoredString → i ≤ j → j ≤ length call.bytes → AreIgnored call.bytes i j → MayGoOn call value
-    → Advances quiet call value value i j parser parser
+    → Advances outside call value value i j parser parser
 advances-ignored {i} {j} begun low high are may_go_on =
     advances-moved (omega (arith, low))
     (advances-by (j - i) i begun (omega (arith, low, high))

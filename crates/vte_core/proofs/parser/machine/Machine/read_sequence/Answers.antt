@@ -14,22 +14,22 @@ pub returns-then-at-eq91-clause-advances : goal.returns-then-at-eq91-clause-adva
 returns-then-at-eq91-clause-advances g c =
     let begun = escaped c.args.self.now c.begin_escape.new.self in
     advances-then
-    (advances-escape c.requires.may_read.begun c.requires.may_read.within c.requires.is
+    (advances-escape c.requires.may_read.begun c.requires.may_read.within c.requires.escape
     (advances-byte {next = begun} c.requires.may_read.within refl c.requires.may_read.may_go_on
-    (λ place s between. performs-escape c.requires.is refl c.begin_escape.ensures place s
+    (λ place s between. performs-escape c.requires.escape refl c.begin_escape.ensures place s
     (rw (between_characters _ place c.requires.may_read.begun s) refl))
     tt))
     (advances-then
     (advances-bracket {parser = begun} refl
     (omega arith) c.at.ensures.value c.requires.may_read.may_go_on c.if-at-eq91.true refl c.begin_head.ensures)
-    c.continue_control_sequence.ensures.advances)
+    c.read_short_head.ensures.advances)
 
 pub returns-clause-advances : goal.returns-clause-advances
 returns-clause-advances g c =
     advances-then
-    (advances-escape c.requires.may_read.begun c.requires.may_read.within c.requires.is
+    (advances-escape c.requires.may_read.begun c.requires.may_read.within c.requires.escape
     (advances-byte c.requires.may_read.within refl c.requires.may_read.may_go_on
-    (λ place s between. performs-escape c.requires.is refl c.begin_escape.ensures place s
+    (λ place s between. performs-escape c.requires.escape refl c.begin_escape.ensures place s
     (rw (between_characters _ place c.requires.may_read.begun s) refl))
     tt))
     c.read_escape.ensures.advances

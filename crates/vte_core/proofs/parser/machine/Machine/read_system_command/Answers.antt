@@ -18,7 +18,7 @@ returns-in-None-clause-advances g c =
     let found = c.find_command_data_end-end.ensures in
     advances-items r.begun refl found.low found.high
     (λ k low high. (found.are k low high).0) r.may_go_on r.begun
-    (λ items k. c.push_data.ensures.keeps items (keeps-same _ _ _ items c.take_memory.ensures.same k))
+    (λ items k. c.push_data.ensures.holds items (keeps-same _ _ _ items c.take_memory.ensures.same k))
 
 -- CAN, SUB or ESC after the data ends the command.
 pub returns-then-ends_body-clause-advances : goal.returns-then-ends_body-clause-advances
@@ -28,7 +28,7 @@ returns-then-ends_body-clause-advances g c =
     advances-then
     (advances-items r.begun refl found.low found.high
     (λ k low high. (found.are k low high).0) r.may_go_on r.begun
-    (λ items k. c.push_data.ensures.keeps items (keeps-same _ _ _ items c.take_memory.ensures.same k)))
+    (λ items k. c.push_data.ensures.holds items (keeps-same _ _ _ items c.take_memory.ensures.same k)))
     c.read_end.ensures.advances
 
 -- Another byte after the data: `;` ends the piece, BEL the command, and a control is dropped.
@@ -48,7 +48,7 @@ returns-clause-advances g c =
     advances-then
     (advances-items {next = after_data} begun refl found.low found.high
     (λ k low high. (found.are k low high).0) r.may_go_on begun
-    (λ items k. c.push_data.ensures.keeps items (keeps-same _ _ _ items c.take_memory.ensures.same k)))
+    (λ items k. c.push_data.ensures.holds items (keeps-same _ _ _ items c.take_memory.ensures.same k)))
     (elim c.if-byte-eq59.branch [
       -- `;`: the next piece begins.
       | then-byte-eq59 w ↦
@@ -58,7 +58,7 @@ returns-clause-advances g c =
           (in_system_command after_data (λ items keeps. taken [] (InSystemCommand (items ++ byte ∷ [])) refl
           (stands-by begun
           (subst (λ b. HoldsItems limit w.end_piece.new.self (items ++ b ∷ [])) (sym is)
-          (w.end_piece.ensures.keeps items keeps)))
+          (w.end_piece.ensures.holds items keeps)))
           (command-item limit items byte (omega (arith, is))))) (settled-by _ _ begun tt)))
       -- BEL: the command is told.
       | else-byte-eq59+then-byte-eq-BELL w ↦

@@ -52,13 +52,14 @@ at g c =
                 (c.requires.no_stop (sym c.IN_RUNS-in-loop-position-2.ensures ∙ w.if-IN_RUNS-2.true))
                 v.may_go_on run.prints;
             within = next.0;
-            is = next.1;
+            looked_at = next.1;
           })
       | else-IN_RUNS-2 w ↦ rw (w.performer-is, w.position-is, w.byte-is) (record {
         begun = v.settled within;
         may_go_on = v.may_go_on;
         within = within;
-        is = c.at-byte.ensures.value ∙ c.loop-position.invariant.same _ (omega (arith, c.loop-position-2-test.true));
+        looked_at = c.at-byte.ensures.value
+            ∙ c.loop-position.invariant.same _ (omega (arith, c.loop-position-2-test.true));
       })
     ]
 
@@ -113,7 +114,8 @@ read g c here = elim c.if-is_printed_ascii-2.branch [
   -- Printed ASCII.
   | then-is_printed_ascii-2 w ↦
       let printed = sym c.is_printed_ascii-in-loop-position-2.ensures ∙ w.if-is_printed_ascii-2.true in
-      rw (w.self-is, w.performer-is, w.position-is) (advances-part (advances-byte here.within here.is here.may_go_on
+      rw (w.self-is, w.performer-is, w.position-is)
+      (advances-part (advances-byte here.within here.looked_at here.may_go_on
       (performs-printed here.begun printed w.from.ensures w.print_char.ensures.value) (settled-by _ _ here.begun tt)))
   -- Any other byte, but ESC: the same two.
   | else-is_printed_ascii-2+else-IN_RUNS-3+then-is_lead-2+else-this-ne0-2 w ↦
@@ -121,8 +123,9 @@ read g c here = elim c.if-is_printed_ascii-2.branch [
       rw (w.self-is, w.performer-is, w.position-is)
       (advances-moved (omega (arith, read.moves.progress here.within)) (advances-part read.advances))
   | else-is_printed_ascii-2+else-IN_RUNS-3+else-is_lead-2+else-byte-eq-ESCAPE w ↦
-      let told = w.tell_single-else-byte-eq-ESCAPE.ensures in
-      rw (w.self-is, w.performer-is, w.position-is) (advances-part (advances-byte here.within here.is here.may_go_on
+      let told = w.tell_lone_byte-else-byte-eq-ESCAPE.ensures in
+      rw (w.self-is, w.performer-is, w.position-is)
+      (advances-part (advances-byte here.within here.looked_at here.may_go_on
       (performs-single here.begun w.if-byte-eq-ESCAPE.false
       (sym w.is_lead-else-IN_RUNS-3.ensures ∙ w.if-is_lead-2.false) told.control told.malformed)
       (settled-by _ _ here.begun tt)))
@@ -183,9 +186,9 @@ loop-position-2-preserved-then-byte-ge160 g c =
         | then-is_lead+else-this-ne0 w ↦
             rw (w.self-is, w.performer-is, w.position-is) (advances-part w.read_at_lead-position.ensures.advances)
         | else-is_lead w ↦
-            let told = w.tell_single.ensures in
+            let told = w.tell_lone_byte.ensures in
             rw (w.self-is, w.performer-is, w.position-is) (advances-part
-            (advances-byte here.within here.is here.may_go_on
+            (advances-byte here.within here.looked_at here.may_go_on
             (performs-single here.begun (grind (arith, c.if-byte-ge160.true))
             (sym c.is_lead.ensures ∙ w.if-is_lead.false) told.control told.malformed)
             (settled-by _ _ here.begun tt)))
@@ -193,9 +196,9 @@ loop-position-2-preserved-then-byte-ge160 g c =
       may_go_on = elim c.if-is_lead.branch [
         | then-is_lead+else-this-ne0 w ↦ search rules
         | else-is_lead w ↦
-            rw w.performer-is (may_go_on-malformed g.P.CountedPerform.keeps (call_at g c.args.input.bytes.now)
+            rw w.performer-is (may_go_on-malformed g.P.CountedPerform.layout (call_at g c.args.input.bytes.now)
             (c.requires.no_stop runs) here.may_go_on c.if-byte-ge160.true
-            (w.tell_single.ensures.malformed (omega (arith, c.if-byte-ge160.true))))
+            (w.tell_lone_byte.ensures.malformed (omega (arith, c.if-byte-ge160.true))))
       ];
       settled = elim c.if-is_lead.branch [
         | then-is_lead+else-this-ne0 w ↦ rw (w.self-is, w.position-is) w.read_at_lead-position.ensures.text

@@ -22,7 +22,7 @@ loop-byte-init g c =
             begun = may_read.begun;
             may_go_on = may_read.may_go_on;
             within = may_read.within;
-            is = c.at-byte.ensures.value;
+            looked_at = c.at-byte.ensures.value;
           };
       other = rw c.at-byte.ensures.value (ends-unprinted _ _ may_read.within c.requires.other);
       lone = sym c.is_lead.ensures ∙ c.if-is_lead.false;
@@ -34,7 +34,7 @@ loop-byte-init g c =
 pub loop-byte-preserved : goal.loop-byte-preserved
 loop-byte-preserved g c =
     let v = c.loop-byte.invariant in
-    let told = c.tell_single.ensures in
+    let told = c.tell_lone_byte.ensures in
     record {
       advances =
           advances-then v.advances
@@ -43,7 +43,7 @@ loop-byte-preserved g c =
         begun = v.may_read.begun;
         may_go_on = λ _. sym c.terminated.ensures ∙ c.if-terminated.false;
         within = omega arith;
-        is = c.at-byte-in-loop-byte.ensures.value;
+        looked_at = c.at-byte-in-loop-byte.ensures.value;
       };
       other = sym c.is_printed_ascii.ensures ∙ c.if-is_printed_ascii.false;
       lone = sym c.is_lead-else-is_printed_ascii.ensures ∙ c.if-is_lead-2.false;
@@ -55,7 +55,7 @@ loop-byte-preserved g c =
 pub returns-then-position-len-clause-advances : goal.returns-then-position-len-clause-advances
 returns-then-position-len-clause-advances g c =
     let v = c.loop-byte.invariant in
-    let told = c.tell_single.ensures in
+    let told = c.tell_lone_byte.ensures in
     advances-then v.advances
     (advances-single v.may_read c.loop-byte-test.true v.other v.lone told.control told.malformed)
 
@@ -63,7 +63,7 @@ returns-then-position-len-clause-advances g c =
 pub returns-then-is_printed_ascii-clause-advances : goal.returns-then-is_printed_ascii-clause-advances
 returns-then-is_printed_ascii-clause-advances g c =
     let v = c.loop-byte.invariant in
-    let told = c.tell_single.ensures in
+    let told = c.tell_lone_byte.ensures in
     advances-then v.advances
     (advances-single v.may_read c.loop-byte-test.true v.other v.lone told.control told.malformed)
 

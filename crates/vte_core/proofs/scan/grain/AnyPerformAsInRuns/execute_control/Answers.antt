@@ -5,19 +5,19 @@ use Rattle.vte_core.proofs.scan.grain.AnyPerformAsInRuns.execute_control.Goals a
 
 pub print_text-requires-clause-plain : goal.print_text-requires-clause-plain
 print_text-requires-clause-plain g c =
-    let keeps : g.P.PerformText.keeps ≡ true = sym c.keeps_layout.ensures ∙ c.if-keeps_layout.true in
+    let keeps : g.P.PerformText.layout ≡ true = sym c.keeps_layout.ensures ∙ c.if-keeps_layout.true in
     let layout : is_layout c.args.byte ≡ true = sym c.is_layout.ensures ∙ c.if-is_layout.true in
     let scalar : IsScalar c.args.byte = low_scalar c.args.byte (omega (arith, layout-is_ascii c.args.byte layout)) in
-    let stays : StaysInRun g.P.PerformText.keeps c.args.byte = rw keeps (layout-stays c.args.byte layout) in
-    rw (c.encode_utf8.ensures.value, c.from.ensures) (run_one g.P.PerformText.keeps c.args.byte scalar stays)
+    let stays : StaysInRun g.P.PerformText.layout c.args.byte = rw keeps (layout-stays c.args.byte layout) in
+    rw (c.encode_utf8.ensures.value, c.from.ensures) (run_one g.P.PerformText.layout c.args.byte scalar stays)
 
 pub returns-then-keeps_layout : goal.returns-then-keeps_layout
 returns-then-keeps_layout g c =
-    let keeps : g.P.PerformText.keeps ≡ true = sym c.keeps_layout.ensures ∙ c.if-keeps_layout.true in
+    let keeps : g.P.PerformText.layout ≡ true = sym c.keeps_layout.ensures ∙ c.if-keeps_layout.true in
     let layout : is_layout c.args.byte ≡ true = sym c.is_layout.ensures ∙ c.if-is_layout.true in
     let scalar : IsScalar c.args.byte = low_scalar c.args.byte (omega (arith, layout-is_ascii c.args.byte layout)) in
-    let event : run_event g.P.PerformText.keeps c.args.byte ≡ Execute c.args.byte = rw (keeps, layout) refl in
+    let event : run_event g.P.PerformText.layout c.args.byte ≡ Execute c.args.byte = rw (keeps, layout) refl in
     let step = g.P.Perform.step (g.P.Perform.value_of c.args.self.now) in
     rw (c.encode_utf8.ensures.value, c.from.ensures) at c.print_text.ensures
-    ∙ after_character g.P.PerformText.keeps g.P.Perform.step (g.P.Perform.value_of c.args.self.now) c.args.byte scalar
+    ∙ after_character g.P.PerformText.layout g.P.Perform.step (g.P.Perform.value_of c.args.self.now) c.args.byte scalar
     ∙ ap step event

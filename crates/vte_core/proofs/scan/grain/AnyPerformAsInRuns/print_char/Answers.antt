@@ -5,12 +5,12 @@ use Rattle.vte_core.proofs.scan.grain.AnyPerformAsInRuns.print_char.Goals as goa
 
 pub print_text-requires-clause-plain : goal.print_text-requires-clause-plain
 print_text-requires-clause-plain g c =
-    let keeps = g.P.PerformText.keeps in
+    let keeps = g.P.PerformText.layout in
     rw c.encode_utf8.ensures.value (run_one keeps c.args.c c.ranges.c.0 (no_control-stays keeps c.args.c c.requires))
 
 pub returns : goal.returns
 returns g c =
-    let keeps = g.P.PerformText.keeps in
+    let keeps = g.P.PerformText.layout in
     rw c.encode_utf8.ensures.value at c.print_text.ensures
     ∙ after_character keeps g.P.Perform.step (g.P.Perform.value_of c.args.self.now) c.args.c c.ranges.c.0
     ∙ ap (g.P.Perform.step (g.P.Perform.value_of c.args.self.now)) (no_control_event keeps c.args.c c.requires)

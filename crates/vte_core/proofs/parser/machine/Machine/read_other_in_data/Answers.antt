@@ -6,8 +6,8 @@ use Rattle.vte_core.proofs.fields.PlaceOfState.{stands-by}
 use Rattle.vte_core.proofs.calls.CallEnds.{settled-by}
 use Rattle.vte_core.proofs.calls.Stretches.{advances-when}
 use Rattle.vte_core.proofs.places.PlaceLeads.{data-dropped, data-terminator}
-use Rattle.vte_core.proofs.parser.machine.Machine.end_device_data.Goals.{then-byte-eq-STRING_TERMINATOR, else-byte-eq-STRING_TERMINATOR}
-use Rattle.vte_core.proofs.parser.machine.Machine.end_device_data.Goals as goal
+use Rattle.vte_core.proofs.parser.machine.Machine.read_other_in_data.Goals.{then-byte-eq-STRING_TERMINATOR, else-byte-eq-STRING_TERMINATOR}
+use Rattle.vte_core.proofs.parser.machine.Machine.read_other_in_data.Goals as goal
 
 pub returns-clause-advances : goal.returns-clause-advances
 returns-clause-advances g c =
@@ -19,7 +19,7 @@ returns-clause-advances g c =
       | then-byte-eq-STRING_TERMINATOR w ↦
           let is = w.if-byte-eq-STRING_TERMINATOR.true in
           rw (w.self-is, w.performer-is)
-          (advances-when c.requires.other (advances-in r.begun r.within r.is r.may_go_on ordinary
+          (advances-when c.requires.other (advances-in r.begun r.within r.looked_at r.may_go_on ordinary
           (in_data parser
           (taken (Unhook ∷ []) (InText []) w.unhook.ensures.value (record { by = (refl, refl) })
           (data-terminator _ c.args.byte (terminator_is_high is) (rw is refl)))) tt))
@@ -29,6 +29,6 @@ returns-clause-advances g c =
           data-dropped _ c.args.byte
           (ends_no_data c.args.byte ordinary w.if-byte-eq-STRING_TERMINATOR.false) c.requires.other in
           rw (w.self-is, w.performer-is)
-          (advances-when c.requires.other (advances-in r.begun r.within r.is r.may_go_on ordinary
+          (advances-when c.requires.other (advances-in r.begun r.within r.looked_at r.may_go_on ordinary
           (in_data parser (taken [] InDeviceData refl (stands-by r.begun tt) dropped)) (settled-by _ _ r.begun tt)))
     ]

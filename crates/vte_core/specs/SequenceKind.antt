@@ -1,24 +1,24 @@
 -- The key: the byte that selects the kind of a sequence.
 use Rattle.std.specs.Prelude.{ℕ, Bool, ◌||◌, if◌then◌else◌, ◌==◌}
 
-pub data Key : Type 0 where
+pub data SequenceKind : Type 0 where
   -- [
-  ControlSequence : Key
+  ControlSequence : SequenceKind
   -- P
-  DeviceControl : Key
+  DeviceControl : SequenceKind
   -- ]
-  SystemCommand : Key
+  SystemCommand : SequenceKind
   -- X, ^ and _: SOS, PM and APC
-  IgnoredString : Key
+  IgnoredString : SequenceKind
   -- any other byte, which belongs to an escape sequence
-  EscapeSequence : Key
+  EscapeSequence : SequenceKind
 
 -- X, ^ and _
 abbrev pub begins_ignored_string : ℕ → Bool
 begins_ignored_string key = key == 0x58 || key == 0x5e || key == 0x5f
 
-unfoldable pub key_of : ℕ → Key
-key_of b =
+unfoldable pub sequence_kind : ℕ → SequenceKind
+sequence_kind b =
     if b == 0x5b then ControlSequence
     else if b == 0x50 then DeviceControl
     else if b == 0x5d then SystemCommand

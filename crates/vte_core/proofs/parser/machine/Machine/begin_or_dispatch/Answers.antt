@@ -1,27 +1,27 @@
 -- By the key after ESC: `P`, `]`, that of an ignored string, or any other, which dispatches. The place after it is that
 -- shape with nothing read.
-use Rattle.vte_core.proofs.Common.{false, [], ◌∷◌, refl, ◌∙◌, arith, key_of, EscDispatch, InText, InDeviceControl, InSystemCommand, InIgnoredString}
-use Rattle.vte_core.specs.Key.{DeviceControl, IgnoredString, SystemCommand}
+use Rattle.vte_core.proofs.Common.{false, [], ◌∷◌, refl, ◌∙◌, arith, sequence_kind, EscDispatch, InText, InDeviceControl, InSystemCommand, InIgnoredString}
+use Rattle.vte_core.specs.SequenceKind.{DeviceControl, IgnoredString, SystemCommand}
 use Rattle.vte_core.proofs.bytes.ClassCases.{final}
 use Rattle.vte_core.proofs.calls.Arms.{taken}
 use Rattle.vte_core.proofs.calls.CallEnds.{settled-by}
 use Rattle.vte_core.proofs.fields.PlaceOfState.{stands-escape, stands-text_begun}
 use Rattle.vte_core.proofs.places.PlaceLeads.{escape-key, escape-end}
 use Rattle.vte_core.proofs.bytes.PlainKeys.{other_key}
-use Rattle.vte_core.proofs.parser.machine.Machine.read_key.Goals as goal
+use Rattle.vte_core.proofs.parser.machine.Machine.begin_or_dispatch.Goals as goal
 
 -- `P`: a device control string.
 pub returns-then-byte-eq80-clause-takes : goal.returns-then-byte-eq80-clause-takes
-unfolding key_of
+unfolding sequence_kind
 returns-then-byte-eq80-clause-takes g c = λ s.
     taken [] (InDeviceControl []) refl (record { by = c.begin_head.ensures (stands-escape _ s) })
     (escape-key _ c.args.byte DeviceControl (final _ c.requires.ends) (rw c.if-byte-eq80.true refl) refl)
 
 -- `]`: a command.
 pub returns-then-byte-eq93-clause-takes : goal.returns-then-byte-eq93-clause-takes
-unfolding key_of
+unfolding sequence_kind
 returns-then-byte-eq93-clause-takes g c = λ s.
-    taken [] (InSystemCommand []) refl (record { by = c.clear.ensures.keeps })
+    taken [] (InSystemCommand []) refl (record { by = c.clear.ensures.holds })
     (escape-key _ c.args.byte SystemCommand (final _ c.requires.ends) (rw c.if-byte-eq93.true refl) refl)
 
 -- `X`, `^` and `_`: an ignored string.

@@ -6,10 +6,10 @@ use Rattle.vte_core.specs.Event.{Event, Print, Put, replacement}
 use Rattle.vte_core.specs.Stream.{open_character}
 
 -- Neither a printed character nor data. U+FFFD is allowed: it stands for what is malformed.
-abbrev pub IsQuietEvent : Event → Type 0
-IsQuietEvent (Print c) = c ≡ replacement
-IsQuietEvent (Put byte) = ⊥
-IsQuietEvent _ = ⊤
+abbrev pub IsOutsideRuns : Event → Type 0
+IsOutsideRuns (Print c) = c ≡ replacement
+IsOutsideRuns (Put byte) = ⊥
+IsOutsideRuns _ = ⊤
 
 -- Neither a printed character of ASCII nor data.
 abbrev pub PrintsNoAscii : Event → Type 0
@@ -19,13 +19,14 @@ PrintsNoAscii _ = ⊤
 
 -- Before position n of a call nothing is told that belongs into a run: only the character that an
 -- earlier call began, if one was open.
-pub record TellsQuietly (limit : Option ℕ) (stream bytes : List ℕ) (n : ℕ) : Type 0 where
-  pub quietly : open_character stream ≡ [] → All IsQuietEvent (told_before limit stream bytes n)
+pub record TellsOutsideRuns (limit : Option ℕ) (stream bytes : List ℕ) (n : ℕ) : Type 0 where
+  pub outside_runs : open_character stream ≡ []
+      → All IsOutsideRuns (told_before limit stream bytes n)
   -- The character that an earlier call began isn't ASCII.
   pub no_ascii : All PrintsNoAscii (told_before limit stream bytes n)
 
 -- What is told between two positions of a call belongs into no run.
-pub record AddsQuietly (limit : Option ℕ) (stream bytes : List ℕ) (i j : ℕ) : Type 0 where
+pub record AddsOutsideRuns (limit : Option ℕ) (stream bytes : List ℕ) (i j : ℕ) : Type 0 where
   pub events : List Event
-  pub are : All IsQuietEvent events
+  pub events_are : All IsOutsideRuns events
   pub parts : told_before limit stream bytes j ≡ told_before limit stream bytes i ++ events

@@ -58,7 +58,7 @@ pub use Rattle.vte_core.specs.SystemCommand
 pub use Rattle.vte_core.specs.Text
 pub use Rattle.vte_core.specs.Utf8
 pub use Rattle.vte_handler.specs.Call
-pub use Rattle.vte_handler.specs.Given
+pub use Rattle.vte_handler.specs.HandlerCall
 pub use Rattle.vte_handler.specs.Handler
 pub use Rattle.vte_handler.specs.Link
 pub use Rattle.vte_handler.specs.Timeout

@@ -30,7 +30,8 @@ body_rest limit (key ∷ bytes) =
     if is_cancel (class_of key) then tell (Execute key ∷ []) (text_outcome bytes)
     else sequence_outcome limit (sequence_kind key) key bytes
 
--- The key is the first byte among 20..7E, CAN and SUB. Before it, C0 is executed and everything
+-- The key is the first byte among 20..7E, CAN and SUB. Before it, plain controls are executed and
+-- everything
 -- else is dropped.
 unfoldable pub body_outcome : Option ℕ → List ℕ → Outcome
 body_outcome limit bytes =

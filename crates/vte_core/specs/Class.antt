@@ -2,7 +2,7 @@
 use Rattle.std.specs.Prelude.{◌≡◌, ℕ, List, [], ◌∷◌, Bool, true, false, if◌then◌else◌, ◌==◌, nat_lt, ⊤}
 
 pub data Class : Type 0 where
-  -- 00..17, 19, 1C..1F: C0 except CAN, SUB and ESC
+  -- 00..17, 19, 1C..1F: plain controls, which are C0 except CAN, SUB and ESC
   Control : Class
   -- 18, 1A: CAN and SUB, which cancel the current sequence
   Cancel : Class
@@ -42,7 +42,7 @@ class_of b =
     else if b == 0x7f then Delete
     else High
 
--- C0 except CAN, SUB and ESC
+-- 00..17, 19, 1C..1F
 abbrev pub is_plain_control : Class → Bool
 is_plain_control Control = true
 is_plain_control _ = false
@@ -111,7 +111,7 @@ ends_head Cancel = true
 ends_head Final = true
 ends_head _ = false
 
--- C0 except CAN, SUB and ESC, and 20..7E: the data of a device control string
+-- Plain controls and 20..7E: the data of a device control string
 abbrev pub is_device_data : Class → Bool
 is_device_data Control = true
 is_device_data Final = true

@@ -20,7 +20,8 @@ abbrev pub control_sequence_rest : List ℕ → List ℕ → Outcome
 control_sequence_rest head [] = leaves NothingToClose
 control_sequence_rest head (end ∷ text) = tell (control_sequence_end head end) (text_outcome text)
 
--- The end is the first of 40..7E, CAN and SUB. Before it, C0 is executed, 20..3F are the head, and
+-- The end is the first of 40..7E, CAN and SUB. Before it, plain controls are executed, 20..3F are
+-- the head, and
 -- the rest is dropped.
 unfoldable pub control_sequence_outcome : List ℕ → Outcome
 control_sequence_outcome bytes =

@@ -26,7 +26,8 @@ abbrev pub device_data_rest : List ℕ → Outcome
 device_data_rest [] = leaves DeviceDataToClose
 device_data_rest (end ∷ text) = tell (device_data_end end) (text_outcome text)
 
--- The data of a hooked string end at the first 9C, CAN or SUB. C0 and 20..7E are put, and the rest
+-- The data of a hooked string end at the first 9C, CAN or SUB. Plain controls and 20..7E are put,
+-- and the rest
 -- is dropped.
 unfoldable pub device_data_outcome : List ℕ → Outcome
 device_data_outcome bytes =
@@ -48,7 +49,7 @@ abbrev pub device_control_rest : List ℕ → List ℕ → Outcome
 device_control_rest head [] = leaves NothingToClose
 device_control_rest head (end ∷ bytes) = device_control_after_head head end bytes
 
--- The head ends as that of a control sequence does, but C0 in it is dropped.
+-- The head ends as that of a control sequence does, but plain controls in it are dropped.
 unfoldable pub device_control_outcome : List ℕ → Outcome
 device_control_outcome bytes =
     let cut = cut_before (λ b. ends_head (class_of b)) bytes in

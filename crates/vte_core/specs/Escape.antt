@@ -20,7 +20,8 @@ escape_rest intermediates [] = leaves NothingToClose
 escape_rest intermediates (end ∷ text) =
     tell (escape_end intermediates end ∷ []) (text_outcome text)
 
--- The end is the first of 30..7E, CAN and SUB. Before it, C0 is executed and 20..2F are the
+-- The end is the first of 30..7E, CAN and SUB. Before it, plain controls are executed and 20..2F
+-- are the
 -- intermediates.
 unfoldable pub escape_outcome : List ℕ → Outcome
 escape_outcome bytes =

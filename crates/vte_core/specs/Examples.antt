@@ -79,7 +79,7 @@ control_sequence_examples =
     ∷ gives (codes "\u{1b}[1?ma") (Print 0x61 ∷ [])
     ∷ gives (codes "\u{1b}[1$2pa") (Print 0x61 ∷ [])
     ∷ gives (codes "\u{1b}[1?\u{1a}m") (Execute 0x1a ∷ Print 0x6d ∷ [])
-    -- C0 is executed where it stands; 7F and 80..FF are dropped
+    -- plain controls are executed where they stand; 7F and 80..FF are dropped
     ∷ gives (codes "\u{1b}[1\n\u{7f}" ++ 0x80 ∷ codes "2m")
     (Execute 0x0a ∷ CsiDispatch ((12 ∷ []) ∷ []) [] false 0x6d ∷ [])
     ∷ gives (codes "\u{1b}[1\u{18}m") (Execute 0x18 ∷ Print 0x6d ∷ [])
@@ -90,10 +90,10 @@ abbrev pub device_control_examples : List Example
 device_control_examples =
     gives (codes "\u{1b}P0;1|17/ab" ++ 0x9c ∷ [])
     (Hook ((0 ∷ []) ∷ (1 ∷ []) ∷ []) [] false 0x7c ∷ map Put (codes "17/ab") ++ Unhook ∷ [])
-    -- C0, 7F and 9C in the head are dropped
+    -- plain controls, 7F and 9C in the head are dropped
     ∷ gives (codes "\u{1b}P1" ++ 0x9c ∷ codes "\n\u{7f}2qa" ++ 0x9c ∷ [])
     (Hook ((12 ∷ []) ∷ []) [] false 0x71 ∷ Put 0x61 ∷ Unhook ∷ [])
-    -- C0 is put, 7F and 80 are dropped
+    -- plain controls are put, 7F and 80 are dropped
     ∷ gives (codes "\u{1b}Pq\n\u{7}\0\u{1f}" ++ 0x9c ∷ [])
     (Hook ((0 ∷ []) ∷ []) [] false 0x71 ∷ Put 0x0a ∷ Put 0x07 ∷ Put 0x00 ∷ Put 0x1f ∷ Unhook ∷ [])
     ∷ gives (codes "\u{1b}Pqa\u{7f}" ++ 0x80 ∷ codes "b" ++ 0x9c ∷ [])
@@ -118,7 +118,7 @@ system_command_examples =
     (OscDispatch (codes "2" ∷ codes "a" ∷ []) false ∷ Execute 0x18 ∷ Print 0x62 ∷ [])
     ∷ gives (codes "\u{1b}]\u{7}") (OscDispatch ([] ∷ []) true ∷ [])
     ∷ gives (codes "\u{1b}]2;a") []
-    -- C0 is dropped, 7F and 80..FF are kept
+    -- plain controls are dropped, 7F and 80..FF are kept
     ∷ gives (codes "\u{1b}]a\0b\u{7f}" ++ 0x9c ∷ codes "\u{7}")
     (OscDispatch ((codes "ab\u{7f}" ++ 0x9c ∷ []) ∷ []) true ∷ [])
     -- at most 16 pieces

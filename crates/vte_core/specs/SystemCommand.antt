@@ -41,7 +41,7 @@ kept_after limit count (item ∷ items) =
 unfoldable pub kept_items : Option ℕ → List ℕ → List ℕ
 kept_items limit items = kept_after limit 0 items
 
--- The items of a command are its bytes from 20 on. C0 is dropped.
+-- The items of a command are its bytes from 20 on. Plain controls are dropped.
 abbrev pub items_of : List ℕ → List ℕ
 items_of bytes = filter (λ b. nat_le 0x20 b) bytes
 

@@ -15,7 +15,7 @@ is_control_character c = nat_lt c 0x20 || (nat_le 0x80 c && nat_lt c 0xa0)
 abbrev pub is_layout : ℕ → Bool
 is_layout c = c == 0x09 || c == 0x0a || c == 0x0d
 
--- The controls that end a run of text: all of them, or all but HT, LF and CR if it keeps these.
+-- The controls that end a run of text: all of them or, with `layout`, all but HT, LF and CR.
 abbrev pub ends_run : Bool → ℕ → Bool
 ends_run layout c = not (layout && is_layout c) && is_control_character c
 
@@ -36,7 +36,7 @@ HasNoRunAt layout bytes position =
 abbrev pub HasNoControls : List ℕ → Type 0
 HasNoControls text = IsRunText false text
 
--- The event of a character of a run: HT, LF and CR, if it keeps these, are executed, and others
+-- The event of a character of a run: with `layout`, HT, LF and CR are executed. All others are
 -- printed.
 abbrev pub run_event : Bool → ℕ → Event
 run_event layout c = if layout && is_layout c then Execute c else Print c
@@ -66,6 +66,6 @@ segments_outcome (segment ∷ next ∷ more) =
 unfoldable pub text_outcome : List ℕ → Outcome
 text_outcome text = segments_outcome (segments text)
 
--- The bytes in C0 are executed, and the rest is dropped.
+-- Plain controls are executed, and the rest is dropped.
 unfoldable pub executed_events : List ℕ → List Event
 executed_events bytes = map Execute (filter (λ b. is_plain_control (class_of b)) bytes)

@@ -78,6 +78,7 @@ pub trait Perform {
 ///
 /// How text and data are cut into runs may change from version to version.
 pub trait PerformText: Perform {
+    /// Whether runs may hold HT, LF and CR.
     ghost layout: { Bool };
 
     /// Returns whether HT (09), LF (0A) and CR (0D) come by `print_text` instead of

@@ -115,8 +115,8 @@ impl<B> Looks<B> {
         self.find_run_end(input, from, performer.keeps_layout())
     }
 
-    /// Finds where the run ends that has come to a position. If it `layout` them, HT, LF and CR
-    /// don't end it.
+    /// Finds where the run ends that has come to a position. With `layout`, HT, LF and CR don't
+    /// end it.
     #[inline(always)]
     pub(crate) fn find_run_end(&mut self, input: Input<'_, B>, from: usize, layout: bool) -> usize
         requires { from ≤ length input.bytes.now }
@@ -165,6 +165,7 @@ impl<B> Looks<B> {
         requires { from ≤ length input.bytes.now }
         ensures scans { Scans (IsRun layout) input.entry.bytes.now from result self.old self.new }
         ensures ended { HasNoRunAt layout input.entry.bytes.now result }
+        // 3 * 16 for a block that was read in vain, and 12 as in `find_end_up_to`.
         ensures count { 3 * looked self.new + 11 * from ≤ 3 * looked self.old + 11 * result + 60 }
     {
         let end = self.skip_run_blocks(input, from, layout);

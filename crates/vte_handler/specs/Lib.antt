@@ -1,5 +1,5 @@
 pub mod Call
-pub mod Given
+pub mod HandlerCall
 pub mod Handler
 pub mod Link
 pub mod Timeout

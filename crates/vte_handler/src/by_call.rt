@@ -3,7 +3,7 @@ ghost use Rattle.std.specs.Prelude.{◌≡◌, ◌<◌, length, map};
 ghost use Rattle.std.specs.Str.{chars};
 ghost use Rattle.vte_handler.specs.Call as call;
 ghost use Rattle.vte_handler.specs.Call.{Call};
-ghost use Rattle.vte_handler.specs.Given.{call_of};
+ghost use Rattle.vte_handler.specs.HandlerCall.{call_of};
 ghost use Rattle.vte_handler.specs.Handler.{AreShown, after};
 
 use crate::handler::{Handler, HandlerText};

@@ -14,8 +14,7 @@ IsPrintedAscii b = (0x20 ≤ b) × (b < 0x80)
 abbrev pub ArePrintedAscii : List ℕ → ℕ → ℕ → Type 0
 ArePrintedAscii = Each IsPrintedAscii
 
--- The bytes are characters, and none of these is a control, but for HT, LF and CR if it `layout`
--- these.
+-- The bytes are characters, and none of these is a control except, with `layout`, HT, LF and CR.
 pub record IsUtf8Run (layout : Bool) (bytes : List ℕ) : Type 0 where
   pub utf8 : IsUtf8 bytes
   pub plain : IsRunText layout bytes

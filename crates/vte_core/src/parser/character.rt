@@ -37,7 +37,10 @@ impl<B: Buffer> Machine<B> {
         ensures text { result < length input.entry.bytes.now → self.new.state ≡ Text Nothing }
         ensures moves { MovesWithin 5 1 input.entry.bytes.now from result self.old self.new
             looks.old looks.new }
+        // Three are left of 5 per byte: one for the lead byte, and two for a search that found no
+        // run.
         ensures spare { looked looks.new + 5 * from + 3 ≤ looked looks.old + 5 * result }
+        // Without runs 3 per byte are enough, with that for the lead byte.
         ensures few { G.IN_RUNS ≡ false
             → looked looks.new + 3 * from + 1 ≤ looked looks.old + 3 * result }
     {
@@ -127,6 +130,7 @@ impl<B: Buffer> Machine<B> {
         ensures text { result < length input.entry.bytes.now → self.new.state ≡ Text Nothing }
         ensures moves { MovesWithin 5 2 input.entry.bytes.now from result self.old self.new
             looks.old looks.new }
+        // As in `read_character`, with one more for the second byte.
         ensures spare { looked looks.new + 5 * from + 4 ≤ looked looks.old + 5 * result }
         ensures few { G.IN_RUNS ≡ false
             → looked looks.new + 3 * from + 2 ≤ looked looks.old + 3 * result }

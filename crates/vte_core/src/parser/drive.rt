@@ -1,7 +1,6 @@
 //! The loop over the bytes of a call.
 ghost use Rattle.std.specs.Prelude.{◌≡◌, ◌<◌, true, List, ℕ, length, IfErr, IfOk};
-ghost use Rattle.vte_core.specs.machine.Prelude.{Advances, Costs, HasReadWithLimit, IsOutsideTextAndData, IsSettled, MayReadAt, MovesWithin, NoCharacterStops, ReadsUpTo, Refuses, ReadsUntilRefused, SpendsWithin, StandsAt, TellsOutsideRuns, chunk_call};
-ghost use Rattle.vte_core.specs.machine.Prelude.{chunk_call, read_count};
+ghost use Rattle.vte_core.specs.machine.Prelude.{Advances, Costs, HasReadWithLimit, IsOutsideTextAndData, IsSettled, MayReadAt, MovesWithin, NoCharacterStops, ReadsUpTo, Refuses, ReadsUntilRefused, SpendsWithin, StandsAt, TellsOutsideRuns, chunk_call, read_count};
 
 use crate::buffer::Buffer;
 use crate::parser::{Machine, Refused, State};

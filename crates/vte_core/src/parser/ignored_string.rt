@@ -1,4 +1,4 @@
-//! Ignored strings: SOS, PM, APC, and device control strings with a malformed head.
+//! Ignored strings: SOS, PM, APC, and device control strings with an ill-shaped head.
 ghost use Rattle.std.specs.Prelude.{⊤};
 ghost use Rattle.vte_core.specs.machine.Prelude.{Advances, IgnoredString, MayReadAt, MovesWithin, chunk_call};
 

@@ -116,6 +116,7 @@ impl<B: Buffer> Machine<B> {
             (P.value_of performer.old) (P.value_of performer.new) from result self.old self.new }
         ensures moves { MovesWithin 7 0 input.entry.bytes.now from result self.old self.new
             looks.old looks.new }
+        // Four are left of 7 per byte, for a search that found no run.
         ensures spare { looked looks.new + 7 * from + 4 ≤ looked looks.old + 7 * result }
     {
         let mut position = from;

@@ -1,124 +1,169 @@
--- Examples of synchronized updates, worked out by hand: the calls of a processor, what its handler
--- then has received, and what is held. The prover compares them with the definitions, not with
--- code.
-use Rattle.std.specs.Prelude.{◌≡◌, ℕ, zero, suc, Bool, true, false, List, [], ◌∷◌, ◌++◌, length, map, Option, Some, None, codes}
+-- Examples of synchronized updates, worked out by hand. The prover compares them with the
+-- definitions, not with code.
+use Rattle.std.specs.Prelude.{◌≡◌, ℕ, zero, suc, ◌-◌, Bool, true, false, List, [], ◌∷◌, ◌++◌, length, map, Some, None, codes}
+use Rattle.vte_core.specs.Stream.{usual_limit}
 use Rattle.vte_handler.specs.Call.{Call, Input, SetPrivateMode, TerminalAttribute}
 use Rattle.vte_types.specs.declared.color.Attr.TheVariants.{Bold, Foreground, Underline}
 use Rattle.vte_types.specs.declared.color.Color.TheVariants as color
 use Rattle.vte_types.specs.declared.color.NamedColor.TheVariants.{Red}
 use Rattle.vte_types.specs.declared.mode.NamedPrivateMode.TheVariants.{ShowCursor, SyncUpdate}
 use Rattle.vte_types.specs.declared.mode.PrivateMode.TheVariants.{Named}
-use Rattle.vte.specs.Processor.{Meaning, State, stop, turn}
-use Rattle.vte.specs.Synchronized.{begin_update, end_update, update_ended_call}
-use Rattle.vte_core.specs.Stream.{usual_limit}
+use Rattle.vte.specs.Processor.{Meaning, State, HoldTurn, FullTurn, calls_with_stops, front_to_begin, kind_of, most_held, stop, turn}
+use Rattle.vte.specs.StdSyncHandler.{pending_meaning}
+use Rattle.vte.specs.Synchronized.{after_last_end, begin_update, begins_ending_in_last, end_update, from_begin_update, update_ended_call}
+use Rattle.vte.specs.declared.ansi.laws.replays.Step.{Step}
+use Rattle.vte.specs.declared.ansi.laws.replays.Step.TheVariants.{Advance, StopSync}
 
--- The handler's value is the list of its calls; the timeout is pending from when it is set until it
--- is cleared.
+-- The handler's value is the list of the calls that it has received. The timeout is pending from
+-- when it is set until it is cleared.
 abbrev pub recording_meaning : Meaning (List Call) Bool
 recording_meaning = record {
   limit = usual_limit;
-  step = λ told call. told ++ call ∷ [];
-  timeout =
-      record {
-        set = λ value nanos. true;
-        clear = λ value. false;
-        allows = λ value pending. value ≡ pending;
-      };
+  step = λ received call. received ++ call ∷ [];
+  timeout = pending_meaning;
 }
 
-abbrev pub PlainState : Type 0
-PlainState = State (List Call) Bool
+abbrev pub RecordingState : Type 0
+RecordingState = State (List Call) Bool
 
-abbrev pub start : PlainState
+-- A new processor and a handler that has received nothing.
+abbrev pub start : RecordingState
 start = record { parsed = []; stops = []; held = []; timeout = false; handler = [] }
 
--- At most this many turns, until no byte is left. The timeout answers whether it is pending.
-abbrev pub with_turns : ℕ → PlainState → List ℕ → PlainState
-with_turns zero state bytes = state
-with_turns (suc count) state [] = state
-with_turns (suc count) state (byte ∷ bytes) =
+-- Turns of a call until no byte is left, and at most this many.
+abbrev pub state_after_turns : ℕ → RecordingState → List ℕ → RecordingState
+state_after_turns zero state bytes = state
+state_after_turns (suc count) state [] = state
+state_after_turns (suc count) state (byte ∷ bytes) =
     let taken = turn recording_meaning state.timeout state (byte ∷ bytes) in
-    with_turns count taken.state taken.rest
+    state_after_turns count taken.state taken.rest
 
--- Calls of `advance` with these bytes, or of `stop_sync`. A turn reads at least one byte.
-abbrev pub state_after_calls : PlainState → List (Option (List ℕ)) → PlainState
-state_after_calls state [] = state
-state_after_calls state (Some bytes ∷ acts) = state_after_calls
-    (with_turns (length bytes) state bytes) acts
-state_after_calls state (None ∷ acts) = state_after_calls (stop recording_meaning state) acts
+-- A turn reads at least one byte, so there are at most as many turns as bytes.
+abbrev pub state_after_steps : RecordingState → List Step → RecordingState
+state_after_steps state [] = state
+state_after_steps state (Advance bytes ∷ steps) =
+    state_after_steps (state_after_turns (length bytes.now) state bytes.now) steps
+state_after_steps state (StopSync ∷ steps) = state_after_steps (stop recording_meaning state) steps
 
--- What the handler has received, and what is held.
-pub record ToldAndHeld : Type 0 where
-  pub told : List Call
+-- Calls of a new processor, what its handler has then received, and what is held.
+pub record UpdateExample : Type 0 where
+  pub steps : List Step
+  pub received : List Call
   pub held : List ℕ
 
-pub record UpdateExample : Type 0 where
-  pub acts : List (Option (List ℕ))
-  pub led : ToldAndHeld
+-- The example that the definitions give for these calls.
+abbrev pub example_of : List Step → UpdateExample
+example_of steps =
+    let state = state_after_steps start steps in
+    record { steps = steps; received = state.handler; held = state.held }
 
-abbrev pub leads : List (Option (List ℕ)) → List Call → List ℕ → UpdateExample
-leads acts told held = record { acts = acts; led = record { told = told; held = held } }
+abbrev pub AreRight : List UpdateExample → Type 0
+AreRight examples = map (λ example. example_of example.steps) examples ≡ examples
 
-abbrev pub led_of : PlainState → ToldAndHeld
-led_of state = record { told = state.handler; held = state.held }
+-- A call of `advance`. Where in memory the bytes are makes no difference.
+abbrev pub advance : List ℕ → Step
+advance bytes = Advance (record { ref_ptr = (0, 0); now = bytes })
 
-abbrev pub AreLed : List UpdateExample → Type 0
-AreLed examples =
-    map (λ example. led_of (state_after_calls start example.acts)) examples
-    ≡ map (λ example. example.led) examples
-
-abbrev pub update_begun : Call
-update_begun = SetPrivateMode (Named SyncUpdate)
+abbrev pub update_begun_call : Call
+update_begun_call = SetPrivateMode (Named SyncUpdate)
 
 abbrev pub inputs : List ℕ → List Call
 inputs text = map (λ character. Input character) text
 
+abbrev pub bold : List ℕ
+bold = codes "\u{1b}[1m"
+
+abbrev pub underline : List ℕ
+underline = codes "\u{1b}[4m"
+
 abbrev pub update_examples : List UpdateExample
 update_examples =
     -- after the end of an update, everything from the next begin on stays held
-    leads
-    (Some (begin_update ++ codes "\u{1b}[1m")
-    ∷ Some (end_update ++ begin_update ++ codes "\u{1b}[4m") ∷ [])
-    (update_begun ∷ TerminalAttribute Bold ∷ update_ended_call ∷ []) (begin_update
-    ++ codes "\u{1b}[4m")
-    ∷ leads
-    (Some (begin_update ++ codes "\u{1b}[1m")
-    ∷ Some (end_update ++ begin_update ++ codes "\u{1b}[4m") ∷ Some end_update ∷ [])
-    (update_begun ∷ TerminalAttribute Bold ∷ update_ended_call ∷ update_begun
-    ∷ TerminalAttribute Underline ∷ update_ended_call ∷ update_ended_call ∷ []) []
+    record {
+      steps = advance (begin_update ++ bold) ∷ advance (end_update ++ begin_update ++ underline)
+          ∷ [];
+      received = update_begun_call ∷ TerminalAttribute Bold ∷ update_ended_call ∷ [];
+      held = begin_update ++ underline;
+    }
+    -- the same, and the end of that update
+    ∷ record {
+      steps = advance (begin_update ++ bold) ∷ advance (end_update ++ begin_update ++ underline)
+          ∷ advance end_update ∷ [];
+      received = update_begun_call ∷ TerminalAttribute Bold ∷ update_ended_call
+          ∷ update_begun_call ∷ TerminalAttribute Underline ∷ update_ended_call
+          ∷ update_ended_call ∷ [];
+      held = [];
+    }
     -- both sequences are cut across calls
-    ∷ leads
-    (Some (codes "\u{1b}[?20") ∷ Some (codes "26h") ∷ Some (codes "random \u{1b}[31m stuff")
-    ∷ Some (codes "\u{1b}[?20") ∷ Some (codes "26h")
-    ∷ Some (codes "\u{1b}[?20") ∷ Some (codes "26l") ∷ [])
-    (update_begun ∷ inputs (codes "random ") ++ TerminalAttribute (Foreground (color.Named Red))
-    ∷ inputs (codes " stuff")
-    ++ update_begun ∷ update_ended_call ∷ update_ended_call ∷ []) []
+    ∷ record {
+      steps = advance (codes "\u{1b}[?20") ∷ advance (codes "26h")
+          ∷ advance (codes "random \u{1b}[31m stuff")
+          ∷ advance (codes "\u{1b}[?20") ∷ advance (codes "26h")
+          ∷ advance (codes "\u{1b}[?20") ∷ advance (codes "26l") ∷ [];
+      received = update_begun_call ∷ inputs (codes "random ")
+          ++ TerminalAttribute (Foreground (color.Named Red)) ∷ inputs (codes " stuff")
+          ++ update_begun_call ∷ update_ended_call ∷ update_ended_call ∷ [];
+      held = [];
+    }
     -- a begin beside another mode isn't recognised in the hold; it makes its calls when it is
     -- parsed
-    ∷ leads (Some begin_update ∷ Some (codes "a\u{1b}[?25;2026hb") ∷ Some end_update ∷ [])
-    (update_begun ∷ Input 0x61 ∷ SetPrivateMode (Named ShowCursor) ∷ update_begun ∷ Input 0x62
-    ∷ update_ended_call ∷ update_ended_call ∷ []) []
+    ∷ record {
+      steps = advance begin_update ∷ advance (codes "a\u{1b}[?25;2026hb") ∷ advance end_update
+          ∷ [];
+      received = update_begun_call ∷ Input 0x61 ∷ SetPrivateMode (Named ShowCursor)
+          ∷ update_begun_call ∷ Input 0x62 ∷ update_ended_call ∷ update_ended_call ∷ [];
+      held = [];
+    }
     -- a stop with nothing held
-    ∷ leads (None ∷ []) (update_ended_call ∷ []) []
+    ∷ record { steps = StopSync ∷ []; received = update_ended_call ∷ []; held = [] }
     -- an update that a sequence of two modes begins, and a stop
-    ∷ leads (Some (codes "\u{1b}[?25;2026hx") ∷ [])
-    (SetPrivateMode (Named ShowCursor) ∷ update_begun ∷ []) (codes "x")
-    ∷ leads (Some (codes "\u{1b}[?25;2026hx") ∷ None ∷ [])
-    (SetPrivateMode (Named ShowCursor) ∷ update_begun ∷ Input 0x78 ∷ update_ended_call ∷ []) []
+    ∷ record {
+      steps = advance (codes "\u{1b}[?25;2026hx") ∷ [];
+      received = SetPrivateMode (Named ShowCursor) ∷ update_begun_call ∷ [];
+      held = codes "x";
+    }
+    ∷ record {
+      steps = advance (codes "\u{1b}[?25;2026hx") ∷ StopSync ∷ [];
+      received = SetPrivateMode (Named ShowCursor) ∷ update_begun_call ∷ Input 0x78
+          ∷ update_ended_call ∷ [];
+      held = [];
+    }
     -- the last of two ends decides
-    ∷ leads
-    (Some
-    (begin_update ++ codes "a" ++ end_update ++ begin_update ++ codes "b" ++ end_update
-    ++ codes "c") ∷ [])
-    (update_begun ∷ Input 0x61 ∷ update_ended_call ∷ update_begun ∷ Input 0x62 ∷ update_ended_call
-    ∷ Input 0x63 ∷ update_ended_call ∷ []) []
+    ∷ record {
+      steps = advance
+          (begin_update ++ codes "a" ++ end_update ++ begin_update ++ codes "b" ++ end_update
+          ++ codes "c") ∷ [];
+      received = update_begun_call ∷ Input 0x61 ∷ update_ended_call ∷ update_begun_call
+          ∷ Input 0x62 ∷ update_ended_call ∷ Input 0x63 ∷ update_ended_call ∷ [];
+      held = [];
+    }
     ∷ []
 
 -- An expired update is stopped before new bytes are parsed: the timeout answers "not pending"
 -- although bytes are held.
 abbrev pub expired_example : Type 0
 expired_example =
-    (turn recording_meaning false (state_after_calls start (Some (begin_update ++ codes "x") ∷ []))
-    (codes "y")).state.handler
-    ≡ update_begun ∷ Input 0x78 ∷ update_ended_call ∷ Input 0x79 ∷ []
+    let held = state_after_steps start (advance (begin_update ++ codes "x") ∷ []) in
+    (turn recording_meaning false held (codes "y")).state.handler
+    ≡ update_begun_call ∷ Input 0x78 ∷ update_ended_call ∷ Input 0x79 ∷ []
+
+-- What the definitions of `Synchronized` and `Processor` give for short texts.
+pub record ShortExamples : Type 0 where
+  pub after_end : after_last_end (codes "a\u{1b}[?2026lb") ≡ Some (codes "b")
+  pub after_second_end : after_last_end (end_update ++ codes "a" ++ end_update) ≡ Some []
+  pub without_end : after_last_end (codes "\u{1b}[?2026") ≡ None
+  pub from_begin : from_begin_update (codes "a\u{1b}[?2026hb") ≡ codes "\u{1b}[?2026hb"
+  pub without_begin : from_begin_update (codes "\u{1b}[?2026l") ≡ []
+  pub ends_in_last_two : begins_ending_in_last 2 (codes "\u{1b}[?2026hb") ≡ 1
+  pub ends_before_last : begins_ending_in_last 1 (codes "\u{1b}[?2026hb") ≡ 0
+  -- the begin may have begun in bytes that were parsed before
+  pub front : front_to_begin usual_limit (codes "\u{1b}[?25;20") (codes "26hb") ≡ codes "26h"
+  pub front_without_begin : front_to_begin usual_limit [] (codes "ab") ≡ codes "ab"
+  -- the hold takes its last byte, and none after it
+  pub fits : kind_of true (most_held - 1) 1 ≡ HoldTurn
+  pub full : kind_of true most_held 1 ≡ FullTurn
+  -- a stop after the first `x`, and two stops inside a character of two bytes
+  pub with_stop : calls_with_stops usual_limit (begin_update ++ codes "xy") 0 (9 ∷ [])
+      ≡ update_begun_call ∷ Input 0x78 ∷ update_ended_call ∷ Input 0x79 ∷ []
+  pub with_two_stops : calls_with_stops usual_limit (0xc3 ∷ 0xa9 ∷ []) 0 (1 ∷ 1 ∷ [])
+      ≡ update_ended_call ∷ update_ended_call ∷ Input 0xe9 ∷ []

@@ -4,7 +4,7 @@ ghost use Rattle.vte.specs.CallExamples.{AreMade, AreRead, color_examples, comma
 ghost use Rattle.vte.specs.CallExamples.{link_examples, mode_examples, palette_examples, position_examples, rendition_examples, selected_examples, title_examples};
 ghost use Rattle.vte.specs.Processor.{HoldsWellAt, State, TakesAllTurns, TakesTurns, all_bytes, meaning_of, stop};
 ghost use Rattle.vte.specs.Refusal.{TakesTurnsUntilRefused};
-ghost use Rattle.vte.specs.UpdateExamples.{AreLed, expired_example, update_examples};
+ghost use Rattle.vte.specs.UpdateExamples.{AreRight, ShortExamples, expired_example, update_examples};
 ghost use Rattle.vte_handler.specs.Timeout.{IsSteady};
 
 mod replays;
@@ -31,8 +31,9 @@ pub fn worked_examples()
     ensures palette { AreMade palette_examples }
     ensures command { AreMade command_examples }
     ensures color { AreRead color_examples }
-    ensures update { AreLed update_examples }
+    ensures update { AreRight update_examples }
     ensures expired { expired_example }
+    ensures short { ShortExamples }
 {}
 
 /// A stop loses no byte, and the facts about the hold are true after it.

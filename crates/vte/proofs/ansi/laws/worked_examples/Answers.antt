@@ -38,4 +38,19 @@ returns c = record {
   color = refl;
   update = refl;
   expired = refl;
+  short = record {
+    after_end = refl;
+    after_second_end = refl;
+    without_end = refl;
+    from_begin = refl;
+    without_begin = refl;
+    ends_in_last_two = refl;
+    ends_before_last = refl;
+    front = refl;
+    front_without_begin = refl;
+    fits = refl;
+    full = refl;
+    with_stop = refl;
+    with_two_stops = refl;
+  };
 }

@@ -1,27 +1,38 @@
-pub mod BeginUpdate
-pub mod CallExamples
-pub mod Calls
-pub mod ColorReading
-pub mod ColorText
-pub mod CommandCalls
-pub mod ControlCalls
-pub mod EscapeCalls
-pub mod LongProcessor
-pub mod machine
-pub mod Memory
-pub mod ModeChange
-pub mod Numbers
+-- In reading order.
+
+-- The calls of executed bytes and escape sequences.
 pub mod OptionalCalls
+pub mod Numbers
+pub mod EscapeCalls
+-- Those of control sequences.
+pub mod SelectedValues
+pub mod ModeChange
+pub mod ColorReading
+pub mod Rendition
+pub mod ControlCalls
+-- Those of operating system commands.
 pub mod Parts
+pub mod ColorText
+pub mod Titles
+pub mod CommandCalls
+-- Those of all events.
+pub mod Calls
+-- What begins and ends a synchronized update.
+pub mod BeginUpdate
+pub mod Synchronized
+-- What a processor does, and what its calls ensure.
 pub mod Processor
 pub mod ProcessorCalls
-pub mod Refusal
-pub mod Rendition
-pub mod SelectedValues
 pub mod StdSyncHandler
-pub mod Synchronized
-pub mod Titles
+-- The same without a limit, where memory may be refused.
+pub mod Memory
+pub mod Refusal
+pub mod LongProcessor
+-- Examples, worked out by hand.
+pub mod CallExamples
 pub mod UpdateExamples
+-- For the proof alone.
+pub mod machine
 -- Crates that depend on `vte` find here the definitions that its contracts use from the crates
 -- below.
 pub use Rattle.vte_core.specs.Advance

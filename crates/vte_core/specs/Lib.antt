@@ -1,34 +1,47 @@
-pub mod Advance
-pub mod AdvanceToRun
-pub mod AdvanceUntilTerminated
-pub mod Body
-pub mod Class
-pub mod ControlSequence
-pub mod CutBefore
-pub mod DeviceControl
-pub mod Division
-pub mod EarlyStop
-pub mod EarlyStopLaws
-pub mod Escape
+-- In reading order.
+
+-- What is reported, and to whom.
 pub mod Event
-pub mod EventBounds
-pub mod Examples
-pub mod Head
-pub mod IgnoredString
+pub mod Perform
+pub mod Outcome
+-- Bytes and text.
+pub mod Class
+pub mod Utf8
+pub mod Text
+-- What comes before the final byte of a sequence.
+pub mod CutBefore
 pub mod Intermediates
+pub mod Parameters
 pub mod SequenceKind
-pub mod Laws
+pub mod Head
+-- The kinds of sequences.
+pub mod Escape
+pub mod ControlSequence
+pub mod IgnoredString
+pub mod DeviceControl
+pub mod SystemCommand
+-- Streams, and what a parser has read of one.
+pub mod Body
+pub mod Stream
+pub mod Parser
+-- What calls ensure.
+pub mod Looks
+pub mod Advance
+pub mod EarlyStop
+pub mod AdvanceUntilTerminated
+pub mod OutsideRuns
+pub mod AdvanceToRun
+-- The same without a limit, where memory may be refused.
 pub mod LongParser
 pub mod LongParserCalls
-pub mod Looks
-pub mod machine
-pub mod Outcome
-pub mod Parameters
-pub mod Parser
-pub mod Perform
-pub mod OutsideRuns
+-- Laws of events.
+pub mod EventBounds
+pub mod Division
+pub mod Laws
+pub mod EarlyStopLaws
+-- A parser as plain data.
 pub mod Saved
-pub mod Stream
-pub mod SystemCommand
-pub mod Text
-pub mod Utf8
+-- Examples, worked out by hand.
+pub mod Examples
+-- For the proof alone.
+pub mod machine

@@ -30,16 +30,19 @@ pub record IsCopyOfLong {T A W : Type 0} (is_clone : T → T → Type 0) (timeou
       → HasParsedAndHoldsLong timeout_of copy parsed held timeout
   pub memory : KeepsMemory (HasMemory processor) (HasMemory copy)
 
--- `reserve`: memory for the held bytes and `more` others
+-- `reserve`, of memory for the held bytes and `more` others
 pub record Reserves {T A W : Type 0} (timeout_of : T → W) (old new : LongProcessor T A)
     (more : ℕ) (result : Bool) : Type 0 where
+  -- The processor stands where it stood.
   pub same : (parsed held : List ℕ) (timeout : W)
       → HasParsedAndHoldsLong timeout_of old parsed held timeout
       → HasParsedAndHoldsLong timeout_of new parsed held timeout
+  -- On `true`, there is memory for all of them.
   pub room : result ≡ true → (parsed held : List ℕ) (timeout : W)
       → HasParsedAndHoldsLong timeout_of new parsed held timeout
       → HasMemory new parsed (length held + more)
   pub memory : KeepsMemory (HasMemory old) (HasMemory new)
+  -- On `false`, there isn't.
   pub lacks : result ≡ false → (stream : List ℕ) → HasReadLong new.engine.parser stream
       → ¬ HasMemory new stream (length (held_long new) + more)
 
@@ -48,6 +51,7 @@ abbrev pub read_of : Result (Unit {0}) Refused → List ℕ → ℕ
 read_of (Ok _) bytes = length bytes
 read_of (Err refused) bytes = refused.read
 
+-- A call led from `processor` to `next`, and the handler's value from `old` to `new`.
 module _ {T A V W : Type 0} (timeout_of : T → W) (meaning : Meaning V W)
     (processor next : LongProcessor T A) (old new : V) where
   abbrev pub WasAt : State V W → Type 0
@@ -67,6 +71,7 @@ module _ {T A V W : Type 0} (timeout_of : T → W) (meaning : Meaning V W)
     -- The bytes read are those that the first turns of the call read.
     pub takes : (state : State V W) → WasAt state
         → HasTaken meaning state bytes (read_of result bytes) IsNowAt
+    -- A refused call left some bytes, and there is no memory for these.
     pub within : IfErr result (λ refused. refused.read < length bytes)
     pub lacks : IfErr result (λ refused. LacksMemoryForSome next (length bytes - refused.read))
     pub memory : (state : State V W) → WasAt state

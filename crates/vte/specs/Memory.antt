@@ -1,5 +1,5 @@
--- The memory of a processor without a limit: for how many bytes it has some, and for which it was
--- refused some.
+-- The memory of a processor without a limit: for how many bytes it has enough, and for how many it
+-- was refused more.
 use Rattle.std.specs.Prelude.{◌⊎◌, ◌≡◌, ℕ, ◌+◌, ◌<◌, ◌≤◌, ◌^◌, List, length, string_capacity}
 use Rattle.vte_core.specs.LongParser.{HasReadLong, memory_of, open_command_size}
 use Rattle.vte_core.specs.declared.parser.long.LongParser.{LongParser}
@@ -9,13 +9,15 @@ use Rattle.vte.specs.declared.ansi.long_processor.LongProcessor.{LongProcessor}
 use Rattle.vte.specs.declared.ansi.titles.TheConstants.{SEPARATORS}
 use Rattle.vte.specs.declared.ansi.engine.TheConstants.{SLICE}
 
--- After the stream, the parser has memory for `count` bytes besides those of an open command. A
--- text that is joined from all of them fits into `size` bytes, and its size into 64 bits. With 100
--- bytes of an open command, 50 more need memory for 150, and a text of 166: 16 for separators.
+-- After the stream, there is memory for `count` more bytes, even if all are data of a command: the
+-- parser can store them after those of the open command, and a text that is joined from all fits a
+-- buffer of `size` bytes. With 100 bytes of an open command, 50 more need memory for 150, and a
+-- text of 166: 16 for separators.
 pub record ParserHasMemory {A : Type 0} (parser : LongParser A) (size : ℕ) (stream : List ℕ)
     (count : ℕ) : Type 0 where
   pub kept : open_command_size stream + count ≤ memory_of parser
   pub joined : open_command_size stream + count + SEPARATORS ≤ size
+  -- The size of the text is a number of 64 bits.
   pub counted : open_command_size stream + count + SEPARATORS < 2 ^ 64
 
 abbrev pub held_long : {T A : Type 0} → LongProcessor T A → List ℕ
@@ -24,20 +26,22 @@ held_long processor = held_of processor.engine.hold
 abbrev pub timeout_long : {T A : Type 0} → LongProcessor T A → T
 timeout_long processor = processor.engine.state.timeout
 
--- After the stream, the processor has memory for `count` more bytes.
+-- After the stream, the processor can parse `count` more bytes and is refused no memory.
 abbrev pub HasMemory : {T A : Type 0} → LongProcessor T A → (stream : List ℕ) → (count : ℕ) → Type 0
 HasMemory processor = ParserHasMemory processor.engine.parser processor.engine.state.text.size
 
--- Memory that was there stays.
+-- Memory that was there (`had`) is still there (`has`), so that later calls can use what was
+-- reserved.
 abbrev pub KeepsMemory : (had has : List ℕ → ℕ → Type 0) → Type 0
 KeepsMemory had has = (stream : List ℕ) (count : ℕ) → had stream count → has stream count
 
--- Of `left` bytes that a call left, there is no memory for the first `more`, together with the held
--- bytes. They are at most a slice, unless both together fit the hold.
+-- A refused call, which left `left` bytes, had a reason: there is no memory for the held bytes and
+-- the first `more` of those left. Without this clause, a processor could refuse every call.
 pub record LacksMemoryForSome {T A : Type 0} (processor : LongProcessor T A)
     (left : ℕ) : Type 0 where
   pub more : ℕ
   pub within : more ≤ left
+  -- A turn asks for memory for at most a slice, or for all bytes if they fit the hold.
   pub few : (more ≤ SLICE) ⊎ (length (held_long processor) + more ≤ most_held)
   pub lacks : (stream : List ℕ) → HasReadLong processor.engine.parser stream
       → ¬ HasMemory processor stream (length (held_long processor) + more)

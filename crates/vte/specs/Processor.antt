@@ -1,7 +1,6 @@
--- What a processor does, from top to bottom: what its parts mean; how it parses bytes, holds them
--- back and stops updates; the turns of a call; what is true of held bytes; calls one after another,
--- and what the handler has received of them. In all files, `V` is the type of the handler's value,
--- and `W` that of the timeout's value.
+-- What a processor does, to be read from top to bottom: from what its parts mean to the calls that
+-- a handler receives. In all files, `V` is the type of the handler's value, and `W` that of the
+-- timeout's value.
 use Rattle.std.specs.Prelude.{ℕ, zero, suc, Bool, Option, ◌++◌, List, ◌≡◌, ◌+◌, ◌-◌, ◌^◌, ◌<◌, false, [], ◌∷◌, length, take, drop, if◌then◌else◌, nat_lt, nat_le, ◌⊎◌, ◌≤◌, true, Some, None}
 use Rattle.vte_core.specs.Stream.{events, added}
 use Rattle.vte_handler.specs.Call.{Call}
@@ -13,10 +12,12 @@ use Rattle.vte.specs.Synchronized.{begins_ending_in_last, part_after_last_end, u
 use Rattle.vte.specs.declared.ansi.laws.replays.Step.{Step}
 use Rattle.vte.specs.declared.ansi.laws.replays.Step.TheVariants.{Advance, StopSync}
 
--- What a processor's parser, handler and timeout mean.
+-- ---- what a processor's parser, handler and timeout mean
+
 pub record Meaning (V W : Type 0) : Type 1 where
   -- how many data bytes of an operating system command the parser keeps, if there is a limit
   pub limit : Option ℕ
+  -- what a call makes of the handler's value
   pub step : V → Call → V
   pub timeout : TimeoutMeaning W
 
@@ -34,9 +35,7 @@ abbrev pub set_times : {W : Type 0} → TimeoutMeaning W → ℕ → W → W
 set_times meaning zero value = value
 set_times meaning (suc count) value = set_times meaning count (meaning.set value update_nanos)
 
--- The calls that more bytes add to those of a stream.
-abbrev pub added_calls : Option ℕ → List ℕ → List ℕ → List Call
-added_calls limit stream more = calls_after (events limit stream) (events limit (stream ++ more))
+-- ---- the state between calls
 
 -- The state between calls: the bytes parsed so far, the positions among them at which updates were
 -- stopped, the bytes held after them, and the values of the timeout and the handler.
@@ -50,38 +49,14 @@ pub record State (V W : Type 0) : Type 0 where
 abbrev pub all_bytes : {V W : Type 0} → State V W → List ℕ
 all_bytes state = state.parsed ++ state.held
 
--- The maximum number of held bytes. `vte` has a buffer of 2 MiB, and stops the update when fewer
--- than two bytes of it would be free.
-abbrev pub most_held : ℕ
-most_held = 2 ^ 21 - 2
-
 abbrev pub with_held : {V W : Type 0} → State V W → List ℕ → State V W
 with_held state bytes = record state { held = bytes }
 
--- The result of a turn: a state, and the unread bytes of the call.
-pub record Turn (V W : Type 0) : Type 0 where
-  pub state : State V W
-  pub rest : List ℕ
+-- ---- parsing and stops
 
--- The shortest prefix whose last byte begins an update, or all bytes if there is none.
-abbrev pub front_to_begin : Option ℕ → List ℕ → List ℕ → List ℕ
-front_to_begin limit parsed [] = []
-front_to_begin limit parsed (byte ∷ rest) =
-    if nat_lt 0 (begin_count (added limit parsed (byte ∷ []))) then byte ∷ []
-    else byte ∷ front_to_begin limit (parsed ++ byte ∷ []) rest
-
--- The kinds of turns.
-pub data TurnKind : Type 0 where
-  OpenTurn : TurnKind
-  ExpiredTurn : TurnKind
-  HoldTurn : TurnKind
-  FullTurn : TurnKind
-
--- By whether the timeout is pending, and how many bytes are held and given.
-abbrev pub kind_of : Bool → ℕ → ℕ → TurnKind
-kind_of false zero given = OpenTurn
-kind_of false (suc held) given = ExpiredTurn
-kind_of true held given = if nat_le (held + given) most_held then HoldTurn else FullTurn
+-- The calls that more bytes add to those of a stream.
+abbrev pub added_calls : Option ℕ → List ℕ → List ℕ → List Call
+added_calls limit stream more = calls_after (events limit stream) (events limit (stream ++ more))
 
 module _ {V W : Type 0} (meaning : Meaning V W) where
   -- Bytes are parsed: the handler receives the calls that they add, and each update that they begin
@@ -104,11 +79,48 @@ module _ {V W : Type 0} (meaning : Meaning V W) where
     handler = meaning.step next.handler update_ended_call;
   }
 
+-- ---- the turns of a call of `advance`
+
+-- Where a turn leads: to a state, with unread bytes of the call, which takes turns until none are
+-- left.
+pub record Turn (V W : Type 0) : Type 0 where
+  pub state : State V W
+  pub rest : List ℕ
+
+-- The maximum number of held bytes. `vte` has a buffer of 2 MiB, and stops the update when fewer
+-- than two bytes of it would be free.
+abbrev pub most_held : ℕ
+most_held = 2 ^ 21 - 2
+
+pub data TurnKind : Type 0 where
+  -- Outside an update, bytes are parsed.
+  OpenTurn : TurnKind
+  -- An update that has expired is stopped first.
+  ExpiredTurn : TurnKind
+  -- In an update, bytes are held if there is room for all of them.
+  HoldTurn : TurnKind
+  -- If there isn't, the update is stopped, and the bytes are parsed.
+  FullTurn : TurnKind
+
+-- The kind of a turn, by whether the timeout is pending, and how many bytes are held and given.
+abbrev pub kind_of : Bool → ℕ → ℕ → TurnKind
+kind_of false zero given = OpenTurn
+kind_of false (suc held) given = ExpiredTurn
+kind_of true held given = if nat_le (held + given) most_held then HoldTurn else FullTurn
+
+-- The shortest prefix whose last byte begins an update, or all bytes if there is none.
+abbrev pub front_to_begin : Option ℕ → List ℕ → List ℕ → List ℕ
+front_to_begin limit parsed [] = []
+front_to_begin limit parsed (byte ∷ rest) =
+    if nat_lt 0 (begin_count (added limit parsed (byte ∷ []))) then byte ∷ []
+    else byte ∷ front_to_begin limit (parsed ++ byte ∷ []) rest
+
+module _ {V W : Type 0} (meaning : Meaning V W) where
   -- An open turn: bytes are parsed up to the one that begins an update.
   abbrev pub open_turn : State V W → List ℕ → Turn V W
   open_turn state bytes =
       let front = front_to_begin meaning.limit state.parsed bytes in
-      record { state = parse state front; rest = drop (length front) bytes }
+      record { state = parse meaning state front; rest = drop (length front) bytes }
 
   -- The bytes join the hold. Each begin-update that ends among them, and after the last end-update,
   -- sets the timeout.
@@ -121,10 +133,10 @@ module _ {V W : Type 0} (meaning : Meaning V W) where
   -- Bytes at the end of the hold are kept, and those before them parsed. If none are kept, the
   -- update is stopped.
   abbrev pub release : State V W → List ℕ → State V W
-  release state [] = stop state
+  release state [] = stop meaning state
   release state (byte ∷ kept) =
       let before = take (length state.held - length (byte ∷ kept)) state.held in
-      with_held (parse state before) (byte ∷ kept)
+      with_held (parse meaning state before) (byte ∷ kept)
 
   -- Without an end-update everything stays held; after the last one, what the next begin-update
   -- begins.
@@ -137,14 +149,12 @@ module _ {V W : Type 0} (meaning : Meaning V W) where
   hold_turn state bytes =
       let next = extend state bytes in release_after_end next (after_last_end next.held)
 
-  -- Outside an update, bytes are parsed. An update that has expired is stopped first. In an
-  -- update, bytes are held if there is room for all of them. If there isn't, the update is stopped,
-  -- and the bytes are parsed.
+  -- A turn of a kind.
   abbrev pub turn_of : TurnKind → State V W → List ℕ → Turn V W
   turn_of OpenTurn state bytes = open_turn state bytes
-  turn_of ExpiredTurn state bytes = open_turn (stop state) bytes
+  turn_of ExpiredTurn state bytes = open_turn (stop meaning state) bytes
   turn_of HoldTurn state bytes = record { state = hold_turn state bytes; rest = [] }
-  turn_of FullTurn state bytes = open_turn (stop state) bytes
+  turn_of FullTurn state bytes = open_turn (stop meaning state) bytes
 
   -- A turn, by the timeout's answer.
   abbrev pub turn : Bool → State V W → List ℕ → Turn V W
@@ -164,6 +174,8 @@ module _ {V W : Type 0} (meaning : Meaning V W) where
   -- A call of `advance`: turns until all bytes are read.
   abbrev pub TakesAllTurns : State V W → List ℕ → State V W → Type 0
   TakesAllTurns state bytes next = TakesTurns state bytes next []
+
+-- ---- what is true of held bytes
 
 -- The last parsed byte began an update.
 pub record EndsInBegin (limit : Option ℕ) (parsed : List ℕ) : Type 0 where
@@ -198,8 +210,10 @@ abbrev pub HoldsWellAt : {V W : Type 0} → Meaning V W → State V W → Type 0
 HoldsWellAt meaning state =
     HoldsWell meaning.limit meaning.timeout state.parsed state.held state.timeout
 
--- Calls one after another lead from a state to another. `Advance` takes turns until all bytes are
--- read; `StopSync` is one stop.
+-- ---- calls one after another
+
+-- The calls lead from a state to another. `Advance` takes turns until all bytes are read;
+-- `StopSync` is one stop.
 abbrev pub TakesSteps : {V W : Type 0} → Meaning V W → State V W → List Step → State V W → Type 0
 TakesSteps meaning state [] end = state ≡ end
 TakesSteps meaning state (Advance bytes ∷ steps) end =
@@ -213,20 +227,22 @@ given_bytes [] = []
 given_bytes (Advance bytes ∷ steps) = bytes.now ++ given_bytes steps
 given_bytes (StopSync ∷ steps) = given_bytes steps
 
+-- ---- what the handler receives of them
+
 -- The calls that the bytes from one position of a stream to another make.
 abbrev pub calls_between : Option ℕ → List ℕ → ℕ → ℕ → List Call
 calls_between limit stream from to =
     calls_after (events limit (take from stream)) (events limit (take to stream))
 
--- The calls that the bytes of a stream make from a position on, if updates are stopped at these
--- ones: after the calls of the bytes before a stop comes the one that reports the end of an update.
+-- The calls that the bytes of a stream make from a position on, with stops at the given positions:
+-- after the calls of the bytes before a stop comes the one that reports the end of an update.
 abbrev pub calls_with_stops : Option ℕ → List ℕ → ℕ → List ℕ → List Call
 calls_with_stops limit stream from [] = calls_between limit stream from (length stream)
 calls_with_stops limit stream from (position ∷ positions) =
     calls_between limit stream from position
     ++ update_ended_call ∷ calls_with_stops limit stream position positions
 
--- The positions lie between two others, and none is before the one that precedes it.
+-- The positions lie between `from` and `to`, and none is before the one that precedes it.
 abbrev pub AreInOrder : ℕ → List ℕ → ℕ → Type 0
 AreInOrder from [] to = from ≤ to
 AreInOrder from (position ∷ positions) to = (from ≤ position) × AreInOrder position positions to

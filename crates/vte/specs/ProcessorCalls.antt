@@ -1,11 +1,6 @@
--- What calls of a processor ensure: where it stands in what `Processor` defines, and how each call
--- leads on from there.
---
--- Where a processor stands is a predicate, such as `HasParsedAndHolds T.value_of processor`: it is
--- true of what was parsed, what is held, and the timeout's value. `IsAt` compares that and the
--- handler's value with a state. The records below take such predicates, because they are true of
--- both processors: `Before` is the one before a call, `After` the one after it, and `IsNowAt` says
--- `IsAt` of the latter.
+-- What calls of a processor ensure, in the words of `Processor`: where it stands, what is true
+-- after
+-- one call and after a list of calls, and then what each function promises.
 use Rattle.std.specs.Prelude.{◌≡◌, ℕ, List, ◌++◌, length, drop, [], ◌∷◌, Bool, false, ◌≤◌, None, ⊤}
 use Rattle.vte_core.specs.Parser.{HasRead}
 use Rattle.vte_core.specs.Stream.{events, usual_limit}
@@ -19,7 +14,9 @@ use Rattle.vte.specs.declared.ansi.laws.replays.Step.{Step}
 use Rattle.vte.specs.declared.ansi.laws.replays.Step.TheVariants.{Advance, StopSync}
 use Rattle.vte.specs.declared.ansi.processor.Processor.{Processor}
 
--- The held bytes; those before them were released by the last turn.
+-- ---- where a processor stands
+
+-- The held bytes. Those before them in the buffer were released by the last turn.
 abbrev pub held_of : {A : Type 0} → Hold A → List ℕ
 held_of hold = drop hold.released hold.bytes.items
 
@@ -37,55 +34,67 @@ pub record HasParsedAndHolds {T A W : Type 0} (timeout_of : T → W) (processor 
   pub timeout_is : timeout_of (timeout_in processor) ≡ timeout
   pub holds : held_in processor ≡ held
 
--- A predicate of what a processor has parsed and holds, and of its timeout's value, as
--- `HasParsedAndHolds` is.
+-- Where a processor stands: a predicate of what it has parsed and holds, and of its timeout's
+-- value, such as `HasParsedAndHolds T.value_of processor`. What follows takes such predicates,
+-- since it is true of a processor without a limit too: `Before` of the one before a call, `After`
+-- of the one after it.
 abbrev pub StandingPredicate : Type 0 → Type 1
 StandingPredicate W = (parsed held : List ℕ) → (timeout : W) → Type 0
 
--- A processor of which `Stands` is true, and the handler's value, are as the state says.
+-- Where the processor stands, and the handler's value, are as the state says.
 pub record IsAt {V W : Type 0} (Stands : StandingPredicate W) (value : V)
     (state : State V W) : Type 0 where
   pub stands : Stands state.parsed state.held state.timeout
   pub handler_is : value ≡ state.handler
 
--- A call led to a state by turns, and is there: `IsNowAt` says so of the processor and the
--- handler's value, as `IsAt` does. Each given byte is parsed or held, once and in order.
--- `HoldsWell` stays true.
+-- ---- what is true after calls
+
+-- A call of `advance`. `IsNowAt` says of a state that the processor and the handler's value are at
+-- it, as `IsAt` does.
 pub record HasAdvanced {V W : Type 0} (meaning : Meaning V W) (state : State V W) (bytes : List ℕ)
     (IsNowAt : State V W → Type 0) : Type 0 where
+  -- the state to which it led
   pub next : State V W
+  -- It led there by turns.
   pub advances : TakesAllTurns meaning state bytes next
+  -- Each given byte is parsed or held, once and in order.
   pub each_once : all_bytes next ≡ all_bytes state ++ bytes
+  -- `HoldsWell` stays true.
   pub holds_well : HoldsWellAt meaning state → HoldsWellAt meaning next
+  -- Processor and handler are at that state.
   pub is_at : IsNowAt next
 
--- Calls led to a state, and are there. The bytes held before and those given are those parsed since
--- and held now, each once and in order. The handler has received the calls of the bytes parsed
--- since, and one more at each stop on that way. `HoldsWell` stays true. If the timeout
--- is steady, the calls lead to no other state.
+-- A list of calls.
 pub record HasReplayed {V W : Type 0} (meaning : Meaning V W) (state : State V W)
     (steps : List Step)
     (IsNowAt : State V W → Type 0) : Type 0 where
+  -- the state to which they led, the bytes parsed on the way, and the positions of stops on the way
   pub next : State V W
-  pub takes : TakesSteps meaning state steps next
-  -- the bytes parsed since
   pub more : List ℕ
-  pub parsed_is : next.parsed ≡ state.parsed ++ more
-  pub each_once : state.held ++ given_bytes steps ≡ more ++ next.held
-  -- the positions of these stops
   pub positions : List ℕ
+  -- They led there step by step.
+  pub takes : TakesSteps meaning state steps next
+  pub parsed_is : next.parsed ≡ state.parsed ++ more
   pub stops_are : next.stops ≡ state.stops ++ positions
+  -- The stops were at bytes parsed on the way, each at or after the one before it.
   pub in_order : AreInOrder (length state.parsed) positions (length next.parsed)
+  -- The bytes held before and those given are those parsed on the way and those held now, each once
+  -- and in order.
+  pub each_once : state.held ++ given_bytes steps ≡ more ++ next.held
+  -- The handler has received the calls of the bytes parsed on the way, and one more at each stop.
   pub handler_is : next.handler
       ≡ after meaning.step state.handler
       (calls_with_stops meaning.limit next.parsed (length state.parsed) positions)
+  -- `HoldsWell` stays true.
   pub holds_well : HoldsWellAt meaning state → HoldsWellAt meaning next
+  -- If the timeout is steady, the calls lead to no other state.
   pub only : IsSteady meaning.timeout → HoldsWellAt meaning state → (other : State V W)
       → TakesSteps meaning state steps other
       → other ≡ next
+  -- Processor and handler are at that state.
   pub is_at : IsNowAt next
 
--- No value allows the answer "pending".
+-- No value of the timeout allows the answer "pending".
 abbrev pub IsNeverPending : {W : Type 0} → (W → Bool → Type 0) → Type 0
 IsNeverPending {W} allows = (value : W) (pending : Bool) → allows value pending → pending ≡ false
 
@@ -100,8 +109,7 @@ AreAdvances [] = ⊤
 AreAdvances (Advance bytes ∷ steps) = AreAdvances steps
 AreAdvances (StopSync ∷ steps) = ⊥
 
--- Calls that give these bytes, while nothing is held, parse all bytes. `Before` and `old` say where
--- the processor and the handler stood before, `After` and `new` where they stand now.
+-- Calls that pass these bytes, while nothing is held, parse all bytes.
 pub record ParsesAll {V W : Type 0} (meaning : Meaning V W) (Before After : StandingPredicate W)
     (old new : V) (bytes : List ℕ) : Type 0 where
   -- If the handler was as after the calls of the stream, from the value `start` on, it is as after
@@ -111,6 +119,8 @@ pub record ParsesAll {V W : Type 0} (meaning : Meaning V W) (Before After : Stan
       → new ≡ after meaning.step start (calls (events meaning.limit (stream ++ bytes)))
   pub parses_all : (stream : List ℕ) → HasParsedAll Before stream
       → HasParsedAll After (stream ++ bytes)
+
+-- ---- what each function promises
 
 -- `clone`: the copy stands where the processor does, if the copy of the timeout has its value.
 pub record IsCopyOf {T A W : Type 0} (is_clone : T → T → Type 0) (timeout_of : T → W)

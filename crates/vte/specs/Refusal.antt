@@ -1,9 +1,5 @@
--- What turns, a call and a list of calls have led to if memory is refused, which happens only to a
--- `LongProcessor`.
---
--- The call has read bytes by whole turns, and the turn after them may have been refused memory on
--- the way (`TurnIsRefused`): together these are `TakesTurnsUntilRefused`. `HasTaken` says what is
--- true then.
+-- What a turn, a call and a list of calls have done when memory is refused, which happens only to a
+-- `LongProcessor`: some whole turns and, if the refusal came inside a turn, a part of that one.
 use Rattle.std.specs.Prelude.{◌≡◌, ℕ, ◌-◌, ◌<◌, ◌++◌, Bool, List, [], ◌∷◌, length, take, drop}
 use Rattle.vte_core.specs.Stream.{added}
 use Rattle.vte.specs.BeginUpdate.{begin_count}
@@ -14,17 +10,19 @@ use Rattle.vte.specs.declared.ansi.laws.replays.Step.{Step}
 use Rattle.vte.specs.declared.ansi.laws.replays.Step.TheVariants.{Advance, StopSync}
 
 module _ {V W : Type 0} (meaning : Meaning V W) where
-  -- An open turn that was refused memory: it has parsed a front of its bytes, in which no update
-  -- begins, and left some.
+  -- An open turn was refused memory: it has parsed the first of its bytes, none of which begins an
+  -- update, and left the others.
   pub record OpenTurnIsRefused (state : State V W) (bytes : List ℕ) (next : State V W)
       (left : List ℕ) : Type 0 where
+    -- the bytes parsed
     pub front : List ℕ
     pub bytes_are : front ++ left ≡ bytes
     pub some_left : 0 < length left
     pub none_begin : begin_count (added meaning.limit state.parsed front) ≡ 0
     pub state_is : next ≡ parse meaning state front
 
-  -- A turn of this kind was refused memory: never a hold turn, which takes its memory before.
+  -- A turn of this kind was refused memory: never a hold turn, which reads nothing until it has
+  -- all the memory that it needs.
   abbrev pub KindIsRefused : TurnKind → State V W → List ℕ → State V W → List ℕ → Type 0
   KindIsRefused OpenTurn state bytes next left = OpenTurnIsRefused state bytes next left
   KindIsRefused ExpiredTurn state bytes next left = OpenTurnIsRefused
@@ -33,12 +31,12 @@ module _ {V W : Type 0} (meaning : Meaning V W) where
   KindIsRefused FullTurn state bytes next left = OpenTurnIsRefused
       (stop meaning state) bytes next left
 
-  -- A turn was refused memory, by the timeout's answer.
+  -- A turn was refused memory, after this answer of the timeout.
   abbrev pub TurnIsRefused : Bool → State V W → List ℕ → State V W → List ℕ → Type 0
   TurnIsRefused pending state bytes =
       KindIsRefused (kind_of pending (length state.held) (length bytes)) state bytes
 
-  -- Turns of a call, after which a further one may have been refused memory on the way.
+  -- The turns of a call up to a refusal, before a turn or inside one.
   pub data TakesTurnsUntilRefused (state : State V W) (bytes : List ℕ) (next : State V W)
       (left : List ℕ) : Type 0 where
     between_turns : TakesTurns meaning state bytes next left
@@ -49,34 +47,39 @@ module _ {V W : Type 0} (meaning : Meaning V W) where
         → TurnIsRefused pending reached rest next left
         → TakesTurnsUntilRefused state bytes next left
 
-  -- A call has read `read` of its bytes, by turns, of which the last may have been refused memory
-  -- on the way, and is at the state to which they led. Each byte that was read is parsed or held,
-  -- once and in order. `HoldsWell` stays true.
+  -- A call that may have been refused memory has read `read` of its bytes. `IsNowAt` is as in
+  -- `HasAdvanced`.
   pub record HasTaken (state : State V W) (bytes : List ℕ) (read : ℕ)
       (IsNowAt : State V W → Type 0) : Type 0 where
+    -- the state to which it led
     pub next : State V W
+    -- It led there by turns, of which the last may have been refused memory.
     pub takes : TakesTurnsUntilRefused state bytes next (drop read bytes)
+    -- Each byte read is parsed or held, once and in order.
     pub each_once : all_bytes next ≡ all_bytes state ++ take read bytes
+    -- `HoldsWell` stays true.
     pub holds_well : HoldsWellAt meaning state → HoldsWellAt meaning next
+    -- Processor and handler are at that state.
     pub is_at : IsNowAt next
 
-  -- A refused `Advance` has read `read` bytes, by its first turns. `StopSync` is never refused.
+  -- This step was refused memory after `read` bytes. `StopSync` never is.
   abbrev pub IsRefused : State V W → Step → ℕ → (State V W → Type 0) → Type 0
   IsRefused state (Advance bytes) read IsNowAt =
       (read < length bytes.now) × HasTaken state bytes.now read IsNowAt
   IsRefused state StopSync read IsNowAt = ⊥
 
+  -- The first of these steps was.
   abbrev pub IsFirstRefused : State V W → List Step → ℕ → (State V W → Type 0) → Type 0
   IsFirstRefused state [] read IsNowAt = ⊥
   IsFirstRefused state (step ∷ steps) read IsNowAt = IsRefused state step read IsNowAt
 
-  -- The calls before the refused one led to a state, and there it was refused.
+  -- The steps before the refused one were taken, and led to a state at which it was refused.
   abbrev pub HasReplayedUntil : State V W → List Step → RefusedStep → (State V W → Type 0) → Type 0
   HasReplayedUntil state steps refused IsNowAt =
       HasReplayed meaning state (take refused.index steps)
       (λ next. IsFirstRefused next (drop refused.index steps) refused.read IsNowAt)
 
--- How many bytes of the refused call are left.
+-- How many bytes of a refused step are left.
 abbrev pub left_of : Step → ℕ → ℕ
 left_of (Advance bytes) read = length bytes.now - read
 left_of StopSync read = 0
@@ -85,5 +88,6 @@ abbrev pub left_of_first : List Step → ℕ → ℕ
 left_of_first [] read = 0
 left_of_first (step ∷ steps) read = left_of step read
 
+-- The same of the refused one of these steps.
 abbrev pub left_by : List Step → RefusedStep → ℕ
 left_by steps refused = left_of_first (drop refused.index steps) refused.read

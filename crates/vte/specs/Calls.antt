@@ -31,14 +31,14 @@ abbrev pub last_printed_from : Option ℕ → List Event → Option ℕ
 last_printed_from last [] = last
 last_printed_from last (event ∷ events) = last_printed_from (last_printed_after last event) events
 
+-- The character of the last `Print` among the events.
+abbrev pub last_printed : List Event → Option ℕ
+last_printed events = last_printed_from None events
+
 abbrev pub calls_from : Option ℕ → List Event → List Call
 calls_from last [] = []
 calls_from last (event ∷ events) =
     calls_of last event ++ calls_from (last_printed_after last event) events
-
--- The character of the last `Print` among the events.
-abbrev pub last_printed : List Event → Option ℕ
-last_printed events = last_printed_from None events
 
 -- The calls of a list of events.
 abbrev pub calls : List Event → List Call

@@ -122,7 +122,7 @@ module _ {V W : Type 0} (meaning : Meaning V W) where
       let front = front_to_begin meaning.limit state.parsed bytes in
       record { state = parse meaning state front; rest = drop (length front) bytes }
 
-  -- The bytes join the hold. Each begin-update that ends among them, and after the last end-update,
+  -- The bytes join the hold. Each begin-update that ends among them and follows the last end-update
   -- sets the timeout.
   abbrev pub extend : State V W → List ℕ → State V W
   extend state bytes =
@@ -138,8 +138,8 @@ module _ {V W : Type 0} (meaning : Meaning V W) where
       let before = take (length state.held - length (byte ∷ kept)) state.held in
       with_held (parse meaning state before) (byte ∷ kept)
 
-  -- Without an end-update everything stays held; after the last one, what the next begin-update
-  -- begins.
+  -- Without an end-update everything stays held. With one, that which follows the last one stays
+  -- held, from its first begin-update on.
   abbrev pub release_after_end : State V W → Option (List ℕ) → State V W
   release_after_end state None = state
   release_after_end state (Some rest) = release state (from_begin_update rest)

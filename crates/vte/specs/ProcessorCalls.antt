@@ -1,6 +1,5 @@
 -- What calls of a processor ensure, in the words of `Processor`: where it stands, what is true
--- after
--- one call and after a list of calls, and then what each function promises.
+-- after one call and after a list of calls, and then what each function promises.
 use Rattle.std.specs.Prelude.{◌≡◌, ℕ, List, ◌++◌, length, drop, [], ◌∷◌, Bool, false, ◌≤◌, None, ⊤}
 use Rattle.vte_core.specs.Parser.{HasRead}
 use Rattle.vte_core.specs.Stream.{events, usual_limit}
@@ -109,7 +108,8 @@ AreAdvances [] = ⊤
 AreAdvances (Advance bytes ∷ steps) = AreAdvances steps
 AreAdvances (StopSync ∷ steps) = ⊥
 
--- Calls that pass these bytes, while nothing is held, parse all bytes.
+-- Calls that pass these bytes, while nothing is held, parse all bytes. `old` and `new` are the
+-- handler's values before and after them.
 pub record ParsesAll {V W : Type 0} (meaning : Meaning V W) (Before After : StandingPredicate W)
     (old new : V) (bytes : List ℕ) : Type 0 where
   -- If the handler was as after the calls of the stream, from the value `start` on, it is as after

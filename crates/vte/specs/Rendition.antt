@@ -1,6 +1,6 @@
 -- Select graphic rendition: the attributes of groups (ECMA-48, section 8.3.117; xterm).
 use Rattle.std.specs.Prelude.{ℕ, List, [], ◌∷◌, ◌++◌, map, if◌then◌else◌, ◌==◌, Option, Some, None, suc, zero, option_map, option_to_list, unwrap_or}
-use Rattle.vte.specs.ColorReading.{ReadColor, color_reading, without_color_space}
+use Rattle.vte.specs.ColorReading.{color_reading, without_color_space}
 use Rattle.vte.specs.Numbers.{first_numbers}
 use Rattle.vte_types.specs.Rows.{Row, entry_of}
 use Rattle.vte_handler.specs.Call.{Call, TerminalAttribute}
@@ -96,21 +96,17 @@ pub record Rendition : Type 0 where
   pub attribute : Option Attr
   pub used : ℕ
 
--- A colour in the groups that follow a single 38, 48 or 58.
-abbrev pub color_rendition : (Color → Attr) → ReadColor → Rendition
-color_rendition with_color reading =
-    record { attribute = option_map with_color reading.color; used = reading.used }
-
 abbrev pub without_further_groups : Option Attr → Rendition
 without_further_groups attribute = record { attribute = attribute; used = 0 }
 
--- A group of one number.
+-- A group of one number. After 38, 48 or 58 the groups that follow have a colour.
 abbrev pub single_rendition : ℕ → Option (Color → Attr) → List (List ℕ) → Rendition
 single_rendition number (Some with_color) groups =
-    color_rendition with_color (color_reading (first_numbers groups))
+    let reading = color_reading (first_numbers groups) in
+    record { attribute = option_map with_color reading.color; used = reading.used }
 single_rendition number None groups = without_further_groups (entry_of attribute_rows number)
 
--- Any other kind is a plain underline.
+-- A plain underline if the kind has no row, or if several numbers follow the 4.
 abbrev pub underline_of : List ℕ → Attr
 underline_of (kind ∷ []) = unwrap_or (entry_of underline_rows kind) attr.Underline
 underline_of _ = attr.Underline
@@ -121,8 +117,7 @@ joined_rendition number numbers (Some with_color) =
     without_further_groups
     (option_map with_color (color_reading (without_color_space numbers)).color)
 joined_rendition number numbers None =
-    if number == 4 then without_further_groups
-    (Some (underline_of numbers)) else without_further_groups None
+    without_further_groups (if number == 4 then Some (underline_of numbers) else None)
 
 abbrev pub rendition : List ℕ → List (List ℕ) → Rendition
 rendition [] groups = without_further_groups None
@@ -138,8 +133,5 @@ attributes_from zero (group ∷ groups) =
     let here = rendition group groups in
     option_to_list here.attribute ++ attributes_from here.used groups
 
-abbrev pub attributes : List (List ℕ) → List Attr
-attributes groups = attributes_from 0 groups
-
 abbrev pub attribute_calls : List (List ℕ) → List Call
-attribute_calls groups = map (λ attribute. TerminalAttribute attribute) (attributes groups)
+attribute_calls groups = map (λ attribute. TerminalAttribute attribute) (attributes_from 0 groups)

@@ -1,6 +1,6 @@
--- The sequences that begin and end a synchronized update. In a hold, only exactly these eight bytes
--- are recognised. Where bytes are parsed, `BeginUpdate` says which events begin an update, those of
--- `ESC [?1;2026h` too.
+-- The sequences that begin and end a synchronized update, *begin-update* and *end-update*. In a
+-- hold, only exactly these eight bytes are recognised. When bytes are parsed, `BeginUpdate` says
+-- which events begin an update, those of `ESC [?1;2026h` too.
 use Rattle.vte_handler.specs.Call.{Call, UnsetPrivateMode}
 use Rattle.vte_types.specs.declared.mode.NamedPrivateMode.TheVariants.{SyncUpdate}
 use Rattle.vte_types.specs.declared.mode.PrivateMode.TheVariants.{Named}

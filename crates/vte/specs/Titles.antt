@@ -4,8 +4,8 @@ use Rattle.std.specs.List.{filter_map, join_with_byte}
 use Rattle.std.specs.Str.{is_utf8, trim}
 use Rattle.vte_handler.specs.Call.{Call, SetTitle}
 
--- The text of a piece. One that isn't UTF-8 counts as empty if all are kept, and is left out
--- otherwise.
+-- The text of a piece. One that isn't UTF-8 counts as empty if all are kept, as in a link, and is
+-- left out otherwise, as in a title.
 abbrev pub text_in : Bool → List ℕ → Option (List ℕ)
 text_in keeps_all piece = if is_utf8 piece then Some piece else if keeps_all then Some [] else None
 

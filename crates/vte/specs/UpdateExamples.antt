@@ -26,7 +26,7 @@ recording_meaning = record {
 abbrev pub RecordingState : Type 0
 RecordingState = State (List Call) Bool
 
--- A new processor and a handler that has received nothing.
+-- That of a new processor, and of a handler that has received nothing.
 abbrev pub start : RecordingState
 start = record { parsed = []; stops = []; held = []; timeout = false; handler = [] }
 
@@ -85,7 +85,8 @@ update_examples =
       received = update_begun_call ∷ TerminalAttribute Bold ∷ update_ended_call ∷ [];
       held = begin_update ++ underline;
     }
-    -- the same, and the end of that update
+    -- the same, and the end of that update: one call is that of the parsed end, one that of the
+    -- stop
     ∷ record {
       steps = advance (begin_update ++ bold) ∷ advance (end_update ++ begin_update ++ underline)
           ∷ advance end_update ∷ [];
@@ -147,7 +148,7 @@ expired_example =
     (turn recording_meaning false held (codes "y")).state.handler
     ≡ update_begun_call ∷ Input 0x78 ∷ update_ended_call ∷ Input 0x79 ∷ []
 
--- What the definitions of `Synchronized` and `Processor` give for short texts.
+-- What definitions of `Synchronized` and `Processor` give for a few bytes.
 pub record ShortExamples : Type 0 where
   pub after_end : after_last_end (codes "a\u{1b}[?2026lb") ≡ Some (codes "b")
   pub after_second_end : after_last_end (end_update ++ codes "a" ++ end_update) ≡ Some []
@@ -156,13 +157,13 @@ pub record ShortExamples : Type 0 where
   pub without_begin : from_begin_update (codes "\u{1b}[?2026l") ≡ []
   pub ends_in_last_two : begins_ending_in_last 2 (codes "\u{1b}[?2026hb") ≡ 1
   pub ends_before_last : begins_ending_in_last 1 (codes "\u{1b}[?2026hb") ≡ 0
-  -- the begin may have begun in bytes that were parsed before
+  -- after bytes that were parsed, up to the one that begins an update
   pub front : front_to_begin usual_limit (codes "\u{1b}[?25;20") (codes "26hb") ≡ codes "26h"
   pub front_without_begin : front_to_begin usual_limit [] (codes "ab") ≡ codes "ab"
   -- the hold takes its last byte, and none after it
   pub fits : kind_of true (most_held - 1) 1 ≡ HoldTurn
   pub full : kind_of true most_held 1 ≡ FullTurn
-  -- a stop after the first `x`, and two stops inside a character of two bytes
+  -- a stop between `x` and `y`, and two stops inside a character of two bytes
   pub with_stop : calls_with_stops usual_limit (begin_update ++ codes "xy") 0 (9 ∷ [])
       ≡ update_begun_call ∷ Input 0x78 ∷ update_ended_call ∷ Input 0x79 ∷ []
   pub with_two_stops : calls_with_stops usual_limit (0xc3 ∷ 0xa9 ∷ []) 0 (1 ∷ 1 ∷ [])

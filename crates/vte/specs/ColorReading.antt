@@ -46,8 +46,8 @@ kind_reading kind numbers = reading_of (entry_of component_counts kind) numbers
 abbrev pub color_reading : List ℕ → ReadColor
 color_reading [] = record { color = None; used = 0 }
 color_reading (kind ∷ numbers) =
-    let reading =
-    kind_reading kind numbers in record { color = reading.color; used = suc reading.used }
+    let reading = kind_reading kind numbers in
+    record { color = reading.color; used = suc reading.used }
 
 -- The numbers after 38, 48 or 58 in one group. If there are more than four, the second, a colour
 -- space, is skipped.

@@ -138,8 +138,8 @@ module _ {V W : Type 0} (meaning : Meaning V W) where
       let before = take (length state.held - length (byte ∷ kept)) state.held in
       with_held (parse meaning state before) (byte ∷ kept)
 
-  -- Without an end-update everything stays held. With one, that which follows the last one stays
-  -- held, from its first begin-update on.
+  -- Without an end-update everything stays held; with one, only what follows the last, from its
+  -- first begin-update on.
   abbrev pub release_after_end : State V W → Option (List ℕ) → State V W
   release_after_end state None = state
   release_after_end state (Some rest) = release state (from_begin_update rest)

@@ -1,13 +1,13 @@
 -- What a turn, a call and a list of calls have done when memory is refused, which happens only to a
 -- `LongProcessor`: some whole turns and, if the refusal came inside a turn, a part of that one.
-use Rattle.std.specs.Prelude.{◌≡◌, ℕ, ◌-◌, ◌<◌, ◌++◌, Bool, List, [], ◌∷◌, length, take, drop}
+use Rattle.std.specs.Prelude.{◌≡◌, ℕ, ◌-◌, ◌<◌, ◌++◌, Bool, List, ◌∷◌, length, take, drop}
 use Rattle.vte_core.specs.Stream.{added}
 use Rattle.vte.specs.BeginUpdate.{begin_count}
-use Rattle.vte.specs.Processor.{HoldsWellAt, Meaning, State, TakesTurns, TurnKind, OpenTurn, ExpiredTurn, HoldTurn, FullTurn, all_bytes, kind_of, parse, stop}
+use Rattle.vte.specs.Processor.{HoldsWellAt, Meaning, State, TakesTurns, TurnKind, OpenTurn, ExpiredTurn, HoldTurn, FullTurn, all_bytes, given_bytes, kind_of, parse, stop}
 use Rattle.vte.specs.ProcessorCalls.{HasReplayed}
 use Rattle.vte.specs.declared.ansi.laws.replays.RefusedStep.{RefusedStep}
 use Rattle.vte.specs.declared.ansi.laws.replays.Step.{Step}
-use Rattle.vte.specs.declared.ansi.laws.replays.Step.TheVariants.{Advance, StopSync}
+use Rattle.vte.specs.declared.ansi.laws.replays.Step.TheVariants.{Advance}
 
 module _ {V W : Type 0} (meaning : Meaning V W) where
   -- An open turn was refused memory: it has parsed the first of its bytes, none of which begins an
@@ -25,11 +25,11 @@ module _ {V W : Type 0} (meaning : Meaning V W) where
   -- all the memory that it needs.
   abbrev pub KindIsRefused : TurnKind → State V W → List ℕ → State V W → List ℕ → Type 0
   KindIsRefused OpenTurn state bytes next left = OpenTurnIsRefused state bytes next left
-  KindIsRefused ExpiredTurn state bytes next left = OpenTurnIsRefused
-      (stop meaning state) bytes next left
+  KindIsRefused ExpiredTurn state bytes next left =
+      OpenTurnIsRefused (stop meaning state) bytes next left
   KindIsRefused HoldTurn state bytes next left = ⊥
-  KindIsRefused FullTurn state bytes next left = OpenTurnIsRefused
-      (stop meaning state) bytes next left
+  KindIsRefused FullTurn state bytes next left =
+      OpenTurnIsRefused (stop meaning state) bytes next left
 
   -- A turn was refused memory, after this answer of the timeout.
   abbrev pub TurnIsRefused : Bool → State V W → List ℕ → State V W → List ℕ → Type 0
@@ -62,16 +62,11 @@ module _ {V W : Type 0} (meaning : Meaning V W) where
     -- Processor and handler are at that state.
     pub is_at : IsNowAt next
 
-  -- This step was refused memory after `read` bytes. `StopSync` never is.
-  abbrev pub IsRefused : State V W → Step → ℕ → (State V W → Type 0) → Type 0
-  IsRefused state (Advance bytes) read IsNowAt =
-      (read < length bytes.now) × HasTaken state bytes.now read IsNowAt
-  IsRefused state StopSync read IsNowAt = ⊥
-
-  -- The first of these steps was.
+  -- The first of these steps, an `Advance`, was refused memory after `read` of its bytes.
   abbrev pub IsFirstRefused : State V W → List Step → ℕ → (State V W → Type 0) → Type 0
-  IsFirstRefused state [] read IsNowAt = ⊥
-  IsFirstRefused state (step ∷ steps) read IsNowAt = IsRefused state step read IsNowAt
+  IsFirstRefused state (Advance bytes ∷ steps) read IsNowAt =
+      (read < length bytes.now) × HasTaken state bytes.now read IsNowAt
+  IsFirstRefused state _ read IsNowAt = ⊥
 
   -- The steps before the refused one were taken, and led to a state at which it was refused.
   abbrev pub HasReplayedUntil : State V W → List Step → RefusedStep → (State V W → Type 0) → Type 0
@@ -79,15 +74,6 @@ module _ {V W : Type 0} (meaning : Meaning V W) where
       HasReplayed meaning state (take refused.index steps)
       (λ next. IsFirstRefused next (drop refused.index steps) refused.read IsNowAt)
 
--- How many bytes of a refused step are left.
-abbrev pub left_of : Step → ℕ → ℕ
-left_of (Advance bytes) read = length bytes.now - read
-left_of StopSync read = 0
-
-abbrev pub left_of_first : List Step → ℕ → ℕ
-left_of_first [] read = 0
-left_of_first (step ∷ steps) read = left_of step read
-
--- The same of the refused one of these steps.
+-- How many bytes of the refused one of these steps are left.
 abbrev pub left_by : List Step → RefusedStep → ℕ
-left_by steps refused = left_of_first (drop refused.index steps) refused.read
+left_by steps refused = length (given_bytes (take 1 (drop refused.index steps))) - refused.read

@@ -97,10 +97,9 @@ update_examples =
     }
     -- both sequences are cut across calls
     ∷ record {
-      steps = advance (codes "\u{1b}[?20") ∷ advance (codes "26h")
-          ∷ advance (codes "random \u{1b}[31m stuff")
-          ∷ advance (codes "\u{1b}[?20") ∷ advance (codes "26h")
-          ∷ advance (codes "\u{1b}[?20") ∷ advance (codes "26l") ∷ [];
+      steps = map advance
+          (codes "\u{1b}[?20" ∷ codes "26h" ∷ codes "random \u{1b}[31m stuff"
+          ∷ codes "\u{1b}[?20" ∷ codes "26h" ∷ codes "\u{1b}[?20" ∷ codes "26l" ∷ []);
       received = update_begun_call ∷ inputs (codes "random ")
           ++ TerminalAttribute (Foreground (color.Named Red)) ∷ inputs (codes " stuff")
           ++ update_begun_call ∷ update_ended_call ∷ update_ended_call ∷ [];

@@ -1,8 +1,8 @@
 -- From calls to a list of them: a loop over calls makes `TakesSteps`, call by call. A steady timeout allows one answer
 -- in each state, so where the list leads is then a function of its calls.
 use Rattle.vte.proofs.Common.{ℕ, ◌+◌, ◌<◌, List, [], ◌∷◌, ◌++◌, length, take, drop, get_or, refl, ap, append-nil, Bor, drop_more, take_more, Step, Advance, StopSync, Meaning, HasAdvanced}
-use Rattle.vte.proofs.Common.{HoldsWellAt, TakesSteps, HasReplayed, State, stop, ◌≡◌, ◌-◌, HasTaken, inl, inr, Bool, sym, ◌∙◌, IsSteady, TakesAllTurns, done, turns}
-use Rattle.vte.specs.Refusal.{IsFirstRefused, left_of_first}
+use Rattle.vte.proofs.Common.{given_bytes, HoldsWellAt, TakesSteps, HasReplayed, State, stop, ◌≡◌, ◌-◌, HasTaken, inl, inr, Bool, sym, ◌∙◌, IsSteady, TakesAllTurns, done, turns}
+use Rattle.vte.specs.Refusal.{IsFirstRefused}
 use Rattle.vte.proofs.turns.EachOnce.{replay_grows}
 use Rattle.vte.proofs.replays.Tellings.{tells-replay}
 use Rattle.vte.proofs.turns.HoldFacts.{stop_well, taken_well, turn_well}
@@ -10,8 +10,9 @@ use Rattle.vte.proofs.turns.HoldFacts.{stop_well, taken_well, turn_well}
 -- the refused step is the first of those that are left
 pub first_lacks : {i : ℕ} {bytes : Bor (List ℕ)} (lacks : ℕ → Type 0) (steps : List Step) (d : Step) (read : ℕ)
     → i < length steps → get_or steps i d ≡ Advance bytes
-    → lacks (length bytes.now - read) → lacks (left_of_first (drop i steps) read)
-first_lacks {i} lacks steps d read inside is lacking = rw (drop_more steps i d inside, is) lacking
+    → lacks (length bytes.now - read) → lacks (length (given_bytes (take 1 (drop i steps))) - read)
+first_lacks {i} {bytes} lacks steps d read inside is lacking =
+    rw (drop_more steps i d inside, is, append-nil bytes.now) lacking
 
 -- ---- for a timeout that is steady, a list of calls leads to one state
 

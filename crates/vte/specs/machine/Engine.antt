@@ -1,4 +1,4 @@
--- What is true of a processor between the parts of a turn.
+-- What is true of a processor's engine after a call, and between the parts of a turn.
 use Rattle.std.specs.Prelude.{◌≡◌, ◌⊎◌, ℕ, ◌+◌, ◌-◌, ◌<◌, ◌≤◌, Bool, true, false, List, length, nat_lt, take, drop, Result, IfErr, IfOk}
 use Rattle.vte_core.specs.declared.parser.refused.Refused.{Refused}
 use Rattle.vte_core.specs.Stream.{added, events}
@@ -14,14 +14,17 @@ use Rattle.vte.specs.declared.ansi.performer.PerformerState.{PerformerState}
 use Rattle.vte.specs.declared.ansi.engine.TheConstants.{SLICE}
 use Rattle.vte.specs.declared.ansi.engine.Engine.{Engine}
 
+-- ---- what calls of a processor ensure, said of its engine, whatever the limit
+
 -- After a stream, the engine has memory for `count` more bytes.
 abbrev pub EngineHasMemory : {P B T A W : Type 0} → EngineMeaning P B T W → Engine P B T A
     → (stream : List ℕ) → (count : ℕ) → Type 0
 EngineHasMemory parts engine =
     parts.reading.has_memory engine.parser (parts.room_of engine.state.text)
 
--- What calls of a processor ensure, said of its engine, whatever the limit: where it stands (as in
--- `HasParsedAndHoldsLong`), and what `LongProcessor` says of each call.
+-- Where it stands, as `HasParsedAndHoldsLong` says of a processor. Then what `LongProcessor` says
+-- of
+-- each call.
 pub record EngineStandsAt {P B T A W : Type 0} (parts : EngineMeaning P B T W)
     (engine : Engine P B T A)
     (parsed held : List ℕ) (timeout : W) : Type 0 where
@@ -66,6 +69,8 @@ pub record EngineReads {P B T A V W : Type 0} (parts : EngineMeaning P B T W)
   pub memory : (state : State V W) → IsAt (EngineStandsAt parts engine) old state
       → KeepsMemory (EngineHasMemory parts engine) (EngineHasMemory parts next)
 
+-- ---- what is true between the parts of a turn
+
 -- The parser, the state lent to it and the handler's value are as the state says, whatever is held.
 pub record ArePartsAt {P B T V W : Type 0} (parts : EngineMeaning P B T W) (parser : P)
     (lent : PerformerState T B) (value : V) (state : State V W) : Type 0 where
@@ -107,6 +112,8 @@ abbrev pub LeadOn : {P B T A V W : Type 0} → EngineMeaning P B T W → Engine 
 LeadOn parts engine next old new ends =
     (state : State _ _) → EngineIsAt parts engine old state
     → ends state (EngineIsAtKeeping parts engine next new)
+
+-- ---- how a turn ends
 
 module _ {V W : Type 0} (meaning : Meaning V W) (state : State V W) (bytes : List ℕ) where
   -- The first `read` bytes were parsed: those up to the one that begins an update, or all if none

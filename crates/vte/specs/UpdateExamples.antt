@@ -85,8 +85,7 @@ update_examples =
       received = update_begun_call ∷ TerminalAttribute Bold ∷ update_ended_call ∷ [];
       held = begin_update ++ underline;
     }
-    -- the same, and the end of that update: one call is that of the parsed end, one that of the
-    -- stop
+    -- the same, and the end of that update, which makes a call, as the stop does
     ∷ record {
       steps = advance (begin_update ++ bold) ∷ advance (end_update ++ begin_update ++ underline)
           ∷ advance end_update ∷ [];

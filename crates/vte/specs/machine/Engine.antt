@@ -22,9 +22,8 @@ abbrev pub EngineHasMemory : {P B T A W : Type 0} → EngineMeaning P B T W → 
 EngineHasMemory parts engine =
     parts.reading.has_memory engine.parser (parts.room_of engine.state.text)
 
--- Where it stands, as `HasParsedAndHoldsLong` says of a processor. Then what `LongProcessor` says
--- of
--- each call.
+-- Where it stands, as `HasParsedAndHoldsLong` says of a processor; then what `LongProcessor` says
+-- of each call.
 pub record EngineStandsAt {P B T A W : Type 0} (parts : EngineMeaning P B T W)
     (engine : Engine P B T A)
     (parsed held : List ℕ) (timeout : W) : Type 0 where

@@ -148,6 +148,7 @@ pub record ReadsInTurns {V W : Type 0} (meaning : Meaning V W) (Before After : S
     (old new : V) (bytes : List ℕ) : Type 0 where
   pub advances : (state : State V W) → IsAt Before old state
       → HasAdvanced meaning state bytes (IsAt After new)
+  -- With a timeout that is never pending, nothing is held.
   pub plain : IsNeverPending meaning.timeout.allows → ParsesAll meaning Before After old new bytes
 
 -- `replay`
@@ -155,6 +156,6 @@ pub record Replays {V W : Type 0} (meaning : Meaning V W) (Before After : Standi
     (old new : V) (steps : List Step) : Type 0 where
   pub told : (state : State V W) → IsAt Before old state
       → HasReplayed meaning state steps (IsAt After new)
-  -- calls of `advance` alone, with all their bytes
+  -- The same of calls of `advance` alone.
   pub plain : IsNeverPending meaning.timeout.allows → AreAdvances steps
       → ParsesAll meaning Before After old new (given_bytes steps)

@@ -115,9 +115,9 @@ fn step(state: u64, byte: u8) -> u64 {
     TABLE[byte as usize] >> (state % 64)
 }
 
-/// Skips blocks of a run, and returns where the last character ended. If it `layout` them, the
-/// run may hold HT, LF and CR. A block with a byte that fits nowhere, or with a control that
-/// isn't kept, is read in vain.
+/// Skips blocks of a run, and returns where the last character ended. With `layout`, the run
+/// may hold HT, LF and CR. A block with a byte that fits nowhere, or with another control, is
+/// read in vain.
 #[inline(never)]
 pub(crate) fn skip_run_blocks(input: &[u8], from: usize, layout: bool) -> usize {
     let mut at = 0;

@@ -3,7 +3,7 @@
 
 pub(crate) const ESCAPE: u8 = 0x1b;
 
-/// Returns whether a byte is one of C0 that is executed: 00..17, 19 and 1C..1F.
+/// Returns whether a byte is a plain control: C0 except CAN, SUB and ESC.
 pub(crate) fn is_plain_control(byte: u8) -> bool {
     byte < 0x20 && byte != 0x18 && byte != 0x1a && byte != ESCAPE
 }
@@ -24,7 +24,8 @@ pub(crate) fn cannot_end(byte: u8) -> bool {
     byte < 0x18 || byte > ESCAPE
 }
 
-/// Returns whether a byte is one of the data of a device control string: C0 and 20..7E.
+/// Returns whether a byte is one of the data of a device control string: plain controls and
+/// 20..7E.
 pub(crate) fn is_device_data(byte: u8) -> bool {
     (byte >= 0x20 && byte < 0x7f) || is_plain_control(byte)
 }

@@ -92,7 +92,7 @@ impl Collected {
         false
     }
 
-    /// Collects an intermediate or a marker, or finds the head malformed. Returns how far the head
+    /// Collects an intermediate or a marker, or finds the head ill-shaped. Returns how far the head
     /// has been read then.
     #[inline(always)]
     fn collect_head_byte(&mut self, progress: HeadProgress, byte: u8) -> HeadProgress {

@@ -78,8 +78,8 @@ pub(crate) fn find_run_end_for<P: PerformAs<G>, G: Grain>(
     find_run_end(input, from, performer.keeps_layout())
 }
 
-/// Finds where the run ends that has come to a position. If it `layout` them, HT, LF and CR
-/// don't end it.
+/// Finds where the run ends that has come to a position. With `layout`, HT, LF and CR don't
+/// end it.
 #[inline(always)]
 pub(crate) fn find_run_end(input: &[u8], from: usize, layout: bool) -> usize {
     let to = input.len().min(from + SHORT_RUN);

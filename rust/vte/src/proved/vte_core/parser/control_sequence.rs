@@ -64,7 +64,7 @@ impl<B: Buffer> Machine<B> {
         head.position
     }
 
-    /// Ends a control sequence at its final byte: dispatches it, unless its head is malformed.
+    /// Ends a control sequence at its final byte: dispatches it, unless its head is ill-shaped.
     /// Returns the next position.
     #[inline(always)]
     fn end_control_sequence<P: PerformAs<G>, G: Grain>(

@@ -31,13 +31,13 @@ impl<B: Buffer> Machine<B> {
             } else if ends_body(byte) {
                 self.end_body(performer, byte);
             }
-            // C0, DEL and 80..FF are dropped.
+            // Plain controls, DEL and 80..FF are dropped.
             return head.position + 1;
         }
         head.position
     }
 
-    /// Hooks the string at the final byte of its head, or ignores it if the head is malformed.
+    /// Hooks the string at the final byte of its head, or ignores it if the head is ill-shaped.
     fn hook<P: PerformAs<G>, G: Grain>(
         &mut self,
         performer: &mut P,

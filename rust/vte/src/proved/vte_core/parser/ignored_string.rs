@@ -1,5 +1,5 @@
 // Written by tools/erase from crates/vte_core/src/parser/ignored_string.rt: edit that one.
-//! Ignored strings: SOS, PM, APC, and device control strings with a malformed head.
+//! Ignored strings: SOS, PM, APC, and device control strings with an ill-shaped head.
 
 use crate::proved::vte_core::buffer::Buffer;
 use crate::proved::vte_core::parser::machine::Machine;

@@ -31,8 +31,7 @@ body_rest limit (key ∷ bytes) =
     else sequence_outcome limit (sequence_kind key) key bytes
 
 -- The key is the first byte among 20..7E, CAN and SUB. Before it, plain controls are executed and
--- everything
--- else is dropped.
+-- everything else is dropped.
 unfoldable pub body_outcome : Option ℕ → List ℕ → Outcome
 body_outcome limit bytes =
     let cut = cut_before (λ b. is_key (class_of b)) bytes in

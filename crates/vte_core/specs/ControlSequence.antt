@@ -21,8 +21,7 @@ control_sequence_rest head [] = leaves NothingToClose
 control_sequence_rest head (end ∷ text) = tell (control_sequence_end head end) (text_outcome text)
 
 -- The end is the first of 40..7E, CAN and SUB. Before it, plain controls are executed, 20..3F are
--- the head, and
--- the rest is dropped.
+-- the head, and the rest is dropped.
 unfoldable pub control_sequence_outcome : List ℕ → Outcome
 control_sequence_outcome bytes =
     let cut = cut_before (λ b. ends_head (class_of b)) bytes in

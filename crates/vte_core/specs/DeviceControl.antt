@@ -27,8 +27,7 @@ device_data_rest [] = leaves DeviceDataToClose
 device_data_rest (end ∷ text) = tell (device_data_end end) (text_outcome text)
 
 -- The data of a hooked string end at the first 9C, CAN or SUB. Plain controls and 20..7E are put,
--- and the rest
--- is dropped.
+-- and the rest is dropped.
 unfoldable pub device_data_outcome : List ℕ → Outcome
 device_data_outcome bytes =
     let cut = cut_before ends_device_data bytes in

@@ -21,8 +21,7 @@ escape_rest intermediates (end ∷ text) =
     tell (escape_end intermediates end ∷ []) (text_outcome text)
 
 -- The end is the first of 30..7E, CAN and SUB. Before it, plain controls are executed and 20..2F
--- are the
--- intermediates.
+-- are the intermediates.
 unfoldable pub escape_outcome : List ℕ → Outcome
 escape_outcome bytes =
     let cut = cut_before (λ b. ends_escape (class_of b)) bytes in

@@ -2,6 +2,7 @@
 -- definitions, not with code.
 use Rattle.std.specs.Prelude.{replicate, ◌≡◌, ℕ, true, false, List, [], ◌∷◌, ◌++◌, map, Option, codes}
 use Rattle.std.specs.List.{repeat}
+use Rattle.vte_core.specs.EarlyStop.{resumed_stream, told_before}
 use Rattle.vte_core.specs.Event.{Event, Print, Execute, Hook, Put, Unhook, OscDispatch, CsiDispatch, EscDispatch}
 use Rattle.vte_core.specs.Outcome.{ToClose, CommandToClose}
 use Rattle.vte_core.specs.Stream.{events, outcome}
@@ -129,10 +130,10 @@ system_command_examples =
     (OscDispatch (repeat 16 (codes "a" ∷ [])) true ∷ [])
     ∷ []
 
--- With a buffer of 1,024 bytes: commands around its size.
 abbrev pub letters : ℕ → List ℕ
 letters n = replicate n 0x61
 
+-- With a buffer of 1,024 bytes: commands around its size.
 abbrev pub full_store_examples : List Example
 full_store_examples =
     gives (codes "\u{1b}]" ++ letters 1024 ++ codes "\u{7}")
@@ -167,8 +168,6 @@ store_of_two_examples =
     ∷ gives (codes "\u{1b}]a;bc;d\u{7}") (OscDispatch (codes "a" ∷ codes "b" ∷ []) true ∷ [])
     ∷ []
 
--- With a buffer of 2 bytes: open commands, and whether they lost data. A `;` that is dropped isn't
--- data.
 pub record OpenExample : Type 0 where
   pub stream : List ℕ
   pub left : ToClose
@@ -188,6 +187,8 @@ AreLeft limit examples =
     map (λ example. (outcome limit example.stream).left) examples
     ≡ map (λ example. example.left) examples
 
+-- With a buffer of 2 bytes: open commands, and whether they lost data. A `;` that is dropped isn't
+-- data.
 abbrev pub open_command_examples : List OpenExample
 open_command_examples =
     keeps [] ([] ∷ [])
@@ -212,4 +213,57 @@ abbrev pub ignored_string_examples : List Example
 ignored_string_examples =
     -- neither BEL nor 9C ends the string
     gives (codes "\u{1b}Xa\u{7}" ++ 0x9c ∷ codes "\u{1a}b") (Execute 0x1a ∷ Print 0x62 ∷ [])
+    -- ESC ends one, and begins the next
+    ∷ gives (codes "\u{1b}^a\u{1b}_b\u{18}c") (Execute 0x18 ∷ Print 0x63 ∷ [])
+    ∷ []
+
+-- A position of a call: the stream that was read before it, its bytes, what is told before the
+-- position, and the stream from which the parser continues after a stop there.
+pub record StopExample : Type 0 where
+  pub stream : List ℕ
+  pub bytes : List ℕ
+  pub position : ℕ
+  pub told : List Event
+  pub resumed : List ℕ
+
+abbrev pub AreStops : Option ℕ → List StopExample → Type 0
+AreStops limit examples =
+    (map (λ at. told_before limit at.stream at.bytes at.position) examples
+    ≡ map (λ at. at.told) examples)
+    × (map (λ at. resumed_stream at.stream at.bytes at.position) examples
+    ≡ map (λ at. at.resumed) examples)
+
+abbrev pub stop_examples : List StopExample
+stop_examples =
+    -- `a` breaks the open character, for which U+FFFD is told before it
+    record {
+      stream = [];
+      bytes = 0xe4 ∷ 0xbf ∷ codes "a";
+      position = 2;
+      told = Print 0xfffd ∷ [];
+      resumed = [];
+    }
+    -- an earlier call began the character: it is completed, or broken at once
+    ∷ record {
+      stream = 0xe4 ∷ [];
+      bytes = 0xbf ∷ 0x99 ∷ codes "a";
+      position = 2;
+      told = Print 0x4fd9 ∷ [];
+      resumed = 0xe4 ∷ 0xbf ∷ 0x99 ∷ [];
+    }
+    ∷ record {
+      stream = 0xe4 ∷ [];
+      bytes = codes "a";
+      position = 0;
+      told = Print 0xfffd ∷ [];
+      resumed = [];
+    }
+    -- inside a sequence no character is open
+    ∷ record {
+      stream = codes "a\u{1b}";
+      bytes = codes "[1m";
+      position = 1;
+      told = [];
+      resumed = codes "a\u{1b}[";
+    }
     ∷ []

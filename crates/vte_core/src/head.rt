@@ -187,7 +187,8 @@ impl Collected {
         }
     }
 
-    /// Reads a head, which has come so far, up to the first byte that isn't part of it.
+    /// Reads the rest of a head that has come to `reached`, up to the first byte that isn't part
+    /// of it.
     #[inline(always)]
     pub(crate) fn read_head<B>(
         &mut self,

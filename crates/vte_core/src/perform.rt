@@ -88,7 +88,7 @@ pub trait PerformText: Perform {
         ensures { result ≡ layout };
 
     /// Called for characters to print, at least one, in order. None is a control, except HT, LF and
-    /// CR if the performer [layout](Self::keeps_layout) these.
+    /// CR if the performer [keeps](Self::keeps_layout) these.
     fn print_text(&mut self, text: &str)
         requires some { 0 < length text.now }
         requires plain { IsRunText layout text.now }

@@ -1,10 +1,11 @@
-//! The only module that reads input bytes and reports events. It counts both, for contracts alone.
+//! The only module that reads input bytes, and the only way to report events. It counts both, for
+//! contracts alone.
 //!
-//! Nothing else reads a byte of a call or tells a performer an event: an [`Input`] has no other way
-//! to its bytes, and a [`CountedPerform`] takes events with the count alone. Bytes leave it one by
-//! one, in blocks, as a copy in a buffer, or as text or data: for a performer, or in a [`Run`] for
-//! the caller. A function generic in the buffer `B` can't make a `Looks<B>`: only `for_limited` and
-//! `for_unlimited` do. So it can't put a fresh count in the place of one.
+//! An [`Input`] has no other way to its bytes, and a [`CountedPerform`] takes each event together
+//! with the count. Bytes leave this module one by one, in blocks, as a copy in a buffer, or as text
+//! or data: for a performer, or in a [`Run`] for the caller. Only `for_limited` and `for_unlimited`
+//! make a `Looks<B>`: a function that is generic in the buffer `B` can't replace a count by a new
+//! one.
 ghost use Rattle.std.specs.Prelude.{◌≡◌, ◌+◌, ◌-◌, ◌<◌, ◌≤◌, ℕ, [], ◌∷◌, ◌++◌, false, length, drop, map, take, slice_index, vec_capacity, MatchOption, IsUtf8};
 ghost use Rattle.vte_core.specs.machine.Prelude.{AreOfKind, ArePut, IsRange, IsRun, IsTaken, PrintsRun, Put, Tells, after, character_event, is_in, looked, malformed_event, from_to};
 

@@ -37,7 +37,7 @@ impl<P: EventParser + Drop, B: TextBuffer + Drop, T: Timeout + Drop, A: Allocato
     T,
     A,
 > {
-    /// Creates one with a parser that has read nothing, with the memory for a hold. Returns the
+    /// Creates an engine of a parser that has read nothing, with memory for a hold. Returns the
     /// timeout if memory runs out.
     pub(crate) fn new(alloc: A, parser: P, text: B, timeout: T) -> Result<Self, T>
         requires reads { P.reading.has_read parser [] }

@@ -1,5 +1,5 @@
 -- What the automaton's state says of the text that it has read: characters that are printed, and then the bytes of one
--- that has begun. Each step of the automaton layout that.
+-- that has begun. Each step of the automaton keeps that.
 use Rattle.vte_core.proofs.Common.{List, [], add-one, ap, append_assoc, arith, cond, drop, inl, inr, length, length-drop, refl, subst, suc, sym, take, true, zero, ℕ, ◌&&◌, ◌++◌, ◌+◌, ◌-◌, ◌<◌, ◌∙◌, ◌∷◌, ◌≡◌, ◌≢◌, ◌≤◌, take-add, cases_Bool, false≢true, append-nil, get_or-drop, take_more, slice_index, Range, is_in, IsUtf8Run}
 use Rattle.vte_core.specs.machine.Each.{Each}
 use Rattle.vte_core.proofs.bytes.EachLemmas.{each-next}

@@ -32,8 +32,7 @@ impl<B: Buffer> Machine<B> {
             (P.value_of performer.old) (P.value_of performer.new) from result self.old self.new }
         ensures moves { MovesWithin 5 1 input.entry.bytes.now from result self.old self.new
             looks.old looks.new }
-        // The caller count_if_ok one look for ESC; the four others that a byte may cost are left
-        // for
+        // The caller took one look at ESC; the four others that a byte may cost are left for
         // `search_text`.
         ensures count { looked looks.new + 5 * from + 5 ≤ looked looks.old + 5 * result }
     {

@@ -43,8 +43,8 @@ impl<const OSC_RAW_BUF_SIZE: usize> Parser<OSC_RAW_BUF_SIZE> {
 }
 
 impl<B: Buffer> Machine<B> {
-    /// Reads bytes up to a run, and finds the run. It stays in the state of the run, which changes
-    /// nothing.
+    /// Reads bytes up to a run, and finds the run. The state stays that of the run: its bytes
+    /// lead back to it.
     pub(crate) fn drive_to_run<P: CountedPerform<B, Singly>>(
         &mut self,
         looks: &mut Looks<B>,

@@ -30,9 +30,6 @@ wanted_ranges-short : (s : AutomatonState) → length (wanted_ranges s) ≤ 3
 wanted_ranges-short Between = omega arith
 wanted_ranges-short _ = omega arith
 
-below_c0 : (range : Range) (b : ℕ) → range.last ≤ 0xbf → is_in range b ≡ true → b < 0xc0
-below_c0 range b last fit = omega (arith, last, (in_range-bounds range b fit).1)
-
 none-taken : (text : List ℕ) (at end : ℕ) → end ≡ at → take (at - end) (drop end text) ≡ []
 none-taken text at end same = let none : at - end ≡ 0 = omega (arith, same) in rw none refl
 
@@ -142,7 +139,9 @@ module _ (text : List ℕ) (at : ℕ) (within : at < length text) (s : Automaton
               (record {
                 some = omega (arith, k.some);
                 first = k.first;
-                later = each-next (λ c. c < 0xc0) text (old.end + 1) at b k.later refl (below_c0 range b last fit);
+                later =
+                    each-next (λ c. c < 0xc0) text (old.end + 1) at b k.later refl
+                    (omega (arith, last, (in_range-bounds range b fit).1));
               })
               (omega (arith, old.short, ap length is)) completes
         ])

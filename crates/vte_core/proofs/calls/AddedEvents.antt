@@ -69,7 +69,7 @@ outside_runs-place limit _ parser (InText u) b outside s = absurd s
 outside_runs-place limit _ parser InDeviceData b outside s = absurd s
 outside_runs-place limit _ parser _ b outside s = tt
 
--- ---- what is told between two places
+-- ---- what is told between two positions
 
 module _ {limit : Option ℕ} {stream bytes : List ℕ} {i : ℕ} where
   pub adds-same : {j : ℕ} → told_before limit stream bytes i ≡ told_before limit stream bytes j

@@ -40,17 +40,14 @@ in_character limit stream u b d is a =
     added-after limit stream (b ∷ []) (InText u) a
     ∙ ap (λ o. o.told) (waits-byte limit (InText u) (InText []) b (Print replacement ∷ []) [] d.other broken)
 
-first_event : {c d : ℕ} {es fs : List Event} → Print c ∷ es ≡ Print d ∷ fs → c ≡ d
-first_event e = cc
-
 -- it isn't printed alone, but between characters
 not_alone : (limit : Option ℕ) (stream : List ℕ) (place : Place) (b : ℕ)
     → IsProbe b → IsPlace place → IsAfter limit stream place → place ≢ InText []
     → added limit stream (b ∷ []) ≢ Print b ∷ []
 not_alone limit stream (InText []) b d is a other = absurd (other refl)
 not_alone limit stream (InText (c ∷ u)) b d is a other = λ alone.
-    let same : b ≡ replacement = first_event (sym alone ∙ in_character limit stream (c ∷ u) b d is a) in
-    omega (arith, same, d.high)
+    let e = sym alone ∙ in_character limit stream (c ∷ u) b d is a in
+    let same : b ≡ replacement = cc in omega (arith, same, d.high)
 not_alone limit stream AtEscape b d is a other = λ alone.
     let e = sym alone ∙ gives limit stream d a (escape-end limit b Digit d.class refl d.key) refl in cc
 not_alone limit stream (InEscape ints) b d is a other = λ alone.
@@ -88,6 +85,3 @@ finished {limit} {stream} a more =
     added-after limit stream more (InText []) a
     ∙ sym (after-events limit [] more (InText []) (after-nothing limit)
     ∙ ap (λ es. es ++ events_from limit (InText []) more) (events-empty limit))
-
-pub same-begun : {u v : Unfinished} → Text u ≡ Text v → u ≡ v
-same-begun e = cc

@@ -6,7 +6,7 @@ use Rattle.std.proofs.Common.{append-nil, drop_at, ◌==◌}
 use Rattle.std.proofs.lemmas.List.Folds.{concat-append}
 use Rattle.std.proofs.lemmas.List.Splits.{length-slice_split, slice_split_at, slice_split_none}
 
--- ---- the pieces of a text are its data bytes, cut at the places of its `;`
+-- ---- the pieces of a text are its data bytes, cut at each `;`
 
 -- `front` is the beginning of the piece that the text continues
 cut_onto : (earlier front text : List ℕ) → All (λ b. (b == semicolon) ≡ false) front →

@@ -1,7 +1,7 @@
 -- After every place every byte reports at most two events, of which the second is short, and leads to a place
 -- (`steps`): by cases of the place and of the byte's class, each by a lemma of `PlaceLeads`.
 use Rattle.vte_core.proofs.Common.{◌≡◌, ℕ, inl, inr, false, eqb, Option, List, refl, arith, cases_Bool, nat_tests, Class, Control, Cancel, Intermediate, Final, Delete, High, class_of, ends_body, SequenceKind, EscapeSequence, sequence_kind, AreFromOneByte, Event, head_of, is_well_shaped, sequence_event, Leads, Place, InText, AtEscape, InEscape, InControlSequence, InDeviceControl, InDeviceData, InSystemCommand, InIgnoredString, closing_events_at, escape, bell, pieces_of}
-use Rattle.vte_core.proofs.Common.{kept_items, open_data_count, left_at, breaks, open_at, sym, false≢true, ◌∙◌, [], ◌∷◌, ◌++◌, Execute}
+use Rattle.vte_core.proofs.Common.{kept_items, None, ◌≤◌, ◌+◌, open_data_count, left_at, breaks, open_at, sym, false≢true, ◌∙◌, [], ◌∷◌, ◌++◌, Execute}
 use Rattle.vte_core.proofs.bytes.FirstBytes.{Tests, ascii_breaks}
 use Rattle.vte_core.proofs.shapes.Told.{breaks-broken}
 use Rattle.vte_core.specs.Class.{Escape}
@@ -14,8 +14,8 @@ use Rattle.vte_core.proofs.places.PlaceLeads.{escape-key, escape-intermediate, e
 use Rattle.vte_core.proofs.places.PlaceLeads.{data-terminator, command-item, command-control, command-bell, ignored-more}
 use Rattle.vte_core.proofs.fields.PlaceOfState.{IsPlace}
 use Rattle.vte_core.proofs.fields.KeptItems.{few_pieces, pieces_push, some_pieces}
-use Rattle.vte_core.proofs.places.StreamLemmas.{reads-escape, no_escape, cancel_is_no_escape}
-use Rattle.vte_core.proofs.places.TextSteps.{AreQuietEvents, FitsLeft, IsLittle, IsQuietAt, IsText, Steps, leads_on, steps-text}
+use Rattle.vte_core.proofs.places.StreamLemmas.{reads-byte, reads-escape, no_escape, cancel_is_no_escape}
+use Rattle.vte_core.proofs.places.TextSteps.{AreQuietEvents, FitsLeft, IsLittle, IsQuietAt, IsText, Steps, steps-text}
 
 abbrev IsOutsideText : Place → Type 0
 IsOutsideText (InText u) = ⊥
@@ -55,10 +55,19 @@ module _ {limit : Option ℕ} {place next : Place} {b : ℕ} where
   sequenced_by : {told : List Event} → eqb b escape ≡ false → Sequenced place next → Leads limit place b told next
       → ((size : Option ℕ) → FitsLeft size (left_at limit place) → AreFromOneByte size told)
       → (IsQuietAt place b → AreQuietEvents told) → Steps limit place b
-  sequenced_by other known leads =
+  sequenced_by {told} other known leads brief outside_runs =
       let none = nothing_open limit next known.1 in
-      leads_on (λ text. absurd (no_text place known.0 text)) (inl none.0) (λ _. omega (arith, none.1)) other leads
-      none.2
+      record {
+        told = told;
+        next = next;
+        is_place = none.2;
+        reads = reads-byte limit place next b told other leads;
+        brief = brief;
+        grows = λ _. omega (arith, none.1);
+        leaves = inl none.0;
+        little = λ text _. absurd (no_text place known.0 text);
+        outside_runs = outside_runs;
+      }
 
   -- by the byte's class
   sequenced : {told : List Event} {k : Class} → class_of b ≡ k → ends_body k ≡ false → Sequenced place next
@@ -176,6 +185,23 @@ step-data limit b k is no_end =
 
 -- ---- in an operating system command
 
+-- a byte that joins the command, or is dropped there
+step-in_command : {limit : Option ℕ} {items later : List ℕ} {b : ℕ} → eqb b escape ≡ false
+    → Leads limit (InSystemCommand items) b [] (InSystemCommand later)
+    → (limit ≡ None → open_data_count (left_at limit (InSystemCommand later))
+    ≤ open_data_count (left_at limit (InSystemCommand items)) + 1) → Steps limit (InSystemCommand items) b
+step-in_command {limit} {items} {later} {b} other leads grows = record {
+  told = [];
+  next = InSystemCommand later;
+  is_place = tt;
+  reads = reads-byte limit (InSystemCommand items) (InSystemCommand later) b [] other leads;
+  brief = λ _ _. tt;
+  grows = grows;
+  leaves = inl refl;
+  little = λ text _. absurd text;
+  outside_runs = λ _. tt;
+}
+
 step-command : (limit : Option ℕ) (items : List ℕ) (b : ℕ) (k : Class) → class_of b ≡ k → ends_body k ≡ false
     → Steps limit (InSystemCommand items) b
 step-command limit items b Control is no_end = elim (cases_Bool (eqb b bell)) [
@@ -183,15 +209,14 @@ step-command limit items b Control is no_end = elim (cases_Bool (eqb b bell)) [
       sequenced is no_end outside (command-bell limit items b is ends)
       (λ _ fits. (few_pieces limit items, fits, some_pieces limit items)) (λ _. tt)
   | inr other ↦
-      leads_on (λ text. absurd text) (inl refl) (λ _. omega arith)
-      (plain b Control is no_end) (command-control limit items b is other) tt (λ _ _. tt) (λ _. tt)
+      step-in_command (plain b Control is no_end) (command-control limit items b is other) (λ _. omega arith)
 ]
 step-command limit items b Cancel is no_end = cc
 step-command limit items b Escape is no_end = cc
 step-command limit items b k is no_end =
     let s = spans b k is in
-    leads_on (λ text. absurd text) (inl refl) (λ none. rw none (pieces_push items b))
-    (plain b k is no_end) (command-item limit items b (omega arith)) tt (λ _ _. tt) (λ _. tt)
+    step-in_command (plain b k is no_end) (command-item limit items b (omega arith))
+    (λ none. rw none (pieces_push items b))
 
 -- ---- any place
 

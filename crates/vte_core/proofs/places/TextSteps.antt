@@ -60,37 +60,23 @@ pub record Steps (limit : Option ℕ) (place : Place) (b : ℕ) : Type 0 where
   -- for `advance_to_run`
   pub outside_runs : IsQuietAt place b → AreQuietEvents told
 
--- a step of a byte that is not ESC
-pub leads_on : {limit : Option ℕ} {place next : Place} {b : ℕ} {told : List Event} → (IsText place → IsLittle next told)
-    → LeavesOpen next told
-    → (limit ≡ None → open_data_count (left_at limit next) ≤ open_data_count (left_at limit place) + 1)
-    → eqb b escape ≡ false
-    → Leads limit place b told next → IsPlace next
-    → ((size : Option ℕ) → FitsLeft size (left_at limit place) → AreFromOneByte size told)
-    → (IsQuietAt place b → AreQuietEvents told)
-    → Steps limit place b
-leads_on {limit} {place} {next} {b} {told} little leaves grows e l is brief others = record {
-  told = told;
-  next = next;
-  is_place = is;
-  reads = reads-byte limit place next b told e l;
-  brief = brief;
-  grows = grows;
-  leaves = leaves;
-  little = λ text _. little text;
-  outside_runs = others;
-}
-
 tiny_of : (next : Place) (told : List Event) → IsLittle next told → IsAtMostOneShort told
 tiny_of next told little = elim little [ inl nothing ↦ subst IsAtMostOneShort (sym nothing) tt | inr closed ↦ closed.1 ]
 
 leads_little : {limit : Option ℕ} {u v : List ℕ} {b : ℕ} {told : List Event} → IsLittle (InText v) told
     → eqb b escape ≡ false → Leads limit (InText u) b told (InText v)
     → IsPlace (InText v) → Steps limit (InText u) b
-leads_little {limit} {v} {told} little e l is =
-    leads_on (λ _. little) (elim little [ inl nothing ↦ inr (inl nothing) | inr closed ↦ inl closed.0 ])
-    (λ _. omega (arith, text_left limit v)) e l is
-    (λ size _. tiny_brief size told (tiny_of (InText v) told little)) (λ outside. absurd outside)
+leads_little {limit} {u} {v} {b} {told} little e leads is = record {
+  told = told;
+  next = InText v;
+  is_place = is;
+  reads = reads-byte limit (InText u) (InText v) b told e leads;
+  brief = λ size _. tiny_brief size told (tiny_of (InText v) told little);
+  grows = λ _. omega (arith, text_left limit v);
+  leaves = elim little [ inl nothing ↦ inr (inl nothing) | inr closed ↦ inl closed.0 ];
+  little = λ _ _. little;
+  outside_runs = λ outside. absurd outside;
+}
 
 -- the byte ends the character, or belongs to it, or neither
 by_tests : (limit : Option ℕ) (u : List ℕ) (b : ℕ) → eqb b escape ≡ false

@@ -1,4 +1,4 @@
--- What is kept from start to start holds wherever a call stops: by induction over the places, a unit at a time.
+-- What is kept from start to start holds wherever a call stops: by induction over positions, a unit at a time.
 use Rattle.vte_core.proofs.Common.{ℕ, zero, suc, ◌+◌, ◌<◌, ◌≤◌, inl, inr, Option, List, [], ◌++◌, length, sym, subst, arith, AreFromOneByte, IsStart, told_before, Event}
 use Rattle.vte_core.specs.EarlyStopLaws.{TellsUnit, TellsUnits}
 

@@ -29,7 +29,7 @@ tells_little limit stream b some unbroken =
       | inr last ↦ (rw a.told last.1, inl (a.ends ∙ last.0))
     ]
 
--- ---- what is told from one place to the next
+-- ---- what is told from one position to the next
 
 pub added_both : (limit : Option ℕ) (stream front rest : List ℕ)
     → added limit stream (front ++ rest) ≡ added limit stream front ++ added limit (stream ++ front) rest
@@ -76,7 +76,7 @@ ends_from stream rest broken is =
     (after_from None stream rest a.place broken is a.is_after) a.is_place
     ∙ sym (after-open_character None _ a.place a.is_after a.is_place)
 
--- what the bytes before a place add, by the last start before it
+-- what the bytes before a position add, by the last start before it
 record Added (limit : Option ℕ) (stream bytes : List ℕ) (i : ℕ) : Type 0 where
   before : List Event
   unit : List Event
@@ -118,7 +118,7 @@ module _ (limit : Option ℕ) (stream bytes : List ℕ) (i : ℕ) (within : i < 
   breaks_here : breaks_at stream bytes i ≡ breaks (open_character here) (b ∷ [])
   breaks_here = breaks_at-byte stream bytes (open_character here) i b within refl refl
 
-  -- the place is a start
+  -- the position is a start
   from_start : IsStart stream bytes i → Added limit stream bytes (i + 1)
   unfolding told_before resumed_stream
   from_start starts =

@@ -1,4 +1,4 @@
--- The head is read up to this place, with three looks for a byte at most.
+-- The head is read up to this position, with three looks for a byte at most.
 use Rattle.vte_core.proofs.Common.{◌≡◌, ◌+◌, ◌-◌, ◌*◌, ◌≤◌, length, looked, None, ReadsHead}
 use Rattle.vte_core.proofs.head.Collected.read_head.Given as goal
 

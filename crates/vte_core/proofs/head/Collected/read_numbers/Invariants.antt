@@ -1,4 +1,4 @@
--- The numbers are read up to this place; the last one is still open and in a local variable. One look for each byte.
+-- The numbers are read up to this position; the last one is open, in a local variable. One look for each byte.
 use Rattle.vte_core.proofs.Common.{◌≡◌, ◌≤◌, ◌+◌, ◌-◌, length, looked, None, part_after, ReadsHead}
 use Rattle.vte_core.specs.Parameters.{greatest_number}
 use Rattle.vte_core.specs.machine.Reading.{with_open_number}

@@ -1,4 +1,4 @@
--- The last character ends at this place or before it: nothing after it has begun one.
+-- The last character ends at this position or before it: nothing after it has begun one.
 use Rattle.vte_core.proofs.Common.{drop, take, ◌+◌, ◌<◌, ◌≡◌, ◌≤◌, looked}
 use Rattle.vte_core.specs.machine.Automaton.{Between, state_after}
 use Rattle.vte_core.proofs.automaton_states.Scanned.{ReadSoFar}

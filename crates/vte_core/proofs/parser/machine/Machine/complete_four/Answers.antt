@@ -90,7 +90,8 @@ tell_text-requires-clause-run g c =
     (sym c.may_begin_four.ensures ∙ c.if-not-may_begin_four.false)
     (sym c.is_continuation.ensures ∙ c.if-not-is_continuation.false)
     (sym c.is_continuation-2.ensures ∙ c.if-not-is_continuation-2.false))
-    (subst (λ place. IsRun g.P.CountedPerform.layout bytes place c.find_run_end_for-end.result) past rest.scans.are)
+    (subst (λ position. IsRun g.P.CountedPerform.layout bytes position c.find_run_end_for-end.result) past
+    rest.scans.are)
 
 -- In runs, it is told with the run that it begins.
 pub returns-then-IN_RUNS-clause-advances : goal.returns-then-IN_RUNS-clause-advances

@@ -1,4 +1,5 @@
--- Stretches add up: what leads from a place to the next leads from the start. The call ends at a stop, with all bytes,
+-- Stretches add up: what leads from a position to the next leads from the start. The call ends at a stop, with all
+-- bytes,
 -- or where memory is refused.
 use Rattle.vte_core.proofs.Common.{Err, ap, sym, ◌∙◌, arith, rules, err_from_is_err_and}
 use Rattle.vte_core.proofs.calls.States.{may_stop-some}
@@ -32,7 +33,7 @@ returns-then-terminated-clause-reads g c =
 pub returns-clause-reads : goal.returns-clause-reads
 returns-clause-reads g c = ends-with_all (omega arith) c.loop-position.invariant.stands_at
 
--- Memory was refused: what was read before adds up, and the refused byte is at that place.
+-- Memory was refused: what was read before adds up, and the refused byte is at that position.
 pub returns-in_err-position-clause-refuses : goal.returns-in_err-position-clause-refuses
 returns-in_err-position-clause-refuses g c =
     let e = err_from_is_err_and c.from_residual.result c.from_residual.ensures.1 in

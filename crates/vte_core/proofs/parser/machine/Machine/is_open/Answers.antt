@@ -2,7 +2,7 @@
 -- unfinished (`unfinished`).
 use Rattle.vte_core.proofs.Common.{◌≡◌, [], cases_Bool, inl, inr, false≢true, not, ap, subst, sym, ◌∙◌, IsAfter, Text, bytes_of}
 use Rattle.vte_core.proofs.calls.CallEnds.{settled-by, settled-nothing}
-use Rattle.vte_core.proofs.calls.IsOpen.{finished, same-begun, unfinished}
+use Rattle.vte_core.proofs.calls.IsOpen.{finished, unfinished}
 use Rattle.vte_core.proofs.calls.States.{between_characters}
 use Rattle.vte_core.proofs.calls.ToRun.{anew, settled-text}
 use Rattle.vte_core.proofs.parser.machine.Machine.is_open.Goals as goal
@@ -24,7 +24,7 @@ returns-in-Text-clause-closed g c = λ closed stream h. elim (cases_Bool c.is_no
 pub returns-in-Text-clause-opens : goal.returns-in-Text-clause-opens
 returns-in-Text-clause-opens g c = λ opens stream h. unfinished c.args.self.now h (λ here.
     let same : Text c.in-Text.begun ≡ Text here.unfinished = sym c.in-Text.is ∙ here.begun in
-    let nothing : bytes_of c.in-Text.begun ≡ [] = rw (same-begun same) here.nothing in
+    let nothing : bytes_of c.in-Text.begun ≡ [] = cc in
     false≢true (sym (ap not (c.is_nothing.ensures.1 nothing)) ∙ opens))
 
 -- Any other state.

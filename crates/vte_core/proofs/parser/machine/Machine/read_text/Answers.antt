@@ -18,7 +18,7 @@ reached : (g : Over) (c : Joined-IN_RUNS-2 g)
     (g.P.CountedPerform.value_of c.if-IN_RUNS-2.performer) c.args.from c.if-IN_RUNS-2.position c.args.self.now
     c.loop-position-2.self
 reached g c =
-    let v = c.loop-position-2.invariant in
+    let v = c.loop-position-2.invariant.stands in
     let within : c.loop-position-2.position < length c.args.input.bytes.now =
     omega (arith, c.loop-position.invariant.front, c.loop-position-2-test.true) in
     elim c.if-IN_RUNS-2.branch [
@@ -38,7 +38,7 @@ at : (g : Over) (c : Joined-IN_RUNS-2 g) → MayReadByte (call_at g c.args.input
     (g.P.CountedPerform.value_of c.if-IN_RUNS-2.performer) (Text Nothing) c.loop-position-2.self c.if-IN_RUNS-2.position
     c.if-IN_RUNS-2.byte
 at g c =
-    let v = c.loop-position-2.invariant in
+    let v = c.loop-position-2.invariant.stands in
     let within : c.loop-position-2.position < length c.args.input.bytes.now =
     omega (arith, c.loop-position.invariant.front, c.loop-position-2-test.true) in
     elim c.if-IN_RUNS-2.branch [
@@ -66,26 +66,22 @@ at g c =
 -- A run of ASCII up to the end of what was looked at: its characters, and nothing more in this round.
 pub loop-position-2-preserved-in-None : goal.loop-position-2-preserved-in-None
 loop-position-2-preserved-in-None g c =
-    let v = c.loop-position-2.invariant in
+    let v = c.loop-position-2.invariant.stands in
     let within : c.loop-position-2.position < length c.args.input.bytes.now =
     omega (arith, c.loop-position.invariant.front, c.loop-position-2-test.true) in
     let runs : g.G.Grain.IN_RUNS ≡ true = sym c.IN_RUNS-in-loop-position-2.ensures ∙ c.if-IN_RUNS-2.true in
     let run = c.print_ascii-run.ensures in
     record {
-      advances =
-          advances-then v.advances
-          (advances-text (c.requires.no_stop runs) v.may_go_on (v.settled within) run.progress run.high run.prints);
-      may_go_on = may_go_on-text (call_at g c.args.input.bytes.now) (c.requires.no_stop runs) v.may_go_on run.prints;
-      settled = λ _. v.settled within;
-      low = search rules;
-      high = search rules;
+      stands = record {
+        advances =
+            advances-then v.advances
+            (advances-text (c.requires.no_stop runs) v.may_go_on (v.settled within) run.progress run.high run.prints);
+        may_go_on = may_go_on-text (call_at g c.args.input.bytes.now) (c.requires.no_stop runs) v.may_go_on run.prints;
+        settled = λ _. v.settled within;
+      };
+      spends = search rules;
       moves = search rules;
       progress = search rules;
-      count = λ singly. absurd (false≢true (sym singly ∙ runs));
-      escape = λ singly. absurd (false≢true (sym singly ∙ runs));
-      near = search rules;
-      least = search rules;
-      memory = search rules;
     }
 
 -- The three functions that read on begin where the call stands.
@@ -140,9 +136,9 @@ returns-then-byte-eq-ESCAPE-clause-advances g c =
 -- A stop after a byte: the run and the byte.
 pub returns-then-terminated-3-clause-advances : goal.returns-then-terminated-3-clause-advances
 returns-then-terminated-3-clause-advances g c =
-    let places = goal.at.returns-then-terminated-3-clause-advances g c in
-    advances-then (reached g places.Joined-IN_RUNS-2)
-    (read g places.Joined-is_printed_ascii-2 (at g places.Joined-IN_RUNS-2))
+    let joins = goal.at.returns-then-terminated-3-clause-advances g c in
+    advances-then (reached g joins.Joined-IN_RUNS-2)
+    (read g joins.Joined-is_printed_ascii-2 (at g joins.Joined-IN_RUNS-2))
 
 -- A stop after what begins with a lead byte, in runs and else.
 pub returns-then-terminated-clause-advances : goal.returns-then-terminated-clause-advances
@@ -158,93 +154,97 @@ returns-then-terminated-2-clause-advances g c =
 -- Without a stop after a longer character, the next round begins after the character.
 pub loop-position-2-preserved-then-this-ne0-2 : goal.loop-position-2-preserved-then-this-ne0-2
 loop-position-2-preserved-then-this-ne0-2 g c =
-    let places = goal.at.loop-position-2-preserved-then-this-ne0-2 g c in
+    let joins = goal.at.loop-position-2-preserved-then-this-ne0-2 g c in
     let read = c.read_character-next.ensures in
     record {
-      advances = advances-then (reached g places.Joined-IN_RUNS-2) (advances-part read.advances);
-      may_go_on = search rules;
-      settled = λ inside. read.text inside;
-      low = search rules;
-      high = search rules;
+      stands = record {
+        advances = advances-then (reached g joins.Joined-IN_RUNS-2) (advances-part read.advances);
+        may_go_on = search rules;
+        settled = λ inside. read.text inside;
+      };
+      spends = search rules;
       moves = search rules;
       progress = search rules;
-      count = search rules;
-      escape = search rules;
-      near = search rules;
-      least = search rules;
-      memory = search rules;
     }
 
 -- In runs, from A0 on: what a lead byte begins, which may be a control, or U+FFFD, which is a character.
 pub loop-position-2-preserved-then-byte-ge160 : goal.loop-position-2-preserved-then-byte-ge160
 loop-position-2-preserved-then-byte-ge160 g c =
-    let places = goal.at.loop-position-2-preserved-then-byte-ge160 g c in
-    let here = at g places.Joined-IN_RUNS-2 in
+    let joins = goal.at.loop-position-2-preserved-then-byte-ge160 g c in
+    let here = at g joins.Joined-IN_RUNS-2 in
     let runs : g.G.Grain.IN_RUNS ≡ true = sym c.IN_RUNS-else-is_printed_ascii-2.ensures ∙ c.if-IN_RUNS-3.true in
     record {
-      advances = advances-then (reached g places.Joined-IN_RUNS-2) (elim c.if-is_lead.branch [
-        | then-is_lead+else-this-ne0 w ↦
-            rw (w.self-is, w.performer-is, w.position-is) (advances-part w.read_at_lead-position.ensures.advances)
-        | else-is_lead w ↦
-            let told = w.tell_lone_byte.ensures in
-            rw (w.self-is, w.performer-is, w.position-is) (advances-part
-            (advances-byte here.within here.looked_at here.may_go_on
-            (performs-single here.begun (grind (arith, c.if-byte-ge160.true))
-            (sym c.is_lead.ensures ∙ w.if-is_lead.false) told.control told.malformed)
-            (settled-by _ _ here.begun tt)))
-      ]);
-      may_go_on = elim c.if-is_lead.branch [
-        | then-is_lead+else-this-ne0 w ↦ search rules
-        | else-is_lead w ↦
-            rw w.performer-is (may_go_on-malformed g.P.CountedPerform.layout (call_at g c.args.input.bytes.now)
-            (c.requires.no_stop runs) here.may_go_on c.if-byte-ge160.true
-            (w.tell_lone_byte.ensures.malformed (omega (arith, c.if-byte-ge160.true))))
-      ];
-      settled = elim c.if-is_lead.branch [
-        | then-is_lead+else-this-ne0 w ↦ rw (w.self-is, w.position-is) w.read_at_lead-position.ensures.text
-        | else-is_lead w ↦ rw w.self-is (λ _. here.begun)
-      ];
-      low = search rules;
-      high = search rules;
+      stands = record {
+        advances = advances-then (reached g joins.Joined-IN_RUNS-2) (elim c.if-is_lead.branch [
+          | then-is_lead+else-this-ne0 w ↦
+              rw (w.self-is, w.performer-is, w.position-is) (advances-part w.read_at_lead-position.ensures.advances)
+          | else-is_lead w ↦
+              let told = w.tell_lone_byte.ensures in
+              rw (w.self-is, w.performer-is, w.position-is) (advances-part
+              (advances-byte here.within here.looked_at here.may_go_on
+              (performs-single here.begun (grind (arith, c.if-byte-ge160.true))
+              (sym c.is_lead.ensures ∙ w.if-is_lead.false) told.control told.malformed)
+              (settled-by _ _ here.begun tt)))
+        ]);
+        may_go_on = elim c.if-is_lead.branch [
+          | then-is_lead+else-this-ne0 w ↦ search rules
+          | else-is_lead w ↦
+              rw w.performer-is (may_go_on-malformed g.P.CountedPerform.layout (call_at g c.args.input.bytes.now)
+              (c.requires.no_stop runs) here.may_go_on c.if-byte-ge160.true
+              (w.tell_lone_byte.ensures.malformed (omega (arith, c.if-byte-ge160.true))))
+        ];
+        settled = elim c.if-is_lead.branch [
+          | then-is_lead+else-this-ne0 w ↦ rw (w.self-is, w.position-is) w.read_at_lead-position.ensures.text
+          | else-is_lead w ↦ rw w.self-is (λ _. here.begun)
+        ];
+      };
+      spends = record {
+        low = search rules;
+        high = search rules;
+        count = λ singly. absurd (false≢true (sym singly ∙ runs));
+        escape = λ singly. absurd (false≢true (sym singly ∙ runs));
+        near = search rules;
+        least = search rules;
+        memory = search rules;
+      };
       moves = search rules;
       progress = search rules;
-      count = λ singly. absurd (false≢true (sym singly ∙ runs));
-      escape = λ singly. absurd (false≢true (sym singly ∙ runs));
-      near = search rules;
-      least = search rules;
-      memory = search rules;
     }
 
 -- A round that goes on. Only a longer character can change the state, and does so only with the last bytes of the call.
 pub loop-position-2-preserved : goal.loop-position-2-preserved
 loop-position-2-preserved g c =
-    let places = goal.at.loop-position-2-preserved g c in
-    let here = at g places.Joined-IN_RUNS-2 in
+    let joins = goal.at.loop-position-2-preserved g c in
+    let here = at g joins.Joined-IN_RUNS-2 in
     record {
-      advances = advances-then (reached g places.Joined-IN_RUNS-2) (read g places.Joined-is_printed_ascii-2 here);
-      may_go_on = search rules;
-      settled = elim c.if-is_printed_ascii-2.branch [
-        | then-is_printed_ascii-2 w ↦ rw w.self-is (λ _. here.begun)
-        | else-is_printed_ascii-2+else-IN_RUNS-3+then-is_lead-2+else-this-ne0-2 w ↦
-            rw (w.self-is, w.position-is)
-            (λ inside.
-            w.read_character-next.ensures.text
-            (omega (arith, inside, w.read_character-next.ensures.moves.progress here.within)))
-        | else-is_printed_ascii-2+else-IN_RUNS-3+else-is_lead-2+else-byte-eq-ESCAPE w ↦
-            rw w.self-is (λ _. here.begun)
-      ];
-      low = search rules;
-      high = search rules;
+      stands = record {
+        advances = advances-then (reached g joins.Joined-IN_RUNS-2) (read g joins.Joined-is_printed_ascii-2 here);
+        may_go_on = search rules;
+        settled = elim c.if-is_printed_ascii-2.branch [
+          | then-is_printed_ascii-2 w ↦ rw w.self-is (λ _. here.begun)
+          | else-is_printed_ascii-2+else-IN_RUNS-3+then-is_lead-2+else-this-ne0-2 w ↦
+              rw (w.self-is, w.position-is)
+              (λ inside.
+              w.read_character-next.ensures.text
+              (omega (arith, inside, w.read_character-next.ensures.moves.progress here.within)))
+          | else-is_printed_ascii-2+else-IN_RUNS-3+else-is_lead-2+else-byte-eq-ESCAPE w ↦
+              rw w.self-is (λ _. here.begun)
+        ];
+      };
+      spends = record {
+        low = search rules;
+        high = search rules;
+        count = search rules;
+        escape = search rules;
+        near = search rules;
+        least = search rules;
+        memory = search rules;
+      };
       moves = search rules;
       progress = search rules;
-      count = search rules;
-      escape = search rules;
-      near = search rules;
-      least = search rules;
-      memory = search rules;
     }
 
--- The places and looks add up in each branch.
+-- The positions and looks add up in each branch.
 pub returns-then-terminated-3-clause-moves : goal.returns-then-terminated-3-clause-moves
 returns-then-terminated-3-clause-moves g c =
     let join = (goal.at.returns-then-terminated-3-clause-moves g c).Joined-is_printed_ascii-2 in

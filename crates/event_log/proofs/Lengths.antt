@@ -6,7 +6,7 @@ use Rattle.event_log.proofs.Common.{Event, Print, Execute, Hook, OscDispatch, Cs
 use Rattle.event_log.proofs.Common.{hex_byte, hex_character, six_hex_digits, hex_length, hex_field, flag_field, pieces_fields, sequence_fields, line_of, plain_text_of}
 use Rattle.std.proofs.Common.{length-drop}
 use Rattle.std.proofs.lemmas.List.Sums.{sum_by-cons}
-use Rattle.vte_core.proofs.stops.Units.{added_both}
+use Rattle.vte_core.proofs.stops.Units.{added-append}
 use Rattle.vte_core.proofs.streams.After.{added-nothing}
 use Rattle.event_log.proofs.Records.{IsSmall}
 
@@ -144,7 +144,7 @@ at_most_two (event ∷ last ∷ more ∷ events) h = absurd h
 events_grow_slowly : AreBrief → (stream bytes : List ℕ) → length (added usual_limit stream bytes) ≤ 2 * length bytes
 events_grow_slowly brief stream [] = rw added-nothing (omega arith)
 events_grow_slowly brief stream (b ∷ bytes) =
-    rw (added_both usual_limit stream (b ∷ []) bytes) (simp length-append
+    rw (added-append usual_limit stream (b ∷ []) bytes) (simp length-append
     (omega (
       arith,
       at_most_two (added usual_limit stream (b ∷ [])) (brief stream b),

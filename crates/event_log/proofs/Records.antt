@@ -3,7 +3,7 @@
 use Rattle.event_log.proofs.Common.{◌≡◌, ℕ, zero, suc, ◌+◌, ◌<◌, ◌≤◌, Bool, false, List, [], ◌∷◌, ◌++◌, length, inl, inr, refl, sym, ap, subst, ◌∙◌, usual_limit}
 use Rattle.event_log.proofs.Common.{append_assoc, append-nil, length-append, arith, take-append_seam, cases_Bool, le-leb, nat_tests, flat_map-append, flat_map, AreFromOneByte, IsStart, told_before, Event, after}
 use Rattle.event_log.proofs.Common.{TellsUnits, Record, BeginsLine, ExtendsLine, EndsLine, has_room_after, record_in, is_to_be_written, most_bytes, with_event, with_text, Lines}
-use Rattle.vte_core.proofs.streams.Performing.{after-append}
+use Rattle.vte_core.proofs.streams.Performing.{after_events-append}
 
 -- ---- one text
 
@@ -88,7 +88,7 @@ module _ (text_of : Event → List ℕ) (small : IsSmall text_of) (units : Tells
       → AreFromOneByte usual_limit unit
       → Takes (events ++ unit)
   takes_unit events unit taken has_room_after brief =
-      after-append (with_event text_of) old events unit
+      after_events-append (with_event text_of) old events unit
       ∙ ap (λ (r : Record). after (with_event text_of) r unit) taken
       ∙ all_taken text_of (old.bytes ++ flat_map text_of events) false unit
       (omega (arith, small unit brief, ap (λ (r : Record). length r.bytes) taken))

@@ -7,7 +7,7 @@ use Rattle.std.proofs.Math.Utf8.{encodes}
 use Rattle.std.specs.Char.{encode_utf8}
 use Rattle.vte_core.specs.Event.{Event}
 use Rattle.vte_core.proofs.bytes.Printable.{layout-is_ascii}
-use Rattle.vte_core.proofs.stops.Units.{added_both}
+use Rattle.vte_core.proofs.stops.Units.{added-append}
 use Rattle.event_log.proofs.Collected.{kept_by}
 use Rattle.event_log.proofs.Lengths.{AreBrief, text_grows_slowly}
 use Rattle.event_log.proofs.Records.{all_taken, record_of, takes_all}
@@ -55,6 +55,6 @@ kept_text {held} chunk rest brief h parts room performed parsed =
     all_taken plain_text_of held.bytes held.lost reported
     (omega (arith, room, text_grows_slowly brief since chunk)) in
     kept_by reported (since ++ chunk) h
-    (λ more. rw (← parts, append_assoc chunk rest more) (added_both usual_limit since chunk (rest ++ more)))
+    (λ more. rw (← parts, append_assoc chunk rest more) (added-append usual_limit since chunk (rest ++ more)))
     parsed
     (performed ∙ taken ∙ ap (record_of (held.bytes ++ flat_map plain_text_of reported)) h.kept)

@@ -3,7 +3,7 @@
 use Rattle.vte.proofs.Common.{◌≡◌, ◌≤◌, ◌<◌, ◌+◌, ◌-◌, ℕ, zero, suc, List, [], ◌∷◌, length, map, Option, None, Some, refl, arith, take, drop, Bor}
 use Rattle.vte.proofs.Common.{take_all, ok_or, slice_index_or, id_of, link_to, palette_entry_calls, palette_entries_calls, attributes_from, decimal_number, Call, after}
 use Rattle.std.specs.Result.{result_ok}
-use Rattle.vte.proofs.performing.CallLists.{after-append}
+use Rattle.vte.proofs.performing.CallLists.{after_calls-append}
 
 -- one more of those that are left
 pub one_less : (n i : ℕ) → i < n → n - i ≡ suc (n - (i + 1))
@@ -23,7 +23,7 @@ module _ {V : Type 0} (step : V → Call → V) (old new all : V) where
   entry_made terminator (index ∷ []) d e some made before = absurd (omega arith)
   entry_made terminator (index ∷ color ∷ rest) d e some made before =
       let left : take (length (index ∷ color ∷ rest) - 2) rest ≡ rest = take_all _ rest (omega arith) in
-      rw (left, made) (rw after-append at before)
+      rw (left, made) (rw after_calls-append at before)
 
 -- the attributes after groups that are used up
 pub attributes_after : (n : ℕ) (groups : List (List ℕ)) → attributes_from n groups ≡ attributes_from 0 (drop n groups)
@@ -38,6 +38,6 @@ some_link parameters [] some = absurd (some refl)
 some_link parameters (byte ∷ uri) some = refl
 
 -- what was found, whatever the error
-pub found_ok : {A E : Type 0} (found : Option A) (error : E) → result_ok (ok_or found error) ≡ found
-found_ok None error = refl
-found_ok (Some x) error = refl
+pub ok_or-found : {A E : Type 0} (found : Option A) (error : E) → result_ok (ok_or found error) ≡ found
+ok_or-found None error = refl
+ok_or-found (Some x) error = refl

@@ -3,7 +3,7 @@
 use Rattle.vte_c.proofs.Common.{AreFirst, Continues, Event, GoesOnFromPositions, List, Print, [], add_assoc, added, ap, append-nil, append_assoc, arith, breaks, usual_limit}
 use Rattle.vte_c.proofs.Common.{breaks_at, cases_Bool, drop, drop-drop, inl, inr, length, length-drop, open_character, refl, replacement, resumed_stream, suc, sym, take, take-add}
 use Rattle.vte_c.proofs.Common.{take-append-drop, told_before, true, zero, zero-add, ℕ, ◌++◌, ◌+◌, ◌∙◌, ◌∷◌, ◌≡◌, ◌≤◌}
-use Rattle.vte_core.proofs.stops.Units.{added_both}
+use Rattle.vte_core.proofs.stops.Units.{added-append}
 use Rattle.vte_core.proofs.streams.After.{added-nothing}
 
 -- ---- the first of a list of events
@@ -46,9 +46,9 @@ pub continues-added : (since bytes : List ℕ) (n : ℕ)
     → Continues since (since ++ take n bytes) bytes n (added usual_limit since (take n bytes))
 continues-added since bytes n = record {
   goes_on = λ more.
-      let parts = added_both usual_limit since (take n bytes) (drop n bytes ++ more) in
+      let parts = added-append usual_limit since (take n bytes) (drop n bytes ++ more) in
       rw (← parts, ← append_assoc (take n bytes), take-append-drop) refl;
-  fronts = λ k within. first_same (rw (take-add n k bytes, added_both) refl);
+  fronts = λ k within. first_same (rw (take-add n k bytes, added-append) refl);
 }
 
 -- ---- a call of the parser
@@ -83,7 +83,7 @@ continues-call goes_on since bytes n = elim (cases_Bool (breaks_at since bytes n
   | inl broken ↦ rw broken (record {
     goes_on = λ more. rw broken at (goes_on since bytes more n);
     fronts = λ k within.
-        rw (take-add n k bytes, added_both, append_assoc (added usual_limit since (take n bytes)))
+        rw (take-add n k bytes, added-append, append_assoc (added usual_limit since (take n bytes)))
         (first-after (added usual_limit since (take n bytes))
         (broken_first goes_on (since ++ take n bytes) (drop n bytes) k broken));
   })

@@ -7,7 +7,7 @@ use Rattle.vte_c.proofs.Common.{inl, inr, intermediates_in, item_data, item_even
 use Rattle.vte_c.proofs.Common.{record_at, records_from, refl, run_events, run_kind, run_record, set, sum_by-cons, sym, take, take-append-drop, take-append_seam, take-map, true}
 use Rattle.vte_c.proofs.Common.{two_bytes, with_intermediates, with_loss, without_loss, ℕ, ◌%◌, ◌*◌, ◌++◌, ◌+◌, ◌/◌, ◌==◌, ◌∙◌, ◌∷◌, ◌≡◌, ◌≤◌}
 use Rattle.std.specs.Char.{encode_utf8}
-use Rattle.vte_core.proofs.bytes.Printable.{chars_encode}
+use Rattle.vte_core.proofs.bytes.Printable.{chars-encode}
 use Rattle.vte_c.proofs.Sizes.{few_groups, length_numbers}
 
 -- ---- groups and pieces
@@ -74,7 +74,7 @@ read_single : (input area back : List ℕ) (place : ℕ) (event : Event) → IsB
     → drop place area ≡ data_of event ++ back
     → events_of input area (record_at place (Single event)) ≡ event ∷ []
 unfolding events_of event_in
-read_single input area back place (Print c) h e = rw (e, take-append_seam (encode_utf8 c) back, chars_encode c h.0) refl
+read_single input area back place (Print c) h e = rw (e, take-append_seam (encode_utf8 c) back, chars-encode c h.0) refl
 read_single input area back place (Hook groups ints ignore final) h e =
     rw (e, groups_read groups back h.0, read_intermediates _ ints h.1, read_flag ignore) refl
 read_single input area back place (Put byte) h e = rw e refl

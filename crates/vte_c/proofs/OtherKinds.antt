@@ -4,7 +4,7 @@ use Rattle.vte_c.proofs.Common.{AreOthers, Bool, DataRun, Event, HaveOtherKinds,
 use Rattle.vte_c.proofs.Common.{TextRun, VteEvent, [], add-one, added, append_assoc, arith, breaks_at, cases_Bool, chars, drop, false, flat_map, get_or, has, has_kind}
 use Rattle.vte_c.proofs.Common.{if◌then◌else◌, inl, inr, is_stop, item_data, item_events, kind_of, length, map, open_character, or_parts, records_from, refl, replacement, reported}
 use Rattle.vte_c.proofs.Common.{run_events, run_kind, suc, take, take-add, take_more, told_before, zero, ℕ, ◌++◌, ◌+◌, ◌-◌, ◌<◌, ◌∷◌, ◌≡◌, ◌≤◌}
-use Rattle.vte_core.proofs.stops.Units.{added_both}
+use Rattle.vte_core.proofs.stops.Units.{added-append}
 use Rattle.vte_core.proofs.streams.After.{added-nothing}
 
 -- ---- records
@@ -73,7 +73,7 @@ others_earlier stop stream bytes i n earlier h =
     let parts : i + (n - i) ≡ n = omega arith in
     others_front stop (added usual_limit stream (take i bytes))
     (added usual_limit (stream ++ take i bytes) (take (n - i) (drop i bytes)))
-    (rw (← parts, take-add i (n - i) bytes, added_both) at h)
+    (rw (← parts, take-add i (n - i) bytes, added-append) at h)
 
 -- ---- what the bytes before the last add
 
@@ -98,7 +98,7 @@ module _ (stop : ℕ → Bool) (no_text : stop 0 ≡ false) (stream bytes : List
       let before = others_before i (omega arith) in
       elim (silent here byte) [
         | inl closed ↦ at_start (suc i) earlier (rw (one, ← append_assoc) closed)
-        | inr opens ↦ rw (one, added_both usual_limit stream (take i bytes) (byte ∷ []))
+        | inr opens ↦ rw (one, added-append usual_limit stream (take i bytes) (byte ∷ []))
             (others_append stop (added usual_limit stream (take i bytes))
             (added usual_limit here (byte ∷ [])) before (elim opens [
               | inl none ↦ rw none tt

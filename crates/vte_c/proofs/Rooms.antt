@@ -9,7 +9,7 @@ use Rattle.vte_c.proofs.Common.{with_items, with_one, with_record, without_loss,
 use Rattle.std.proofs.Math.Bool.{or-false, or_assoc}
 use Rattle.std.proofs.lemmas.List.Folds.{list_any-append}
 use Rattle.vte_core.proofs.places.BriefLemmas.{short_bounded}
-use Rattle.vte_core.proofs.streams.Performing.{after-append}
+use Rattle.vte_core.proofs.streams.Performing.{after_events-append}
 use Rattle.vte_c.proofs.Sizes.{data_most, short_data}
 use Rattle.vte_c.proofs.OtherKinds.{kinds-append, kinds_of_none}
 
@@ -288,7 +288,7 @@ items-unit_more {old} input room before unit h free brief =
     let same : resumed mid ≡ mid = resumed_same mid (unpaused mid free) in
     let first : HasItems old mid input (items_of old before) = rw same at h in
     let kinds : mid.kinds ≡ old.kinds = ap (λ (r : Room). r.kinds) first.room in
-    rw (after-append with_event room before unit, filter-append, map-append)
+    rw (after_events-append with_event room before unit, filter-append, map-append)
     (items-then first free
     (subst (λ (k : ℕ). HasItems mid (resumed (after with_event mid unit)) input (map Single (reported k unit))) kinds
     (items-unit input mid unit brief free)))

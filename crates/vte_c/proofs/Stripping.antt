@@ -5,7 +5,7 @@ use Rattle.vte_c.proofs.Common.{cases_Bool, chars, encodes-chars, false, flat_ma
 use Rattle.vte_c.proofs.Common.{plain_text_of, refl, sym, take, true, with_text, with_text_of, ℕ, ◌&&◌, ◌*◌, ◌++◌, ◌+◌, ◌<◌, ◌∙◌, ◌∷◌, ◌≡◌, ◌≤◌}
 use Rattle.vte_core.specs.Text.{run_event}
 use Rattle.event_log.proofs.TextInRuns.{text_of_run}
-use Rattle.vte_core.proofs.stops.Units.{added_both}
+use Rattle.vte_core.proofs.stops.Units.{added-append}
 use Rattle.vte_core.proofs.streams.After.{added-nothing}
 
 -- ---- texts that have room
@@ -92,7 +92,8 @@ written_more {old} {new} {stream} {bytes} {n} chunk kept slow h parts fits perfo
     let more = added usual_limit (stream ++ take n bytes) chunk in
     record {
       parsed = rw (parts, ← append_assoc) parsed;
-      holds = rw (parts, added_both usual_limit stream (take n bytes) chunk, flat_map-append plain_text_of before more)
+      holds =
+          rw (parts, added-append usual_limit stream (take n bytes) chunk, flat_map-append plain_text_of before more)
           (performed ∙ all_written new more (ap (λ (r : TextRoom). r.fits) h.holds ∙ kept) (omega (arith, fits, slow))
           ∙ ap (λ (r : TextRoom). with_all r (plain_text more)) h.holds
           ∙ with_all-append old (plain_text before) (plain_text more));

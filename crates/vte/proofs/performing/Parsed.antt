@@ -6,13 +6,13 @@ use Rattle.vte.proofs.Common.{after, PerformerState, begin_count, begins_in_even
 use Rattle.vte.proofs.Common.{with_event, engine_meaning, ArePartsAt, ArePartsAtKeeping, KeepsMemory, State, parse, front_to_begin, ParserMeaning}
 use Rattle.vte_core.specs.Perform.{after as performed}
 use Rattle.vte.specs.declared.ansi.performer.Performer.{Performer}
-use Rattle.vte.proofs.performing.CallLists.{after-append, added_calls-events, last-append, set_times-add}
-use Rattle.vte.proofs.updates.Fronts.{IsFront, closed_at, is_front, told_count, whole_at}
+use Rattle.vte.proofs.performing.CallLists.{after_calls-append, added_calls-events, last_printed-append, set_times-add}
+use Rattle.vte.proofs.updates.Fronts.{IsFront, open_character-front, front-is, begin_count-told, breaks_at-front}
 
 -- ---- the value after events
 
-or_some : (b : Bool) (m n : ℕ) → ((b || nat_lt 0 m) || nat_lt 0 n) ≡ (b || nat_lt 0 (m + n))
-or_some b m n = grind (arith, nat_tests)
+any-sum : (b : Bool) (m n : ℕ) → ((b || nat_lt 0 m) || nat_lt 0 n) ≡ (b || nat_lt 0 (m + n))
+any-sum b m n = grind (arith, nat_tests)
 
 -- what all events together make of a performer's value
 abbrev with_events : {V W : Type 0} → Meaning V W → PerformerValue V W → List Event → PerformerValue V W
@@ -34,10 +34,10 @@ performed-events m lent (event ∷ events) fit =
     performed-events m (with_event m.step m.timeout lent event) events (All-tail (FitsText lent.room) event events fit)
     ∙ rw (
       All-head (FitsText lent.room) event events fit lent.last,
-      ← after-append m.step lent.handler (calls_of lent.last event)
+      ← after_calls-append m.step lent.handler (calls_of lent.last event)
           (calls_from (last_printed_after lent.last event) events),
       ← set_times-add m.timeout lent.timeout (begins_in_event event) (begin_count events),
-      or_some lent.terminated (begins_in_event event) (begin_count events),
+      any-sum lent.terminated (begins_in_event event) (begin_count events),
     ) refl
 
 -- ---- the performer gives back what it was lent
@@ -52,15 +52,15 @@ module _ {H T B G V W : Type 0} (handler_of : H → V) (timeout_of : T → W) (r
   all_made : performer_value handler_of timeout_of room_of new ≡ with_events m old (added m.limit s.parsed f)
   all_made = made ∙ performed-events m old (added m.limit s.parsed f) fit
 
-  is_state : state ≡ new.state.now
-  is_state = back_state (sym (ap (λ lent. lent.state_name) all_made))
+  state-is : state ≡ new.state.now
+  state-is = back_state (sym (ap (λ lent. lent.state_name) all_made))
 
   -- the text has the same room
   pub room_back : room_of state.text ≡ old.room
-  room_back = rw is_state (ap (λ lent. lent.room) all_made)
+  room_back = rw state-is (ap (λ lent. lent.room) all_made)
 
-  pub given_back : {P : Type 0} {reading : ParserMeaning P} {parser next : P} {lent : PerformerState T B} {value : V}
-      {handler : H} → ArePartsAt (engine_meaning m.limit reading room_of timeout_of) parser lent value s
+  pub performer-given_back : {P : Type 0} {reading : ParserMeaning P} {parser next : P} {lent : PerformerState T B}
+      {value : V} {handler : H} → ArePartsAt (engine_meaning m.limit reading room_of timeout_of) parser lent value s
       → old.last ≡ lent.preceding_char → old.timeout ≡ timeout_of lent.timeout → old.handler ≡ value
       → old.room ≡ room_of lent.text
       → reading.has_read next (s.parsed ++ f)
@@ -69,7 +69,7 @@ module _ {H T B G V W : Type 0} (handler_of : H → V) (timeout_of : T → W) (r
       → ArePartsAtKeeping (engine_meaning m.limit reading room_of timeout_of) parser lent next state
       (handler_of handler)
       (parse m s f)
-  given_back {lent} at at_last at_timeout at_handler at_room read back_handler keeps =
+  performer-given_back {lent} at at_last at_timeout at_handler at_room read back_handler keeps =
       let all = all_made in
       let is_handler = back_handler (sym (ap (λ lent. lent.handler_name) all)) in
       let last : old.last ≡ last_printed (events m.limit s.parsed) = at_last ∙ at.last in
@@ -78,8 +78,9 @@ module _ {H T B G V W : Type 0} (handler_of : H → V) (timeout_of : T → W) (r
       record {
         parts_at = record {
           has_read = read;
-          last = rw (is_state, events_grow m.limit s.parsed f, last-append, ← last) (ap (λ lent. lent.last) all);
-          timeout_is = rw (is_state, ← timeout) (ap (λ lent. lent.timeout) all);
+          last =
+              rw (state-is, events_grow m.limit s.parsed f, last_printed-append, ← last) (ap (λ lent. lent.last) all);
+          timeout_is = rw (state-is, ← timeout) (ap (λ lent. lent.timeout) all);
           handler_is =
               rw (is_handler, added_calls-events m.limit s.parsed f, ← last, ← handler) (ap (λ lent. lent.handler) all);
         };
@@ -94,40 +95,40 @@ terminated_by : {V W : Type 0} (m : Meaning V W) (lent : PerformerValue V W) (ev
 terminated_by m lent [] = sym (or-false lent.terminated)
 terminated_by m lent (event ∷ events) =
     terminated_by m (with_event m.step m.timeout lent event) events
-    ∙ or_some lent.terminated (begins_in_event event) (begin_count events)
+    ∙ any-sum lent.terminated (begins_in_event event) (begin_count events)
 
 module _ {V W : Type 0} (m : Meaning V W) {old new : PerformerValue V W} (goes_on : old.terminated ≡ false)
     {p r : List ℕ} {n : ℕ}
     (stop : StopsExactly (with_event m.step m.timeout) (λ lent. lent.terminated) old m.limit p r new n) where
   front : IsFront m.limit p r (length (front_to_begin m.limit p r))
-  front = is_front m.limit p r
+  front = front-is m.limit p r
 
   terminated_at : (i : ℕ) → (performed (with_event m.step m.timeout) old (told_before m.limit p r i)).terminated
       ≡ nat_lt 0 (begin_count (added m.limit p (take i r)))
-  terminated_at i = terminated_by m old (told_before m.limit p r i) ∙ rw (goes_on, told_count m.limit p r i)
+  terminated_at i = terminated_by m old (told_before m.limit p r i) ∙ rw (goes_on, begin_count-told m.limit p r i)
 
-  not_before : n < length (front_to_begin m.limit p r) → ⊥
-  not_before less =
+  size-not_before : n < length (front_to_begin m.limit p r) → ⊥
+  size-not_before less =
       let f = front in
       let ends = stop.stops (omega (arith, f.within)) in
       let none = rw (stop.comes.performed, terminated_at n, f.before n less) at ends in
       false≢true none
 
-  not_after : length (front_to_begin m.limit p r) < n → ⊥
-  not_after less =
+  size-not_after : length (front_to_begin m.limit p r) < n → ⊥
+  size-not_after less =
       let f = front in
       let k = length (front_to_begin m.limit p r) in
       let within : k < length r = omega (arith, stop.comes.within) in
       let goes_on =
       rw (terminated_at k) at (stop.comes.earlier k less
-      (starts-settled p r k within (closed_at m.limit p r k f within))) in
+      (starts-settled p r k within (open_character-front m.limit p r k f within))) in
       grind (arith, nat_tests, f.begins within)
 
   pub stops_at_front : n ≡ length (front_to_begin m.limit p r)
   stops_at_front = elim (cases_lt n (length (front_to_begin m.limit p r))) [
-    | inl less ↦ absurd (not_before less)
+    | inl less ↦ absurd (size-not_before less)
     | inr least ↦ elim (cases_lt (length (front_to_begin m.limit p r)) n) [
-      | inl less ↦ absurd (not_after less)
+      | inl less ↦ absurd (size-not_after less)
       | inr most ↦ omega arith
     ]
   ]
@@ -136,7 +137,7 @@ module _ {V W : Type 0} (m : Meaning V W) {old new : PerformerValue V W} (goes_o
   stop_performs =
       let f =
       front in
-      rw (f.is, ← stops_at_front, ← told-settled m.limit p r n (rw stops_at_front (whole_at m.limit p r _ f)))
+      rw (f.is, ← stops_at_front, ← told-settled m.limit p r n (rw stops_at_front (breaks_at-front m.limit p r _ f)))
       stop.comes.performed
 
   pub stop_terminated : new.terminated ≡ nat_lt 0 (begin_count (added m.limit p (front_to_begin m.limit p r)))
@@ -147,4 +148,5 @@ module _ {V W : Type 0} (m : Meaning V W) {old new : PerformerValue V W} (goes_o
   pub stop_stream : resumed_stream p r n ≡ p ++ front_to_begin m.limit p r
   stop_stream =
       let f =
-      front in rw (f.is, ← stops_at_front) (resumed_stream-settled p r n (rw stops_at_front (whole_at m.limit p r _ f)))
+      front in rw (f.is, ← stops_at_front)
+      (resumed_stream-settled p r n (rw stops_at_front (breaks_at-front m.limit p r _ f)))

@@ -2,7 +2,7 @@
 -- was stored and read, nor more separators than 16; so the contracts of both parsers become those of one.
 use Rattle.vte.proofs.Common.{◌≡◌, ℕ, ◌+◌, ◌≤◌, true, All, Option, Some, None, List, [], ◌∷◌, ◌++◌, length, Result, Ok, Err, refl, arith, concat, take-append_seam, usual_limit}
 use Rattle.vte.proofs.Common.{false≢true, nat_tests, All-cons, All-drop, All-head, All-nil, All-tail, All-take, Event, OscDispatch}
-use Rattle.vte.proofs.Common.{added, events, LongParser, Refused, added_both, counts_data, events_are_bounded, PerformsAll, PerformsUntilStop, FitsText, PerformerValue, ParserHasMemory, KeepsMemory, fits_room, limited_meaning}
+use Rattle.vte.proofs.Common.{added, events, LongParser, Refused, added-append, counts_data, events_are_bounded, PerformsAll, PerformsUntilStop, FitsText, PerformerValue, ParserHasMemory, KeepsMemory, fits_room, limited_meaning}
 use Rattle.vte.proofs.Common.{long_meaning}
 use Rattle.vte_core.specs.EventBounds.{IsBounded}
 use Rattle.vte_core.specs.LongParserCalls.{ReadsBytesLong, ReadsUntilTerminatedLong}
@@ -35,7 +35,7 @@ pub front_fits : (size : ℕ) (limit : Option ℕ) (p front rest : List ℕ)
     → All (FitsText size) (added limit p (front ++ rest)) → All (FitsText size) (added limit p front)
 front_fits size limit p front rest all =
     let parts : All (FitsText size) (added limit p front ++ added limit (p ++ front) rest) =
-    rw (added_both limit p front rest) at all in
+    rw (added-append limit p front rest) at all in
     let first =
     All-take (FitsText size) (length (added limit p front))
     (added limit p front ++ added limit (p ++ front) rest) parts in

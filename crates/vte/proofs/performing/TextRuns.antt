@@ -21,40 +21,41 @@ performed_run step timeout lent (c ∷ cs) =
     performed_run step timeout (with_event step timeout lent (Print c)) cs ∙ rw or-false
 
 -- A character at the end of a run is its last.
-last_added : (last : Option ℕ) (cs : List ℕ) (c : ℕ) → last_printed_from last (map Print (cs ++ c ∷ [])) ≡ Some c
-last_added last [] c = refl
-last_added last (x ∷ cs) c = last_added (Some x) cs c
+last_printed-added : (last : Option ℕ) (cs : List ℕ) (c : ℕ)
+    → last_printed_from last (map Print (cs ++ c ∷ [])) ≡ Some c
+last_printed-added last [] c = refl
+last_printed-added last (x ∷ cs) c = last_printed-added (Some x) cs c
 
 -- No character begins with a byte that continues one.
-begins : (c : ℕ) → 128 ≤ get_or (encode c) 0 0 → 192 ≤ get_or (encode c) 0 0
+encode-lead : (c : ℕ) → 128 ≤ get_or (encode c) 0 0 → 192 ≤ get_or (encode c) 0 0
 unfolding encode
-begins c = grind (arith, nat_tests)
+encode-lead c = grind (arith, nat_tests)
 
-seam : (front : List ℕ) (c : ℕ) → IsCharBoundary (front ++ encode c) (length front)
-seam front c =
+boundary-seam : (front : List ℕ) (c : ℕ) → IsCharBoundary (front ++ encode c) (length front)
+boundary-seam front c =
     let first = rw add-zero at (get_or-append-add front (encode c) 0 0) in
-    (omega (arith, length-append front (encode c)), λ _ high. rw first (begins c (rw first at high)))
+    (omega (arith, length-append front (encode c)), λ _ high. rw first (encode-lead c (rw first at high)))
 
 -- The last character of a text comes off its end.
 chars_before_last : (front : List ℕ) (c : ℕ) → IsUtf8 (front ++ encode c)
     → chars (front ++ encode c) ≡ chars front ++ c ∷ []
 chars_before_last front c is =
     let before : IsUtf8 front =
-    rw take-append_seam at (IsUtf8-take (front ++ encode c) (length front) is (seam front c)) in
+    rw take-append_seam at (IsUtf8-take (front ++ encode c) (length front) is (boundary-seam front c)) in
     let last : IsUtf8 (encode c) =
-    rw drop-append_seam at (IsUtf8-drop (front ++ encode c) (length front) is (seam front c)) in
+    rw drop-append_seam at (IsUtf8-drop (front ++ encode c) (length front) is (boundary-seam front c)) in
     chars-append front (encode c) before
     ∙ rw (chars_past_char (encode c) [] c last (sym (append-nil (encode c))), chars-nil)
 
-no_characters : (text : List ℕ) → length text ≡ 0 → chars text ≡ []
-no_characters [] none = chars-nil
-no_characters (b ∷ text) none = absurd (omega arith)
+chars-none : (text : List ℕ) → length text ≡ 0 → chars text ≡ []
+chars-none [] none = chars-nil
+chars-none (b ∷ text) none = absurd (omega arith)
 
 -- What comes off the end of a text is its last character, and nothing comes off an empty one.
 pub last_of_text : (text : List ℕ) (s t : _) (taken last : Option ℕ) → IsUtf8 text → chars_rest s ≡ text
     → chars_steps_back s taken t
     → option_or taken last ≡ last_printed_from last (map Print (chars text))
-last_of_text text s t None last is same none = rw (no_characters text (ap length (sym same) ∙ none.0))
+last_of_text text s t None last is same none = rw (chars-none text (ap length (sym same) ∙ none.0))
 last_of_text text s t (Some c) last is same some =
     let cut : text ≡ chars_rest t ++ encode c = sym same ∙ some in
-    rw (cut, chars_before_last (chars_rest t) c (rw cut at is)) (sym (last_added last (chars (chars_rest t)) c))
+    rw (cut, chars_before_last (chars_rest t) c (rw cut at is)) (sym (last_printed-added last (chars (chars_rest t)) c))

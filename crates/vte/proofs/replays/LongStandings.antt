@@ -6,13 +6,13 @@ use Rattle.vte.proofs.Common.{AdvancesLong, Bor, Meaning, IsAt, HasMemory, HasPa
 use Rattle.vte.proofs.turns.EngineTurns.{taken-to}
 use Rattle.vte.proofs.replays.Standings.{reads_in_turns}
 use Rattle.vte.specs.declared.ansi.long_processor.LongProcessor.{LongProcessor}
-use Rattle.vte.proofs.turns.Slices.{some_grow}
+use Rattle.vte.proofs.turns.Slices.{until_refused-grows}
 
 module _ {T A W : Type 0} {timeout_of : T → W} {processor : LongProcessor T A} {parsed held : List ℕ}
     {timeout : W} where
-  engine_stands : HasParsedAndHoldsLong timeout_of processor parsed held timeout
+  stands-engine : HasParsedAndHoldsLong timeout_of processor parsed held timeout
       → EngineStandsAt (unlimited timeout_of) processor.engine parsed held timeout
-  engine_stands s = record {
+  stands-engine s = record {
     has_read = s.has_read;
     last = s.last;
     timeout_is = s.timeout_is;
@@ -20,9 +20,9 @@ module _ {T A W : Type 0} {timeout_of : T → W} {processor : LongProcessor T A}
     has_memory = s.has_memory;
   }
 
-  long_stands : EngineStandsAt (unlimited timeout_of) processor.engine parsed held timeout
+  stands-processor : EngineStandsAt (unlimited timeout_of) processor.engine parsed held timeout
       → HasParsedAndHoldsLong timeout_of processor parsed held timeout
-  long_stands s = record {
+  stands-processor s = record {
     has_read = s.has_read;
     last = s.last;
     timeout_is = s.timeout_is;
@@ -31,19 +31,19 @@ module _ {T A W : Type 0} {timeout_of : T → W} {processor : LongProcessor T A}
   }
 
 module _ {T A V W : Type 0} {timeout_of : T → W} {processor : LongProcessor T A} {value : V} (s : State V W) where
-  engine_at : IsAt (HasParsedAndHoldsLong timeout_of processor) value s
+  is_at-engine : IsAt (HasParsedAndHoldsLong timeout_of processor) value s
       → IsAt (EngineStandsAt (unlimited timeout_of) processor.engine) value s
-  engine_at at = record { stands = engine_stands at.stands; handler_is = at.handler_is }
+  is_at-engine at = record { stands = stands-engine at.stands; handler_is = at.handler_is }
 
-  is_at : IsAt (EngineStandsAt (unlimited timeout_of) processor.engine) value s
+  is_at-processor : IsAt (EngineStandsAt (unlimited timeout_of) processor.engine) value s
       → IsAt (HasParsedAndHoldsLong timeout_of processor) value s
-  is_at at = record { stands = long_stands at.stands; handler_is = at.handler_is }
+  is_at-processor at = record { stands = stands-processor at.stands; handler_is = at.handler_is }
 
 pub reserves_long : {T A W : Type 0} {timeout_of : T → W} {old new : LongProcessor T A} {more : ℕ} {result : Bool}
     → EngineReserves (unlimited timeout_of) old.engine new.engine more result → Reserves timeout_of old new more result
 reserves_long r = record {
-  same = λ parsed held timeout had. long_stands (r.same parsed held timeout (engine_stands had));
-  room = λ yes parsed held timeout has. r.room yes parsed held timeout (engine_stands has);
+  same = λ parsed held timeout had. stands-processor (r.same parsed held timeout (stands-engine had));
+  room = λ yes parsed held timeout has. r.room yes parsed held timeout (stands-engine has);
   memory = r.memory;
   lacks = r.lacks;
 }
@@ -52,8 +52,8 @@ pub stops_long : {T A V W : Type 0} {timeout_of : T → W} {m : Meaning V W} {ol
     {before value : V} → EngineStops (unlimited timeout_of) m old.engine new.engine before value
     → StopsSyncLong timeout_of m old new before value
 stops_long {m} r = record {
-  stops = λ s at. is_at (stop m s) (r.stops s (engine_at s at));
-  memory = λ s at. r.memory s (engine_at s at);
+  stops = λ s at. is_at-processor (stop m s) (r.stops s (is_at-engine s at));
+  memory = λ s at. r.memory s (is_at-engine s at);
 }
 
 module _ {T A V W : Type 0} {timeout_of : T → W} {m : Meaning V W} {new : LongProcessor T A} {value : V}
@@ -64,7 +64,7 @@ module _ {T A V W : Type 0} {timeout_of : T → W} {m : Meaning V W} {new : Long
       → HasMemory new s.parsed (length s.held + length bytes) → ⊥
   had_memory read less taken lacks room =
       let t = taken.next in
-      let g = some_grow m s t bytes _ taken.takes in
+      let g = until_refused-grows m s t bytes _ taken.takes in
       let counts = counts_data s.parsed g.more in
       let left = rw (← g.parsed_is) at counts.left in
       let sum : length g.more + length t.held ≡ length s.held + read =
@@ -90,20 +90,20 @@ pub advances_long : {T A V W : Type 0} {timeout_of : T → W} {m : Meaning V W} 
     → EngineReads (unlimited timeout_of) m old.engine new.engine before value bytes.now result
     → AdvancesLong timeout_of m old new before value bytes.now result
 advances_long bytes (Ok all) r = record {
-  takes = λ s at. taken-to is_at (r.takes s (engine_at s at));
+  takes = λ s at. taken-to is_at-processor (r.takes s (is_at-engine s at));
   within = tt;
   lacks = tt;
-  memory = λ s at. r.memory s (engine_at s at);
-  all = reads_in_turns bytes (λ s at. taken-to is_at (r.takes s (engine_at s at))) refl;
+  memory = λ s at. r.memory s (is_at-engine s at);
+  all = reads_in_turns bytes (λ s at. taken-to is_at-processor (r.takes s (is_at-engine s at))) refl;
   enough = λ s at room. refl;
 }
 advances_long bytes (Err refused) r = record {
-  takes = λ s at. taken-to is_at (r.takes s (engine_at s at));
+  takes = λ s at. taken-to is_at-processor (r.takes s (is_at-engine s at));
   within = r.within;
   lacks = record { more = r.lacks.more; within = r.lacks.within; few = r.lacks.few; lacks = r.lacks.lacks };
-  memory = λ s at. r.memory s (engine_at s at);
+  memory = λ s at. r.memory s (is_at-engine s at);
   all = tt;
   enough = λ s at room.
-      absurd (had_memory refused.read r.within (r.takes s (engine_at s at)) r.lacks
-      (r.memory s (engine_at s at) _ _ room));
+      absurd (had_memory refused.read r.within (r.takes s (is_at-engine s at)) r.lacks
+      (r.memory s (is_at-engine s at) _ _ room));
 }

@@ -3,9 +3,9 @@
 use Rattle.vte.proofs.Common.{◌≡◌, ℕ, true, false, List, [], ◌∷◌, ◌++◌, refl, ap, sym, ◌∙◌, Bor, append-nil, events, after, Step, Advance, StopSync, added_calls, calls}
 use Rattle.vte.proofs.Common.{Meaning, HasAdvanced, HasParsedAll, IsAt, HasReplayed, Replays, TakesSteps, StandingPredicate, given_bytes, State, TakesAllTurns, done, turns, turn}
 use Rattle.vte.specs.ProcessorCalls.{AreAdvances, IsNeverPending, ParsesAll}
-use Rattle.vte.proofs.performing.CallLists.{after-append, calls_whole}
+use Rattle.vte.proofs.performing.CallLists.{after_calls-append, calls_whole}
 use Rattle.vte.proofs.replays.Replays.{advance_runs}
-use Rattle.vte.proofs.replays.Tellings.{between-whole}
+use Rattle.vte.proofs.replays.Tellings.{calls_between-whole}
 
 -- nothing is held, and there was no stop
 record IsPlain {V W : Type 0} (s t : State V W) : Type 0 where
@@ -60,9 +60,10 @@ module _ {V W : Type 0} {Before : StandingPredicate W} (old : V) {stream : List 
     plain_follows start was =
         told.is_at.handler_is
         ∙ told.handler_is
-        ∙ rw (← told.stops_are, plain.no_stop, parsed_all, between-whole m.limit stream (given_bytes steps), was)
+        ∙ rw (← told.stops_are, plain.no_stop, parsed_all, calls_between-whole m.limit stream (given_bytes steps), was)
         (sym
-        (after-append m.step start (calls (events m.limit stream)) (added_calls m.limit stream (given_bytes steps))))
+        (after_calls-append m.step start (calls (events m.limit stream))
+        (added_calls m.limit stream (given_bytes steps))))
         ∙ ap (after m.step start) (sym (calls_whole m.limit stream (given_bytes steps)))
 
     plain_parses : HasParsedAll After (stream ++ given_bytes steps)

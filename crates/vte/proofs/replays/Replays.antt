@@ -17,43 +17,43 @@ first_lacks {i} {bytes} lacks steps d read inside is lacking =
 -- ---- for a timeout that is steady, a list of calls leads to one state
 
 module _ {V W : Type 0} (m : Meaning V W) (steady : IsSteady m.timeout) where
-  answers_alone : (s : State V W) (a b : Bool) → HoldsWellAt m s → m.timeout.allows s.timeout a
+  answers-only_one : (s : State V W) (a b : Bool) → HoldsWellAt m s → m.timeout.allows s.timeout a
       → m.timeout.allows s.timeout b → a ≡ b
-  answers_alone s a b h first second = elim (h.steady steady) [
+  answers-only_one s a b h first second = elim (h.steady steady) [
     | inl out ↦ out.not_pending.1 a first ∙ sym (out.not_pending.1 b second)
     | inr i ↦ i.pending.1 a first ∙ sym (i.pending.1 b second)
   ]
 
-  advances_alone : (s t u : State V W) (r : List ℕ) → HoldsWellAt m s → TakesAllTurns m s r t
+  advances-only_one : (s t u : State V W) (r : List ℕ) → HoldsWellAt m s → TakesAllTurns m s r t
       → TakesAllTurns m s r u → u ≡ t
-  advances_alone s t u [] h done done = refl
-  advances_alone s t u (b ∷ r) h (turns pending allowed more) (turns other allowed_too further) =
-      advances_alone _ t u _ (turn_well m pending s (b ∷ r) allowed h) more
-      (rw (answers_alone s other pending h allowed_too allowed) at further)
+  advances-only_one s t u [] h done done = refl
+  advances-only_one s t u (b ∷ r) h (turns pending allowed more) (turns other allowed_too further) =
+      advances-only_one _ t u _ (turn_well m pending s (b ∷ r) allowed h) more
+      (rw (answers-only_one s other pending h allowed_too allowed) at further)
 
-  replay_alone : (s t u : State V W) (steps : List Step) → HoldsWellAt m s → TakesSteps m s steps t
+  replay-only_one : (s t u : State V W) (steps : List Step) → HoldsWellAt m s → TakesSteps m s steps t
       → TakesSteps m s steps u → u ≡ t
-  replay_alone s t u [] h first other = sym other ∙ first
-  replay_alone s t u (Advance bytes ∷ steps) h (next, (a, r)) (other, (b, q)) =
-      replay_alone next t u steps (taken_well m s next bytes.now [] a h) r
-      (rw (advances_alone s next other bytes.now h a b) at q)
-  replay_alone s t u (StopSync ∷ steps) h r q = replay_alone (stop m s) t u steps (stop_well m s) r q
+  replay-only_one s t u [] h first other = sym other ∙ first
+  replay-only_one s t u (Advance bytes ∷ steps) h (next, (a, r)) (other, (b, q)) =
+      replay-only_one next t u steps (taken_well m s next bytes.now [] a h) r
+      (rw (advances-only_one s next other bytes.now h a b) at q)
+  replay-only_one s t u (StopSync ∷ steps) h r q = replay-only_one (stop m s) t u steps (stop_well m s) r q
 
 -- ---- calls one by one
 
 module _ {V W : Type 0} (m : Meaning V W) where
-  replay_well : (s t : State V W) (steps : List Step) → TakesSteps m s steps t → HoldsWellAt m s → HoldsWellAt m t
-  replay_well s t [] same h = rw (← same) h
-  replay_well s t (Advance bytes ∷ steps) (next, (a, r)) h = replay_well next t steps r (taken_well m s next bytes.now
+  replay-well : (s t : State V W) (steps : List Step) → TakesSteps m s steps t → HoldsWellAt m s → HoldsWellAt m t
+  replay-well s t [] same h = rw (← same) h
+  replay-well s t (Advance bytes ∷ steps) (next, (a, r)) h = replay-well next t steps r (taken_well m s next bytes.now
       [] a h)
-  replay_well s t (StopSync ∷ steps) r h = replay_well (stop m s) t steps r (stop_well m s)
+  replay-well s t (StopSync ∷ steps) r h = replay-well (stop m s) t steps r (stop_well m s)
 
   -- a list of calls goes on with further ones
-  replay_on : (s t u : State V W) (steps more : List Step) → TakesSteps m s steps t → TakesSteps m t more u
+  replay-append : (s t u : State V W) (steps more : List Step) → TakesSteps m s steps t → TakesSteps m t more u
       → TakesSteps m s (steps ++ more) u
-  replay_on s t u [] more same r = rw same r
-  replay_on s t u (Advance bytes ∷ steps) more (next, (a, q)) r = (next, (a, replay_on next t u steps more q r))
-  replay_on s t u (StopSync ∷ steps) more q r = replay_on (stop m s) t u steps more q r
+  replay-append s t u [] more same r = rw same r
+  replay-append s t u (Advance bytes ∷ steps) more (next, (a, q)) r = (next, (a, replay-append next t u steps more q r))
+  replay-append s t u (StopSync ∷ steps) more q r = replay-append (stop m s) t u steps more q r
 
   pub replayed : (s t : State V W) (steps : List Step) {IsNowAt : State V W → Type 0} → TakesSteps m s steps t
       → IsNowAt t → HasReplayed m s steps IsNowAt
@@ -70,8 +70,8 @@ module _ {V W : Type 0} (m : Meaning V W) where
         stops_are = e.stops_are;
         in_order = e.in_order;
         handler_is = e.told;
-        holds_well = replay_well s t steps run;
-        only = λ steady well other r. replay_alone m steady s t other steps well run r;
+        holds_well = replay-well s t steps run;
+        only = λ steady well other r. replay-only_one m steady s t other steps well run r;
         is_at = at;
       }
 
@@ -86,7 +86,7 @@ module _ {V W : Type 0} (m : Meaning V W) where
     step_taken q =
         replayed s q.next (take (i + 1) steps)
         (rw (take_more steps i d inside)
-        (replay_on s r.next q.next (take i steps) (get_or steps i d ∷ []) r.takes q.takes)) q.is_at
+        (replay-append s r.next q.next (take i steps) (get_or steps i d ∷ []) r.takes q.takes)) q.is_at
 
     -- the next step is taken, or refused
     pub advance_taken : {bytes : Bor (List ℕ)} → get_or steps i d ≡ Advance bytes → HasAdvanced m r.next bytes.now new

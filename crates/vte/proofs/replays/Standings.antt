@@ -12,9 +12,9 @@ abbrev pub limited : {N : ℕ} {B T W : Type 0} → (T → W) → EngineMeaning 
 limited timeout_of = engine_meaning usual_limit limited_meaning (λ text. TEXT_ROOM) timeout_of
 
 module _ {T A V W : Type 0} {timeout_of : T → W} {processor : Processor T A} {value : V} (s : State V W) where
-  engine_at : IsAt (HasParsedAndHolds timeout_of processor) value s
+  is_at-engine : IsAt (HasParsedAndHolds timeout_of processor) value s
       → IsAt (EngineStandsAt (limited timeout_of) processor.engine) value s
-  engine_at at = record {
+  is_at-engine at = record {
     stands = record {
       has_read = at.stands.has_read;
       last = at.stands.last;
@@ -25,9 +25,9 @@ module _ {T A V W : Type 0} {timeout_of : T → W} {processor : Processor T A} {
     handler_is = at.handler_is;
   }
 
-  is_at : IsAt (EngineStandsAt (limited timeout_of) processor.engine) value s
+  is_at-processor : IsAt (EngineStandsAt (limited timeout_of) processor.engine) value s
       → IsAt (HasParsedAndHolds timeout_of processor) value s
-  is_at at = record {
+  is_at-processor at = record {
     stands = record {
       has_read = at.stands.has_read;
       last = at.stands.last;
@@ -42,18 +42,19 @@ module _ {V W : Type 0} {m : Meaning V W} {Before After : StandingPredicate W} {
     (bytes : Bor (List ℕ)) {read : ℕ}
     (takes : (s : State V W) → IsAt Before old s → HasTaken m s bytes.now read (IsAt After new))
     (all : read ≡ length bytes.now) where
-  advances_so : (s : State V W) → IsAt Before old s → HasAdvanced m s bytes.now (IsAt After new)
-  advances_so s at = has_advanced m s bytes.now (takes s at) (omega (arith, all))
+  reads-advances : (s : State V W) → IsAt Before old s → HasAdvanced m s bytes.now (IsAt After new)
+  reads-advances s at = has_advanced m s bytes.now (takes s at) (omega (arith, all))
 
   pub reads_in_turns : ReadsInTurns m Before After old new bytes.now
-  reads_in_turns = record { advances = advances_so; plain = plain_call m bytes advances_so }
+  reads_in_turns = record { advances = reads-advances; plain = plain_call m bytes reads-advances }
 
-pub never_refused : {T A V W : Type 0} {timeout_of : T → W} {m : Meaning V W} {processor next : Processor T A}
+pub refused-never : {T A V W : Type 0} {timeout_of : T → W} {m : Meaning V W} {processor next : Processor T A}
     {old new : V} (bytes : Bor (List ℕ)) (result : Result (Unit {0}) Refused)
     → EngineReads (limited timeout_of) m processor.engine next.engine old new bytes.now result
     → ReadsInTurns m (HasParsedAndHolds timeout_of processor) (HasParsedAndHolds timeout_of next) old new bytes.now
-never_refused bytes (Ok all) r = reads_in_turns bytes (λ s at. taken-to is_at (r.takes s (engine_at s at))) refl
-never_refused bytes (Err refused) r =
+refused-never bytes (Ok all) r =
+    reads_in_turns bytes (λ s at. taken-to is_at-processor (r.takes s (is_at-engine s at))) refl
+refused-never bytes (Err refused) r =
     reads_in_turns bytes {read = length bytes.now} (λ s at. absurd (
-    let t = r.takes s (engine_at s at) in
+    let t = r.takes s (is_at-engine s at) in
     r.lacks.lacks t.next.parsed t.is_at.stands.has_read (omega arith))) refl

@@ -5,47 +5,52 @@ use Rattle.vte.proofs.Common.{◌≡◌, ◌≤◌, ℕ, ◌+◌, ◌-◌, inl, 
 use Rattle.vte.proofs.Common.{append_assoc, length-append, cases_Bool, append-nil, drop_all, take-append-add, take-append_seam, take_all, after, Step, Advance, StopSync, added_calls, Meaning}
 use Rattle.vte.proofs.Common.{TakesSteps, calls_after, after_last_end, from_begin_update, hold_turn, AreInOrder, calls, calls_between, calls_with_stops, events}
 use Rattle.vte.proofs.Common.{State, TakesAllTurns, front_to_begin, extend, release, open_turn, stop, turn, done, turns}
-use Rattle.vte.proofs.performing.CallLists.{after-append, added_calls-append}
-use Rattle.vte.proofs.turns.Kinds.{holds_all, holds_rest, is_held, is_stopped, turn_holds, turn_parses}
+use Rattle.vte.proofs.performing.CallLists.{after_calls-append, added_calls-append}
+use Rattle.vte.proofs.turns.Kinds.{hold_turn-all, hold_turn-rest, is_held, is_stopped, turn-holds, turn-parses}
 use Rattle.vte.proofs.updates.Sequences.{cases_Option}
 
 -- ---- the calls between two positions
 
-between_none : (limit : Option ℕ) (stream : List ℕ) (position : ℕ) → calls_between limit stream position position ≡ []
-between_none limit stream position =
+calls_between-none : (limit : Option ℕ) (stream : List ℕ) (position : ℕ)
+    → calls_between limit stream position position ≡ []
+calls_between-none limit stream position =
     let seen = calls (events limit (take position stream)) in drop_all (length seen) seen (omega arith)
 
-between-append : (limit : Option ℕ) (p f rest : List ℕ) (position : ℕ) → length (p ++ f) ≤ position
-    → calls_between limit ((p ++ f) ++ rest) (length p) position
-    ≡ added_calls limit p f ++ calls_between limit ((p ++ f) ++ rest) (length (p ++ f)) position
-between-append limit p f rest position from =
-    let k = position - length (p ++ f) in
-    let is : position ≡ length (p ++ f) + k = omega (arith, from) in
-    let first : take (length p) ((p ++ f) ++ rest) ≡ p =
-    ap (take (length p)) (append_assoc p f rest) ∙ take-append_seam p (f ++ rest) in
-    let more = take k rest in
-    rw (is, first, take-append-add (p ++ f) rest k, take-append_seam (p ++ f) rest)
-    (ap (λ all. calls_after (events limit p) (events limit all)) (append_assoc p f more)
-    ∙ added_calls-append limit p f more)
+in_order-sooner : (parsed front positions : List ℕ) (to : ℕ) → AreInOrder (length (parsed ++ front)) positions to
+    → AreInOrder (length parsed) positions to
+in_order-sooner parsed front [] to order = omega (arith, order, length-append parsed front)
+in_order-sooner parsed front (position ∷ positions) to (from, order) =
+    (omega (arith, from, length-append parsed front), order)
 
-pub between-whole : (limit : Option ℕ) (p f : List ℕ)
-    → calls_between limit (p ++ f) (length p) (length (p ++ f)) ≡ added_calls limit p f
-between-whole limit p f = rw (take-append_seam p f, take_all (length (p ++ f)) (p ++ f) (omega arith)) refl
+-- a front is parsed, and then the rest
+module _ (limit : Option ℕ) (parsed front : List ℕ) where
+  abbrev both : List ℕ
+  both = parsed ++ front
 
--- ---- bytes before the first stop
+  calls_between-append : (rest : List ℕ) (position : ℕ) → length both ≤ position
+      → calls_between limit (both ++ rest) (length parsed) position
+      ≡ added_calls limit parsed front ++ calls_between limit (both ++ rest) (length both) position
+  calls_between-append rest position from =
+      let past = position - length both in
+      let is : position ≡ length both + past = omega (arith, from) in
+      let first : take (length parsed) (both ++ rest) ≡ parsed =
+      ap (take (length parsed)) (append_assoc parsed front rest) ∙ take-append_seam parsed (front ++ rest) in
+      let more = take past rest in
+      rw (is, first, take-append-add both rest past, take-append_seam both rest)
+      (ap (λ all. calls_after (events limit parsed) (events limit all)) (append_assoc parsed front more)
+      ∙ added_calls-append limit parsed front more)
 
-order_sooner : (p f positions : List ℕ) (to : ℕ) → AreInOrder (length (p ++ f)) positions to
-    → AreInOrder (length p) positions to
-order_sooner p f [] to order = omega (arith, order, length-append p f)
-order_sooner p f (position ∷ positions) to (from, order) = (omega (arith, from, length-append p f), order)
+  pub calls_between-whole : calls_between limit both (length parsed) (length both) ≡ added_calls limit parsed front
+  calls_between-whole = rw (take-append_seam parsed front, take_all (length both) both (omega arith)) refl
 
-stops-later : (limit : Option ℕ) (p f rest positions : List ℕ) (all : List ℕ) → all ≡ (p ++ f) ++ rest
-    → AreInOrder (length (p ++ f)) positions (length all)
-    → calls_with_stops limit all (length p) positions
-    ≡ added_calls limit p f ++ calls_with_stops limit all (length (p ++ f)) positions
-stops-later limit p f rest [] all is from = rw is (between-append limit p f rest _ (rw is at from))
-stops-later limit p f rest (position ∷ positions) all is (from, order) =
-    rw (is, between-append limit p f rest position from) (append_assoc (added_calls limit p f) _ _)
+  -- bytes before the first stop
+  calls_with_stops-later : (rest positions : List ℕ) (all : List ℕ) → all ≡ both ++ rest
+      → AreInOrder (length both) positions (length all)
+      → calls_with_stops limit all (length parsed) positions
+      ≡ added_calls limit parsed front ++ calls_with_stops limit all (length both) positions
+  calls_with_stops-later rest [] all is from = rw is (calls_between-append rest _ (rw is at from))
+  calls_with_stops-later rest (position ∷ positions) all is (from, order) =
+      rw (is, calls_between-append rest position from) (append_assoc (added_calls limit parsed front) _ _)
 
 -- ---- from a state to the end of a list of calls
 
@@ -60,7 +65,7 @@ module _ {V W : Type 0} (m : Meaning V W) (end : State V W) where
     pub told : end.handler ≡ after m.step value (calls_with_stops m.limit end.parsed (length parsed) positions)
 
   abbrev TellsAt : State V W → Type 0
-  TellsAt t = HasStillToTell t.parsed t.stops t.handler
+  TellsAt state = HasStillToTell state.parsed state.stops state.handler
 
   tells-nothing : TellsAt end
   tells-nothing = record {
@@ -69,60 +74,71 @@ module _ {V W : Type 0} (m : Meaning V W) (end : State V W) where
     positions = [];
     stops_are = sym (append-nil end.stops);
     in_order = omega arith;
-    told = rw between_none refl;
+    told = rw calls_between-none refl;
   }
 
-  tells-parse : (p f stops : List ℕ) (value : V)
-      → HasStillToTell (p ++ f) stops (after m.step value (added_calls m.limit p f)) → HasStillToTell p stops value
-  tells-parse p f stops value e = record {
-    more = f ++ e.more;
-    parsed_is = e.parsed_is ∙ append_assoc p f e.more;
-    positions = e.positions;
-    stops_are = e.stops_are;
-    in_order = order_sooner p f e.positions _ e.in_order;
-    told = rw (stops-later m.limit p f e.more e.positions end.parsed e.parsed_is e.in_order, after-append) e.told;
+  tells-parse : (parsed front stops : List ℕ) (value : V)
+      → HasStillToTell (parsed ++ front) stops (after m.step value (added_calls m.limit parsed front))
+      → HasStillToTell parsed stops value
+  tells-parse parsed front stops value rest = record {
+    more = front ++ rest.more;
+    parsed_is = rest.parsed_is ∙ append_assoc parsed front rest.more;
+    positions = rest.positions;
+    stops_are = rest.stops_are;
+    in_order = in_order-sooner parsed front rest.positions _ rest.in_order;
+    told =
+        rw (
+          calls_with_stops-later m.limit parsed front rest.more rest.positions end.parsed rest.parsed_is rest.in_order,
+          after_calls-append,
+        ) rest.told;
   }
 
-  tells-stop : (t : State V W) → TellsAt (stop m t) → TellsAt t
-  tells-stop t e =
-      let position = length (t.parsed ++ t.held) in
-      tells-parse t.parsed t.held t.stops t.handler (record {
-        more = e.more;
-        parsed_is = e.parsed_is;
-        positions = position ∷ e.positions;
-        stops_are = e.stops_are ∙ append_assoc t.stops (position ∷ []) e.positions;
-        in_order = (omega arith, e.in_order);
-        told = rw between_none e.told;
+  tells-stop : (state : State V W) → TellsAt (stop m state) → TellsAt state
+  tells-stop state rest =
+      let position = length (state.parsed ++ state.held) in
+      tells-parse state.parsed state.held state.stops state.handler (record {
+        more = rest.more;
+        parsed_is = rest.parsed_is;
+        positions = position ∷ rest.positions;
+        stops_are = rest.stops_are ∙ append_assoc state.stops (position ∷ []) rest.positions;
+        in_order = (omega arith, rest.in_order);
+        told = rw calls_between-none rest.told;
       })
 
-  tells-open : (t : State V W) (r : List ℕ) → TellsAt (open_turn m t r).state → TellsAt t
-  tells-open t r = tells-parse t.parsed (front_to_begin m.limit t.parsed r) t.stops t.handler
+  tells-open : (state : State V W) (bytes : List ℕ) → TellsAt (open_turn m state bytes).state → TellsAt state
+  tells-open state bytes =
+      tells-parse state.parsed (front_to_begin m.limit state.parsed bytes) state.stops state.handler
 
-  tells-release : (t : State V W) (kept : List ℕ) → TellsAt (release m t kept) → TellsAt t
-  tells-release t [] = tells-stop t
-  tells-release t (b ∷ kept) = tells-parse t.parsed _ t.stops t.handler
+  tells-release : (state : State V W) (kept : List ℕ) → TellsAt (release m state kept) → TellsAt state
+  tells-release state [] = tells-stop state
+  tells-release state (byte ∷ kept) = tells-parse state.parsed _ state.stops state.handler
 
-  tells-hold : (t : State V W) (r : List ℕ) → TellsAt (hold_turn m t r) → TellsAt t
-  tells-hold t r = elim (cases_Option (after_last_end (t.held ++ r))) [
-    | inl none ↦ rw (holds_all m t r none) (λ e. e)
-    | inr some ↦ rw (holds_rest m t r some.0 some.1) (tells-release (extend m t r) (from_begin_update some.0))
+  tells-hold : (state : State V W) (bytes : List ℕ) → TellsAt (hold_turn m state bytes) → TellsAt state
+  tells-hold state bytes = elim (cases_Option (after_last_end (state.held ++ bytes))) [
+    | inl none ↦ rw (hold_turn-all m state bytes none) (λ rest. rest)
+    | inr some ↦
+        rw (hold_turn-rest m state bytes some.0 some.1)
+        (tells-release (extend m state bytes) (from_begin_update some.0))
   ]
 
-  tells-turn : (pending : Bool) (t : State V W) (r : List ℕ) → TellsAt (turn m pending t r).state → TellsAt t
-  tells-turn pending t r = elim (cases_Bool (is_held pending t r)) [
-    | inl held ↦ rw (turn_holds m pending t r held) (tells-hold t r)
-    | inr parses ↦ rw (turn_parses m pending t r parses) (elim (cases_Bool (is_stopped pending t)) [
-      | inl stopped ↦ rw stopped (λ e. tells-stop t (tells-open (stop m t) r e))
-      | inr none ↦ rw none (tells-open t r)
+  tells-turn : (pending : Bool) (state : State V W) (bytes : List ℕ) → TellsAt (turn m pending state bytes).state
+      → TellsAt state
+  tells-turn pending state bytes = elim (cases_Bool (is_held pending state bytes)) [
+    | inl held ↦ rw (turn-holds m pending state bytes held) (tells-hold state bytes)
+    | inr parses ↦ rw (turn-parses m pending state bytes parses) (elim (cases_Bool (is_stopped pending state)) [
+      | inl stopped ↦ rw stopped (λ rest. tells-stop state (tells-open (stop m state) bytes rest))
+      | inr none ↦ rw none (tells-open state bytes)
     ])
   ]
 
-  tells-advances : (t v : State V W) (r : List ℕ) → TakesAllTurns m t r v → TellsAt v → TellsAt t
-  tells-advances t v [] done e = e
-  tells-advances t v (b ∷ r) (turns pending allowed more) e =
-      tells-turn pending t (b ∷ r) (tells-advances _ v _ more e)
+  tells-advances : (state next : State V W) (bytes : List ℕ) → TakesAllTurns m state bytes next → TellsAt next
+      → TellsAt state
+  tells-advances state next [] done rest = rest
+  tells-advances state next (byte ∷ bytes) (turns pending allowed more) rest =
+      tells-turn pending state (byte ∷ bytes) (tells-advances _ next _ more rest)
 
-  pub tells-replay : (t : State V W) (steps : List Step) → TakesSteps m t steps end → TellsAt t
-  tells-replay t [] same = rw same tells-nothing
-  tells-replay t (Advance bytes ∷ steps) (next, (a, r)) = tells-advances t next bytes.now a (tells-replay next steps r)
-  tells-replay t (StopSync ∷ steps) r = tells-stop t (tells-replay (stop m t) steps r)
+  pub tells-replay : (state : State V W) (steps : List Step) → TakesSteps m state steps end → TellsAt state
+  tells-replay state [] same = rw same tells-nothing
+  tells-replay state (Advance bytes ∷ steps) (next, (advances, rest)) =
+      tells-advances state next bytes.now advances (tells-replay next steps rest)
+  tells-replay state (StopSync ∷ steps) rest = tells-stop state (tells-replay (stop m state) steps rest)

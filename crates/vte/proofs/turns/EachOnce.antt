@@ -4,14 +4,14 @@ use Rattle.vte.proofs.Common.{◌≡◌, ℕ, ◌-◌, suc, inl, inr, Bool, Opti
 use Rattle.vte.proofs.Common.{take-append-drop, Step, Advance, StopSync, Meaning, TakesSteps, given_bytes, after_last_end, from_begin_update, State, TakesTurns, all_bytes, front_to_begin, extend, hold_turn, release}
 use Rattle.vte.proofs.Common.{cases_Bool, nat_tests, append-nil, parse, stop, turn, done, turns}
 use Rattle.std.proofs.lemmas.List.{nil_from_length}
-use Rattle.vte.proofs.updates.Fronts.{is_front}
-use Rattle.vte.proofs.turns.Kinds.{holds_all, holds_rest, is_held, is_stopped, stop_if_due, turn_holds, turn_parses}
+use Rattle.vte.proofs.updates.Fronts.{front-is}
+use Rattle.vte.proofs.turns.Kinds.{hold_turn-all, hold_turn-rest, is_held, is_stopped, stop_if_due, turn-holds, turn-parses}
 use Rattle.vte.proofs.updates.Sequences.{cases_Option, stays-is}
 
-pub front_rest : (limit : Option ℕ) (p r : List ℕ)
+pub front-rest : (limit : Option ℕ) (p r : List ℕ)
     → front_to_begin limit p r ++ drop (length (front_to_begin limit p r)) r ≡ r
-front_rest limit p r =
-    let k = length (front_to_begin limit p r) in ap (λ x. x ++ drop k r) (is_front limit p r).is ∙ take-append-drop k r
+front-rest limit p r =
+    let k = length (front_to_begin limit p r) in ap (λ x. x ++ drop k r) (front-is limit p r).is ∙ take-append-drop k r
 
 -- A state has parsed what another had, and more of the bytes that were held there or given since.
 -- The others are held, or left.
@@ -51,8 +51,8 @@ grows_before {s} {t} {bytes} g left = record {
 }
 
 module _ {V W : Type 0} (m : Meaning V W) where
-  same : (s : State V W) (bytes : List ℕ) → Progresses s s bytes bytes
-  same s bytes = record { more = []; parsed_is = sym (append-nil s.parsed); each_once = refl }
+  progresses-nothing : (s : State V W) (bytes : List ℕ) → Progresses s s bytes bytes
+  progresses-nothing s bytes = record { more = []; parsed_is = sym (append-nil s.parsed); each_once = refl }
 
   pub stop_grows : (s : State V W) (bytes : List ℕ) → Progresses s (stop m s) bytes bytes
   stop_grows s bytes = record { more = s.held; parsed_is = refl; each_once = refl }
@@ -69,7 +69,7 @@ module _ {V W : Type 0} (m : Meaning V W) where
   stop_if_due_grows pending s bytes =
       elim (cases_Bool (is_stopped pending s)) [
         | inl stopped ↦ rw stopped (stop_grows s bytes)
-        | inr none ↦ rw none (same s bytes)
+        | inr none ↦ rw none (progresses-nothing s bytes)
       ]
 
   pub parse_grows : (s : State V W) (front left bytes : List ℕ) → s.held ≡ [] → front ++ left ≡ bytes
@@ -92,9 +92,9 @@ module _ {V W : Type 0} (m : Meaning V W) where
       let held : Progresses s (extend m s r) r [] =
       record { more = []; parsed_is = sym (append-nil s.parsed); each_once = sym (append-nil (s.held ++ r)) } in
       elim (cases_Option (after_last_end (s.held ++ r))) [
-        | inl none ↦ rw (holds_all m s r none) held
+        | inl none ↦ rw (hold_turn-all m s r none) held
         | inr some ↦
-            rw (holds_rest m s r some.0 some.1)
+            rw (hold_turn-rest m s r some.0 some.1)
             (grows_on held (release_grows (extend m s r) (from_begin_update some.0)
             (rw some.1 at (stays-is (s.held ++ r)))))
       ]
@@ -102,22 +102,22 @@ module _ {V W : Type 0} (m : Meaning V W) where
   turn_grows : (pending : Bool) (s : State V W) (r : List ℕ)
       → Progresses s (turn m pending s r).state r (turn m pending s r).rest
   turn_grows pending s r = elim (cases_Bool (is_held pending s r)) [
-    | inl held ↦ rw (turn_holds m pending s r held) (hold_grows s r)
+    | inl held ↦ rw (turn-holds m pending s r held) (hold_grows s r)
     | inr parses ↦
-        rw (turn_parses m pending s r parses)
+        rw (turn-parses m pending s r parses)
         (grows_on (stop_if_due_grows pending s r)
         (parse_grows (stop_if_due m pending s) _ _ r (stop_if_due_none pending s)
-        (front_rest m.limit (stop_if_due m pending s).parsed r)))
+        (front-rest m.limit (stop_if_due m pending s).parsed r)))
   ]
 
   pub turns_grow : (s t : State V W) (bytes left : List ℕ) → TakesTurns m s bytes t left → Progresses s t bytes left
-  turns_grow s t bytes left done = same s bytes
+  turns_grow s t bytes left done = progresses-nothing s bytes
   turns_grow s t (b ∷ bytes) left (turns pending allowed more) =
       grows_on (turn_grows pending s (b ∷ bytes)) (turns_grow _ t _ left more)
 
   pub replay_grows : (s t : State V W) (steps : List Step) → TakesSteps m s steps t
       → Progresses s t (given_bytes steps) []
-  replay_grows s t [] e = rw e (same t [])
+  replay_grows s t [] e = rw e (progresses-nothing t [])
   replay_grows s t (Advance bytes ∷ steps) (next, (a, r)) =
       grows_on (grows_before (turns_grow s next bytes.now [] a) (given_bytes steps)) (replay_grows next t steps r)
   replay_grows s t (StopSync ∷ steps) r =

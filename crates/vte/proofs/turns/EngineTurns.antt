@@ -6,8 +6,8 @@ use Rattle.vte.proofs.Common.{held_of, false, MatchResult, EndsTurn, inside_turn
 use Rattle.vte.proofs.Common.{HasAdvanced, EngineIsAt, HasTaken, EngineMeaning, KeepsMemory, EngineHasMemory, EngineReads, EngineStops, EngineIsAtKeeping, EndsOpen, HasHalted, HasParsedFront, HasParsedWithoutBegin, ArePartsAt, ArePartsAtKeeping}
 use Rattle.vte.proofs.Common.{ArePartsAtWithMemory, HasTurned, State, TakesTurnsUntilRefused, TakesTurns, all_bytes, turn, hold_turn, parse, stop, between_turns, done, EngineLacksMemory, EngineReserves}
 use Rattle.vte.proofs.turns.EachOnce.{grown_bytes}
-use Rattle.vte.proofs.turns.Kinds.{halts_open, is_held, stop_if_due, turn_holds, turn_parses}
-use Rattle.vte.proofs.turns.Slices.{all_taken, halts, one_taken, some_grow, some_on, some_well, taken_on}
+use Rattle.vte.proofs.turns.Kinds.{refused-by_open, is_held, stop_if_due, turn-holds, turn-parses}
+use Rattle.vte.proofs.turns.Slices.{until_refused-all, open-halts, takes-one, until_refused-grows, until_refused-on, until_refused-well, taken_on}
 
 -- an engine stands where its parts do
 module _ {P B T A V W : Type 0} {parts : EngineMeaning P B T W} {engine : Engine P B T A} {value : V} {s : State V W}
@@ -118,8 +118,8 @@ ends_turn {m} {s} {bytes} pending allowed parses keeps (Ok read) less e = record
         pending = pending;
         allowed = allowed;
         progress = e.opened.progress;
-        rest = rw (turn_parses m pending s bytes parses) e.opened.rest;
-        is_at = rw (turn_parses m pending s bytes parses) (after-next keeps e.opened.is_at);
+        rest = rw (turn-parses m pending s bytes parses) e.opened.rest;
+        is_at = rw (turn-parses m pending s bytes parses) (after-next keeps e.opened.is_at);
       };
   halted = tt;
 }
@@ -128,7 +128,7 @@ ends_turn {m} {s} {bytes} pending allowed parses keeps (Err refused) less e = re
   halted = record {
     next = parse m (stop_if_due m pending s) (take refused.read bytes);
     takes = inside_turn done pending allowed
-        (halts_open m pending s _ bytes _ (parses, halts m (stop_if_due m pending s) bytes e.halted less));
+        (refused-by_open m pending s _ bytes _ (parses, open-halts m (stop_if_due m pending s) bytes e.halted less));
     is_at = after-next keeps e.halted.is_at;
   };
 }
@@ -144,20 +144,20 @@ module _ {V W : Type 0} (m : Meaning V W) {s : State V W} {bytes : List ℕ} {n 
         pending = pending;
         allowed = allowed;
         progress = λ some. omega arith;
-        rest = rw (turn_holds m pending s bytes held) (sym (drop_all n bytes (omega arith)));
-        is_at = rw (turn_holds m pending s bytes held) at;
+        rest = rw (turn-holds m pending s bytes held) (sym (drop_all n bytes (omega arith)));
+        is_at = rw (turn-holds m pending s bytes held) at;
       }
 
 -- ---- the turns of a call
 
-rest_is : (bytes : List ℕ) (read : ℕ) → read ≤ length bytes
+rest-is : (bytes : List ℕ) (read : ℕ) → read ≤ length bytes
     → take (length bytes - read) (drop read bytes) ≡ drop read bytes
-rest_is bytes read inside = take_all (length bytes - read) (drop read bytes) (rw length-drop (omega arith))
+rest-is bytes read inside = take_all (length bytes - read) (drop read bytes) (rw length-drop (omega arith))
 
 -- how many bytes are left
-pub rest_size : (bytes : List ℕ) (read : ℕ) → read ≤ length bytes
+pub rest-size : (bytes : List ℕ) (read : ℕ) → read ≤ length bytes
     → length (take (length bytes - read) (drop read bytes)) ≡ length bytes - read
-rest_size bytes read inside = rw (rest_is bytes read inside, length-drop)
+rest-size bytes read inside = rw (rest-is bytes read inside, length-drop)
 
 module _ {V W : Type 0} (m : Meaning V W) (s : State V W) (bytes : List ℕ) where
   -- `count` turns have read `read` bytes, at least one each.
@@ -178,7 +178,7 @@ module _ {V W : Type 0} (m : Meaning V W) (s : State V W) (bytes : List ℕ) whe
       → HasReached (count + 1) (read + n) (EngineIsAtKeeping parts first new value)
   reaches-more {count} {read} {n} r some turned =
       let slice = take (length bytes - read) (drop read bytes) in
-      let is : slice ≡ drop read bytes = rest_is bytes read (omega arith) in
+      let is : slice ≡ drop read bytes = rest-is bytes read (omega arith) in
       let left : 0 < length slice = rw (is, length-drop read bytes) (omega arith) in
       let rest : (turn m turned.pending r.here slice).rest ≡ drop (read + n) bytes =
       turned.rest ∙ rw (is, drop-drop n read bytes) in
@@ -186,40 +186,41 @@ module _ {V W : Type 0} (m : Meaning V W) (s : State V W) (bytes : List ℕ) whe
         here = (turn m turned.pending r.here slice).state;
         enough = omega (arith, r.enough, turned.progress left);
         takes = rw rest at
-            (taken_on m s r.here _ bytes slice _ (rw is r.takes) (one_taken m turned.pending left turned.allowed));
+            (taken_on m s r.here _ bytes slice _ (rw is r.takes) (takes-one m turned.pending left turned.allowed));
         is_at = after-next r.is_at.memory turned.is_at;
       }
 
-  taken : {read : ℕ} {IsNowAt : State V W → Type 0} (t : State V W)
+  has_taken-turns : {read : ℕ} {IsNowAt : State V W → Type 0} (t : State V W)
       → TakesTurnsUntilRefused m s bytes t (drop read bytes)
       → IsNowAt t → HasTaken m s bytes read IsNowAt
-  taken {read} t takes at = record {
+  has_taken-turns {read} t takes at = record {
     next = t;
     takes = takes;
     each_once = append_cancel_right _ _ (drop read bytes)
-        (grown_bytes (some_grow m s t bytes (drop read bytes) takes)
+        (grown_bytes (until_refused-grows m s t bytes (drop read bytes) takes)
         ∙ ap (λ x. all_bytes s ++ x) (sym (take-append-drop read bytes))
         ∙ sym (append_assoc (all_bytes s) (take read bytes) (drop read bytes)));
-    holds_well = some_well m s t bytes (drop read bytes) takes;
+    holds_well = until_refused-well m s t bytes (drop read bytes) takes;
     is_at = at;
   }
 
-  pub has_taken : {count read : ℕ} {IsNowAt : State V W → Type 0} → HasReached count read IsNowAt
+  pub has_taken-reached : {count read : ℕ} {IsNowAt : State V W → Type 0} → HasReached count read IsNowAt
       → HasTaken m s bytes read IsNowAt
-  has_taken r = taken r.here (between_turns r.takes) r.is_at
+  has_taken-reached r = has_taken-turns r.here (between_turns r.takes) r.is_at
 
   -- a turn was refused memory
-  pub has_halted : {P B T A : Type 0} {parts : EngineMeaning P B T W} {first mid new : Engine P B T A}
+  pub reached-halted : {P B T A : Type 0} {parts : EngineMeaning P B T W} {first mid new : Engine P B T A}
       {before value : V}
       {count read n : ℕ}
       → (r : HasReached count read (EngineIsAtKeeping parts first mid before)) → read ≤ length bytes
       → HasHalted m r.here (take (length bytes - read) (drop read bytes)) n (EngineIsAtKeeping parts mid new value)
       → HasTaken m s bytes (read + n) (EngineIsAtKeeping parts first new value)
-  has_halted {read} {n} r inside h =
+  reached-halted {read} {n} r inside h =
       let slice = take (length bytes - read) (drop read bytes) in
-      let is : slice ≡ drop read bytes = rest_is bytes read inside in
+      let is : slice ≡ drop read bytes = rest-is bytes read inside in
       let left : drop n slice ≡ drop (read + n) bytes = rw (is, drop-drop n read bytes) in
-      taken h.next (rw left at (some_on m s r.here h.next bytes slice (drop n slice) (rw is r.takes) h.takes))
+      has_taken-turns h.next
+      (rw left at (until_refused-on m s r.here h.next bytes slice (drop n slice) (rw is r.takes) h.takes))
       (after-next r.is_at.memory h.is_at)
 
   -- a call that has read all its bytes
@@ -227,7 +228,7 @@ module _ {V W : Type 0} (m : Meaning V W) (s : State V W) (bytes : List ℕ) whe
       → HasAdvanced m s bytes IsNowAt
   has_advanced {read} h all = record {
     next = h.next;
-    advances = all_taken m s h.next bytes (rw (drop_all read bytes all) at h.takes);
+    advances = until_refused-all m s h.next bytes (rw (drop_all read bytes all) at h.takes);
     each_once = rw (take_all read bytes all) at h.each_once;
     holds_well = h.holds_well;
     is_at = h.is_at;
@@ -254,24 +255,24 @@ module _ {V W : Type 0} {m : Meaning V W} {s : State V W} {bytes : List ℕ} {re
 -- what a call ensures by its turns
 module _ {P B T A V W : Type 0} {parts : EngineMeaning P B T W} {m : Meaning V W} {old new : Engine P B T A}
     {before value : V} (bytes : List ℕ) where
-  pub all_read : {count read : ℕ}
+  pub engine_reads-all : {count read : ℕ}
       → ((s : State V W) → EngineIsAt parts old before s
       → HasReached m s bytes count read (EngineIsAtKeeping parts old new value))
       → ((s : State V W) → EngineIsAt parts old before s → read ≡ length bytes)
       → EngineReads parts m old new before value bytes (Ok tt)
-  all_read reaches is = record {
-    takes = λ s at. rw (is s at) at (taken-at (has_taken m s bytes (reaches s at)));
+  engine_reads-all reaches is = record {
+    takes = λ s at. rw (is s at) at (taken-at (has_taken-reached m s bytes (reaches s at)));
     within = tt;
     lacks = tt;
     memory = λ s at. (reaches s at).is_at.memory;
   }
 
-  pub read_until : {refused : Refused}
+  pub engine_reads-until : {refused : Refused}
       → ((s : State V W) → EngineIsAt parts old before s
       → HasTaken m s bytes refused.read (EngineIsAtKeeping parts old new value))
       → refused.read < length bytes → EngineLacksMemory parts new (length bytes - refused.read)
       → EngineReads parts m old new before value bytes (Err refused)
-  read_until taken less lacks =
+  engine_reads-until taken less lacks =
       record {
         takes = λ s at. taken-at (taken s at);
         within = less;

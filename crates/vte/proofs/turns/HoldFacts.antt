@@ -6,20 +6,20 @@ use Rattle.vte.proofs.Common.{TimeoutMeaning, AllowsOnly, IsSteady, begin_count,
 use Rattle.vte.proofs.Common.{update_nanos, HoldsWellAt, begin_update, begins_ending_in_last, after_last_end, from_begin_update, part_after_last_end, State, TakesTurns, stop, front_to_begin, open_turn, release}
 use Rattle.vte.proofs.Common.{extend, hold_turn, turn, done, turns, most_held, ap, append-nil}
 use Rattle.vte.proofs.turns.EachOnce.{stop_if_due_none}
-use Rattle.vte.proofs.updates.Fronts.{is_front}
-use Rattle.vte.proofs.turns.Kinds.{holds_all, holds_rest, is_held, is_stopped, stop_if_due, turn_holds, turn_parses}
+use Rattle.vte.proofs.updates.Fronts.{front-is}
+use Rattle.vte.proofs.turns.Kinds.{hold_turn-all, hold_turn-rest, is_held, is_stopped, stop_if_due, turn-holds, turn-parses}
 use Rattle.vte.proofs.updates.Sequences.{StaysHeld, cases_Option, begins_with-append, stays_held, suffix-length}
 
 -- ---- the timeout
 
 module _ {W : Type 0} (m : TimeoutMeaning W) (k : IsSteady m) where
-  still_pending : (n : ℕ) (value : W) → AllowsOnly m value true → AllowsOnly m (set_times m n value) true
-  still_pending zero value a = a
-  still_pending (suc n) value a = still_pending n (m.set value update_nanos) (k.set value update_nanos)
+  allows-still_pending : (n : ℕ) (value : W) → AllowsOnly m value true → AllowsOnly m (set_times m n value) true
+  allows-still_pending zero value a = a
+  allows-still_pending (suc n) value a = allows-still_pending n (m.set value update_nanos) (k.set value update_nanos)
 
-  pending : (n : ℕ) (value : W) → 0 < n → AllowsOnly m (set_times m n value) true
-  pending zero value some = absurd (omega arith)
-  pending (suc n) value some = still_pending n (m.set value update_nanos) (k.set value update_nanos)
+  allows-pending : (n : ℕ) (value : W) → 0 < n → AllowsOnly m (set_times m n value) true
+  allows-pending zero value some = absurd (omega arith)
+  allows-pending (suc n) value some = allows-still_pending n (m.set value update_nanos) (k.set value update_nanos)
 
 -- ---- a stop
 
@@ -35,14 +35,14 @@ module _ {V W : Type 0} (m : Meaning V W) where
   open_well : (s : State V W) (r : List ℕ) → s.held ≡ []
       → (IsSteady m.timeout → IsOutsideUpdate m.timeout s.held s.timeout) → HoldsWellAt m (open_turn m s r).state
   open_well s r nothing outside =
-      let f = is_front m.limit s.parsed r in
+      let f = front-is m.limit s.parsed r in
       record {
         no_end = rw nothing refl;
         fits = rw nothing (omega arith);
         steady = λ k. elim (cases_lt 0 (begin_count (added m.limit s.parsed (front_to_begin m.limit s.parsed r)))) [
           | inl some ↦
               inr (record {
-                pending = pending m.timeout k _ s.timeout some;
+                pending = allows-pending m.timeout k _ s.timeout some;
                 begun = inl (rw f.is (f.ends (rw f.is at some)));
               })
           | inr none ↦
@@ -62,7 +62,7 @@ module _ {V W : Type 0} (m : Meaning V W) where
     fits = omega (arith, suffix-length is.suffix);
     steady = λ k. inr (record {
       pending =
-          still_pending m.timeout k
+          allows-still_pending m.timeout k
           (begin_count (added m.limit t.parsed (take (length t.held - suc (length kept)) t.held))) t.timeout
           (inside k).pending;
       begun = elim is.begins [
@@ -73,16 +73,16 @@ module _ {V W : Type 0} (m : Meaning V W) where
     });
   }
 
-  inside_of : (s : State V W) → HoldsWellAt m s → m.timeout.allows s.timeout true → IsSteady m.timeout
+  inside-pending : (s : State V W) → HoldsWellAt m s → m.timeout.allows s.timeout true → IsSteady m.timeout
       → IsInsideUpdate m.limit m.timeout s.parsed s.held s.timeout
-  inside_of s h allowed k = elim (h.steady k) [
+  inside-pending s h allowed k = elim (h.steady k) [
     | inl out ↦ absurd (false≢true (sym (out.not_pending.1 true allowed)))
     | inr i ↦ i
   ]
 
-  outside_of : (s : State V W) → HoldsWellAt m s → m.timeout.allows s.timeout false → IsSteady m.timeout
+  outside-not_pending : (s : State V W) → HoldsWellAt m s → m.timeout.allows s.timeout false → IsSteady m.timeout
       → IsOutsideUpdate m.timeout s.held s.timeout
-  outside_of s h allowed k = elim (h.steady k) [
+  outside-not_pending s h allowed k = elim (h.steady k) [
     | inl out ↦ out
     | inr i ↦ absurd (false≢true (i.pending.1 false allowed))
   ]
@@ -92,7 +92,9 @@ module _ {V W : Type 0} (m : Meaning V W) where
       → IsOutsideUpdate m.timeout (stop_if_due m pending s).held (stop_if_due m pending s).timeout
   stop_if_due_outside pending s allowed h k = elim (cases_Bool (is_stopped pending s)) [
     | inl stopped ↦ rw stopped (stop_outside s k)
-    | inr none ↦ let no : pending ≡ false = grind (arith, nat_tests) in rw none (outside_of s h (rw no at allowed) k)
+    | inr none ↦
+        let no : pending ≡ false = grind (arith, nat_tests) in
+        rw none (outside-not_pending s h (rw no at allowed) k)
   ]
 
   hold_well : (s : State V W) (r : List ℕ) → HoldsWellAt m s → m.timeout.allows s.timeout true
@@ -100,16 +102,16 @@ module _ {V W : Type 0} (m : Meaning V W) where
   hold_well s r h allowed fits =
       let inside : IsSteady m.timeout
       → IsInsideUpdate m.limit m.timeout s.parsed (s.held ++ r) (extend m s r).timeout =
-      λ k. (let i = inside_of s h allowed k in record {
-        pending = still_pending m.timeout k (begins_ending_in_last (length r) (part_after_last_end (s.held
+      λ k. (let i = inside-pending s h allowed k in record {
+        pending = allows-still_pending m.timeout k (begins_ending_in_last (length r) (part_after_last_end (s.held
             ++ r))) s.timeout i.pending;
         begun = elim i.begun [ inl p ↦ inl p | inr b ↦ inr (begins_with-append begin_update s.held r b) ];
       }) in
       elim (cases_Option (after_last_end (s.held ++ r))) [
         | inl none ↦
-            rw (holds_all m s r none) (record { no_end = none; fits = fits; steady = λ k. inr (inside k) })
+            rw (hold_turn-all m s r none) (record { no_end = none; fits = fits; steady = λ k. inr (inside k) })
         | inr some ↦
-            rw (holds_rest m s r some.0 some.1)
+            rw (hold_turn-rest m s r some.0 some.1)
             (keep_well (extend m s r) (from_begin_update some.0) (rw some.1 at (stays_held (s.held ++ r))) fits inside)
       ]
 
@@ -120,10 +122,10 @@ module _ {V W : Type 0} (m : Meaning V W) where
   turn_well pending s r allowed h = elim (cases_Bool (is_held pending s r)) [
     | inl held ↦ let yes : pending ≡ true =
         grind (arith, nat_tests) in
-        rw (turn_holds m pending s r held)
+        rw (turn-holds m pending s r held)
         (hold_well s r h (rw yes at allowed) (grind (arith, nat_tests, length-append s.held r)))
     | inr parses ↦
-        rw (turn_parses m pending s r parses)
+        rw (turn-parses m pending s r parses)
         (open_well (stop_if_due m pending s) r (stop_if_due_none m pending s)
         (stop_if_due_outside pending s allowed h))
   ]

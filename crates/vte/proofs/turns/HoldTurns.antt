@@ -4,7 +4,7 @@ use Rattle.vte.proofs.Common.{◌≡◌, ℕ, ◌+◌, ◌-◌, ◌<◌, List, [
 use Rattle.vte.proofs.Common.{held_of, released_of, still_held, Meaning, set_times, EngineIsAt, EngineMeaning, EngineIsAtKeeping, ArePartsAt, ArePartsAtKeeping, ArePartsAtWithMemory, State, after_last_end, extend, from_begin_update, hold_turn, release}
 use Rattle.vte.proofs.Common.{ap, inl, inr, parse, stop, with_held}
 use Rattle.std.proofs.lemmas.List.{nil_from_length}
-use Rattle.vte.proofs.turns.Kinds.{holds_all, holds_rest}
+use Rattle.vte.proofs.turns.Kinds.{hold_turn-all, hold_turn-rest}
 use Rattle.vte.proofs.turns.Slices.{parse-nothing}
 use Rattle.vte.proofs.updates.Sequences.{cases_Option, stays_held, suffix-length}
 use Rattle.vte.specs.declared.ansi.hold.Hold.{Hold}
@@ -13,32 +13,33 @@ module _ {V W : Type 0} (m : Meaning V W) where
   abbrev cut : State V W → List ℕ → State V W
   cut t kept = with_held (parse m t (take (length t.held - length kept) t.held)) kept
 
-  keeps_some : (t : State V W) (kept : List ℕ) → 0 < length kept → release m t kept ≡ cut t kept
-  keeps_some t [] some = absurd (omega arith)
-  keeps_some t (b ∷ kept) some = refl
+  release-some : (t : State V W) (kept : List ℕ) → 0 < length kept → release m t kept ≡ cut t kept
+  release-some t [] some = absurd (omega arith)
+  release-some t (b ∷ kept) some = refl
 
   -- some bytes stay held, or none
-  holds_some : (s : State V W) (r : List ℕ) → 0 < length (still_held (s.held ++ r))
+  holds-some : (s : State V W) (r : List ℕ) → 0 < length (still_held (s.held ++ r))
       → hold_turn m s r ≡ cut (extend m s r) (still_held (s.held ++ r))
-  holds_some s r some = elim (cases_Option (after_last_end (s.held ++ r))) [
+  holds-some s r some = elim (cases_Option (after_last_end (s.held ++ r))) [
     | inl none ↦
         let all = s.held ++ r in
         let is : still_held all ≡ all = rw none refl in
         let no_front : length all - length all ≡ 0 = omega arith in
-        holds_all m s r none
+        hold_turn-all m s r none
         ∙ rw (is, no_front) (sym (ap (λ t. with_held t all) (parse-nothing m (extend m s r))))
     | inr last ↦
         let is : still_held (s.held ++ r) ≡ from_begin_update last.0 = rw last.1 refl in
-        holds_rest m s r last.0 last.1 ∙ rw is (keeps_some (extend m s r) (from_begin_update last.0) (rw is at some))
+        hold_turn-rest m s r last.0 last.1
+        ∙ rw is (release-some (extend m s r) (from_begin_update last.0) (rw is at some))
   ]
 
-  holds_none : (s : State V W) (r : List ℕ) → 0 < length (s.held ++ r) → still_held (s.held ++ r) ≡ []
+  holds-none : (s : State V W) (r : List ℕ) → 0 < length (s.held ++ r) → still_held (s.held ++ r) ≡ []
       → hold_turn m s r ≡ stop m (extend m s r)
-  holds_none s r some none = elim (cases_Option (after_last_end (s.held ++ r))) [
+  holds-none s r some none = elim (cases_Option (after_last_end (s.held ++ r))) [
     | inl whole ↦ let all : s.held ++ r ≡ [] = rw whole at none in absurd (omega (arith, some, ap length all))
     | inr last ↦
         let nothing : from_begin_update last.0 ≡ [] = rw last.1 at none in
-        holds_rest m s r last.0 last.1 ∙ rw nothing refl
+        hold_turn-rest m s r last.0 last.1 ∙ rw nothing refl
   ]
 
 -- the hold has the new bytes, and the timeout was set as often as they begin updates
@@ -89,7 +90,7 @@ module _ {P B T A V W : Type 0} {parts : EngineMeaning P B T W} (m : Meaning V W
       let parsed : ArePartsAt parts last.parser last.state next
       (parse m t (take (length all - length (still_held all)) all)) =
       rw added.released_is at there.parts_at in
-      rw (holds_some m s more (rw added.held_is at some)) (record {
+      rw (holds-some m s more (rw added.held_is at some)) (record {
         engine_at = record {
           stands = record {
             has_read = parsed.has_read;
@@ -123,5 +124,5 @@ module _ {P B T A V W : Type 0} {parts : EngineMeaning P B T W} (m : Meaning V W
       let sum : length all + 0 ≡ length s.held + length more = omega (arith, length-append s.held more) in
       let there : EngineIsAtKeeping parts set last next (stop m (extend m s more)) =
       stops (extend m s more) 0 extended whole none (λ some. rw sum room) in
-      rw (holds_none m s more (omega (arith, some, length-append s.held more)) nothing)
+      rw (holds-none m s more (omega (arith, some, length-append s.held more)) nothing)
       (record { engine_at = there.engine_at; memory = there.memory })

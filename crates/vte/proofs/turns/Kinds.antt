@@ -4,12 +4,12 @@ use Rattle.vte.proofs.Common.{ExpiredTurn, Meaning, OpenTurn, OpenTurnIsRefused,
 use Rattle.std.specs.Prelude.{◌&&◌, if◌then◌else◌}
 
 module _ {V W : Type 0} (m : Meaning V W) (s : State V W) (r : List ℕ) where
-  pub holds_all : after_last_end (s.held ++ r) ≡ None → hold_turn m s r ≡ extend m s r
-  holds_all none = rw none refl
+  pub hold_turn-all : after_last_end (s.held ++ r) ≡ None → hold_turn m s r ≡ extend m s r
+  hold_turn-all none = rw none refl
 
-  pub holds_rest : (rest : List ℕ) → after_last_end (s.held ++ r) ≡ Some rest
+  pub hold_turn-rest : (rest : List ℕ) → after_last_end (s.held ++ r) ≡ Some rest
       → hold_turn m s r ≡ release m (extend m s r) (from_begin_update rest)
-  holds_rest rest is = rw is refl
+  hold_turn-rest rest is = rw is refl
 
 -- ---- whether bytes are held, and what is stopped before they are parsed
 
@@ -27,40 +27,40 @@ abbrev pub OpensAndHalts : {V W : Type 0} → Meaning V W → Bool → State V W
 OpensAndHalts m pending s bytes t left =
     (is_held pending s bytes ≡ false) × OpenTurnIsRefused m (stop_if_due m pending s) bytes t left
 
-not_pending : (held given : ℕ) → ((kind_of false held given ≡ OpenTurn) × (nat_lt 0 held ≡ false))
+kind-not_pending : (held given : ℕ) → ((kind_of false held given ≡ OpenTurn) × (nat_lt 0 held ≡ false))
     ⊎ ((kind_of false held given ≡ ExpiredTurn) × (nat_lt 0 held ≡ true))
-not_pending zero given = inl (refl, refl)
-not_pending (suc held) given = inr (refl, grind (arith, nat_tests))
+kind-not_pending zero given = inl (refl, refl)
+kind-not_pending (suc held) given = inr (refl, grind (arith, nat_tests))
 
 module _ {V W : Type 0} (m : Meaning V W) where
-  pub turn_holds : (pending : Bool) (s : State V W) (r : List ℕ) → is_held pending s r ≡ true
+  pub turn-holds : (pending : Bool) (s : State V W) (r : List ℕ) → is_held pending s r ≡ true
       → turn m pending s r ≡ record { state = hold_turn m s r; rest = [] }
-  turn_holds true s r held = rw held refl
-  turn_holds false s r held = absurd (let e : false ≡ true = held in cc)
+  turn-holds true s r held = rw held refl
+  turn-holds false s r held = absurd (let e : false ≡ true = held in cc)
 
-  pub turn_parses : (pending : Bool) (s : State V W) (r : List ℕ) → is_held pending s r ≡ false
+  pub turn-parses : (pending : Bool) (s : State V W) (r : List ℕ) → is_held pending s r ≡ false
       → turn m pending s r ≡ open_turn m (stop_if_due m pending s) r
-  turn_parses true s r parses = rw parses refl
-  turn_parses false s r parses = elim (not_pending (length s.held) (length r)) [
+  turn-parses true s r parses = rw parses refl
+  turn-parses false s r parses = elim (kind-not_pending (length s.held) (length r)) [
     | inl e ↦ rw (e.0, e.1) refl
     | inr e ↦ rw (e.0, e.1) refl
   ]
 
-  pub opens_first : (pending : Bool) (s t : State V W) (r left : List ℕ) → TurnIsRefused m pending s r t left
+  pub refused-opens : (pending : Bool) (s t : State V W) (r left : List ℕ) → TurnIsRefused m pending s r t left
       → OpensAndHalts m pending s r t left
-  opens_first true s t r left h = elim (cases_Bool (nat_le (length s.held + length r) most_held)) [
+  refused-opens true s t r left h = elim (cases_Bool (nat_le (length s.held + length r) most_held)) [
     | inl fits ↦ absurd (rw fits at h)
     | inr full ↦ (full, rw full at h)
   ]
-  opens_first false s t r left h = elim (not_pending (length s.held) (length r)) [
+  refused-opens false s t r left h = elim (kind-not_pending (length s.held) (length r)) [
     | inl e ↦ (refl, rw e.1 (rw e.0 at h))
     | inr e ↦ (refl, rw e.1 (rw e.0 at h))
   ]
 
-  pub halts_open : (pending : Bool) (s t : State V W) (r left : List ℕ) → OpensAndHalts m pending s r t left
+  pub refused-by_open : (pending : Bool) (s t : State V W) (r left : List ℕ) → OpensAndHalts m pending s r t left
       → TurnIsRefused m pending s r t left
-  halts_open true s t r left (parses, h) = rw parses h
-  halts_open false s t r left (parses, h) = elim (not_pending (length s.held) (length r)) [
+  refused-by_open true s t r left (parses, h) = rw parses h
+  refused-by_open false s t r left (parses, h) = elim (kind-not_pending (length s.held) (length r)) [
     | inl e ↦ rw e.0 (rw e.1 at h)
     | inr e ↦ rw e.0 (rw e.1 at h)
   ]

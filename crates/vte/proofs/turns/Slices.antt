@@ -5,10 +5,10 @@ use Rattle.vte.proofs.Common.{◌≡◌, ℕ, ◌+◌, ◌-◌, ◌<◌, ◌≤�
 use Rattle.vte.proofs.Common.{◌∙◌, arith, length-append, length-drop, append_assoc, drop-append-add, take-add, nat_tests, append-nil, drop_all, length-take-le}
 use Rattle.vte.proofs.Common.{take-append-drop, take_all, take_at, added, IsSteady, begin_count, IsOutsideUpdate, Meaning, HoldsWellAt, HasHalted, HasParsedFront, HasParsedWithoutBegin, HasTakenOpenTurn}
 use Rattle.vte.proofs.Common.{TakesAllTurns, OpenTurn, OpenTurnIsRefused, State, TakesTurnsUntilRefused, TakesTurns, front_to_begin, between_turns, done, kind_of, open_turn, parse, turn, turns, inside_turn}
-use Rattle.vte.proofs.performing.CallLists.{after-append, added_calls-append, added_calls-nothing, set_times-add}
+use Rattle.vte.proofs.performing.CallLists.{after_calls-append, added_calls-append, added_calls-nothing, set_times-add}
 use Rattle.vte.proofs.turns.EachOnce.{Progresses, grows_on, stop_if_due_grows, stop_if_due_none, parse_grows, turns_grow}
-use Rattle.vte.proofs.updates.Fronts.{begins_in, front_after, front_is_all, front_of_more, front_some, none_begin, none_begin_in}
-use Rattle.vte.proofs.turns.Kinds.{OpensAndHalts, opens_first, stop_if_due, turn_parses}
+use Rattle.vte.proofs.updates.Fronts.{begin_count-added, front-after, front-all, front-more, front-some, begin_count-nothing, begin_count-none}
+use Rattle.vte.proofs.turns.Kinds.{OpensAndHalts, refused-opens, stop_if_due, turn-parses}
 use Rattle.vte.proofs.turns.HoldFacts.{stop_if_due_outside, taken_well}
 
 -- ---- the slices of an open turn
@@ -20,27 +20,27 @@ slice_size bytes read count inside few =
 
 module _ {V W : Type 0} (m : Meaning V W) where
   pub parse-nothing : (s : State V W) → parse m s [] ≡ s
-  parse-nothing s = rw (none_begin m.limit s.parsed, added_calls-nothing m.limit s.parsed, append-nil) refl
+  parse-nothing s = rw (begin_count-nothing m.limit s.parsed, added_calls-nothing m.limit s.parsed, append-nil) refl
 
   parse-append : (s : State V W) (a b : List ℕ) → parse m (parse m s a) b ≡ parse m s (a ++ b)
   parse-append s a b =
       rw (
-        begins_in m.limit s.parsed a b,
+        begin_count-added m.limit s.parsed a b,
         set_times-add m.timeout s.timeout (begin_count (added m.limit s.parsed a))
             (begin_count (added m.limit (s.parsed ++ a) b)),
         added_calls-append m.limit s.parsed a b,
-        after-append m.step s.handler,
+        after_calls-append m.step s.handler,
         append_assoc s.parsed a b,
       ) refl
 
-  open_on : (s t : State V W) (bytes left : List ℕ) → OpenTurnIsRefused m s bytes t left
+  open_turn-goes_on : (s t : State V W) (bytes left : List ℕ) → OpenTurnIsRefused m s bytes t left
       → open_turn m t left ≡ open_turn m s bytes
-  open_on s t bytes left h =
+  open_turn-goes_on s t bytes left h =
       let front = front_to_begin m.limit (s.parsed ++ h.front) left in
       rw (
         h.state_is,
         ← h.bytes_are,
-        front_after m.limit s.parsed h.front left h.none_begin,
+        front-after m.limit s.parsed h.front left h.none_begin,
         length-append,
         drop-append-add h.front left (length front),
       )
@@ -49,20 +49,20 @@ module _ {V W : Type 0} (m : Meaning V W) where
 -- where no update begins in bytes, they are their own front
 module _ {V W : Type 0} {m : Meaning V W} {s : State V W} {bytes : List ℕ} {n : ℕ} {b : Bool} {IsNowAt : State V W
     → Type 0} (at : HasParsedFront m s bytes n b IsNowAt) (whole : b ≡ false) where
-  none_begins : begin_count (added m.limit s.parsed (front_to_begin m.limit s.parsed bytes)) ≡ 0
-  none_begins =
+  begins-none : begin_count (added m.limit s.parsed (front_to_begin m.limit s.parsed bytes)) ≡ 0
+  begins-none =
       let test : nat_lt 0 (begin_count (added m.limit s.parsed (front_to_begin m.limit s.parsed bytes))) ≡ false =
       sym at.begins_is ∙ whole in grind (arith, nat_tests)
 
-  front_whole : front_to_begin m.limit s.parsed bytes ≡ bytes
-  front_whole = front_is_all m.limit s.parsed bytes none_begins
+  front-whole : front_to_begin m.limit s.parsed bytes ≡ bytes
+  front-whole = front-all m.limit s.parsed bytes begins-none
 
   pub begin-whole : n ≡ length bytes
-  begin-whole = at.count ∙ ap length front_whole
+  begin-whole = at.count ∙ ap length front-whole
 
 module _ {V W : Type 0} (m : Meaning V W) (s : State V W) (bytes : List ℕ) where
   pub open-nothing : {IsNowAt : State V W → Type 0} → IsNowAt s → HasParsedWithoutBegin m s bytes 0 IsNowAt
-  open-nothing at = record { none_begin = none_begin m.limit s.parsed; is_at = rw (parse-nothing m s) at }
+  open-nothing at = record { none_begin = begin_count-nothing m.limit s.parsed; is_at = rw (parse-nothing m s) at }
 
   pub open-all : {read : ℕ} {IsNowAt : State V W → Type 0} → HasParsedWithoutBegin m s bytes read IsNowAt
       → length bytes ≤ read
@@ -71,7 +71,7 @@ module _ {V W : Type 0} (m : Meaning V W) (s : State V W) (bytes : List ℕ) whe
       let whole = take_all read bytes all in
       let none : begin_count (added m.limit s.parsed bytes) ≡ 0 = rw whole at o.none_begin in
       let is : front_to_begin m.limit s.parsed bytes ≡ bytes =
-      ap (front_to_begin m.limit s.parsed) (sym (append-nil bytes)) ∙ front_after m.limit s.parsed bytes [] none
+      ap (front_to_begin m.limit s.parsed) (sym (append-nil bytes)) ∙ front-after m.limit s.parsed bytes [] none
       ∙ append-nil bytes in
       record {
         progress = λ some. omega (arith, all);
@@ -85,9 +85,9 @@ module _ {V W : Type 0} (m : Meaning V W) (s : State V W) (bytes : List ℕ) whe
       → HasParsedFront m (parse m s (take read bytes)) slice n b new → b ≡ false
       → HasParsedWithoutBegin m s bytes (read + n) new
   open-more {slice} {read} {n} k o is at uncut =
-      let all = front_whole at uncut in
+      let all = front-whole at uncut in
       let zero : begin_count (added m.limit (s.parsed ++ take read bytes) slice) ≡ 0 =
-      rw all at (none_begins at uncut) in
+      rw all at (begins-none at uncut) in
       let parts : drop read bytes ≡ slice ++ drop k (drop read bytes) =
       rw is (sym (take-append-drop k (drop read bytes))) in
       let more : take (read + n) bytes ≡ take read bytes ++ slice =
@@ -95,7 +95,7 @@ module _ {V W : Type 0} (m : Meaning V W) (s : State V W) (bytes : List ℕ) whe
       ∙ ap (λ x. take read bytes ++ x)
       (ap (take n) parts ∙ take_at slice (drop k (drop read bytes)) n (sym (begin-whole at uncut))) in
       record {
-        none_begin = rw more (none_begin_in m.limit s.parsed (take read bytes) slice o.none_begin zero);
+        none_begin = rw more (begin_count-none m.limit s.parsed (take read bytes) slice o.none_begin zero);
         is_at = rw (more, ← parse-append m s (take read bytes) slice) (rw all at at.is_at);
       }
 
@@ -114,22 +114,22 @@ module _ {V W : Type 0} (m : Meaning V W) (s : State V W) (bytes : List ℕ) whe
       let whole : bytes ≡ take read bytes ++ (slice ++ drop k (drop read bytes)) =
       sym (take-append-drop read bytes) ∙ ap (λ rest. take read bytes ++ rest) parts in
       let all : front_to_begin m.limit s.parsed bytes ≡ take read bytes ++ front =
-      ap (front_to_begin m.limit s.parsed) whole ∙ front_after m.limit s.parsed (take read bytes) _ o.none_begin
+      ap (front_to_begin m.limit s.parsed) whole ∙ front-after m.limit s.parsed (take read bytes) _ o.none_begin
       ∙ ap (λ x. take read bytes ++ x)
-      (front_of_more m.limit (s.parsed ++ take read bytes) slice (drop k (drop read bytes)) some) in
+      (front-more m.limit (s.parsed ++ take read bytes) slice (drop k (drop read bytes)) some) in
       let size : length (front_to_begin m.limit s.parsed bytes) ≡ read + n =
       ap length all ∙ length-append (take read bytes) front
       ∙ omega (arith, length-take-le read bytes inside, at.count) in
       record {
-        progress = λ some. omega (arith, front_some m.limit s.parsed bytes some, size);
+        progress = λ some. omega (arith, front-some m.limit s.parsed bytes some, size);
         rest = rw size;
         is_at = rw (all, ← parse-append m s (take read bytes) front) at.is_at;
       }
 
-  pub halts : {read : ℕ} {IsNowAt : State V W → Type 0} → HasParsedWithoutBegin m s bytes read IsNowAt
+  pub open-halts : {read : ℕ} {IsNowAt : State V W → Type 0} → HasParsedWithoutBegin m s bytes read IsNowAt
       → read < length bytes
       → OpenTurnIsRefused m s bytes (parse m s (take read bytes)) (drop read bytes)
-  halts {read} o less = record {
+  open-halts {read} o less = record {
     front = take read bytes;
     bytes_are = take-append-drop read bytes;
     some_left = rw length-drop (omega arith);
@@ -139,18 +139,18 @@ module _ {V W : Type 0} (m : Meaning V W) (s : State V W) (bytes : List ℕ) whe
 
 -- ---- a turn that is refused memory
 
-pub halted_nothing : {V W : Type 0} (m : Meaning V W) {s : State V W} {bytes : List ℕ} {IsNowAt : State V W → Type 0}
+pub halted-nothing : {V W : Type 0} (m : Meaning V W) {s : State V W} {bytes : List ℕ} {IsNowAt : State V W → Type 0}
     → IsNowAt s → HasHalted m s bytes 0 IsNowAt
-halted_nothing m {s} at = record { next = s; takes = between_turns done; is_at = at }
+halted-nothing m {s} at = record { next = s; takes = between_turns done; is_at = at }
 
 -- ---- turns of a call, and one after them that is refused memory
 
 module _ {V W : Type 0} (m : Meaning V W) where
-  pub one_taken : {s : State V W} {bytes : List ℕ} (pending : Bool) → 0 < length bytes
+  pub takes-one : {s : State V W} {bytes : List ℕ} (pending : Bool) → 0 < length bytes
       → m.timeout.allows s.timeout pending
       → TakesTurns m s bytes (turn m pending s bytes).state (turn m pending s bytes).rest
-  one_taken {bytes = []} pending some allowed = absurd (omega arith)
-  one_taken {bytes = b ∷ bytes} pending some allowed = turns pending allowed done
+  takes-one {bytes = []} pending some allowed = absurd (omega arith)
+  takes-one {bytes = b ∷ bytes} pending some allowed = turns pending allowed done
 
   -- turns go on with those of the rest
   pub taken_on : (s t u : State V W) (bytes left rest : List ℕ) → TakesTurns m s bytes t left
@@ -159,87 +159,91 @@ module _ {V W : Type 0} (m : Meaning V W) where
   taken_on s t u (b ∷ bytes) left rest (turns pending allowed first) more =
       turns pending allowed (taken_on _ t u _ left rest first more)
 
-  pub some_on : (s t u : State V W) (bytes left rest : List ℕ) → TakesTurns m s bytes t left
+  pub until_refused-on : (s t u : State V W) (bytes left rest : List ℕ) → TakesTurns m s bytes t left
       → TakesTurnsUntilRefused m t left u rest
       → TakesTurnsUntilRefused m s bytes u rest
-  some_on s t u bytes left rest first (between_turns more) = between_turns (taken_on s t u bytes left rest first more)
-  some_on s t u bytes left rest first (inside_turn more pending allowed halts) =
+  until_refused-on s t u bytes left rest first (between_turns more) =
+      between_turns (taken_on s t u bytes left rest first more)
+  until_refused-on s t u bytes left rest first (inside_turn more pending allowed halts) =
       inside_turn (taken_on s t _ bytes left _ first more) pending allowed halts
 
   -- where nothing is left, no turn was refused memory
-  pub all_taken : (s t : State V W) (bytes : List ℕ) → TakesTurnsUntilRefused m s bytes t [] → TakesTurns m s bytes t []
-  all_taken s t bytes (between_turns taken) = taken
-  all_taken s t bytes (inside_turn {reached = u} {rest} taken pending allowed halts) =
-      absurd (omega (arith, (opens_first m pending u t rest [] halts).1.some_left))
+  pub until_refused-all : (s t : State V W) (bytes : List ℕ) → TakesTurnsUntilRefused m s bytes t []
+      → TakesTurns m s bytes t []
+  until_refused-all s t bytes (between_turns taken) = taken
+  until_refused-all s t bytes (inside_turn {reached = u} {rest} taken pending allowed halts) =
+      absurd (omega (arith, (refused-opens m pending u t rest [] halts).1.some_left))
 
   -- ---- what is parsed and held then
 
-  turn_halts_grow : (pending : Bool) (s t : State V W) (bytes left : List ℕ) → OpensAndHalts m pending s bytes t left
+  halts-grows : (pending : Bool) (s t : State V W) (bytes left : List ℕ) → OpensAndHalts m pending s bytes t left
       → Progresses s t bytes left
-  turn_halts_grow pending s t bytes left (parses, h) =
+  halts-grows pending s t bytes left (parses, h) =
       rw h.state_is
       (grows_on (stop_if_due_grows m pending s bytes)
       (parse_grows m (stop_if_due m pending s) h.front left bytes (stop_if_due_none m pending s) h.bytes_are))
 
-  pub some_grow : (s t : State V W) (bytes left : List ℕ) → TakesTurnsUntilRefused m s bytes t left
+  pub until_refused-grows : (s t : State V W) (bytes left : List ℕ) → TakesTurnsUntilRefused m s bytes t left
       → Progresses s t bytes left
-  some_grow s t bytes left (between_turns taken) = turns_grow m s t bytes left taken
-  some_grow s t bytes left (inside_turn {reached = u} {rest} taken pending allowed halts) =
+  until_refused-grows s t bytes left (between_turns taken) = turns_grow m s t bytes left taken
+  until_refused-grows s t bytes left (inside_turn {reached = u} {rest} taken pending allowed halts) =
       grows_on (turns_grow m s u bytes rest taken)
-      (turn_halts_grow pending u t rest left (opens_first m pending u t rest left halts))
+      (halts-grows pending u t rest left (refused-opens m pending u t rest left halts))
 
   -- outside an update, and with nothing held
-  turn_halts_outside : (pending : Bool) (s t : State V W) (bytes left : List ℕ) → IsSteady m.timeout → HoldsWellAt m s
+  halts-outside : (pending : Bool) (s t : State V W) (bytes left : List ℕ) → IsSteady m.timeout → HoldsWellAt m s
       → m.timeout.allows s.timeout pending
       → OpensAndHalts m pending s bytes t left → IsOutsideUpdate m.timeout t.held t.timeout
-  turn_halts_outside pending s t bytes left steady well allowed (parses, h) =
+  halts-outside pending s t bytes left steady well allowed (parses, h) =
       rw (h.state_is, h.none_begin) (stop_if_due_outside m pending s allowed well steady)
 
-  turn_halts_held : (pending : Bool) (s t : State V W) (bytes left : List ℕ)
+  halts-held : (pending : Bool) (s t : State V W) (bytes left : List ℕ)
       → OpensAndHalts m pending s bytes t left → t.held ≡ []
-  turn_halts_held pending s t bytes left (parses, h) = ap (λ t. t.held) h.state_is ∙ stop_if_due_none m pending s
+  halts-held pending s t bytes left (parses, h) = ap (λ t. t.held) h.state_is ∙ stop_if_due_none m pending s
 
-  pub some_well : (s t : State V W) (bytes left : List ℕ) → TakesTurnsUntilRefused m s bytes t left → HoldsWellAt m s
+  pub until_refused-well : (s t : State V W) (bytes left : List ℕ) → TakesTurnsUntilRefused m s bytes t left
+      → HoldsWellAt m s
       → HoldsWellAt m t
-  some_well s t bytes left (between_turns taken) well = taken_well m s t bytes left taken well
-  some_well s t bytes left (inside_turn {reached = u} {rest} taken pending allowed halts) well =
-      let opens = opens_first m pending u t rest left halts in
-      let nothing = turn_halts_held pending u t rest left opens in
+  until_refused-well s t bytes left (between_turns taken) well = taken_well m s t bytes left taken well
+  until_refused-well s t bytes left (inside_turn {reached = u} {rest} taken pending allowed halts) well =
+      let opens = refused-opens m pending u t rest left halts in
+      let nothing = halts-held pending u t rest left opens in
       record {
         no_end = rw nothing refl;
         fits = rw nothing (omega arith);
         steady =
             λ steady.
-            inl (turn_halts_outside pending u t rest left steady (taken_well m s u bytes rest taken well) allowed
+            inl (halts-outside pending u t rest left steady (taken_well m s u bytes rest taken well) allowed
             opens);
       }
 
   -- ---- the unread bytes in a further call
 
-  turn_goes_on : (pending : Bool) (s t : State V W) (bytes left : List ℕ) → OpensAndHalts m pending s bytes t left
+  halts-goes_on : (pending : Bool) (s t : State V W) (bytes left : List ℕ) → OpensAndHalts m pending s bytes t left
       → turn m false t left ≡ turn m pending s bytes
-  turn_goes_on pending s t bytes left (parses, h) =
+  halts-goes_on pending s t bytes left (parses, h) =
       let none : kind_of false (length t.held) (length left) ≡ OpenTurn =
-      rw (turn_halts_held pending s t bytes left (parses, h)) refl in
-      rw (none, turn_parses m pending s bytes parses) (open_on m (stop_if_due m pending s) t bytes left h)
+      rw (halts-held pending s t bytes left (parses, h)) refl in
+      rw (none, turn-parses m pending s bytes parses) (open_turn-goes_on m (stop_if_due m pending s) t bytes left h)
 
-  halted_goes_on : (pending : Bool) (s t end : State V W) (bytes left : List ℕ) → m.timeout.allows s.timeout pending
+  halted-turn_goes_on : (pending : Bool) (s t end : State V W) (bytes left : List ℕ)
+      → m.timeout.allows s.timeout pending
       → OpensAndHalts m pending s bytes t left
       → IsOutsideUpdate m.timeout t.held t.timeout → TakesTurns m t left end [] → TakesTurns m s bytes end []
-  halted_goes_on pending s t end bytes left allowed h out done = absurd (omega (arith, h.1.some_left))
-  halted_goes_on pending s t end bytes (b ∷ left) allowed h out (turns other allows more) =
+  halted-turn_goes_on pending s t end bytes left allowed h out done = absurd (omega (arith, h.1.some_left))
+  halted-turn_goes_on pending s t end bytes (b ∷ left) allowed h out (turns other allows more) =
       let same : turn m other t (b ∷ left) ≡ turn m pending s bytes =
-      rw (out.not_pending.1 other allows) (turn_goes_on pending s t bytes (b ∷ left) h) in
+      rw (out.not_pending.1 other allows) (halts-goes_on pending s t bytes (b ∷ left) h) in
       let some : 0 < length bytes =
       omega (arith, h.1.some_left, ap length h.1.bytes_are, length-append h.1.front (b ∷ left)) in
-      taken_on s _ end bytes _ [] (one_taken pending some allowed)
+      taken_on s _ end bytes _ [] (takes-one pending some allowed)
       (subst (λ x. TakesTurns m x.state x.rest end []) same more)
 
-  pub goes_on : (s t end : State V W) (bytes left : List ℕ) → IsSteady m.timeout → HoldsWellAt m s
+  pub halted-goes_on : (s t end : State V W) (bytes left : List ℕ) → IsSteady m.timeout → HoldsWellAt m s
       → TakesTurnsUntilRefused m s bytes t left → TakesAllTurns m t left end → TakesAllTurns m s bytes end
-  goes_on s t end bytes left steady well (between_turns taken) more = taken_on s t end bytes left [] taken more
-  goes_on s t end bytes left steady well (inside_turn {reached = u} {rest} taken pending allowed halts) more =
-      let opens = opens_first m pending u t rest left halts in
-      let out = turn_halts_outside pending u t rest left steady (taken_well m s u bytes rest taken well) allowed opens
+  halted-goes_on s t end bytes left steady well (between_turns taken) more = taken_on s t end bytes left [] taken more
+  halted-goes_on s t end bytes left steady well (inside_turn {reached = u} {rest} taken pending allowed halts) more =
+      let opens = refused-opens m pending u t rest left halts in
+      let out = halts-outside pending u t rest left steady (taken_well m s u bytes rest taken well) allowed opens
       in
-      taken_on s u end bytes rest [] taken (halted_goes_on pending u t end rest left allowed opens out more)
+      taken_on s u end bytes rest [] taken (halted-turn_goes_on pending u t end rest left allowed opens out more)

@@ -3,7 +3,7 @@
 use Rattle.vte_core.proofs.shapes.Told.{breaks_at-all, breaks_at-settled, told-broken}
 use Rattle.vte.proofs.Common.{◌≡◌, ℕ, zero, suc, ◌+◌, ◌<◌, ◌≤◌, inl, inr, false, nat_lt, Option, List, [], ◌∷◌, ◌++◌, length, take, refl, ap, subst, ◌∙◌}
 use Rattle.vte.proofs.Common.{append_assoc, arith, cases_Bool, cases_lt, nat_tests, append-nil, take_all, breaks_at, told_before, Event, Print, replacement, added, open_character}
-use Rattle.vte.proofs.Common.{told-settled, added_both, added-nothing, opens_silently, begin_count, EndsInBegin, front_to_begin}
+use Rattle.vte.proofs.Common.{told-settled, added-append, added-nothing, opens_silently, begin_count, EndsInBegin, front_to_begin}
 
 -- ---- how often bytes begin an update
 
@@ -11,18 +11,18 @@ begin_count-append : (xs ys : List Event) → begin_count (xs ++ ys) ≡ begin_c
 begin_count-append [] ys = omega arith
 begin_count-append (e ∷ xs) ys = omega (arith, begin_count-append xs ys)
 
-pub none_begin : (limit : Option ℕ) (p : List ℕ) → begin_count (added limit p []) ≡ 0
-none_begin limit p = ap begin_count (added-nothing limit p)
+pub begin_count-nothing : (limit : Option ℕ) (p : List ℕ) → begin_count (added limit p []) ≡ 0
+begin_count-nothing limit p = ap begin_count (added-nothing limit p)
 
-pub begins_in : (limit : Option ℕ) (p a r : List ℕ)
+pub begin_count-added : (limit : Option ℕ) (p a r : List ℕ)
     → begin_count (added limit p (a ++ r)) ≡ begin_count (added limit p a) + begin_count (added limit (p ++ a) r)
-begins_in limit p a r =
-    ap begin_count (added_both limit p a r) ∙ begin_count-append (added limit p a) (added limit (p ++ a) r)
+begin_count-added limit p a r =
+    ap begin_count (added-append limit p a r) ∙ begin_count-append (added limit p a) (added limit (p ++ a) r)
 
 -- a broken character begins no update
-pub told_count : (limit : Option ℕ) (p r : List ℕ) (i : ℕ)
+pub begin_count-told : (limit : Option ℕ) (p r : List ℕ) (i : ℕ)
     → begin_count (told_before limit p r i) ≡ begin_count (added limit p (take i r))
-told_count limit p r i = elim (cases_Bool (breaks_at p r i)) [
+begin_count-told limit p r i = elim (cases_Bool (breaks_at p r i)) [
   | inl broken ↦
       rw (
         told-broken limit p r i broken,
@@ -41,40 +41,40 @@ pub record IsFront (limit : Option ℕ) (p r : List ℕ) (k : ℕ) : Type 0 wher
   pub begins : k < length r → 0 < begin_count (added limit p (take k r))
   pub ends : 0 < begin_count (added limit p (take k r)) → EndsInBegin limit (p ++ take k r)
 
-none_before : (limit : Option ℕ) (p rest : List ℕ) (b k i : ℕ) → begin_count (added limit p (b ∷ [])) ≡ 0
+begin_count-before : (limit : Option ℕ) (p rest : List ℕ) (b k i : ℕ) → begin_count (added limit p (b ∷ [])) ≡ 0
     → IsFront limit (p ++ b ∷ []) rest k → i < suc k
     → begin_count (added limit p (take i (b ∷ rest))) ≡ 0
-none_before limit p rest b k zero none f l = none_begin limit p
-none_before limit p rest b k (suc i) none f l =
-    omega (arith, begins_in limit p (b ∷ []) (take i rest), none, f.before i (omega arith))
+begin_count-before limit p rest b k zero none f l = begin_count-nothing limit p
+begin_count-before limit p rest b k (suc i) none f l =
+    omega (arith, begin_count-added limit p (b ∷ []) (take i rest), none, f.before i (omega arith))
 
-pub is_front : (limit : Option ℕ) (p r : List ℕ) → IsFront limit p r (length (front_to_begin limit p r))
-is_front limit p [] = record {
+pub front-is : (limit : Option ℕ) (p r : List ℕ) → IsFront limit p r (length (front_to_begin limit p r))
+front-is limit p [] = record {
   within = omega arith;
   is = refl;
   before = λ i l. absurd (omega arith);
   begins = λ l. absurd (omega arith);
-  ends = λ some. absurd (omega (arith, none_begin limit p));
+  ends = λ some. absurd (omega (arith, begin_count-nothing limit p));
 }
-is_front limit p (b ∷ rest) = elim (cases_Bool (nat_lt 0 (begin_count (added limit p (b ∷ []))))) [
+front-is limit p (b ∷ rest) = elim (cases_Bool (nat_lt 0 (begin_count (added limit p (b ∷ []))))) [
   | inl some ↦ rw some (record {
     within = omega arith;
     is = rw some refl;
-    before = λ i l. (let first : i ≡ 0 = omega arith in rw first (none_begin limit p));
+    before = λ i l. (let first : i ≡ 0 = omega arith in rw first (begin_count-nothing limit p));
     begins = λ l. grind (arith, nat_tests);
     ends = λ begins. record { before = p; byte = b; parsed_is = refl; begins = begins };
   })
   | inr no_begin ↦
       let none : begin_count (added limit p (b ∷ [])) ≡ 0 = grind (arith, nat_tests) in
       let front = front_to_begin limit (p ++ b ∷ []) rest in
-      let f : IsFront limit (p ++ b ∷ []) rest (length front) = is_front limit (p ++ b ∷ []) rest in
+      let f : IsFront limit (p ++ b ∷ []) rest (length front) = front-is limit (p ++ b ∷ []) rest in
       let same : begin_count (added limit p (b ∷ take (length front) rest))
       ≡ begin_count (added limit (p ++ b ∷ []) (take (length front) rest)) =
-      omega (arith, begins_in limit p (b ∷ []) (take (length front) rest), none) in
+      omega (arith, begin_count-added limit p (b ∷ []) (take (length front) rest), none) in
       rw no_begin (record {
         within = omega (arith, f.within);
         is = rw no_begin (ap (λ x. b ∷ x) f.is);
-        before = λ i l. none_before limit p rest b (length front) i none f l;
+        before = λ i l. begin_count-before limit p rest b (length front) i none f l;
         begins = λ l. rw same (f.begins (omega arith));
         ends =
             λ some. subst (EndsInBegin limit) (append_assoc p (b ∷ []) (take (length front) rest))
@@ -83,8 +83,8 @@ is_front limit p (b ∷ rest) = elim (cases_Bool (nat_lt 0 (begin_count (added l
 ]
 
 -- no character is open after a byte that begins an update
-closed : (limit : Option ℕ) (p : List ℕ) → EndsInBegin limit p → open_character p ≡ []
-closed limit p e = elim (opens_silently limit e.before e.byte) [
+open_character-begin : (limit : Option ℕ) (p : List ℕ) → EndsInBegin limit p → open_character p ≡ []
+open_character-begin limit p e = elim (opens_silently limit e.before e.byte) [
   | inl none ↦ rw e.parsed_is none
   | inr silent ↦ absurd (elim silent [
     | inl nothing ↦ omega (arith, e.begins, ap begin_count nothing)
@@ -92,49 +92,56 @@ closed limit p e = elim (opens_silently limit e.before e.byte) [
   ])
 ]
 
-pub closed_at : (limit : Option ℕ) (p r : List ℕ) (k : ℕ) → IsFront limit p r k → k < length r
+pub open_character-front : (limit : Option ℕ) (p r : List ℕ) (k : ℕ) → IsFront limit p r k → k < length r
     → open_character (p ++ take k r) ≡ []
-closed_at limit p r k f more = closed limit (p ++ take k r) (f.ends (f.begins more))
+open_character-front limit p r k f more = open_character-begin limit (p ++ take k r) (f.ends (f.begins more))
 
 -- no character is broken after the front
-pub whole_at : (limit : Option ℕ) (p r : List ℕ) (k : ℕ) → IsFront limit p r k → breaks_at p r k ≡ false
-whole_at limit p r k f = elim (cases_lt k (length r)) [
-  | inl more ↦ breaks_at-settled p r k (closed_at limit p r k f more)
+pub breaks_at-front : (limit : Option ℕ) (p r : List ℕ) (k : ℕ) → IsFront limit p r k → breaks_at p r k ≡ false
+breaks_at-front limit p r k f = elim (cases_lt k (length r)) [
+  | inl more ↦ breaks_at-settled p r k (open_character-front limit p r k f more)
   | inr all ↦ breaks_at-all p r k all
 ]
 
 -- the front after bytes in which no update begins, and of bytes that begin one, whatever follows
-pub none_begin_in : (limit : Option ℕ) (p a r : List ℕ) → begin_count (added limit p a) ≡ 0
+pub begin_count-none : (limit : Option ℕ) (p a r : List ℕ) → begin_count (added limit p a) ≡ 0
     → begin_count (added limit (p ++ a) r) ≡ 0
     → begin_count (added limit p (a ++ r)) ≡ 0
-none_begin_in limit p a r first second = omega (arith, begins_in limit p a r, first, second)
+begin_count-none limit p a r first second = omega (arith, begin_count-added limit p a r, first, second)
 
-pub front_after : (limit : Option ℕ) (p a r : List ℕ) → begin_count (added limit p a) ≡ 0
+pub front-after : (limit : Option ℕ) (p a r : List ℕ) → begin_count (added limit p a) ≡ 0
     → front_to_begin limit p (a ++ r) ≡ a ++ front_to_begin limit (p ++ a) r
-front_after limit p [] r none = rw append-nil
-front_after limit p (b ∷ a) r none =
-    let all = begins_in limit p (b ∷ []) a in
+front-after limit p [] r none = rw append-nil
+front-after limit p (b ∷ a) r none =
+    let all = begin_count-added limit p (b ∷ []) a in
     let first : nat_lt 0 (begin_count (added limit p (b ∷ []))) ≡ false = grind (arith, nat_tests) in
     let later : begin_count (added limit (p ++ b ∷ []) a) ≡ 0 = omega (arith, all, none) in
-    rw first (ap (λ front. b ∷ front) (front_after limit (p ++ b ∷ []) a r later ∙ rw append_assoc))
+    rw first (ap (λ front. b ∷ front) (front-after limit (p ++ b ∷ []) a r later ∙ rw append_assoc))
 
-pub front_of_more : (limit : Option ℕ) (p r more : List ℕ) → 0 < begin_count (added limit p (front_to_begin limit p r))
+pub front-more : (limit : Option ℕ) (p r more : List ℕ) → 0 < begin_count (added limit p (front_to_begin limit p r))
     → front_to_begin limit p (r ++ more) ≡ front_to_begin limit p r
-front_of_more limit p [] more some = absurd (omega (arith, none_begin limit p, some))
-front_of_more limit p (b ∷ r) more some = elim (cases_Bool (nat_lt 0 (begin_count (added limit p (b ∷ []))))) [
+front-more limit p [] more some = absurd (omega (arith, begin_count-nothing limit p, some))
+front-more limit p (b ∷ r) more some = elim (cases_Bool (nat_lt 0 (begin_count (added limit p (b ∷ []))))) [
   | inl begins ↦ rw begins refl
   | inr no_begin ↦
       let none : begin_count (added limit p (b ∷ [])) ≡ 0 = grind (arith, nat_tests) in
       let later : 0 < begin_count (added limit (p ++ b ∷ []) (front_to_begin limit (p ++ b ∷ []) r)) =
-      omega (arith, begins_in limit p (b ∷ []) (front_to_begin limit (p ++ b ∷ []) r), none, rw no_begin at some) in
-      rw no_begin (ap (λ front. b ∷ front) (front_of_more limit (p ++ b ∷ []) r more later))
+      omega (
+        arith,
+        begin_count-added limit p (b ∷ [])
+            (front_to_begin limit (p ++ b ∷ []) r),
+        none,
+        rw no_begin at some,
+      )
+      in
+      rw no_begin (ap (λ front. b ∷ front) (front-more limit (p ++ b ∷ []) r more later))
 ]
 
 -- bytes in which no update begins are their own front
-pub front_is_all : (limit : Option ℕ) (p r : List ℕ) → begin_count (added limit p (front_to_begin limit p r)) ≡ 0
+pub front-all : (limit : Option ℕ) (p r : List ℕ) → begin_count (added limit p (front_to_begin limit p r)) ≡ 0
     → front_to_begin limit p r ≡ r
-front_is_all limit p r none =
-    let f = is_front limit p r in
+front-all limit p r none =
+    let f = front-is limit p r in
     f.is ∙ take_all (length (front_to_begin limit p r)) r
     (elim (cases_lt (length (front_to_begin limit p r)) (length r)) [
       | inl more ↦ absurd (omega (arith, rw (← f.is) at (f.begins more), none))
@@ -142,6 +149,6 @@ front_is_all limit p r none =
     ])
 
 -- a front of some bytes has some
-pub front_some : (limit : Option ℕ) (p r : List ℕ) → 0 < length r → 0 < length (front_to_begin limit p r)
-front_some limit p [] some = absurd (omega arith)
-front_some limit p (b ∷ rest) some = grind arith
+pub front-some : (limit : Option ℕ) (p r : List ℕ) → 0 < length r → 0 < length (front_to_begin limit p r)
+front-some limit p [] some = absurd (omega arith)
+front-some limit p (b ∷ rest) some = grind arith

@@ -5,7 +5,7 @@ use Rattle.vte.proofs.Common.{ap, ◌∙◌, add-zero, length-drop, arith, cases
 use Rattle.vte.proofs.Common.{IsHeldTail, drop-drop, length-append, Adds, after_word, begin_update, end_update, begins_ending_in_last, begins_with, after_last_end, from_begin_update}
 use Rattle.std.specs.Prelude.{nat_lt}
 use Rattle.memchr.specs.Find.{NoneAfter, Nowhere, Passes, is_byte}
-use Rattle.vte.proofs.updates.Sequences.{after_whole, begins_ending_in_last-tail, begins_is, begins_long, after_last_end-tail, end_skipped, not_further, not_some}
+use Rattle.vte.proofs.updates.Sequences.{after_word-whole, begins_ending_in_last-tail, begins_with-is, begins_with-length, after_last_end-tail, from_begin-end_skipped, begins_with-further, not_some}
 
 -- no update begins or ends with the sequence at this position
 record IsNeither (text : List ℕ) (position : ℕ) : Type 0 where
@@ -13,25 +13,25 @@ record IsNeither (text : List ℕ) (position : ℕ) : Type 0 where
   pub no_end : begins_with end_update (drop position text) ≡ false
 
 -- without ESC, or with fewer than eight bytes
-neither_plain : (text : List ℕ) (position : ℕ) → position < length text → eqb (get_or text position 0) 0x1b ≡ false
+neither-plain : (text : List ℕ) (position : ℕ) → position < length text → eqb (get_or text position 0) 0x1b ≡ false
     → IsNeither text position
-neither_plain text position l e =
+neither-plain text position l e =
     let d =
     drop_more text position 0 l in
     record { no_begin = rw d (grind (arith, nat_tests)); no_end = rw d (grind (arith, nat_tests)) }
 
-too_short : (sequence text : List ℕ) → length text < length sequence → begins_with sequence text ≡ false
-too_short sequence text short = elim (cases_Bool (begins_with sequence text)) [
-  | inl is ↦ absurd (omega (arith, begins_long sequence text is))
+begins_with-short : (sequence text : List ℕ) → length text < length sequence → begins_with sequence text ≡ false
+begins_with-short sequence text short = elim (cases_Bool (begins_with sequence text)) [
+  | inl is ↦ absurd (omega (arith, begins_with-length sequence text is))
   | inr other ↦ other
 ]
 
-neither_short : (text : List ℕ) (position : ℕ) → length text < position + 8 → IsNeither text position
-neither_short text position short =
+neither-short : (text : List ℕ) (position : ℕ) → length text < position + 8 → IsNeither text position
+neither-short text position short =
     let few : length (drop position text) < 8 = rw length-drop (omega arith) in
     record {
-      no_begin = too_short begin_update (drop position text) few;
-      no_end = too_short end_update (drop position text) few;
+      no_begin = begins_with-short begin_update (drop position text) few;
+      no_end = begins_with-short end_update (drop position text) few;
     }
 
 -- with ESC among the seven bytes that follow
@@ -46,12 +46,12 @@ no_escape-within [] text i plain inside here = absurd (omega arith)
 no_escape-within (a ∷ sequence) [] i plain inside here = refl
 no_escape-within (a ∷ sequence) (b ∷ text) zero plain inside here = let first = plain.0 in grind (arith, nat_tests)
 no_escape-within (a ∷ sequence) (b ∷ text) (suc i) plain inside here =
-    not_further a b sequence text (no_escape-within sequence text i plain.1 (omega arith) here)
+    begins_with-further a b sequence text (no_escape-within sequence text i plain.1 (omega arith) here)
 
-neither_before : (text : List ℕ) (position escape : ℕ) → position < escape → escape < position + 8
+neither-before : (text : List ℕ) (position escape : ℕ) → position < escape → escape < position + 8
     → escape < length text
     → eqb (get_or text escape 0) 0x1b ≡ true → IsNeither text position
-neither_before text position escape before near inside here =
+neither-before text position escape before near inside here =
     let d = drop_more text position 0 (omega arith) in
     let i = escape - (position + 1) in
     let n : position + 1 + i ≡ escape = omega arith in
@@ -59,14 +59,14 @@ neither_before text position escape before near inside here =
     let none : (sequence : List ℕ) → HasNoEscape sequence → 7 ≡ length sequence
     → begins_with (0x1b ∷ sequence) (drop position text) ≡ false
     = λ sequence plain long.
-    rw d (not_further 0x1b _ sequence _ (no_escape-within sequence _ i plain (omega (arith, long)) there)) in
+    rw d (begins_with-further 0x1b _ sequence _ (no_escape-within sequence _ i plain (omega (arith, long)) there)) in
     record {
       no_begin = none (drop 1 begin_update) (refl, (refl, (refl, (refl, (refl, (refl, (refl, tt))))))) refl;
       no_end = none (drop 1 end_update) (refl, (refl, (refl, (refl, (refl, (refl, (refl, tt))))))) refl;
     }
 
-begins_one : (text : List ℕ) → begins_with begin_update text ≡ true → after_word end_update text ≡ None
-begins_one text e = rw (begins_is begin_update text e) refl
+begins-one : (text : List ℕ) → begins_with begin_update text ≡ true → after_word end_update text ≡ None
+begins-one text e = rw (begins_with-is begin_update text e) refl
 
 -- what follows the position `unread` of a text, of which the last `new` bytes are new
 pub record HasSeen (text : List ℕ) (new unread begin begins : ℕ) : Type 0 where
@@ -89,15 +89,15 @@ module _ (text : List ℕ) (new position begin begins : ℕ) (l : position < len
       → HasSeen text new position position (begins + 1)
   seen_begin few e =
       let d = drop_more text position 0 l in
-      let long = begins_long begin_update (drop position text) e in
+      let long = begins_with-length begin_update (drop position text) e in
       let near : nat_lt (length (drop 7 (drop (position + 1) text))) new ≡ true =
       (let h = rw length-drop at long in rw (length-drop, length-drop) (grind (arith, nat_tests))) in
       let here = rw d at e in
-      let other = rw d at (begins_one (drop position text) e) in
+      let other = rw d at (begins-one (drop position text) e) in
       record {
         no_end = rw (d, seen.no_end, other) refl;
         begin_is = rw (d, here) (rw length-drop (omega arith));
-        begins_are = rw (d, after_whole begin_update _ here, near) (omega (arith, seen.begins_are));
+        begins_are = rw (d, after_word-whole begin_update _ here, near) (omega (arith, seen.begins_are));
       }
 
   pub seen_end : begins_with end_update (drop position text) ≡ true
@@ -105,9 +105,9 @@ module _ (text : List ℕ) (new position begin begins : ℕ) (l : position < len
   seen_end e =
       let d = drop_more text position 0 l in
       let here = rw d at e in
-      let skipped = end_skipped new (get_or text position 0) (drop (position + 1) text) here in
+      let skipped = from_begin-end_skipped new (get_or text position 0) (drop (position + 1) text) here in
       let last : after_last_end text ≡ Some (drop 7 (drop (position + 1) text)) =
-      last_of position text _ (rw (d, seen.no_end, after_whole end_update _ here) refl) in
+      last_of position text _ (rw (d, seen.no_end, after_word-whole end_update _ here) refl) in
       record {
         begins = rw last (seen.begins_are ∙ skipped.1);
         released = rw last (seen.begin_is ∙ ap (λ part. length text - length part) skipped.0);
@@ -120,23 +120,23 @@ module _ (text : List ℕ) (new position begin begins : ℕ) (l : position < len
 
 -- ---- many positions more
 
-seen_further : (text : List ℕ) (new n position begin begins : ℕ) → position + n ≤ length text
+seen-further : (text : List ℕ) (new n position begin begins : ℕ) → position + n ≤ length text
     → ((k : ℕ) → position ≤ k → k < position + n → IsNeither text k)
     → HasSeen text new (position + n) begin begins → HasSeen text new position begin begins
-seen_further text new zero position begin begins within neither seen = rw add-zero at seen
-seen_further text new (suc n) position begin begins within neither seen =
+seen-further text new zero position begin begins within neither seen = rw add-zero at seen
+seen-further text new (suc n) position begin begins within neither seen =
     let e : position + suc n ≡ position + n + 1 = omega arith in
-    seen_further text new n position begin begins (omega arith) (λ k low high. neither k low (omega arith))
+    seen-further text new n position begin begins (omega arith) (λ k low high. neither k low (omega arith))
     (seen_other text new (position + n) begin begins (omega arith) (rw e at seen)
     (neither (position + n) (omega arith) (omega arith)))
 
 -- if no sequence begins in between
-seen_down : (text : List ℕ) (new position unread begin begins : ℕ) → position ≤ unread → unread ≤ length text
+seen-down : (text : List ℕ) (new position unread begin begins : ℕ) → position ≤ unread → unread ≤ length text
     → ((k : ℕ) → position ≤ k → k < unread → IsNeither text k)
     → HasSeen text new unread begin begins → HasSeen text new position begin begins
-seen_down text new position unread begin begins l within neither seen =
+seen-down text new position unread begin begins l within neither seen =
     let e : unread ≡ position + (unread - position) = omega arith in
-    seen_further text new (unread - position) position begin begins (omega arith) (λ k low high. neither k low (omega
+    seen-further text new (unread - position) position begin begins (omega arith) (λ k low high. neither k low (omega
     arith))
     (rw e at seen)
 
@@ -154,8 +154,8 @@ module _ {all : List ℕ} {new position unread begin begins : ℕ} (e : IsLastEs
   further : (first count : ℕ) → HasSeen all new position first count → HasSeen all new at first count
   further first count seen =
       let inside = e.inside in
-      seen_down all new at position first count low (omega arith)
-      (λ k low high. neither_before all k position high (omega arith) inside e.here) seen
+      seen-down all new at position first count low (omega arith)
+      (λ k low high. neither-before all k position high (omega arith) inside e.here) seen
 
   pub seen_begin_before : length all ≤ position + 7 + new → begins_with begin_update (drop position all) ≡ true
       → HasSeen all new at position (begins + 1)
@@ -190,7 +190,7 @@ module _ {held more text : List ℕ} {start : ℕ} (e : IsHeldTail held more tex
       let i = k - start in
       let position : start + i ≡ k = omega arith in
       let here : get_or (take unread text) i 0 ≡ get_or all k 0 = byte_at unread i (omega arith) ∙ rw position in
-      neither_plain all k (omega (arith, whole_size))
+      neither-plain all k (omega (arith, whole_size))
       (grind (arith, nowhere i (omega arith) (rw length-take-le (omega arith))))
 
   -- there is no room for a sequence in the last seven bytes
@@ -198,9 +198,9 @@ module _ {held more text : List ℕ} {start : ℕ} (e : IsHeldTail held more tex
       → HasSeen all (length more) (start + unread) (start + length text) 0
   seen_nothing unread is =
       let none = drop_all (length all) all (omega arith) in
-      seen_down all (length more) (start + unread) (length all) (start + length text) 0
+      seen-down all (length more) (start + unread) (length all) (start + length text) 0
       (omega (arith, whole_size)) (omega arith)
-      (λ k low high. neither_short all k (omega (arith, whole_size)))
+      (λ k low high. neither-short all k (omega (arith, whole_size)))
       (record { no_end = rw none; begin_is = rw none (omega (arith, whole_size)); begins_are = rw none })
 
   pub last_escape : (position unread begin begins : ℕ) → unread ≤ length text
@@ -214,7 +214,7 @@ module _ {held more text : List ℕ} {start : ℕ} (e : IsHeldTail held more tex
         inside = omega (arith, whole_size);
         here = rw (byte_at unread position earlier) at escape;
         seen =
-            seen_down all (length more) (start + position + 1) (start + unread) begin begins (omega arith)
+            seen-down all (length more) (start + position + 1) (start + unread) begin begins (omega arith)
             (omega (arith, whole_size))
             (neither_between (position + 1) _ unread (omega arith) within last.after) seen;
       }
@@ -226,7 +226,7 @@ module _ {held more text : List ℕ} {start : ℕ} (e : IsHeldTail held more tex
       → Adds all (length more) (record { begins = begins; released = 0 })
   seen_all unread begin begins none within nowhere seen =
       let rest =
-      seen_down all (length more) start (start + unread) begin begins (omega arith) (omega (arith, whole_size))
+      seen-down all (length more) start (start + unread) begin begins (omega arith) (omega (arith, whole_size))
       (neither_between 0 start unread (omega arith) within nowhere) seen in
       let tail : drop start all ≡ drop (length held - 7) all = rw e.start_is in
       let no_end : after_last_end all ≡ None = cc (tail, after_last_end-tail held more none, rest.no_end) in

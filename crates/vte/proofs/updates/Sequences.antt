@@ -16,27 +16,27 @@ not_some (Some x) e = cc
 
 -- ---- a sequence at the front
 
-pub after_whole : (sequence text : List ℕ) → begins_with sequence text ≡ true
+pub after_word-whole : (sequence text : List ℕ) → begins_with sequence text ≡ true
     → after_word sequence text ≡ Some (drop (length sequence) text)
-after_whole [] text e = refl
-after_whole (a ∷ sequence) [] e = cc
-after_whole (a ∷ sequence) (b ∷ text) e = grind (arith, after_whole sequence text)
+after_word-whole [] text e = refl
+after_word-whole (a ∷ sequence) [] e = cc
+after_word-whole (a ∷ sequence) (b ∷ text) e = grind (arith, after_word-whole sequence text)
 
-pub not_further : (a b : ℕ) (sequence text : List ℕ) → begins_with sequence text ≡ false
+pub begins_with-further : (a b : ℕ) (sequence text : List ℕ) → begins_with sequence text ≡ false
     → begins_with (a ∷ sequence) (b ∷ text) ≡ false
-not_further a b sequence text e = grind (arith, e)
+begins_with-further a b sequence text e = grind (arith, e)
 
 -- the text is the sequence and what follows it
-pub begins_is : (sequence text : List ℕ) → begins_with sequence text ≡ true
+pub begins_with-is : (sequence text : List ℕ) → begins_with sequence text ≡ true
     → text ≡ sequence ++ drop (length sequence) text
-begins_is [] text e = refl
-begins_is (a ∷ sequence) [] e = cc
-begins_is (a ∷ sequence) (b ∷ text) e = grind (arith, nat_tests, begins_is sequence text)
+begins_with-is [] text e = refl
+begins_with-is (a ∷ sequence) [] e = cc
+begins_with-is (a ∷ sequence) (b ∷ text) e = grind (arith, nat_tests, begins_with-is sequence text)
 
-pub begins_long : (sequence text : List ℕ) → begins_with sequence text ≡ true → length sequence ≤ length text
-begins_long [] text e = omega arith
-begins_long (a ∷ sequence) [] e = cc
-begins_long (a ∷ sequence) (b ∷ text) e = grind (arith, nat_tests, begins_long sequence text)
+pub begins_with-length : (sequence text : List ℕ) → begins_with sequence text ≡ true → length sequence ≤ length text
+begins_with-length [] text e = omega arith
+begins_with-length (a ∷ sequence) [] e = cc
+begins_with-length (a ∷ sequence) (b ∷ text) e = grind (arith, nat_tests, begins_with-length sequence text)
 
 -- more bytes don't matter if there are enough
 begins_with-more : (sequence text more : List ℕ) → length sequence ≤ length text
@@ -47,13 +47,14 @@ begins_with-more (a ∷ sequence) (b ∷ text) more l = grind (arith, begins_wit
 
 pub begins_with-append : (sequence text more : List ℕ) → begins_with sequence text ≡ true
     → begins_with sequence (text ++ more) ≡ true
-begins_with-append sequence text more e = grind (arith, begins_long sequence text, begins_with-more sequence text more)
+begins_with-append sequence text more e =
+    grind (arith, begins_with-length sequence text, begins_with-more sequence text more)
 
 -- no update begins inside an end-update
-pub end_skipped : (n b : ℕ) (text : List ℕ) → begins_with end_update (b ∷ text) ≡ true
+pub from_begin-end_skipped : (n b : ℕ) (text : List ℕ) → begins_with end_update (b ∷ text) ≡ true
     → (from_begin_update text ≡ from_begin_update (drop 7 text))
     × (begins_ending_in_last n text ≡ begins_ending_in_last n (drop 7 text))
-end_skipped n b text e = let is = ap (drop 1) (begins_is end_update (b ∷ text) e) in rw is (grind arith)
+from_begin-end_skipped n b text e = let is = ap (drop 1) (begins_with-is end_update (b ∷ text) e) in rw is (grind arith)
 
 -- ---- a part at the end of a text
 
@@ -76,10 +77,10 @@ suffix-more : {part text : List ℕ} (b : ℕ) → IsSuffix part text → IsSuff
 suffix-more b s = record { front = suc s.front; within = omega (arith, s.within); is = s.is }
 
 -- without an end-update in a text there is none in its parts
-pub none_drop : (n : ℕ) (text : List ℕ) → after_last_end text ≡ None → after_last_end (drop n text) ≡ None
-none_drop zero text e = e
-none_drop (suc n) [] e = e
-none_drop (suc n) (b ∷ text) e = grind (arith, none_drop n text)
+pub after_last_end-drop : (n : ℕ) (text : List ℕ) → after_last_end text ≡ None → after_last_end (drop n text) ≡ None
+after_last_end-drop zero text e = e
+after_last_end-drop (suc n) [] e = e
+after_last_end-drop (suc n) (b ∷ text) e = grind (arith, after_last_end-drop n text)
 
 -- what stands after the last end-update has none
 pub record FollowsLastEnd (rest text : List ℕ) : Type 0 where
@@ -92,10 +93,10 @@ follows_last_end (b ∷ text) rest e = elim (cases_Option (after_last_end text))
   | inl none ↦
       let here : after_word end_update (b ∷ text) ≡ Some rest = rw none at e in
       let first : begins_with end_update (b ∷ text) ≡ true = rw here refl in
-      let is : rest ≡ drop 7 text = cc (here, after_whole end_update (b ∷ text) first) in
+      let is : rest ≡ drop 7 text = cc (here, after_word-whole end_update (b ∷ text) first) in
       record {
-        suffix = record { front = 8; within = begins_long end_update (b ∷ text) first; is = is };
-        no_end = rw is (none_drop 7 text none);
+        suffix = record { front = 8; within = begins_with-length end_update (b ∷ text) first; is = is };
+        no_end = rw is (after_last_end-drop 7 text none);
       }
   | inr later ↦
       let l = follows_last_end text rest (grind arith) in
@@ -132,7 +133,7 @@ stays_held held = elim (cases_Option (after_last_end held)) [
       let first = starts_at_begin some.0 in
       rw some.1 (record {
         suffix = suffix-trans first.suffix last.suffix;
-        no_end = rw first.suffix.is (none_drop first.suffix.front _ last.no_end);
+        no_end = rw first.suffix.is (after_last_end-drop first.suffix.front _ last.no_end);
         begins = inr first.begins;
       })
 ]
@@ -146,9 +147,9 @@ stays-is held =
 -- ---- the last seven of the older bytes suffice, if no end-update is in them
 
 -- an end-update that begins eight bytes before the end of the older ones would be in them
-no_end_here : (b : ℕ) (old more : List ℕ) → 7 ≤ length old → after_last_end (b ∷ old) ≡ None
+begins_with-no_end : (b : ℕ) (old more : List ℕ) → 7 ≤ length old → after_last_end (b ∷ old) ≡ None
     → begins_with end_update (b ∷ (old ++ more)) ≡ false
-no_end_here b old more long none = grind (arith, begins_with-more end_update (b ∷ old) more (omega arith))
+begins_with-no_end b old more long none = grind (arith, begins_with-more end_update (b ∷ old) more (omega arith))
 
 pub after_last_end-tail : (old more : List ℕ) → after_last_end old ≡ None
     → after_last_end (old ++ more) ≡ after_last_end (drop (length old - 7) (old ++ more))
@@ -157,7 +158,7 @@ after_last_end-tail (b ∷ old) more none = elim (cases_lt (length old) 7) [
   | inl few ↦ let e : suc (length old) - 7 ≡ 0 = omega arith in rw e
   | inr many ↦
       let e : suc (length old) - 7 ≡ suc (length old - 7) = omega arith in
-      let no_end = not_some _ (no_end_here b old more many none) in
+      let no_end = not_some _ (begins_with-no_end b old more many none) in
       rw e (grind (arith, no_end, after_last_end-tail old more))
 ]
 
@@ -174,7 +175,7 @@ begins_ending_in_last-tail n (b ∷ old) more is = elim (cases_lt (length old) 7
       rw (length-drop, length-append) (grind (arith, nat_tests)) in
       let tail = begins_ending_in_last-tail n old more is in
       rw e (elim (cases_Bool (begins_with begin_update (b ∷ (old ++ more)))) [
-        | inl here ↦ rw (after_whole begin_update (b ∷ (old ++ more)) here, far, zero-add) tail
+        | inl here ↦ rw (after_word-whole begin_update (b ∷ (old ++ more)) here, far, zero-add) tail
         | inr other ↦ rw (not_some _ other, zero-add) tail
       ])
 ]

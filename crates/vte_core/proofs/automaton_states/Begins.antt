@@ -13,8 +13,8 @@ abbrev pub EndsCharacter : ℕ → List Range → Type 0
 EndsCharacter b ranges = (u : List ℕ) → fits ranges u ≡ true → IsUtf8Run true (b ∷ u)
 
 -- the row of Unicode's table that the byte has
-row : (b : ℕ) (ranges : List Range) → 0xc3 ≤ b → rows_after_byte b utf8_rows ≡ ranges ∷ [] → EndsCharacter b ranges
-row b ranges low same u fit =
+ends-row : (b : ℕ) (ranges : List Range) → 0xc3 ≤ b → rows_after_byte b utf8_rows ≡ ranges ∷ [] → EndsCharacter b ranges
+ends-row b ranges low same u fit =
     printable b u (omega (arith, low)) (λ e. absurd (omega (arith, e, low)))
     ((tests_row b ranges same u).is_whole ∙ fit)
 
@@ -27,15 +27,16 @@ pub data Begins (b : ℕ) : Type 0 where
       → EndsCharacter b (wanted_ranges t)
       → Begins b
 
-opened : (b : ℕ) (t : AutomatonState) → next_between b ≡ t → t ≢ Between → t ≢ Failed → 0xc3 ≤ b
+begins-opened : (b : ℕ) (t : AutomatonState) → next_between b ≡ t → t ≢ Between → t ≢ Failed → 0xc3 ≤ b
     → rows_after_byte b utf8_rows ≡ wanted_ranges t ∷ [] → Begins b
-opened b t is not fine low same = opens t is not fine (omega (arith, low)) (row b (wanted_ranges t) low same)
+begins-opened b t is not fine low same =
+    opens t is not fine (omega (arith, low)) (ends-row b (wanted_ranges t) low same)
 
 -- after C2 the table also has controls
-after_c2 : EndsCharacter 0xc2 (from_to 0xa0 0xbf ∷ [])
+ends-after_c2 : EndsCharacter 0xc2 (from_to 0xa0 0xbf ∷ [])
 unfolding second_range
-after_c2 [] fit = absurd (false≢true fit)
-after_c2 (c ∷ u) fit =
+ends-after_c2 [] fit = absurd (false≢true fit)
+ends-after_c2 (c ∷ u) fit =
     let parts = and_parts (is_in (from_to 0xa0 0xbf) c) (fits [] u) fit in
     printable 0xc2 (c ∷ u) (omega arith) (λ _. (in_range-bounds (from_to 0xa0 0xbf) c parts.0).0)
     ((tests_two 0xc2 (omega arith) (omega arith) (c ∷ u)).is_whole ∙ rw parts.1 (grind (arith, nat_tests)))
@@ -56,28 +57,31 @@ begins b =
       | inr from_80 ↦ elim (cases_lt b 0xc2) [
         | inl lone ↦ fails (grind (arith, nat_tests))
         | inr from_c2 ↦ elim (cases_eq b 0xc2) [
-          | inl c2 ↦ subst Begins (sym c2) (opens AfterC2 refl (λ e. cc) (λ e. cc) (omega arith) after_c2)
+          | inl c2 ↦ subst Begins (sym c2) (opens AfterC2 refl (λ e. cc) (λ e. cc) (omega arith) ends-after_c2)
           | inr past_c2 ↦ elim (cases_lt b 0xe0) [
             | inl short ↦
-                opened b One (grind (arith, nat_tests)) (λ e. cc) (λ e. cc) (omega (arith, from_c2, past_c2))
+                begins-opened b One (grind (arith, nat_tests)) (λ e. cc) (λ e. cc) (omega (arith, from_c2, past_c2))
                 (grind (arith, nat_tests))
             | inr from_e0 ↦ elim (cases_eq b 0xe0) [
-              | inl e0 ↦ subst Begins (sym e0) (opened 0xe0 AfterE0 refl (λ e. cc) (λ e. cc) (omega arith) refl)
+              | inl e0 ↦ subst Begins (sym e0) (begins-opened 0xe0 AfterE0 refl (λ e. cc) (λ e. cc) (omega arith) refl)
               | inr past_e0 ↦ elim (cases_lt b 0xf0) [
                 | inl middle ↦ elim (cases_eq b 0xed) [
-                  | inl ed ↦ subst Begins (sym ed) (opened 0xed AfterED refl (λ e. cc) (λ e. cc) (omega arith) refl)
+                  | inl ed ↦
+                      subst Begins (sym ed) (begins-opened 0xed AfterED refl (λ e. cc) (λ e. cc) (omega arith) refl)
                   | inr other ↦
-                      opened b Two (grind (arith, nat_tests)) (λ e. cc) (λ e. cc) (omega (arith, from_e0))
+                      begins-opened b Two (grind (arith, nat_tests)) (λ e. cc) (λ e. cc) (omega (arith, from_e0))
                       (grind (arith, nat_tests))
                 ]
                 | inr from_f0 ↦ elim (cases_eq b 0xf0) [
-                  | inl f0 ↦ subst Begins (sym f0) (opened 0xf0 AfterF0 refl (λ e. cc) (λ e. cc) (omega arith) refl)
+                  | inl f0 ↦
+                      subst Begins (sym f0) (begins-opened 0xf0 AfterF0 refl (λ e. cc) (λ e. cc) (omega arith) refl)
                   | inr past_f0 ↦ elim (cases_lt b 0xf4) [
                     | inl long ↦
-                        opened b Three (grind (arith, nat_tests)) (λ e. cc) (λ e. cc) (omega (arith, from_f0))
+                        begins-opened b Three (grind (arith, nat_tests)) (λ e. cc) (λ e. cc) (omega (arith, from_f0))
                         (grind (arith, nat_tests))
                     | inr from_f4 ↦ elim (cases_eq b 0xf4) [
-                      | inl f4 ↦ subst Begins (sym f4) (opened 0xf4 AfterF4 refl (λ e. cc) (λ e. cc) (omega arith) refl)
+                      | inl f4 ↦
+                          subst Begins (sym f4) (begins-opened 0xf4 AfterF4 refl (λ e. cc) (λ e. cc) (omega arith) refl)
                       | inr past_f4 ↦ fails (grind (arith, nat_tests))
                     ]
                   ]

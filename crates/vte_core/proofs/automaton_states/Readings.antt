@@ -4,15 +4,15 @@ use Rattle.std.proofs.lemmas.List.{get_or-take, get_or-append-add}
 use Rattle.std.proofs.lemmas.Str.{encode_ascii, encodes-chars}
 use Rattle.vte_core.specs.machine.Each.{Each}
 use Rattle.vte_core.specs.machine.Automaton.{AutomatonState, Between, Failed, state_code, state_after, HasScanned, LastEnd}
-use Rattle.vte_core.proofs.automaton_states.Scanned.{IsBegun, ReadSoFar, standing}
-use Rattle.vte_core.proofs.automaton_states.Steps.{wanted_ranges, state_after-append, between, gone, waiting, phase}
+use Rattle.vte_core.proofs.automaton_states.Scanned.{IsBegun, ReadSoFar, so_far-all}
+use Rattle.vte_core.proofs.automaton_states.Steps.{wanted_ranges, state_after-append, phase-between, phase-failed, phase-waiting, phase}
 
 -- ---- codes
 
 -- the code of the state between two characters is its alone
-pub is_between : (s : AutomatonState) → state_code s ≡ 0 → s ≡ Between
-is_between Between e = refl
-is_between _ e = absurd (omega (arith, e))
+pub state_code-between : (s : AutomatonState) → state_code s ≡ 0 → s ≡ Between
+state_code-between Between e = refl
+state_code-between _ e = absurd (omega (arith, e))
 
 -- ---- readings
 
@@ -34,7 +34,7 @@ has_read-more text more at n state after read within is steps fine =
 pub last_end-here : (text : List ℕ) (at : ℕ) → at ≤ length text → state_after Between (take at text) ≡ Between
     → LastEnd text at at
 last_end-here text at within is =
-    let s = standing text at within (λ e. cc) in
+    let s = so_far-all text at within (λ e. cc) in
     record {
       before = omega arith;
       near = omega arith;
@@ -43,22 +43,22 @@ last_end-here text at within is =
 
 wanted_ranges-some : (s : AutomatonState) → s ≢ Between → s ≢ Failed → 1 ≤ length (wanted_ranges s)
 wanted_ranges-some s not going = elim (phase s) [
-  | between same ↦ absurd (not same)
-  | gone same ↦ absurd (going same)
-  | waiting t range _ _ is _ ↦ omega (arith, ap length is)
+  | phase-between same ↦ absurd (not same)
+  | phase-failed same ↦ absurd (going same)
+  | phase-waiting t range _ _ is _ ↦ omega (arith, ap length is)
 ]
 
 -- a character that has not ended
-pub unended : (text : List ℕ) (at state : ℕ) → HasScanned text at state → state ≢ 0
+pub character-unended : (text : List ℕ) (at state : ℕ) → HasScanned text at state → state ≢ 0
     → (s : ReadSoFar text at (state_after Between (take at text))) → IsBegun text s.end at
-unended text at state read inside s = s.begun (λ e. inside (read.state_is ∙ ap state_code e))
+character-unended text at state read inside s = s.begun (λ e. inside (read.state_is ∙ ap state_code e))
 
 -- the place of its first byte is the last end
 pub last_end-first : (text : List ℕ) (at state end : ℕ) → HasScanned text at state → state ≢ 0
     → (s : ReadSoFar text at (state_after Between (take at text)))
     → s.end ≤ end → end < at → 0xc0 ≤ slice_index text end → LastEnd text at end
 last_end-first text at state end read inside s from before high =
-    let u = unended text at state read inside s in
+    let u = character-unended text at state read inside s in
     let same : s.end ≡ end = elim (cases_lt s.end end) [
       | inl past ↦ absurd (omega (arith, high, u.later end (omega (arith, past)) before))
       | inr back ↦ omega (arith, from, back)
@@ -72,34 +72,34 @@ last_end-first text at state end read inside s from before high =
 
 -- ---- a place among other bytes
 
-pub byte_from : (bytes : List ℕ) (from at b : ℕ) → b ≡ slice_index bytes (from + at)
+pub byte-from : (bytes : List ℕ) (from at b : ℕ) → b ≡ slice_index bytes (from + at)
     → b ≡ slice_index (drop from bytes) at
-byte_from bytes from at b is = is ∙ sym (get_or-drop from bytes at 0)
+byte-from bytes from at b is = is ∙ sym (get_or-drop from bytes at 0)
 
 -- ---- a text without HT, LF and CR
 
 abbrev AreAbove : List ℕ → Type 0
 AreAbove bytes = (k : ℕ) → k < length bytes → 0x20 ≤ get_or bytes k 0
 
-above : (c : ℕ) → 0x20 ≤ c → StaysInRun true c → StaysInRun false c
-above c low e = grind (arith, nat_tests)
+stays-above : (c : ℕ) → 0x20 ≤ c → StaysInRun true c → StaysInRun false c
+stays-above c low e = grind (arith, nat_tests)
 
 -- a character below 20 is a byte
-first_above : (c : ℕ) (rest : List ℕ) → AreAbove (encode c ++ rest) → 0x20 ≤ c
-first_above c rest are = elim (cases_lt c 0x20) [
+first-above : (c : ℕ) (rest : List ℕ) → AreAbove (encode c ++ rest) → 0x20 ≤ c
+first-above c rest are = elim (cases_lt c 0x20) [
   | inr high ↦ high
   | inl low ↦ subst (λ x. AreAbove (x ++ rest)) (encode_ascii c (omega (arith, low))) are 0 (omega arith)
 ]
 
-all_above : (cs : List ℕ) → AreAbove (encodes cs) → All (StaysInRun true) cs → All (StaysInRun false) cs
-all_above [] are all = All-nil (StaysInRun false)
-all_above (c ∷ cs) are all =
+stays-all_above : (cs : List ℕ) → AreAbove (encodes cs) → All (StaysInRun true) cs → All (StaysInRun false) cs
+stays-all_above [] are all = All-nil (StaysInRun false)
+stays-all_above (c ∷ cs) are all =
     let rest : AreAbove (encodes cs) = λ k l.
     subst (λ b. 0x20 ≤ b) (get_or-append-add (encode c) (encodes cs) k 0)
     (are (length (encode c) + k) (omega (arith, l, length-append (encode c) (encodes cs)))) in
     All-cons (StaysInRun false) c cs
-    (above c (first_above c (encodes cs) are) (All-head (StaysInRun true) c cs all))
-    (all_above cs rest (All-tail (StaysInRun true) c cs all))
+    (stays-above c (first-above c (encodes cs) are) (All-head (StaysInRun true) c cs all))
+    (stays-all_above cs rest (All-tail (StaysInRun true) c cs all))
 
 -- a run without bytes below 20 has none
 pub run-kept : (layout : Bool) (text : List ℕ) (at end : ℕ) → (layout ≡ false → Each (λ b. 0x20 ≤ b) text 0 at)
@@ -114,6 +114,6 @@ run-kept false text at end low within run =
     record {
       utf8 = run.utf8;
       plain =
-          all_above (chars (take end text))
+          stays-all_above (chars (take end text))
           (subst AreAbove (sym (encodes-chars (take end text) run.utf8)) are) run.plain;
     }

@@ -7,7 +7,7 @@ use Rattle.vte_core.proofs.bytes.FirstBytes.{fits}
 use Rattle.vte_core.proofs.bytes.Printable.{printable-nil, printable-append}
 use Rattle.vte_core.proofs.bytes.Scalars.{in_range-bounds}
 use Rattle.vte_core.specs.machine.Automaton.{AutomatonState, Between, Failed, next_between, next_if_in, next_state, state_after}
-use Rattle.vte_core.proofs.automaton_states.Steps.{wanted_ranges, state_after-append, failed, between, gone, waiting, phase}
+use Rattle.vte_core.proofs.automaton_states.Steps.{wanted_ranges, state_after-append, next_state-failed, phase-between, phase-failed, phase-waiting, phase}
 use Rattle.vte_core.proofs.automaton_states.Begins.{prints, fails, opens, begins}
 
 -- From `end` up to `at` stand a first byte and bytes that are none.
@@ -34,8 +34,8 @@ none-taken : (text : List ℕ) (at end : ℕ) → end ≡ at → take (at - end)
 none-taken text at end same = let none : at - end ≡ 0 = omega (arith, same) in rw none refl
 
 -- Between two characters all of the text is printed.
-all_printed : (text : List ℕ) (at : ℕ) → IsUtf8Run true (take at text) → ReadSoFar text at Between
-all_printed text at printed = record {
+so_far-printed : (text : List ℕ) (at : ℕ) → IsUtf8Run true (take at text) → ReadSoFar text at Between
+so_far-printed text at printed = record {
   end = at;
   before = omega arith;
   printable = printed;
@@ -67,22 +67,22 @@ module _ (text : List ℕ) (at : ℕ) (within : at < length text) (s : Automaton
       ∙ ap (λ x. taken ++ x ∷ []) (get_or-drop old.end text (at - old.end) 0 ∙ ap (slice_index text) place)
 
   -- A character ends.
-  settles : IsUtf8Run true (taken ++ b ∷ []) → ReadSoFar text (at + 1) Between
-  settles whole =
+  so_far-settles : IsUtf8Run true (taken ++ b ∷ []) → ReadSoFar text (at + 1) Between
+  so_far-settles whole =
       let place : at + 1 ≡ old.end + (at + 1 - old.end) = omega (arith, old.before) in
       let joined : take (at + 1) text ≡ take old.end text ++ (taken ++ b ∷ []) =
       ap (λ n. take n text) place ∙ take-add old.end (at + 1 - old.end) text
       ∙ ap (λ x. take old.end text ++ x) taken-more in
-      all_printed text (at + 1)
+      so_far-printed text (at + 1)
       (subst (IsUtf8Run true) (sym joined)
       (printable-append true (take old.end text) (taken ++ b ∷ []) old.printable whole))
 
   -- A character begins or goes on.
-  goes_on : (t : AutomatonState) → t ≢ Between → IsBegun text old.end (at + 1)
+  so_far-goes_on : (t : AutomatonState) → t ≢ Between → IsBegun text old.end (at + 1)
       → at + 1 + length (wanted_ranges t) ≤ old.end + 4
       → ((u : List ℕ) → fits (wanted_ranges t) u ≡ true → IsUtf8Run true ((taken ++ b ∷ []) ++ u))
       → ReadSoFar text (at + 1) t
-  goes_on t not shape short completes = record {
+  so_far-goes_on t not shape short completes = record {
     end = old.end;
     before = omega (arith, old.before);
     printable = old.printable;
@@ -93,19 +93,19 @@ module _ (text : List ℕ) (at : ℕ) (within : at < length text) (s : Automaton
   }
 
   -- the first byte of a character
-  first : s ≡ Between → next_state s b ≢ Failed → ReadSoFar text (at + 1) (next_state s b)
+  so_far-first : s ≡ Between → next_state s b ≢ Failed → ReadSoFar text (at + 1) (next_state s b)
   unfolding next_state
-  first same ok =
+  so_far-first same ok =
       let e : next_state s b ≡ next_between b = ap (λ v. next_state v b) same in
       let here : old.end ≡ at = old.settled same in
       let none : taken ≡ [] = none-taken text at old.end here in
       elim (begins b) [
         | prints printed is ↦
             subst (ReadSoFar text (at + 1)) (sym (e ∙ is))
-            (settles (subst (λ x. IsUtf8Run true (x ++ b ∷ [])) (sym none) printed))
+            (so_far-settles (subst (λ x. IsUtf8Run true (x ++ b ∷ [])) (sym none) printed))
         | fails is ↦ absurd (ok (e ∙ is))
         | opens t is not fine low completes ↦ subst (ReadSoFar text (at + 1)) (sym (e ∙ is))
-            (goes_on t not
+            (so_far-goes_on t not
             (record {
               some = omega (arith, here);
               first = subst (λ n. 0xc0 ≤ slice_index text n) (sym here) low;
@@ -116,10 +116,10 @@ module _ (text : List ℕ) (at : ℕ) (within : at < length text) (s : Automaton
       ]
 
   -- a further one
-  later : (t : AutomatonState) (range : Range) → s ≢ Between → range.last ≤ 0xbf
+  so_far-later : (t : AutomatonState) (range : Range) → s ≢ Between → range.last ≤ 0xbf
       → wanted_ranges s ≡ range ∷ wanted_ranges t
       → next_state s b ≡ next_if_in range t b → next_state s b ≢ Failed → ReadSoFar text (at + 1) (next_state s b)
-  later t range not last is steps ok = elim (cases_Bool (is_in range b)) [
+  so_far-later t range not last is steps ok = elim (cases_Bool (is_in range b)) [
     | inr misfits ↦ absurd (ok (steps ∙ ap (λ v. cond v t Failed) misfits))
     | inl fit ↦
         let e : next_state s b ≡ t = steps ∙ ap (λ v. cond v t Failed) fit in
@@ -128,14 +128,14 @@ module _ (text : List ℕ) (at : ℕ) (within : at < length text) (s : Automaton
         λ u more. subst (IsUtf8Run true) (sym (append_assoc taken (b ∷ []) u)) (old.completes (b ∷ u)
         (ap (λ ranges. fits ranges (b ∷ u)) is ∙ ap (λ v. v && fits (wanted_ranges t) u) fit ∙ more)) in
         subst (ReadSoFar text (at + 1)) (sym e) (elim (phase t) [
-          | between same ↦
+          | phase-between same ↦
               let whole : IsUtf8Run true (taken ++ b ∷ []) =
               subst (IsUtf8Run true) (append-nil (taken
               ++ b ∷ [])) (completes [] (ap (λ v. fits (wanted_ranges v) []) same)) in
-              subst (ReadSoFar text (at + 1)) (sym same) (settles whole)
-          | gone same ↦ absurd (ok (e ∙ same))
-          | waiting v r other _ _ _ ↦
-              goes_on t other
+              subst (ReadSoFar text (at + 1)) (sym same) (so_far-settles whole)
+          | phase-failed same ↦ absurd (ok (e ∙ same))
+          | phase-waiting v r other _ _ _ ↦
+              so_far-goes_on t other
               (record {
                 some = omega (arith, k.some);
                 first = k.first;
@@ -147,35 +147,36 @@ module _ (text : List ℕ) (at : ℕ) (within : at < length text) (s : Automaton
         ])
   ]
 
-  one_more : next_state s b ≢ Failed → ReadSoFar text (at + 1) (next_state s b)
+  so_far-next : next_state s b ≢ Failed → ReadSoFar text (at + 1) (next_state s b)
   unfolding next_state
-  one_more ok = elim (phase s) [
-    | between same ↦ first same ok
-    | gone same ↦ absurd (ok (ap (λ v. next_state v b) same))
-    | waiting t range not last is steps ↦ later t range not last is (steps b) ok
+  so_far-next ok = elim (phase s) [
+    | phase-between same ↦ so_far-first same ok
+    | phase-failed same ↦ absurd (ok (ap (λ v. next_state v b) same))
+    | phase-waiting t range not last is steps ↦ so_far-later t range not last is (steps b) ok
   ]
 
-stepped : (text : List ℕ) (at : ℕ) → at < length text
+state_after-next : (text : List ℕ) (at : ℕ) → at < length text
     → state_after Between (take (at + 1) text) ≡ next_state (state_after Between (take at text)) (slice_index text at)
-stepped text at within =
+state_after-next text at within =
     ap (state_after Between) (take_more text at 0 within)
     ∙ state_after-append Between (take at text) (slice_index text at ∷ [])
 
-further : (text : List ℕ) (at : ℕ) (within : at < length text) → ReadSoFar text at (state_after Between (take at text))
+so_far-further : (text : List ℕ) (at : ℕ) (within : at < length text)
+    → ReadSoFar text at (state_after Between (take at text))
     → state_after Between (take (at + 1) text) ≢ Failed
     → ReadSoFar text (at + 1) (state_after Between (take (at + 1) text))
-further text at within old ok =
-    subst (ReadSoFar text (at + 1)) (sym (stepped text at within))
-    (one_more text at within _ old (λ e. ok (stepped text at within ∙ e)))
+so_far-further text at within old ok =
+    subst (ReadSoFar text (at + 1)) (sym (state_after-next text at within))
+    (so_far-next text at within _ old (λ e. ok (state_after-next text at within ∙ e)))
 
-pub standing : (text : List ℕ) (at : ℕ) → at ≤ length text → state_after Between (take at text) ≢ Failed
+pub so_far-all : (text : List ℕ) (at : ℕ) → at ≤ length text → state_after Between (take at text) ≢ Failed
     → ReadSoFar text at (state_after Between (take at text))
-standing text zero within ok = all_printed text 0 (printable-nil true)
-standing text (suc at) within ok =
+so_far-all text zero within ok = so_far-printed text 0 (printable-nil true)
+so_far-all text (suc at) within ok =
     let fine : state_after Between (take (at + 1) text) ≢ Failed = rw add-one ok in
     let old =
-    standing text at (omega arith)
+    so_far-all text at (omega arith)
     (λ e.
-    fine (stepped text at (omega arith) ∙ ap (λ s. next_state s (slice_index text at)) e
-    ∙ failed (slice_index text at))) in
-    rw add-one at (further text at (omega arith) old fine)
+    fine (state_after-next text at (omega arith) ∙ ap (λ s. next_state s (slice_index text at)) e
+    ∙ next_state-failed (slice_index text at))) in
+    rw add-one at (so_far-further text at (omega arith) old fine)

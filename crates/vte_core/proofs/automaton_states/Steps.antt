@@ -22,9 +22,9 @@ pub state_after-append : (s : AutomatonState) (xs ys : List ℕ)
 state_after-append s [] ys = refl
 state_after-append s (b ∷ xs) ys = state_after-append (next_state s b) xs ys
 
-pub failed : (b : ℕ) → next_state Failed b ≡ Failed
+pub next_state-failed : (b : ℕ) → next_state Failed b ≡ Failed
 unfolding next_state
-failed b = refl
+next_state-failed b = refl
 
 -- Bytes that may each stand between two characters lead back there.
 pub stays_between : (bytes : List ℕ) → ((k : ℕ) → k < length bytes → next_between (get_or bytes k 0) ≡ Between)
@@ -38,21 +38,21 @@ stays_between (b ∷ bytes) all =
 -- ---- what one more byte makes of a state
 
 pub data Phase (s : AutomatonState) : Type 0 where
-  between : s ≡ Between → Phase s
-  gone : s ≡ Failed → Phase s
-  waiting : (t : AutomatonState) (range : Range) → s ≢ Between → range.last ≤ 0xbf
+  phase-between : s ≡ Between → Phase s
+  phase-failed : s ≡ Failed → Phase s
+  phase-waiting : (t : AutomatonState) (range : Range) → s ≢ Between → range.last ≤ 0xbf
       → wanted_ranges s ≡ range ∷ wanted_ranges t
       → ((b : ℕ) → next_state s b ≡ next_if_in range t b) → Phase s
 
 pub phase : (s : AutomatonState) → Phase s
 unfolding next_state
-phase Between = between refl
-phase One = waiting Between continuation (λ e. cc) (omega arith) refl (λ b. refl)
-phase Two = waiting One continuation (λ e. cc) (omega arith) refl (λ b. refl)
-phase Three = waiting Two continuation (λ e. cc) (omega arith) refl (λ b. refl)
-phase AfterE0 = waiting One (from_to 0xa0 0xbf) (λ e. cc) (omega arith) refl (λ b. refl)
-phase AfterED = waiting One (from_to 0x80 0x9f) (λ e. cc) (omega arith) refl (λ b. refl)
-phase AfterF0 = waiting Two (from_to 0x90 0xbf) (λ e. cc) (omega arith) refl (λ b. refl)
-phase AfterF4 = waiting Two (from_to 0x80 0x8f) (λ e. cc) (omega arith) refl (λ b. refl)
-phase AfterC2 = waiting Between (from_to 0xa0 0xbf) (λ e. cc) (omega arith) refl (λ b. refl)
-phase Failed = gone refl
+phase Between = phase-between refl
+phase One = phase-waiting Between continuation (λ e. cc) (omega arith) refl (λ b. refl)
+phase Two = phase-waiting One continuation (λ e. cc) (omega arith) refl (λ b. refl)
+phase Three = phase-waiting Two continuation (λ e. cc) (omega arith) refl (λ b. refl)
+phase AfterE0 = phase-waiting One (from_to 0xa0 0xbf) (λ e. cc) (omega arith) refl (λ b. refl)
+phase AfterED = phase-waiting One (from_to 0x80 0x9f) (λ e. cc) (omega arith) refl (λ b. refl)
+phase AfterF0 = phase-waiting Two (from_to 0x90 0xbf) (λ e. cc) (omega arith) refl (λ b. refl)
+phase AfterF4 = phase-waiting Two (from_to 0x80 0x8f) (λ e. cc) (omega arith) refl (λ b. refl)
+phase AfterC2 = phase-waiting Between (from_to 0xa0 0xbf) (λ e. cc) (omega arith) refl (λ b. refl)
+phase Failed = phase-failed refl

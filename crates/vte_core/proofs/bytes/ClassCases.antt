@@ -12,21 +12,21 @@ AreInClass-append has (b ∷ front) rest are more = (are.0, AreInClass-append ha
 
 -- ---- one class each
 
-pub control : (k : Class) → is_plain_control k ≡ true → k ≡ Control
-control Control h = refl
-control _ h = cc
+pub class-control : (k : Class) → is_plain_control k ≡ true → k ≡ Control
+class-control Control h = refl
+class-control _ h = cc
 
-pub cancel : (k : Class) → is_cancel k ≡ true → k ≡ Cancel
-cancel Cancel h = refl
-cancel _ h = cc
+pub class-cancel : (k : Class) → is_cancel k ≡ true → k ≡ Cancel
+class-cancel Cancel h = refl
+class-cancel _ h = cc
 
-pub intermediate : (k : Class) → is_intermediate k ≡ true → k ≡ Intermediate
-intermediate Intermediate h = refl
-intermediate _ h = cc
+pub class-intermediate : (k : Class) → is_intermediate k ≡ true → k ≡ Intermediate
+class-intermediate Intermediate h = refl
+class-intermediate _ h = cc
 
-pub final : (k : Class) → is_final k ≡ true → k ≡ Final
-final Final h = refl
-final _ h = cc
+pub class-final : (k : Class) → is_final k ≡ true → k ≡ Final
+class-final Final h = refl
+class-final _ h = cc
 
 -- ---- bytes that end nothing
 

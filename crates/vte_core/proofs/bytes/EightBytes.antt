@@ -23,18 +23,20 @@ mask_at : (k : ℕ) → k < 8 → bit_at mask (8 * k + 7) ≡ 1
 mask_at k low = eqb-true _ _ (agree_below_at (λ k. nat_eq (bit_at mask (8 * k + 7)) 1) (λ k. true) 8 k refl low)
 
 -- a byte at whose bit 7 neither number has a 1
-byte : (word k : ℕ) → word < 2 ^ 64 → k < 8 → bit_at (less word) (8 * k + 7) ≡ 0
+byte-unmarked : (word k : ℕ) → word < 2 ^ 64 → k < 8 → bit_at (less word) (8 * k + 7) ≡ 0
     → bit_at word (8 * k + 7) ≡ 0 → IsPrintedAscii (get_or (to_le_bytes w64 word) k 0)
-byte word zero fits low x y = (omega (arith, fits, x, y), omega (arith, fits, x, y))
-byte word (suc zero) fits low x y = (omega (arith, fits, x, y), omega (arith, fits, x, y))
-byte word (suc (suc zero)) fits low x y = (omega (arith, fits, x, y), omega (arith, fits, x, y))
-byte word (suc (suc (suc zero))) fits low x y = (omega (arith, fits, x, y), omega (arith, fits, x, y))
-byte word (suc (suc (suc (suc zero)))) fits low x y = (omega (arith, fits, x, y), omega (arith, fits, x, y))
-byte word (suc (suc (suc (suc (suc zero))))) fits low x y = (omega (arith, fits, x, y), omega (arith, fits, x, y))
-byte word (suc (suc (suc (suc (suc (suc zero)))))) fits low x y = (omega (arith, fits, x, y), omega (arith, fits, x, y))
-byte word (suc (suc (suc (suc (suc (suc (suc zero))))))) fits low x y =
+byte-unmarked word zero fits low x y = (omega (arith, fits, x, y), omega (arith, fits, x, y))
+byte-unmarked word (suc zero) fits low x y = (omega (arith, fits, x, y), omega (arith, fits, x, y))
+byte-unmarked word (suc (suc zero)) fits low x y = (omega (arith, fits, x, y), omega (arith, fits, x, y))
+byte-unmarked word (suc (suc (suc zero))) fits low x y = (omega (arith, fits, x, y), omega (arith, fits, x, y))
+byte-unmarked word (suc (suc (suc (suc zero)))) fits low x y = (omega (arith, fits, x, y), omega (arith, fits, x, y))
+byte-unmarked word (suc (suc (suc (suc (suc zero))))) fits low x y =
     (omega (arith, fits, x, y), omega (arith, fits, x, y))
-byte word (suc (suc (suc (suc (suc (suc (suc (suc k)))))))) fits low x y = absurd (omega (arith, low))
+byte-unmarked word (suc (suc (suc (suc (suc (suc zero)))))) fits low x y =
+    (omega (arith, fits, x, y), omega (arith, fits, x, y))
+byte-unmarked word (suc (suc (suc (suc (suc (suc (suc zero))))))) fits low x y =
+    (omega (arith, fits, x, y), omega (arith, fits, x, y))
+byte-unmarked word (suc (suc (suc (suc (suc (suc (suc (suc k)))))))) fits low x y = absurd (omega (arith, low))
 
 pub marks-fit : (word : ℕ) → marks_of word < 2 ^ 64
 marks-fit word = omega (arith, and_le_r (bit_or (less word) word) mask)
@@ -51,5 +53,5 @@ front-printed bytes word n are long fits is most zeros k _ few =
     let both = bit_at_and (bit_or (less word) word) mask (8 * k + 7) in
     let small = bit_at-lt (bit_or (less word) word) (8 * k + 7) in
     subst IsPrintedAscii (ap (λ x. get_or x k 0) (le_bytes_8 bytes word long are is))
-    (byte word k fits low (omega (arith, e, both, either, small, mask_at k low))
+    (byte-unmarked word k fits low (omega (arith, e, both, either, small, mask_at k low))
     (omega (arith, e, both, either, small, mask_at k low)))

@@ -186,25 +186,25 @@ truncated_long a u long = elim (first_byte a) [
       (tests_four a low high u).is_open ∙ fits_front-long (second_range a ∷ continuation ∷ continuation ∷ []) u long
 ]
 
-after_one : (a b : ℕ) → b < 0x80 → Tests (a ∷ b ∷ []) false false
+ascii_after-one : (a b : ℕ) → b < 0x80 → Tests (a ∷ b ∷ []) false false
 unfolding is_well_formed is_truncated utf8_rows
-after_one a b high = record { is_whole = grind (arith, nat_tests); is_open = grind (arith, nat_tests) }
+ascii_after-one a b high = record { is_whole = grind (arith, nat_tests); is_open = grind (arith, nat_tests) }
 
-after_two : (a c b : ℕ) → b < 0x80 → Tests (a ∷ c ∷ b ∷ []) false false
+ascii_after-two : (a c b : ℕ) → b < 0x80 → Tests (a ∷ c ∷ b ∷ []) false false
 unfolding is_well_formed is_truncated utf8_rows
-after_two a c b high = record { is_whole = grind (arith, nat_tests); is_open = grind (arith, nat_tests) }
+ascii_after-two a c b high = record { is_whole = grind (arith, nat_tests); is_open = grind (arith, nat_tests) }
 
-after_three : (a c d b : ℕ) → b < 0x80 → is_well_formed (a ∷ c ∷ d ∷ b ∷ []) ≡ false
+ascii_after-three : (a c d b : ℕ) → b < 0x80 → is_well_formed (a ∷ c ∷ d ∷ b ∷ []) ≡ false
 unfolding is_well_formed utf8_rows
-after_three a c d b high = grind (arith, nat_tests)
+ascii_after-three a c d b high = grind (arith, nat_tests)
 
 -- it belongs to no sequence that others began
 pub ascii_breaks : (u : List ℕ) (b : ℕ) → is_truncated u ≡ true → b < 0x80 → Tests (u ++ b ∷ []) false false
 unfolding is_truncated
 ascii_breaks [] b more high = cc
-ascii_breaks (a ∷ []) b more high = after_one a b high
-ascii_breaks (a ∷ c ∷ []) b more high = after_two a c b high
+ascii_breaks (a ∷ []) b more high = ascii_after-one a b high
+ascii_breaks (a ∷ c ∷ []) b more high = ascii_after-two a c b high
 ascii_breaks (a ∷ c ∷ d ∷ []) b more high =
-    record { is_whole = after_three a c d b high; is_open = truncated_long a (c ∷ d ∷ b ∷ []) (omega arith) }
+    record { is_whole = ascii_after-three a c d b high; is_open = truncated_long a (c ∷ d ∷ b ∷ []) (omega arith) }
 ascii_breaks (a ∷ c ∷ d ∷ e ∷ u) b more high =
     absurd (false≢true (sym (truncated_long a (c ∷ d ∷ e ∷ u) (omega arith)) ∙ more))

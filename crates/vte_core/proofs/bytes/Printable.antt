@@ -31,9 +31,9 @@ layout-is_ascii c e = grind (arith, nat_tests)
 no_layout : (b : ℕ) → IsPrintedAscii b → is_layout b ≡ false
 no_layout b p = let low = p.0 in let high = p.1 in grind (arith, nat_tests)
 
-pub printed-event : (layout : Bool) (b : ℕ) → IsPrintedAscii b → run_event layout b ≡ Print b
-printed-event false b p = refl
-printed-event true b p = rw (no_layout b p) refl
+pub run_event-printed : (layout : Bool) (b : ℕ) → IsPrintedAscii b → run_event layout b ≡ Print b
+run_event-printed false b p = refl
+run_event-printed true b p = rw (no_layout b p) refl
 
 plain-stays : (layout : Bool) (b : ℕ) → IsPrintedAscii b → StaysInRun layout b
 plain-stays layout b p =
@@ -41,9 +41,9 @@ plain-stays layout b p =
 
 -- ---- ASCII
 
-run_of_ascii : (layout : Bool) (bytes : List ℕ) → IsAscii bytes → All (StaysInRun layout) bytes
+utf8_run-ascii : (layout : Bool) (bytes : List ℕ) → IsAscii bytes → All (StaysInRun layout) bytes
     → IsUtf8Run layout bytes
-run_of_ascii layout bytes a stay =
+utf8_run-ascii layout bytes a stay =
     record {
       utf8 = IsUtf8-from_ascii bytes a;
       plain = subst (All (StaysInRun layout)) (sym (chars-IsAscii bytes a)) stay;
@@ -55,7 +55,7 @@ printable-ascii layout bytes n are =
     let printed : (k : ℕ) → k < length (take n bytes) → IsPrintedAscii (get_or (take n bytes) k 0) = λ k l.
     let below : k < n = omega (arith, l, length-take n bytes) in
     subst IsPrintedAscii (sym (get_or-take n bytes k 0 below)) (are k (omega arith) below) in
-    run_of_ascii layout (take n bytes)
+    utf8_run-ascii layout (take n bytes)
     (IsAscii-from_reads (take n bytes) (length (take n bytes)) (omega arith) (λ k l. (printed k l).1))
     (All-from_get_or (StaysInRun layout) (take n bytes) 0 (λ k l. plain-stays layout _ (printed k l)))
 
@@ -78,26 +78,26 @@ printable-append layout xs ys a b = record {
 
 -- ---- one character
 
-pub chars_encode : (c : ℕ) → IsScalar c → chars (encode c) ≡ c ∷ []
-chars_encode c is =
+pub chars-encode : (c : ℕ) → IsScalar c → chars (encode c) ≡ c ∷ []
+chars-encode c is =
     chars_past_char (encode c) [] c (IsUtf8-encode c is) (sym (append-nil (encode c))) ∙ ap (λ cs. c ∷ cs) chars-nil
 
 pub run_one : (layout : Bool) (c : ℕ) → IsScalar c → StaysInRun layout c
     → All (StaysInRun layout) (chars (encode c))
-run_one layout c is stays = subst (All (StaysInRun layout)) (sym (chars_encode c is))
+run_one layout c is stays = subst (All (StaysInRun layout)) (sym (chars-encode c is))
     (All-cons (StaysInRun layout) c [] stays (All-nil (StaysInRun layout)))
 
-pub after_character : {V : Type 0} (layout : Bool) (step : V → Event → V) (old : V) (c : ℕ) → IsScalar c
+pub after-character : {V : Type 0} (layout : Bool) (step : V → Event → V) (old : V) (c : ℕ) → IsScalar c
     → after step old (map (run_event layout) (chars (encode c))) ≡ step old (run_event layout c)
-after_character layout step old c is = ap (λ cs. after step old (map (run_event layout) cs)) (chars_encode c is)
+after-character layout step old c is = ap (λ cs. after step old (map (run_event layout) cs)) (chars-encode c is)
 
-pub no_control_event : (layout : Bool) (c : ℕ) → is_control_character c ≡ false → run_event layout c ≡ Print c
-no_control_event layout c e = grind (arith, nat_tests, layout-is_plain_control c)
+pub run_event-no_control : (layout : Bool) (c : ℕ) → is_control_character c ≡ false → run_event layout c ≡ Print c
+run_event-no_control layout c e = grind (arith, nat_tests, layout-is_plain_control c)
 
 -- ---- runs among the bytes
 
-pub printed-is : (b : ℕ) → is_in (from_to 0x20 0x7f) b ≡ true → IsPrintedAscii b
-printed-is b e = grind (arith, nat_tests)
+pub printed-in_range : (b : ℕ) → is_in (from_to 0x20 0x7f) b ≡ true → IsPrintedAscii b
+printed-in_range b e = grind (arith, nat_tests)
 
 pub chars-one : (bytes : List ℕ) (from b : ℕ) → from < length bytes → b ≡ slice_index bytes from → IsPrintedAscii b
     → chars (take (from + 1 - from) (drop from bytes)) ≡ b ∷ []
@@ -109,7 +109,7 @@ pub run-layout : (bytes : List ℕ) (from b : ℕ) → from < length bytes → b
     → IsRun true bytes from (from + 1)
 run-layout bytes from b within is layout =
     subst (IsUtf8Run true) (sym (one_byte bytes from b within is))
-    (run_of_ascii true (b ∷ []) (IsAscii-cons b [] (layout-is_ascii b layout) IsAscii-nil)
+    (utf8_run-ascii true (b ∷ []) (IsAscii-cons b [] (layout-is_ascii b layout) IsAscii-nil)
     (All-cons (StaysInRun true) b [] (layout-stays b layout)
     (All-nil (StaysInRun true))))
 

@@ -55,11 +55,11 @@ added-inside s = kept-is s.has_come
 
 -- ---- a byte outside of text and data
 
-all_others : (events : List Event) → AreQuietEvents events → All IsOutsideRuns events
-all_others [] are = All-nil IsOutsideRuns
-all_others (event ∷ []) are = All-cons IsOutsideRuns event [] are (All-nil IsOutsideRuns)
-all_others (event ∷ next ∷ events) are = All-cons IsOutsideRuns event (next ∷ events) are.0
-    (all_others (next ∷ events) are.1)
+quiet-all : (events : List Event) → AreQuietEvents events → All IsOutsideRuns events
+quiet-all [] are = All-nil IsOutsideRuns
+quiet-all (event ∷ []) are = All-cons IsOutsideRuns event [] are (All-nil IsOutsideRuns)
+quiet-all (event ∷ next ∷ events) are = All-cons IsOutsideRuns event (next ∷ events) are.0
+    (quiet-all (next ∷ events) are.1)
 
 pub outside_runs-place : {B : Type 0} (limit : Option ℕ) (state : State) (parser : Machine B) (place : Place) (b : ℕ)
     → IsReadOutsideRuns state b → StandsBy limit state parser place → IsQuietAt place b
@@ -127,7 +127,7 @@ module _ {limit : Option ℕ} {stream bytes : List ℕ} {i : ℕ} where
       → IsPlace place → IsQuietAt place b → AddsOutsideRuns limit stream bytes i (i + 1)
   adds-outside_runs {b} {place} within is a is_place outside =
       let s = steps limit place b is_place in
-      adds-reads within is a s.reads s.is_place (all_others s.told (s.outside_runs outside))
+      adds-reads within is a s.reads s.is_place (quiet-all s.told (s.outside_runs outside))
 
   -- what is told of a character whose first byte told nothing
   pub adds-character : {begun : List ℕ} {j : ℕ} (a : AddsCharacter limit stream begun bytes (i + 1) j)

@@ -9,10 +9,10 @@ use Rattle.vte_core.proofs.streams.Performing.{takes-performs}
 use Rattle.vte_core.proofs.places.StreamLemmas.{no_escape, reads-escape}
 
 module _ {V B : Type 0} {step : V → Event → V} {old new : V} {limit : Option ℕ} where
-  pub taken : {place : Place} {byte : ℕ} {parser : Machine B} (told : List Event) (next : Place)
+  pub takes-byte : {place : Place} {byte : ℕ} {parser : Machine B} (told : List Event) (next : Place)
       → new ≡ after step old told → StandsAtPlace limit parser next → Leads limit place byte told next
       → TakesByte step old new limit place byte parser
-  taken told next performed stands leads =
+  takes-byte told next performed stands leads =
       record { told = told; next = next; performed = performed; stands = stands; leads = leads }
 
   -- a byte other than CAN, SUB and ESC, read in a state
@@ -54,31 +54,31 @@ advances-in {b} e within is may_go_on ordinary takes settled =
 
 module _ {V B : Type 0} {step : V → Event → V} {old new : V} {limit : Option ℕ} {b : ℕ} {next : Machine B}
     (parser : Machine B) where
-  pub at_escape : (HoldsIntermediates parser.collected [] → TakesByte step old new limit AtEscape b next)
+  pub takes-at_escape : (HoldsIntermediates parser.collected [] → TakesByte step old new limit AtEscape b next)
       → (place : Place)
       → StandsBy limit Escape parser place → TakesByte step old new limit place b next
-  at_escape takes AtEscape s = takes s
-  at_escape takes _ s = absurd s
+  takes-at_escape takes AtEscape s = takes s
+  takes-at_escape takes _ s = absurd s
 
-  pub in_escape :
+  pub takes-in_escape :
       ((ints : List ℕ) → HoldsIntermediates parser.collected ints → TakesByte step old new limit (InEscape ints) b next)
       → (place : Place) → StandsBy limit EscapeIntermediate parser place → TakesByte step old new limit place b next
-  in_escape takes (InEscape ints) s = takes ints s
-  in_escape takes _ s = absurd s
+  takes-in_escape takes (InEscape ints) s = takes ints s
+  takes-in_escape takes _ s = absurd s
 
-  pub in_data : TakesByte step old new limit InDeviceData b next → (place : Place)
+  pub takes-in_data : TakesByte step old new limit InDeviceData b next → (place : Place)
       → StandsBy limit DeviceData parser place
       → TakesByte step old new limit place b next
-  in_data takes InDeviceData s = takes
-  in_data takes _ s = absurd s
+  takes-in_data takes InDeviceData s = takes
+  takes-in_data takes _ s = absurd s
 
-  pub in_system_command : ((items : List ℕ) → HoldsItems limit parser.command items
+  pub takes-in_system_command : ((items : List ℕ) → HoldsItems limit parser.command items
       → TakesByte step old new limit (InSystemCommand items) b next)
       → (place : Place) → StandsBy limit SystemCommand parser place → TakesByte step old new limit place b next
-  in_system_command takes (InSystemCommand items) s = takes items s
-  in_system_command takes _ s = absurd s
+  takes-in_system_command takes (InSystemCommand items) s = takes items s
+  takes-in_system_command takes _ s = absurd s
 
-  pub in_ignored : TakesByte step old new limit InIgnoredString b next → (place : Place)
+  pub takes-in_ignored : TakesByte step old new limit InIgnoredString b next → (place : Place)
       → StandsBy limit IgnoredString parser place → TakesByte step old new limit place b next
-  in_ignored takes InIgnoredString s = takes
-  in_ignored takes _ s = absurd s
+  takes-in_ignored takes InIgnoredString s = takes
+  takes-in_ignored takes _ s = absurd s

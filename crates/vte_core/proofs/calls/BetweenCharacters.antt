@@ -9,15 +9,15 @@ use Rattle.vte_core.proofs.fields.PlaceOfState.{stands-by}
 use Rattle.vte_core.proofs.calls.CallEnds.{settled-by}
 use Rattle.vte_core.proofs.calls.Stretches.{advances-byte, advances-telling, not_escape, performs-begun}
 use Rattle.vte_core.specs.machine.Prelude.{MayReadByte}
-use Rattle.vte_core.proofs.calls.States.{between_characters}
+use Rattle.vte_core.proofs.calls.States.{place-settled_text}
 use Rattle.vte_core.proofs.places.PlaceLeads.{text-lone, text-unfinished, text-whole}
-use Rattle.vte_core.proofs.streams.QuietEvents.{other_control}
+use Rattle.vte_core.proofs.streams.QuietEvents.{quiet-control}
 use Rattle.vte_core.proofs.calls.AddedEvents.{adds-reads}
 use Rattle.vte_core.proofs.places.StreamLemmas.{reads-byte}
 
-prints : (b : ℕ) → is_in (from_to 0x20 0x7f) b ≡ true → character_event b ≡ Print b
+character_event-printed : (b : ℕ) → is_in (from_to 0x20 0x7f) b ≡ true → character_event b ≡ Print b
 unfolding character_event
-prints b printed = grind (arith, nat_tests)
+character_event-printed b printed = grind (arith, nat_tests)
 
 module _ {V B : Type 0} {step : V → Event → V} {old new : V} {limit : Option ℕ} {b : ℕ} {parser : Machine B} where
   -- a byte that is a character
@@ -57,7 +57,7 @@ module _ {V B : Type 0} {step : V → Event → V} {old new : V} {limit : Option
       let low : 0x20 ≤ b = grind (arith, nat_tests) in
       let high : b < 0x80 = grind (arith, nat_tests) in
       performs-whole e (λ escape. omega (arith, escape, low)) (ascii_alone b high).is_whole
-      (told ∙ ap (λ x. step old (Print x)) same ∙ ap (step old) (sym (prints b printed)))
+      (told ∙ ap (λ x. step old (Print x)) same ∙ ap (step old) (sym (character_event-printed b printed)))
 
   -- a byte that is neither printed nor begins a longer one
   pub performs-single : parser.state ≡ Text Nothing → b ≢ escape
@@ -95,23 +95,23 @@ record Single (limit : Option ℕ) (b : ℕ) : Type 0 where
   reads : BytesLead limit (InText []) (b ∷ []) told (InText [])
   events_are : All IsOutsideRuns told
 
-malformed_other : (b : ℕ) → All IsOutsideRuns (malformed_event (b ∷ []) ∷ [])
+quiet-malformed : (b : ℕ) → All IsOutsideRuns (malformed_event (b ∷ []) ∷ [])
 unfolding malformed_event
-malformed_other b = elim (cases_Bool (is_control_character b)) [
+quiet-malformed b = elim (cases_Bool (is_control_character b)) [
   | inl is ↦ rw is (All-cons IsOutsideRuns (Execute b) [] tt (All-nil IsOutsideRuns))
   | inr is ↦ rw is (All-cons IsOutsideRuns (Print replacement) [] refl (All-nil IsOutsideRuns))
 ]
 
-single : (limit : Option ℕ) (b : ℕ) → b ≢ escape → is_in (from_to 0x20 0x7f) b ≡ false
+byte-single : (limit : Option ℕ) (b : ℕ) → b ≢ escape → is_in (from_to 0x20 0x7f) b ≡ false
     → is_in (from_to 0xc2 0xf4) b ≡ false
     → Single limit b
-single limit b n other no_lead = elim (cases_lt b 0x80) [
+byte-single limit b n other no_lead = elim (cases_lt b 0x80) [
   | inl low ↦ record {
     told = character_event b ∷ [];
     reads =
         reads-byte limit (InText []) (InText []) b _ (not_escape b n)
         (text-whole limit [] b (ascii_alone b low).is_whole);
-    events_are = other_control b (grind (arith, nat_tests));
+    events_are = quiet-control b (grind (arith, nat_tests));
   }
   | inr high ↦
       let lone = begins_none b high no_lead in
@@ -120,7 +120,7 @@ single limit b n other no_lead = elim (cases_lt b 0x80) [
         reads =
             reads-byte limit (InText []) (InText []) b _ (not_escape b n)
             (text-lone limit b lone.is_whole lone.is_open);
-        events_are = malformed_other b;
+        events_are = quiet-malformed b;
       }
 ]
 
@@ -131,9 +131,9 @@ adds-single : {B : Type 0} {limit : Option ℕ} {stream bytes : List ℕ} {i b :
     → StandsAtPlace limit parser place
     → IsAfter limit (resumed_stream stream bytes i) place → AddsOutsideRuns limit stream bytes i (i + 1)
 adds-single {limit} {stream} {bytes} {i} {b} {place} parser e n other no_lead within is s after =
-    let one = single limit b n other no_lead in
+    let one = byte-single limit b n other no_lead in
     adds-reads within is
-    (subst (IsAfter limit (resumed_stream stream bytes i)) (between_characters parser place e s) after)
+    (subst (IsAfter limit (resumed_stream stream bytes i)) (place-settled_text parser place e s) after)
     one.reads refl one.events_are
 
 pub advances-single : {outside V B : Type 0} {call : ChunkCall V} {old new : V} {i b : ℕ} {parser : Machine B}

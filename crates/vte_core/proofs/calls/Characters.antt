@@ -5,30 +5,30 @@ use Rattle.vte_core.proofs.Common.{◌≡◌, ◌≢◌, ℕ, ◌+◌, ◌<◌, 
 use Rattle.vte_core.specs.declared.utf8.Carried.TheVariants.{Unfinished as StillUnfinished, Whole, Broken}
 use Rattle.vte_core.proofs.bytes.CarriedLemmas.{second_open, third_open}
 use Rattle.vte_core.specs.machine.Completes.{Completes}
-use Rattle.vte_core.proofs.calls.InsideCharacters.{carried-broken, carried-more, carried-whole, in_text, inside-open, inside-same, some, truncated-some}
+use Rattle.vte_core.proofs.calls.InsideCharacters.{carried-broken, carried-more, carried-whole, in_text, inside-open, inside-same, unfinished-some, truncated-some}
 use Rattle.vte_core.proofs.calls.CallEnds.{inside-all, inside-moved}
-use Rattle.vte_core.proofs.streams.QuietEvents.{longer}
+use Rattle.vte_core.proofs.streams.QuietEvents.{length-longer}
 use Rattle.vte_core.proofs.calls.AddedEvents.{added-inside, keeps-inside, told-at, keeping}
 use Rattle.vte_core.proofs.streams.Performing.{open_truncated}
 use Rattle.std.proofs.lemmas.List.{drop-drop}
 
 -- the bytes of a character, with those at a position
-bytes_more : (bytes : List ℕ) (i j n m : ℕ) (begun : List ℕ) {u : List ℕ} → j ≡ i + n
+character-bytes : (bytes : List ℕ) (i j n m : ℕ) (begun : List ℕ) {u : List ℕ} → j ≡ i + n
     → u ≡ begun ++ take n (drop i bytes)
     → u ++ take m (drop j bytes) ≡ begun ++ take (n + m) (drop i bytes)
-bytes_more bytes i j n m begun far are =
+character-bytes bytes i j n m begun far are =
     ap (λ (x : List ℕ). x ++ take m (drop j bytes)) are
     ∙ append_assoc begun (take n (drop i bytes)) (take m (drop j bytes))
     ∙ ap (λ (x : List ℕ). begun ++ (take n (drop i bytes) ++ take m x))
     (ap (λ k. drop k bytes) far ∙ sym (drop-drop n i bytes))
     ∙ ap (λ (x : List ℕ). begun ++ x) (sym (take-add n m (drop i bytes)))
 
-byte_more : (bytes : List ℕ) (i n : ℕ) (begun : List ℕ) {j b : ℕ} {u : List ℕ} → j < length bytes → j ≡ i + n
+character-byte : (bytes : List ℕ) (i n : ℕ) (begun : List ℕ) {j b : ℕ} {u : List ℕ} → j < length bytes → j ≡ i + n
     → b ≡ slice_index bytes j → u ≡ begun ++ take n (drop i bytes)
     → u ++ b ∷ [] ≡ begun ++ take (n + 1) (drop i bytes)
-byte_more bytes i n begun {j} {u} within far is are =
+character-byte bytes i n begun {j} {u} within far is are =
     ap (λ (x : List ℕ). u ++ x) (ap (λ (x : ℕ). x ∷ []) is ∙ sym (ap (take 1) (drop_more bytes j 0 within)))
-    ∙ bytes_more bytes i j n 1 begun far are
+    ∙ character-bytes bytes i j n 1 begun far are
 
 -- From position i, inside a character of the bytes `begun`, a call has come to position j, inside one of
 -- the bytes `u`, and told nothing.
@@ -70,7 +70,7 @@ module _ {V B : Type 0} {call : ChunkCall V} {value : V} {i : ℕ} {begun : Unfi
     far = omega (arith, goes.far);
     bytes_are =
         λ opened. (carries (goes.more opened)).0
-        ∙ byte_more call.bytes i goes.n (bytes_of begun) within goes.far is (goes.bytes_are opened);
+        ∙ character-byte call.bytes i goes.n (bytes_of begun) within goes.far is (goes.bytes_are opened);
   }
 
   -- all bytes are read
@@ -101,7 +101,7 @@ module _ {V B : Type 0} {call : ChunkCall V} {value : V} {i : ℕ} {begun : Unfi
         let opened = inside-open e s in
         let more = goes.more opened in
         let whole = carries more in
-        let same = byte_more call.bytes i goes.n (bytes_of begun) within goes.far is (goes.bytes_are opened) in
+        let same = character-byte call.bytes i goes.n (bytes_of begun) within goes.far is (goes.bytes_are opened) in
         record {
           events = character_event c ∷ [];
           parts =
@@ -112,7 +112,7 @@ module _ {V B : Type 0} {call : ChunkCall V} {value : V} {i : ℕ} {begun : Unfi
             n = goes.n + 1;
             far = omega (arith, goes.far, within);
             well = subst (λ (x : List ℕ). is_well_formed x ≡ true) same whole.0;
-            long = subst (λ (x : List ℕ). 1 < length x) same (longer _ _ (truncated-some (bytes_of u) more));
+            long = subst (λ (x : List ℕ). 1 < length x) same (length-longer _ _ (truncated-some (bytes_of u) more));
             same = ap (λ n. character_event n ∷ []) (whole.1 ∙ ap scalar_of same);
           });
         };
@@ -159,7 +159,7 @@ module _ {V B : Type 0} {call : ChunkCall V} {value : V} {i : ℕ} {begun : Unfi
             | inr whole ↦
                 let same : bytes_of u ++ take whole.n (drop j call.bytes)
                 ≡ bytes_of begun ++ take (goes.n + whole.n) (drop i call.bytes) =
-                bytes_more call.bytes i j goes.n whole.n (bytes_of begun) goes.far (goes.bytes_are opened) in
+                character-bytes call.bytes i j goes.n whole.n (bytes_of begun) goes.far (goes.bytes_are opened) in
                 inr (record {
                   n = goes.n + whole.n;
                   far = omega (arith, goes.far, whole.far);
@@ -176,7 +176,7 @@ module _ {V B : Type 0} {call : ChunkCall V} {value : V} {i x y : ℕ} where
   pub goes-second : (next : Machine B) → 0xe0 ≤ x → is_in (second_range x) y ≡ true → i < length call.bytes
       → y ≡ slice_index call.bytes i → GoesOn call value i (i + 1) (One x) (Two x y) next
   goes-second next low second within is =
-      goes-more (goes-nowhere next (some x [])) (λ more. second_open x y more second low) within is
+      goes-more (goes-nowhere next (unfinished-some x [])) (λ more. second_open x y more second low) within is
 
   -- the second and the third of one of four
   pub goes-third : {z : ℕ} (next : Machine B) → 0xf0 ≤ x → is_in (second_range x) y ≡ true

@@ -2,7 +2,7 @@
 use Rattle.vte_core.proofs.Common.{◌≡◌, ℕ, zero, suc, ◌+◌, ◌-◌, ◌<◌, ◌≤◌, false, List, [], ◌∷◌, map, length, take, drop, refl, sym, subst, ◌∙◌, arith, false≢true, drop_more, slice_index, Machine, DeviceData, Put, InDeviceData, Advances, after, ArePut, IsDeviceData, ChunkCall}
 use Rattle.vte_core.proofs.bytes.EachLemmas.{each-both, each-one}
 use Rattle.vte_core.proofs.bytes.ClassCases.{data_ends_nothing}
-use Rattle.vte_core.proofs.calls.Arms.{advances-in, in_data, taken}
+use Rattle.vte_core.proofs.calls.Arms.{advances-in, takes-in_data, takes-byte}
 use Rattle.vte_core.proofs.calls.CallEnds.{settled-by}
 use Rattle.vte_core.proofs.calls.Stretches.{advances-moved, advances-nothing, advances-part, advances-then}
 use Rattle.vte_core.proofs.fields.PlaceOfState.{stands-by}
@@ -20,7 +20,7 @@ advances-by {call} {parser} (suc n) i begun within are none =
     rw (drop_more call.bytes i 0 here) (advances-moved (omega arith) (advances-then
     (advances-part
     (advances-in begun here refl (λ does. absurd (false≢true (sym none ∙ does))) (data_ends_nothing _ put)
-    (in_data parser (taken (Put b ∷ []) InDeviceData refl (stands-by begun tt) (data-put _ b put)))
+    (takes-in_data parser (takes-byte (Put b ∷ []) InDeviceData refl (stands-by begun tt) (data-put _ b put)))
     (settled-by _ _ begun tt)))
     (advances-by n (i + 1) begun (omega (arith, within))
     (λ k low high. are k (omega (arith, low)) (omega (arith, high))) none)))

@@ -16,16 +16,16 @@ use Rattle.vte_core.proofs.places.StreamLemmas.{no_escape, reads-byte}
 
 -- ---- what is collected
 
-between-then : (bytes : List ℕ) (i j k : ℕ) → i ≤ j → j ≤ k
+slice-then : (bytes : List ℕ) (i j k : ℕ) → i ≤ j → j ≤ k
     → take (k - i) (drop i bytes) ≡ take (j - i) (drop i bytes) ++ take (k - j) (drop j bytes)
-between-then bytes i j k low high =
+slice-then bytes i j k low high =
     let whole : k - i ≡ (j - i) + (k - j) = omega (arith, low, high) in
     let here : i + (j - i) ≡ j = omega (arith, low) in
     rw (whole, take-add (j - i) (k - j) (drop i bytes), drop-drop (j - i) i bytes, here) refl
 
-pub reads-nothing : {bytes : List ℕ} {i : ℕ} {progress : HeadProgress} {held : Collected} → i ≤ length bytes
+pub reads_head-nothing : {bytes : List ℕ} {i : ℕ} {progress : HeadProgress} {held : Collected} → i ≤ length bytes
     → ReadsHead bytes i i progress progress held held
-reads-nothing {bytes} {i} {progress} {held} within =
+reads_head-nothing {bytes} {i} {progress} {held} within =
     let none : i - i ≡ 0 = omega arith in
     record {
       low = omega arith;
@@ -35,11 +35,11 @@ reads-nothing {bytes} {i} {progress} {held} within =
           (none, append-nil head) s;
     }
 
-pub reads-then : {bytes : List ℕ} {i j k : ℕ} {reached progress next : HeadProgress} {old mid new : Collected}
+pub reads_head-then : {bytes : List ℕ} {i j k : ℕ} {reached progress next : HeadProgress} {old mid new : Collected}
     → ReadsHead bytes i j reached progress old mid → ReadsHead bytes j k progress next mid new
     → ReadsHead bytes i k reached next old new
-reads-then {bytes} {i} {j} {k} a b =
-    let whole = between-then bytes i j k a.low b.low in
+reads_head-then {bytes} {i} {j} {k} a b =
+    let whole = slice-then bytes i j k a.low b.low in
     record {
       low = omega (arith, a.low, b.low);
       high = b.high;
@@ -49,11 +49,11 @@ reads-then {bytes} {i} {j} {k} a b =
           (b.stands _ (a.stands head s));
     }
 
-pub reads-head_byte : {bytes : List ℕ} {i b : ℕ} {progress next : HeadProgress} {old new : Collected} → i < length bytes
+pub reads_head-byte : {bytes : List ℕ} {i b : ℕ} {progress next : HeadProgress} {old new : Collected} → i < length bytes
     → b ≡ slice_index bytes i → is_head_byte (class_of b) ≡ true
     → ((head : List ℕ) → StandsInHead old progress head → StandsInHead new next (head ++ b ∷ []))
     → ReadsHead bytes i (i + 1) progress next old new
-reads-head_byte {bytes} {i} {b} within at is stands =
+reads_head-byte {bytes} {i} {b} within at is stands =
     let one = one_byte bytes i b within at in
     record {
       low = omega arith;
@@ -63,9 +63,10 @@ reads-head_byte {bytes} {i} {b} within at is stands =
     }
 
 -- no byte follows
-pub at-none : {A : Type 0} (B : ℕ → Type 0) (next : Option ℕ) → ((b : ℕ) → next ≡ Some b → ⊥) → MatchOption next A B → A
-at-none B None n all = all
-at-none B (Some b) n all = absurd (n b refl)
+pub match-none : {A : Type 0} (B : ℕ → Type 0) (next : Option ℕ) → ((b : ℕ) → next ≡ Some b → ⊥) → MatchOption next A B
+    → A
+match-none B None n all = all
+match-none B (Some b) n all = absurd (n b refl)
 
 -- ---- numbers
 
@@ -85,15 +86,15 @@ part_after-may reached from to may = by_test (eqb from to) refl
     by_test false e = inr (rw e refl)
 
 -- a digit or a separator
-pub reads-parameter : {bytes : List ℕ} {from i b : ℕ} {reached : HeadProgress} {first old new : Collected}
+pub reads_head-parameter : {bytes : List ℕ} {from i b : ℕ} {reached : HeadProgress} {first old new : Collected}
     → (reached ≡ Entry) ⊎ (reached ≡ Parameters)
     → i < length bytes → b ≡ slice_index bytes i → is_parameter_text (class_of b) ≡ true → SameIntermediates old new
     → ((text : List ℕ) → CountsNumbers old text → CountsNumbers new (text ++ b ∷ []))
     → ReadsHead bytes from i reached (part_after reached from i) first old
     → ReadsHead bytes from (i + 1) reached (part_after reached from (i + 1)) first new
-reads-parameter {from} {i} {b} {reached} {old} {new} may within at is keeps counts before =
+reads_head-parameter {from} {i} {b} {reached} {old} {new} may within at is keeps counts before =
     rw (part_after-more reached from (i + 1) (omega (arith, before.low)))
-    (reads-then before (reads-head_byte within at (parameter_is_head (class_of b) is)
+    (reads_head-then before (reads_head-byte within at (parameter_is_head (class_of b) is)
     (λ head s.
     holds-parameter old new (part_after reached from i) head b (part_after-may reached from i may) s is keeps counts)))
 
@@ -116,42 +117,43 @@ record InHeadAt (shape : Shape) (held : Collected) (progress : HeadProgress) (pl
   same : place ≡ in_head shape head
   stands : StandsInHead held progress head
 
-place_in : {B : Type 0} (shape : Shape) (limit : Option ℕ) (progress : HeadProgress) (parser : Machine B)
+head-place : {B : Type 0} (shape : Shape) (limit : Option ℕ) (progress : HeadProgress) (parser : Machine B)
     (place : Place)
     → StandsBy limit (state_of shape progress) parser place
     → InHeadAt shape parser.collected progress place
-place_in ControlHead limit progress parser (InControlSequence head) s = record { head = head; same = refl; stands = s }
-place_in ControlHead limit progress parser _ s = absurd s
-place_in DeviceHead limit progress parser (InDeviceControl head) s = record { head = head; same = refl; stands = s }
-place_in DeviceHead limit progress parser _ s = absurd s
+head-place ControlHead limit progress parser (InControlSequence head) s =
+    record { head = head; same = refl; stands = s }
+head-place ControlHead limit progress parser _ s = absurd s
+head-place DeviceHead limit progress parser (InDeviceControl head) s = record { head = head; same = refl; stands = s }
+head-place DeviceHead limit progress parser _ s = absurd s
 
-stands_in : {B : Type 0} (shape : Shape) (limit : Option ℕ) (progress : HeadProgress) (parser : Machine B)
+head-stands : {B : Type 0} (shape : Shape) (limit : Option ℕ) (progress : HeadProgress) (parser : Machine B)
     (head : List ℕ)
     → parser.state ≡ state_of shape progress
     → StandsInHead parser.collected progress head → StandsAtPlace limit parser (in_head shape head)
-stands_in ControlHead limit progress parser head e s = record { by = rw e s }
-stands_in DeviceHead limit progress parser head e s = record { by = rw e s }
+head-stands ControlHead limit progress parser head e s = record { by = rw e s }
+head-stands DeviceHead limit progress parser head e s = record { by = rw e s }
 
-leads : (shape : Shape) (limit : Option ℕ) (head : List ℕ) (b : ℕ) → is_head_byte (class_of b) ≡ true
+head-leads : (shape : Shape) (limit : Option ℕ) (head : List ℕ) (b : ℕ) → is_head_byte (class_of b) ≡ true
     → Leads limit (in_head shape head) b [] (in_head shape (head ++ b ∷ []))
-leads ControlHead limit head b is = control-head limit head b is
-leads DeviceHead limit head b is = device-head limit head b is
+head-leads ControlHead limit head b is = control-head limit head b is
+head-leads DeviceHead limit head b is = device-head limit head b is
 
-is_place : (shape : Shape) (head : List ℕ) → IsPlace (in_head shape head)
-is_place ControlHead head = tt
-is_place DeviceHead head = tt
+head-is_place : (shape : Shape) (head : List ℕ) → IsPlace (in_head shape head)
+head-is_place ControlHead head = tt
+head-is_place DeviceHead head = tt
 
-is_between : (shape : Shape) (head : List ℕ) → IsSettledPlace (in_head shape head)
-is_between ControlHead head = tt
-is_between DeviceHead head = tt
+head-settled_place : (shape : Shape) (head : List ℕ) → IsSettledPlace (in_head shape head)
+head-settled_place ControlHead head = tt
+head-settled_place DeviceHead head = tt
 
-outside_runs-head : (shape : Shape) (progress : HeadProgress) (b : ℕ) → IsReadOutsideRuns (state_of shape progress) b
-outside_runs-head ControlHead progress b = tt
-outside_runs-head DeviceHead progress b = tt
+head-quiet : (shape : Shape) (progress : HeadProgress) (b : ℕ) → IsReadOutsideRuns (state_of shape progress) b
+head-quiet ControlHead progress b = tt
+head-quiet DeviceHead progress b = tt
 
-settled : (shape : Shape) (progress : HeadProgress) → IsSettled (state_of shape progress)
-settled ControlHead progress = tt
-settled DeviceHead progress = tt
+head-settled : (shape : Shape) (progress : HeadProgress) → IsSettled (state_of shape progress)
+head-settled ControlHead progress = tt
+head-settled DeviceHead progress = tt
 
 module _ {V : Type 0} {call : ChunkCall V} where
   -- n bytes of a head
@@ -166,12 +168,13 @@ module _ {V : Type 0} {call : ChunkCall V} where
       let b : ℕ = slice_index call.bytes i in
       let cut : drop i call.bytes ≡ b ∷ drop (i + 1) call.bytes = drop_more call.bytes i 0 here in
       let both : AreInClass is_head_byte (b ∷ take n (drop (i + 1) call.bytes)) = rw cut at more in
-      let place = is_place shape (head ++ b ∷ []) in
+      let place = head-is_place shape (head ++ b ∷ []) in
       let reads =
       reads-byte call.limit (in_head shape head) (in_head shape (head ++ b ∷ [])) b []
-      (no_escape b (head_ends_nothing (class_of b) both.0)) (leads shape call.limit head b both.0) in
+      (no_escape b (head_ends_nothing (class_of b) both.0)) (head-leads shape call.limit head b both.0) in
       let one =
-      come-settled place (is_between shape (head ++ b ∷ [])) (come-byte here refl may_go_on reads refl place c) in
+      come-settled place (head-settled_place shape (head ++ b ∷ []))
+      (come-byte here refl may_go_on reads refl place c) in
       let rest = come-head {i = i + 1} shape n (head ++ b ∷ []) (omega (arith, within)) both.1 may_go_on one in
       let far : i + suc n ≡ i + 1 + n = omega arith in
       rw (far, cut) (rw (append_assoc head (b ∷ []) (take n (drop (i + 1) call.bytes))) at rest)
@@ -184,15 +187,15 @@ module _ {V : Type 0} {call : ChunkCall V} where
       → StandsAt call old value stream j next
   stands-head {old} {value} {stream} {i} {j} {reached} {progress}
       {parser} {next} shape begun reads may_go_on state s =
-      let k = place_in shape call.limit reached parser s.place (stands-in begun s.stands) in
+      let k = head-place shape call.limit reached parser s.place (stands-in begun s.stands) in
       let here : ProgressAt call old value stream i (in_head shape k.head) =
       subst (ProgressAt call old value stream i) k.same s.has_come in
       let end : i + (j - i) ≡ j = omega (arith, reads.low) in
       let run : List ℕ = take (j - i) (drop i call.bytes) in
       record {
         place = in_head shape (k.head ++ run);
-        stands = stands_in shape call.limit progress next (k.head ++ run) state (reads.stands k.head k.stands);
-        settled = λ _. is_between shape (k.head ++ run);
+        stands = head-stands shape call.limit progress next (k.head ++ run) state (reads.stands k.head k.stands);
+        settled = λ _. head-settled_place shape (k.head ++ run);
         has_come = rw end at
             (come-head shape (j - i) k.head (omega (arith, reads.high, end)) reads.head_bytes may_go_on here);
       }
@@ -205,14 +208,14 @@ module _ {V : Type 0} {call : ChunkCall V} where
       → next.state ≡ state_of shape progress → Advances outside call value value i j parser next
   advances-head {progress} {next} shape begun reads may_go_on state = record {
     goes_on = λ old stream s. stands-head shape begun reads may_go_on state s;
-    settled = λ _. settled-by _ _ state (settled shape progress);
+    settled = λ _. settled-by _ _ state (head-settled shape progress);
     outside_runs = λ _ old stream s.
         adds-same (told-at
         (stands-head {next = next} shape begun reads (λ does. absurd (false≢true does)) state (keeps-at s)));
   }
 
   -- a part of a head and a byte after it, of which the caller says what it does there
-  pub advances-past : {outside B : Type 0} {old new : V} {i j b : ℕ} {reached progress : HeadProgress}
+  pub advances-past_head : {outside B : Type 0} {old new : V} {i j b : ℕ} {reached progress : HeadProgress}
       {parser next : Machine B}
       {held : Collected} (shape : Shape) → parser.state ≡ state_of shape reached
       → ReadsHead call.bytes i j reached progress parser.collected held
@@ -222,10 +225,10 @@ module _ {V : Type 0} {call : ChunkCall V} where
       → IsSettledPlace place
       → TakesBytes call.step old new call.limit place (b ∷ []) next) → IsSettled next.state
       → Advances outside call old new i (j + 1) parser next
-  advances-past {B} {progress} {parser} {held} shape begun reads at may_go_on performs settled =
+  advances-past_head {B} {progress} {parser} {held} shape begun reads at may_go_on performs settled =
       let head : Machine B = record { state = state_of shape progress; collected = held; command = parser.command } in
       advances-then (advances-head {next = head} shape begun reads may_go_on refl)
-      (advances-when (outside_runs-head shape progress _) (advances-byte at.0 at.1 may_go_on performs settled))
+      (advances-when (head-quiet shape progress _) (advances-byte at.0 at.1 may_go_on performs settled))
 
 -- a byte other than CAN, SUB and ESC there
 pub performs-head : {V B : Type 0} {step : V → Event → V} {old new : V} {limit : Option ℕ} {b : ℕ}
@@ -237,5 +240,5 @@ pub performs-head : {V B : Type 0} {step : V → Event → V} {old new : V} {lim
     → TakesBytes step old new limit place (b ∷ []) next
 performs-head {step} {old} {new} {limit} {b} {parser}
     {next} shape progress e ordinary takes = performs-in e ordinary (λ place s.
-    let k = place_in shape limit progress parser place s in
+    let k = head-place shape limit progress parser place s in
     subst (λ p. TakesByte step old new limit p b next) (sym k.same) (takes k.head k.stands))

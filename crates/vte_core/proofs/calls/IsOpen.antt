@@ -19,49 +19,49 @@ record IsProbe (b : ℕ) : Type 0 where
   high : b < 0x80
   other : eqb b escape ≡ false
 
-zero_digit : IsProbe 0x30
+probe-zero : IsProbe 0x30
 unfolding class_of sequence_kind
-zero_digit = record { class = refl; key = refl; low = omega arith; high = omega arith; other = refl }
+probe-zero = record { class = refl; key = refl; low = omega arith; high = omega arith; other = refl }
 
 -- what a digit gives after a stream
-gives : (limit : Option ℕ) (stream : List ℕ) {place next : Place} {b : ℕ} {told : List Event}
+probe-gives : (limit : Option ℕ) (stream : List ℕ) {place next : Place} {b : ℕ} {told : List Event}
     → IsProbe b → IsAfter limit stream place → Leads limit place b told next → IsPlace next
     → added limit stream (b ∷ []) ≡ told
-gives limit stream {place} {next} {b} {told} d a leads =
+probe-gives limit stream {place} {next} {b} {told} d a leads =
     added-reads limit stream (b ∷ []) place next told a (reads-byte limit place next b told d.other leads)
 
 -- it breaks a character
-in_character : (limit : Option ℕ) (stream u : List ℕ) (b : ℕ)
+probe-in_character : (limit : Option ℕ) (stream u : List ℕ) (b : ℕ)
     → IsProbe b → is_truncated u ≡ true → IsAfter limit stream (InText u)
     → added limit stream (b ∷ []) ≡ Print replacement ∷ events_from limit (InText []) (b ∷ [])
-in_character limit stream u b d is a =
+probe-in_character limit stream u b d is a =
     let tests = ascii_breaks u b is d.high in
     let broken = text_broken u b is tests.is_whole tests.is_open in
     added-after limit stream (b ∷ []) (InText u) a
     ∙ ap (λ o. o.told) (waits-byte limit (InText u) (InText []) b (Print replacement ∷ []) [] d.other broken)
 
 -- it isn't printed alone, but between characters
-not_alone : (limit : Option ℕ) (stream : List ℕ) (place : Place) (b : ℕ)
+probe-not_alone : (limit : Option ℕ) (stream : List ℕ) (place : Place) (b : ℕ)
     → IsProbe b → IsPlace place → IsAfter limit stream place → place ≢ InText []
     → added limit stream (b ∷ []) ≢ Print b ∷ []
-not_alone limit stream (InText []) b d is a other = absurd (other refl)
-not_alone limit stream (InText (c ∷ u)) b d is a other = λ alone.
-    let e = sym alone ∙ in_character limit stream (c ∷ u) b d is a in
+probe-not_alone limit stream (InText []) b d is a other = absurd (other refl)
+probe-not_alone limit stream (InText (c ∷ u)) b d is a other = λ alone.
+    let e = sym alone ∙ probe-in_character limit stream (c ∷ u) b d is a in
     let same : b ≡ replacement = cc in omega (arith, same, d.high)
-not_alone limit stream AtEscape b d is a other = λ alone.
-    let e = sym alone ∙ gives limit stream d a (escape-end limit b Digit d.class refl d.key) refl in cc
-not_alone limit stream (InEscape ints) b d is a other = λ alone.
-    let e = sym alone ∙ gives limit stream d a (intermediate-end limit ints b Digit d.class refl) refl in cc
-not_alone limit stream (InControlSequence head) b d is a other = λ alone.
-    let e = sym alone ∙ gives limit stream d a (control-head limit head b (rw d.class refl)) tt in cc
-not_alone limit stream (InDeviceControl head) b d is a other = λ alone.
-    let e = sym alone ∙ gives limit stream d a (device-head limit head b (rw d.class refl)) tt in cc
-not_alone limit stream InDeviceData b d is a other = λ alone.
-    let e = sym alone ∙ gives limit stream d a (data-put limit b (rw d.class refl)) tt in cc
-not_alone limit stream (InSystemCommand items) b d is a other = λ alone.
-    let e = sym alone ∙ gives limit stream d a (command-item limit items b d.low) tt in cc
-not_alone limit stream InIgnoredString b d is a other = λ alone.
-    let e = sym alone ∙ gives limit stream d a (ignored-more limit b (rw d.class refl)) tt in cc
+probe-not_alone limit stream AtEscape b d is a other = λ alone.
+    let e = sym alone ∙ probe-gives limit stream d a (escape-end limit b Digit d.class refl d.key) refl in cc
+probe-not_alone limit stream (InEscape ints) b d is a other = λ alone.
+    let e = sym alone ∙ probe-gives limit stream d a (intermediate-end limit ints b Digit d.class refl) refl in cc
+probe-not_alone limit stream (InControlSequence head) b d is a other = λ alone.
+    let e = sym alone ∙ probe-gives limit stream d a (control-head limit head b (rw d.class refl)) tt in cc
+probe-not_alone limit stream (InDeviceControl head) b d is a other = λ alone.
+    let e = sym alone ∙ probe-gives limit stream d a (device-head limit head b (rw d.class refl)) tt in cc
+probe-not_alone limit stream InDeviceData b d is a other = λ alone.
+    let e = sym alone ∙ probe-gives limit stream d a (data-put limit b (rw d.class refl)) tt in cc
+probe-not_alone limit stream (InSystemCommand items) b d is a other = λ alone.
+    let e = sym alone ∙ probe-gives limit stream d a (command-item limit items b d.low) tt in cc
+probe-not_alone limit stream InIgnoredString b d is a other = λ alone.
+    let e = sym alone ∙ probe-gives limit stream d a (ignored-more limit b (rw d.class refl)) tt in cc
 
 -- the state between characters
 pub record IsClosed (state : State) : Type 0 where
@@ -69,19 +69,20 @@ pub record IsClosed (state : State) : Type 0 where
   pub begun : state ≡ Text unfinished
   pub nothing : bytes_of unfinished ≡ []
 
-by_state : {B : Type 0} (limit : Option ℕ) (state : State) (parser : Machine B)
+closed-by_state : {B : Type 0} (limit : Option ℕ) (state : State) (parser : Machine B)
     → StandsBy limit state parser (InText []) → IsClosed state
-by_state limit (Text u) parser s = record { unfinished = u; begun = refl; nothing = s.0 }
-by_state limit _ parser s = absurd s
+closed-by_state limit (Text u) parser s = record { unfinished = u; begun = refl; nothing = s.0 }
+closed-by_state limit _ parser s = absurd s
 
-pub unfinished : {B : Type 0} {limit : Option ℕ} {stream : List ℕ} (parser : Machine B)
+pub is_unfinished-open : {B : Type 0} {limit : Option ℕ} {stream : List ℕ} (parser : Machine B)
     → HasReadWithLimit limit parser stream → (IsClosed parser.state → ⊥) → IsUnfinished limit stream
-unfinished {limit} {stream} parser h other =
-    not_alone limit stream h.place 0x30 zero_digit (stands-place parser h.place h.stands) h.is_after
-    (λ here. other (by_state limit parser.state parser (subst (StandsAtPlace limit parser) here h.stands).by))
+is_unfinished-open {limit} {stream} parser h other =
+    probe-not_alone limit stream h.place 0x30 probe-zero (stands-place parser h.place h.stands) h.is_after
+    (λ here. other (closed-by_state limit parser.state parser (subst (StandsAtPlace limit parser) here h.stands).by))
 
-pub finished : {limit : Option ℕ} {stream : List ℕ} → IsAfter limit stream (InText []) → IsFinished limit stream
-finished {limit} {stream} a more =
+pub is_finished-settled : {limit : Option ℕ} {stream : List ℕ} → IsAfter limit stream (InText [])
+    → IsFinished limit stream
+is_finished-settled {limit} {stream} a more =
     added-after limit stream more (InText []) a
     ∙ sym (after-events limit [] more (InText []) (after-nothing limit)
     ∙ ap (λ es. es ++ events_from limit (InText []) more) (events-empty limit))

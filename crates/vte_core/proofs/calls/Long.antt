@@ -9,12 +9,12 @@ use Rattle.vte_core.specs.declared.parser.long.LongParser.{LongParser}
 use Rattle.vte_core.specs.LongParser.{HasReadLong, memory_of}
 use Rattle.vte_core.specs.machine.Moves.{Costs}
 use Rattle.vte_core.specs.Looks.{looks_long}
-use Rattle.vte_core.proofs.calls.Refusals.{by_count, inside-reads, meets_data, never_refused, ok_only, refuses-inside, stores_pieces}
+use Rattle.vte_core.proofs.calls.Refusals.{read_count-by_result, inside-reads, meets_data, never_refused, ok-only, refuses-inside, stores_pieces}
 use Rattle.vte_core.proofs.calls.CallEnds.{ends-performs, ends-reads, ends-reads_all, ends-stops}
 use Rattle.vte_core.proofs.calls.States.{reads-all}
 
-pub goes-on : {A V Answer : Type 0} (may_stop : Bool) (step : V → Event → V) (is_terminated : V → Bool) (old new : V)
-    {bytes : List ℕ} {parser next : LongParser A} (result : Result Answer Refused) {rate n : ℕ}
+pub continues-long : {A V Answer : Type 0} (may_stop : Bool) (step : V → Event → V) (is_terminated : V → Bool)
+    (old new : V) {bytes : List ℕ} {parser next : LongParser A} (result : Result Answer Refused) {rate n : ℕ}
     {later : List ℕ → List ℕ} → ((stream : List ℕ) → HasReadLong parser stream → HasReadLong next (later stream))
     → IfErr result
     (λ refused. ReadsUntilRefused (chunk_call may_stop step is_terminated None bytes) old new refused.read
@@ -22,25 +22,25 @@ pub goes-on : {A V Answer : Type 0} (may_stop : Bool) (step : V → Event → V)
     → memory_of parser ≤ memory_of next → looks_long next ≤ looks_long parser + rate * length bytes + 8
     → IfOk result (λ _. looks_long next ≤ looks_long parser + rate * n + 8) → looks_long parser + n ≤ looks_long next
     → ContinuesLong rate bytes result n later parser next
-goes-on may_stop step is_terminated old new result reads refuses memory count count_if_ok least = record {
+continues-long may_stop step is_terminated old new result reads refuses memory count count_if_ok least = record {
   reads = reads;
   stores = λ stream h. stores_pieces _ _ (reads stream h);
   within = IfErr-weaker result _ _ (λ refused r. r.within) refuses;
   meets = IfErr-weaker result _ _ (λ refused r stream h. meets_data r.refused (reads stream h)) refuses;
   lacks = IfErr-weaker result _ _ (λ refused r. r.refused.lacks) refuses;
   memory = memory;
-  enough = λ stream h enough. ok_only result refuses (λ refused r. never_refused r stream h enough memory);
+  enough = λ stream h enough. ok-only result refuses (λ refused r. never_refused r stream h enough memory);
   count = count;
   count_if_ok = count_if_ok;
   least = least;
 }
 
-pub passes : {V B Answer : Type 0} {step : V → Event → V} {is_terminated : V → Bool} {old new : V} {bytes : List ℕ}
+pub passes-long : {V B Answer : Type 0} {step : V → Event → V} {is_terminated : V → Bool} {old new : V} {bytes : List ℕ}
     {before : Machine B} (parser : Machine B) (result : Result Answer Refused)
     → IfErr result
     (λ refused. ReadsUntilRefused (chunk_call true step is_terminated None bytes) old new refused.read before parser)
     → PassesLong step is_terminated old new (HasReadWithLimit None before) bytes result
-passes parser result refuses = record {
+passes-long parser result refuses = record {
   passes =
       IfErr-weaker result _ _ (λ refused r stream h. let come = (refuses-inside r stream h).has_come in
       record { performed = come.performed; earlier = come.earlier refl }) refuses;
@@ -50,35 +50,35 @@ passes parser result refuses = record {
 module _ {A V : Type 0} {step : V → Event → V} {is_terminated : V → Bool} {old new : V} {bytes : List ℕ}
     {parser next : LongParser A} where
   -- `advance`, if memory is refused
-  pub reads_refused : (refused : Refused) {drove : Result ℕ Refused}
+  pub advance-refused : (refused : Refused) {drove : Result ℕ Refused}
       → ReadsUntilRefused (chunk_call false step is_terminated None bytes) old new refused.read parser.machine
       next.machine
       → Costs 5 bytes drove refused.read parser.machine next.machine parser.looks next.looks
       → ReadsBytesLong step old new bytes (Err refused) parser next
-  reads_refused refused refuses costs = record {
+  advance-refused refused refuses costs = record {
     performs = λ stream h. (refuses-inside refuses stream h).has_come.performed;
     continues =
-        goes-on false step is_terminated old new (Err refused)
+        continues-long false step is_terminated old new (Err refused)
         (λ stream h. inside-reads (refuses-inside refuses stream h)) refuses costs.memory costs.count tt (search rules);
   }
 
   -- `advance`, if no memory is refused
-  pub reads_bytes : {read : ℕ}
+  pub advance-read : {read : ℕ}
       → ReadsUpTo (chunk_call false step is_terminated None bytes) old new read parser.machine next.machine
       → Costs 5 bytes (Ok read) read parser.machine next.machine parser.looks next.looks
       → ReadsBytesLong step old new bytes (Ok tt) parser next
-  reads_bytes reads costs =
+  advance-read reads costs =
       let all = reads-all _ _ reads.within reads.asked in
       record {
         performs = λ stream h. ends-performs all (reads.stands_at stream h);
         continues =
-            goes-on false step is_terminated old new (Ok tt)
+            continues-long false step is_terminated old new (Ok tt)
             (λ stream h. ends-reads_all all (reads.stands_at stream h)) tt costs.memory costs.count costs.count
             (search rules);
       }
 
   -- `advance_until_terminated`
-  pub reads_until : (result : Result ℕ Refused)
+  pub advance-until : (result : Result ℕ Refused)
       → IfOk result
       (λ read. ReadsUpTo (chunk_call true step is_terminated None bytes) old new read parser.machine next.machine)
       → IfErr result
@@ -86,13 +86,13 @@ module _ {A V : Type 0} {step : V → Event → V} {is_terminated : V → Bool} 
       parser.machine next.machine)
       → Costs 5 bytes result (read_count result) parser.machine next.machine parser.looks next.looks
       → ReadsUntilTerminatedLong step is_terminated old new bytes result parser next
-  reads_until result reads refuses costs = record {
-    within = by_count result reads refuses (λ read r. r.within) (λ refused r. omega (arith, r.within));
+  advance-until result reads refuses costs = record {
+    within = read_count-by_result result reads refuses (λ read r. r.within) (λ refused r. omega (arith, r.within));
     stops = IfOk-weaker result _ _ (λ read r stream h. ends-stops refl r.within r.stops (r.stands_at stream h)) reads;
-    refuses = passes _ result refuses;
+    refuses = passes-long _ result refuses;
     continues =
-        goes-on true step is_terminated old new result
-        (λ stream h. by_count result reads refuses (λ read r. ends-reads (r.stands_at stream h))
+        continues-long true step is_terminated old new result
+        (λ stream h. read_count-by_result result reads refuses (λ read r. ends-reads (r.stands_at stream h))
         (λ refused r. ends-reads (r.stands_at stream h)))
         refuses costs.memory costs.count costs.count_if_ok costs.least;
   }
@@ -106,10 +106,10 @@ module _ {A V : Type 0} {step : V → Event → V} {is_terminated : V → Bool} 
       → ReadsToRunLong step is_terminated old new bytes (Err refused) parser next
   to_run-refused refused refuses costs others = record {
     returns = tt;
-    refuses = passes next.machine (Err refused) refuses;
+    refuses = passes-long next.machine (Err refused) refuses;
     outside_runs = others;
     continues =
-        goes-on true step is_terminated old new (Err refused)
+        continues-long true step is_terminated old new (Err refused)
         (λ stream h. ends-reads (refuses.stands_at stream h)) refuses costs.memory costs.count tt costs.least;
   }
 
@@ -122,10 +122,10 @@ module _ {A V : Type 0} {step : V → Event → V} {is_terminated : V → Bool} 
       → ReadsToRunLong step is_terminated old new bytes (Ok run) parser next
   to_run-read run comes starts ends taken costs others = record {
     returns = returns-run run comes starts ends taken refl;
-    refuses = passes next.machine (Ok run) tt;
+    refuses = passes-long next.machine (Ok run) tt;
     outside_runs = λ stream h. rw starts (others stream h);
     continues =
-        goes-on true step is_terminated old new (Ok run) (reads-run run comes starts ends taken) tt
+        continues-long true step is_terminated old new (Ok run) (reads-run run comes starts ends taken) tt
         costs.memory costs.count
         (rw ends costs.count_if_ok) (rw ends costs.least);
   }

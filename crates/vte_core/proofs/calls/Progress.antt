@@ -13,7 +13,7 @@ use Rattle.vte_core.proofs.Common.{InSystemCommand, IsAfter, IsSettledPlace, ope
 use Rattle.vte_core.proofs.streams.After.{after-left, after-nothing, after-open_character, after-reads, added-reads, added-nothing}
 use Rattle.vte_core.proofs.calls.States.{reads-item}
 use Rattle.vte_core.proofs.fields.PlaceOfState.{IsPlace, open_at-settled}
-use Rattle.vte_core.proofs.streams.Performing.{after-append}
+use Rattle.vte_core.proofs.streams.Performing.{after_events-append}
 use Rattle.vte_core.proofs.shapes.Told.{breaks_at-all, breaks_at-settled, breaks_at-byte, no_start, starts-settled, starts-broken, resumed_stream-settled, resumed_stream-broken, told-all, told-settled, told-broken}
 use Rattle.vte_core.proofs.bytes.EachLemmas.{one_byte}
 use Rattle.vte_core.proofs.stops.Units.{added_from, after_from, breaks_there, goes_on_from}
@@ -92,7 +92,8 @@ module _ {V : Type 0} {call : ChunkCall V} {old : V} {stream : List ℕ} where
       record {
         performed =
             performed ∙ ap (λ v. call.step v (Print replacement)) c.performed
-            ∙ sym (after-append call.step old (added call.limit stream (take i call.bytes)) (Print replacement ∷ []))
+            ∙ sym (after_events-append call.step old (added call.limit stream (take i call.bytes))
+            (Print replacement ∷ []))
             ∙ ap (after call.step old) (sym (told-broken call.limit stream call.bytes i here));
         is_after =
             subst (λ s. IsAfter call.limit s (InText [])) (sym (resumed_stream-broken stream call.bytes i here))
@@ -114,7 +115,7 @@ module _ {V : Type 0} {call : ChunkCall V} {old : V} {stream : List ℕ} where
       {these} in_order within here inside r performed is_place c = record {
         performed =
             performed ∙ ap (λ v. after call.step v these) c.performed
-            ∙ sym (after-append call.step old (told_before call.limit stream call.bytes i) these)
+            ∙ sym (after_events-append call.step old (told_before call.limit stream call.bytes i) these)
             ∙ ap (after call.step old) (sym (stretch-added call.limit stream call.bytes i j in_order
             ∙ ap (λ (es : List Event). told_before call.limit stream call.bytes i ++ es)
             (added-reads call.limit (resumed_stream stream call.bytes i)
@@ -136,12 +137,12 @@ module _ {V : Type 0} {call : ChunkCall V} {old : V} {stream : List ℕ} where
         ];
       }
 
-  further : {value new : V} {i b : ℕ} {place next : Place} {these : List Event} → i < length call.bytes
+  come-one : {value new : V} {i b : ℕ} {place next : Place} {these : List Event} → i < length call.bytes
       → b ≡ slice_index call.bytes i
       → (call.may_stop ≡ true → IsStart stream call.bytes i → call.is_terminated value ≡ false)
       → BytesLead call.limit place (b ∷ []) these next → new ≡ after call.step value these → IsPlace next
       → ProgressAt call old value stream i place → ProgressInside call old new stream (i + 1) next
-  further {i} {b} {place} {next} {these} within is here r =
+  come-one {i} {b} {place} {next} {these} within is here r =
       let one = one_byte call.bytes i b within is in
       come-further (omega arith) (omega (arith, within)) here (λ does k past below. absurd (omega (arith, past, below)))
       (subst (λ x. BytesLead call.limit place x these next) (sym one) r)
@@ -152,7 +153,7 @@ module _ {V : Type 0} {call : ChunkCall V} {old : V} {stream : List ℕ} where
       → new ≡ after call.step value these → IsPlace next → ProgressAt call old value stream i place
       → ProgressInside call old new stream (i + 1) next
   come-byte within is may_go_on r performed is_place c =
-      further within is (λ does _. may_go_on does) r performed is_place c
+      come-one within is (λ does _. may_go_on does) r performed is_place c
 
   -- inside a character
   pub come-carried : {value new : V} {i b : ℕ} {place next : Place} {these : List Event} → IsPlace place
@@ -163,7 +164,7 @@ module _ {V : Type 0} {call : ChunkCall V} {old : V} {stream : List ℕ} where
   come-carried {i} {b} {place} is_here within is some whole r performed is_place c =
       let ends : open_character (stream ++ take i call.bytes) ≡ open_at place =
       after-open_character call.limit (stream ++ take i call.bytes) place c.is_after is_here in
-      further within is
+      come-one within is
       (λ _ start. absurd (no_start stream call.bytes (open_at place) i b within is ends some whole start)) r
       performed is_place
       (come-whole (breaks_at-byte stream call.bytes (open_at place) i b within is ends ∙ whole) c)
@@ -243,7 +244,7 @@ module _ {V : Type 0} {call : ChunkCall V} {old : V} {stream : List ℕ} where
         starts = starts;
         goes_on =
             ap (λ v. after call.step v (added call.limit (resumed_stream stream call.bytes n) unread)) c.performed
-            ∙ sym (after-append call.step old (told_before call.limit stream call.bytes n)
+            ∙ sym (after_events-append call.step old (told_before call.limit stream call.bytes n)
             (added call.limit (resumed_stream stream call.bytes n) unread))
             ∙ ap (after call.step old)
             (ap (λ x. told_before call.limit stream call.bytes n

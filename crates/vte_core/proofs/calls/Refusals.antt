@@ -15,9 +15,9 @@ pub inside-reads : {V B : Type 0} {call : ChunkCall V} {old value : V} {stream :
 inside-reads s = record { place = s.place; stands = s.stands; is_after = s.has_come.is_after }
 
 -- what a stream leaves is what its place leaves
-left_here : {B : Type 0} (parser : Machine B) (stream : List ℕ) (h : HasReadWithLimit None parser stream)
+left-at_place : {B : Type 0} (parser : Machine B) (stream : List ℕ) (h : HasReadWithLimit None parser stream)
     → (outcome None stream).left ≡ left_at None h.place
-left_here parser stream h = after-left None stream h.place h.is_after (stands-place parser h.place h.stands)
+left-at_place parser stream h = after-left None stream h.place h.is_after (stands-place parser h.place h.stands)
 
 -- a byte that is refused is a data byte of an open command
 pub meets_data : {B : Type 0} {parser : Machine B} {stream bytes : List ℕ} {from : ℕ}
@@ -37,7 +37,7 @@ meets_data {parser} {stream} {bytes} {from} refused h =
       lost = loses_data None k.items;
       few = o.few;
       is_open =
-          left_here parser stream h ∙ ap (left_at None) k.same
+          left-at_place parser stream h ∙ ap (left_at None) k.same
           ∙ ap (λ those. CommandToClose those (loses_data None k.items)) o.before;
       is_data = refused.is_data;
       joins = after-left None (stream ++ byte ∷ []) last joined tt
@@ -48,17 +48,18 @@ meets_data {parser} {stream} {bytes} {from} refused h =
 -- ---- where a call ends
 
 -- what is true of the bytes read, whatever a call answers
-pub by_count : {P : ℕ → Type 0} {Q : Refused → Type 0} {R : ℕ → Type 0} (result : Result ℕ Refused) → IfOk result P
+pub read_count-by_result : {P : ℕ → Type 0} {Q : Refused → Type 0} {R : ℕ → Type 0} (result : Result ℕ Refused)
+    → IfOk result P
     → IfErr result Q
     → ((read : ℕ) → P read → R read) → ((refused : Refused) → Q refused → R refused.read) → R (read_count result)
-by_count (Ok read) ok err from_ok from_err = from_ok read ok
-by_count (Err refused) ok err from_ok from_err = from_err refused err
+read_count-by_result (Ok read) ok err from_ok from_err = from_ok read ok
+read_count-by_result (Err refused) ok err from_ok from_err = from_err refused err
 
 -- what can't be an error is an answer
-pub ok_only : {A : Type 0} {Q : Refused → Type 0} (result : Result A Refused) → IfErr result Q
+pub ok-only : {A : Type 0} {Q : Refused → Type 0} (result : Result A Refused) → IfErr result Q
     → ((refused : Refused) → Q refused → ⊥) → IsOk result
-ok_only (Ok value) err never = refl
-ok_only (Err refused) err never = absurd (never refused err)
+ok-only (Ok value) err never = refl
+ok-only (Err refused) err never = absurd (never refused err)
 
 -- in a command no character is open
 pub refuses-inside : {V B : Type 0} {call : ChunkCall V} {old new : V} {n : ℕ} {before parser : Machine B}
@@ -82,46 +83,47 @@ pub stored_is_open : {B : Type 0} (parser : Machine B) (stream : List ℕ) → p
 stored_is_open parser stream e h =
     let k = in_command parser h.place e h.stands in
     pieces_stored None parser.command k.items k.keeps
-    ∙ sym (ap open_data_count (left_here parser stream h ∙ ap (left_at None) k.same))
+    ∙ sym (ap open_data_count (left-at_place parser stream h ∙ ap (left_at None) k.same))
 
-is_command : {B : Type 0} (state : State) (parser : Machine B) (items : List ℕ)
+command-by_state : {B : Type 0} (state : State) (parser : Machine B) (items : List ℕ)
     → StandsBy None state parser (InSystemCommand items) → state ≡ SystemCommand
-is_command SystemCommand parser items s = refl
-is_command _ parser items s = absurd s
+command-by_state SystemCommand parser items s = refl
+command-by_state _ parser items s = absurd s
 
-by_place : {B : Type 0} (parser : Machine B) (place : Place) (pieces : List (List ℕ)) (lost : Bool)
+command-by_place : {B : Type 0} (parser : Machine B) (place : Place) (pieces : List (List ℕ)) (lost : Bool)
     → StandsAtPlace None parser place → left_at None place ≡ CommandToClose pieces lost
     → parser.state ≡ SystemCommand
-by_place parser (InText []) pieces lost s e = cc
-by_place parser (InText (a ∷ u)) pieces lost s e = cc
-by_place parser (InSystemCommand items) pieces lost s e = is_command parser.state parser items s.by
-by_place parser _ pieces lost s e = cc
+command-by_place parser (InText []) pieces lost s e = cc
+command-by_place parser (InText (a ∷ u)) pieces lost s e = cc
+command-by_place parser (InSystemCommand items) pieces lost s e = command-by_state parser.state parser items s.by
+command-by_place parser _ pieces lost s e = cc
 
 -- a command is open in that state alone
-in_state : {B : Type 0} (parser : Machine B) (stream : List ℕ) → HasReadWithLimit None parser stream
+state-in_command : {B : Type 0} (parser : Machine B) (stream : List ℕ) → HasReadWithLimit None parser stream
     → (pieces : List (List ℕ)) (lost : Bool) → (outcome None stream).left ≡ CommandToClose pieces lost
     → parser.state ≡ SystemCommand
-in_state parser stream h pieces lost open_command =
-    by_place parser h.place pieces lost h.stands (sym (left_here parser stream h) ∙ open_command)
+state-in_command parser stream h pieces lost open_command =
+    command-by_place parser h.place pieces lost h.stands (sym (left-at_place parser stream h) ∙ open_command)
 
 -- of an open command the bytes of its pieces
 pub stores_pieces : {B : Type 0} (parser : Machine B) (stream : List ℕ) → HasReadWithLimit None parser stream
     → (pieces : List (List ℕ)) (lost : Bool)
     → (outcome None stream).left ≡ CommandToClose pieces lost → length parser.command.bytes ≡ length (concat pieces)
 stores_pieces parser stream h pieces lost open_command =
-    stored_is_open parser stream (in_state parser stream h pieces lost open_command) h ∙ ap open_data_count open_command
+    stored_is_open parser stream (state-in_command parser stream h pieces lost open_command) h
+    ∙ ap open_data_count open_command
 
-by_left : (left : ToClose) (n : ℕ)
+open_data-by_left : (left : ToClose) (n : ℕ)
     → ((pieces : List (List ℕ)) (lost : Bool) → left ≡ CommandToClose pieces lost → n ≡ length (concat pieces))
     → open_data_count left ≤ n
-by_left (CommandToClose pieces lost) n stored = omega (arith, stored pieces lost refl)
-by_left _ n stored = omega arith
+open_data-by_left (CommandToClose pieces lost) n stored = omega (arith, stored pieces lost refl)
+open_data-by_left _ n stored = omega arith
 
 -- no more are open
 pub open_is_stored : {B : Type 0} (parser : Machine B) (stream : List ℕ) → HasReadWithLimit None parser stream
     → open_command_size stream ≤ length parser.command.bytes
 open_is_stored parser stream h =
-    by_left (outcome None stream).left (length parser.command.bytes) (stores_pieces parser stream h)
+    open_data-by_left (outcome None stream).left (length parser.command.bytes) (stores_pieces parser stream h)
 
 -- outside a command no data bytes are open
 pub none_is_open : {B : Type 0} (parser : Machine B) (stream : List ℕ) → (parser.state ≡ SystemCommand → ⊥)
@@ -129,8 +131,8 @@ pub none_is_open : {B : Type 0} (parser : Machine B) (stream : List ℕ) → (pa
 none_is_open parser stream other h =
     omega (
       arith,
-      by_left (outcome None stream).left 0
-          (λ pieces lost e. absurd (other (in_state parser stream h pieces lost e))),
+      open_data-by_left (outcome None stream).left 0
+          (λ pieces lost e. absurd (other (state-in_command parser stream h pieces lost e))),
     )
 
 -- a store that was cleared has no data bytes

@@ -2,18 +2,18 @@
 -- an empty head.
 use Rattle.vte_core.proofs.Common.{◌≡◌, ℕ, ◌+◌, ◌<◌, false, Option, [], ◌∷◌, length, refl, slice_index, class_of, ends_body, is_plain_control, is_final, is_head_byte, Entry, Machine, Escape, ControlSequence, Event, sequence_kind, Advances, MayGoOn, HoldsIntermediates, HoldsHead, StandsAtPlace, StandsBy, TakesBytes, Place, AtEscape, InControlSequence, IsSettledPlace, ChunkCall}
 use Rattle.vte_core.proofs.bytes.ClassCases.{left_is_dropped}
-use Rattle.vte_core.proofs.calls.Arms.{advances-in, at_escape, performs-escape, performs-in, taken}
+use Rattle.vte_core.proofs.calls.Arms.{advances-in, takes-at_escape, performs-escape, performs-in, takes-byte}
 use Rattle.vte_core.proofs.fields.PlaceOfState.{stands-by, stands-in}
 use Rattle.vte_core.proofs.calls.CallEnds.{settled-by}
 use Rattle.vte_core.proofs.calls.Stretches.{advances-byte, advances-when}
 use Rattle.vte_core.proofs.places.PlaceLeads.{byte-dropped, escape-key}
 
-again : {V B : Type 0} (step : V → Event → V) (value : V) (limit : Option ℕ) (b : ℕ) (parser : Machine B)
+takes-escape : {V B : Type 0} (step : V → Event → V) (value : V) (limit : Option ℕ) (b : ℕ) (parser : Machine B)
     (place : Place) → parser.state ≡ Escape → b ≡ 0x1b
     → StandsAtPlace limit parser place → StandsBy limit Escape parser place
     → TakesBytes step value value limit place (b ∷ []) parser
-again step value limit b parser AtEscape e is s by = performs-escape is e by AtEscape s refl
-again step value limit b parser _ e is s by = absurd by
+takes-escape step value limit b parser AtEscape e is s by = performs-escape is e by AtEscape s refl
+takes-escape step value limit b parser _ e is s by = absurd by
 
 -- ESC once more
 pub advances-again : {outside V B : Type 0} {call : ChunkCall V} {value : V} {i b : ℕ} {parser : Machine B}
@@ -21,7 +21,7 @@ pub advances-again : {outside V B : Type 0} {call : ChunkCall V} {value : V} {i 
     → Advances outside call value value i (i + 1) parser parser
 advances-again {call} {value} {b} {parser} begun within is may_go_on same =
     advances-when (rw begun tt) (advances-byte within is may_go_on
-    (λ place s between. again call.step value call.limit b parser place begun same s (stands-in begun s))
+    (λ place s between. takes-escape call.step value call.limit b parser place begun same s (stands-in begun s))
     (settled-by _ _ begun tt))
 
 -- DEL and 80..FF
@@ -33,8 +33,8 @@ pub performs-dropped : {V B : Type 0} {step : V → Event → V} {value : V} {li
 performs-dropped {limit} {b} {parser} begun head final ordinary control =
     let dropped = left_is_dropped (class_of b) head final ordinary control in
     performs-in begun ordinary
-    (at_escape parser
-    (λ holds. taken [] AtEscape refl (stands-by begun holds) (byte-dropped limit AtEscape b _ refl refl dropped)))
+    (takes-at_escape parser
+    (λ holds. takes-byte [] AtEscape refl (stands-by begun holds) (byte-dropped limit AtEscape b _ refl refl dropped)))
 
 -- ESC [
 pub advances-bracket : {outside V B : Type 0} {call : ChunkCall V} {value : V} {i b : ℕ} {parser next : Machine B}
@@ -44,6 +44,6 @@ pub advances-bracket : {outside V B : Type 0} {call : ChunkCall V} {value : V} {
 unfolding class_of sequence_kind
 advances-bracket {call} {parser} begun within is may_go_on bracket state holds =
     advances-when tt (advances-in begun within is may_go_on (rw bracket refl)
-    (at_escape parser
-    (λ before. taken [] (InControlSequence []) refl (stands-by state (holds before))
+    (takes-at_escape parser
+    (λ before. takes-byte [] (InControlSequence []) refl (stands-by state (holds before))
     (rw bracket (escape-key call.limit 0x5b _ refl refl refl)))) (settled-by _ _ state tt))

@@ -6,15 +6,15 @@ use Rattle.vte_core.proofs.places.StreamLemmas.{reads-byte}
 
 -- ---- between characters
 
-by_text : {B : Type 0} (limit : Option ℕ) (parser : Machine B) (place : Place)
+text-by_place : {B : Type 0} (limit : Option ℕ) (parser : Machine B) (place : Place)
     → StandsBy limit (Text Nothing) parser place → place ≡ InText []
-by_text limit parser (InText bytes) s = ap InText (sym s.0)
-by_text limit parser _ s = absurd s
+text-by_place limit parser (InText bytes) s = ap InText (sym s.0)
+text-by_place limit parser _ s = absurd s
 
 -- between characters of a text there is one place
-pub between_characters : {B : Type 0} {limit : Option ℕ} (parser : Machine B) (place : Place)
+pub place-settled_text : {B : Type 0} {limit : Option ℕ} (parser : Machine B) (place : Place)
     → parser.state ≡ Text Nothing → StandsAtPlace limit parser place → place ≡ InText []
-between_characters {limit} parser place e s = by_text limit parser place (stands-in e s)
+place-settled_text {limit} parser place e s = text-by_place limit parser place (stands-in e s)
 
 -- ---- whether a call asks
 

@@ -5,15 +5,15 @@ use Rattle.std.proofs.lemmas.List.{take-take}
 use Rattle.std.proofs.lemmas.List.Elements.{All-from_get_or}
 use Rattle.std.proofs.lemmas.Str.{inside_one, encodes-chars, scalars-chars}
 use Rattle.vte_core.proofs.bytes.EachLemmas.{each-one}
-use Rattle.vte_core.proofs.bytes.Printable.{chars-one, layout-is_plain_control, no_control_event, printed-event, run-ascii}
+use Rattle.vte_core.proofs.bytes.Printable.{chars-one, layout-is_plain_control, run_event-no_control, run_event-printed, run-ascii}
 use Rattle.vte_core.proofs.dividing.Utf8Agrees.{cut-text, text_outcome-encodes}
 use Rattle.vte_core.proofs.calls.Progress.{come-further, stretch-added}
 use Rattle.vte_core.proofs.streams.After.{added-reads}
 use Rattle.vte_core.proofs.shapes.Told.{told-settled, told-broken}
-use Rattle.vte_core.proofs.stops.Units.{added_both}
-use Rattle.vte_core.proofs.calls.States.{between_characters}
+use Rattle.vte_core.proofs.stops.Units.{added-append}
+use Rattle.vte_core.proofs.calls.States.{place-settled_text}
 use Rattle.vte_core.proofs.calls.CallEnds.{settled-by, settles}
-use Rattle.vte_core.proofs.streams.Performing.{after-append}
+use Rattle.vte_core.proofs.streams.Performing.{after_events-append}
 use Rattle.vte_core.proofs.shapes.OutcomeLemmas.{with_bodies-tell}
 use Rattle.vte_core.proofs.streams.StreamSteps.{told_by_stream}
 
@@ -88,7 +88,7 @@ prints-one {layout} {step} {old} {bytes} {from}
       run = run-ascii layout bytes from (from + 1)
           (each-one IsPrintedAscii bytes from (subst IsPrintedAscii is printed));
       printed = e ∙ ap (λ x. step old (Print x)) same
-          ∙ ap (λ event. step old event) (sym (printed-event layout b printed))
+          ∙ ap (λ event. step old event) (sym (run_event-printed layout b printed))
           ∙ ap (λ cs. after step old (map (run_event layout) cs)) (sym (chars-one bytes from b within is printed));
     }
 
@@ -114,7 +114,7 @@ module _ {V : Type 0} (layout : Bool) (call : ChunkCall V)
     | inl broken ↦
         rw (
           told-broken call.limit stream call.bytes k broken,
-          after-append call.step value (added call.limit stream (take k call.bytes)) (Print replacement ∷ []),
+          after_events-append call.step value (added call.limit stream (take k call.bytes)) (Print replacement ∷ []),
         )
         (rw (replacement-event layout) at
         (never (after call.step value (added call.limit stream (take k call.bytes))) replacement goes))
@@ -138,7 +138,7 @@ unfolding malformed_event
 may_go_on-malformed layout call {old} {b} never may_go_on high performed does =
     let printed : is_control_character b ≡ false = grind (arith, nat_tests) in
     let event : malformed_event (b ∷ []) ≡ run_event layout replacement =
-    rw printed (sym (no_control_event layout replacement refl)) in
+    rw printed (sym (run_event-no_control layout replacement refl)) in
     rw (performed, event) (never does old replacement (may_go_on does))
 
 -- a run more
@@ -169,13 +169,13 @@ advances-text {V} {call} {layout} {old} {new} {i} {j} {parser}
         ∙ ap (λ x. x ++ rest) (take-take (k - i) (j - i) (drop i call.bytes) (omega (arith, below))) in
         let all : added call.limit from front ++ added call.limit (from ++ front) rest
         ≡ map (run_event layout) (chars run) =
-        sym (added_both call.limit from front rest) ∙ ap (added call.limit from) (sym parts)
+        sym (added-append call.limit from front rest) ∙ ap (added call.limit from) (sym parts)
         ∙ added-reads call.limit from run (InText []) (InText []) _ c.is_after
         (reads-text call.limit layout run prints.run) refl in
         not_stopped-told layout call (never does) value stream k
         (ap (λ es. call.is_terminated (after call.step value es)) (stretch-added call.limit stream call.bytes i k past)
         ∙ ap call.is_terminated
-        (after-append call.step value (told_before call.limit stream call.bytes i) (added call.limit from front)
+        (after_events-append call.step value (told_before call.limit stream call.bytes i) (added call.limit from front)
         ∙ ap (λ v. after call.step v (added call.limit from front)) (sym c.performed))
         ∙ not_stopped layout call (never does) old (added call.limit from front)
         (added call.limit (from ++ front) rest) (chars run) all (may_go_on does))
@@ -183,7 +183,7 @@ advances-text {V} {call} {layout} {old} {new} {i} {j} {parser}
     inside-next : (value : V) (stream : List ℕ) → StandsAt call value old stream i parser
         → StandsInside call value new stream j parser
     inside-next value stream s =
-        let here : s.place ≡ InText [] = between_characters parser s.place e s.stands in
+        let here : s.place ≡ InText [] = place-settled_text parser s.place e s.stands in
         let c : ProgressAt call value old stream i (InText []) =
         subst (ProgressAt call value old stream i) here s.has_come in
         record {

@@ -14,7 +14,7 @@ use Rattle.vte_core.specs.declared.scan.taken.Taken.TheVariants.{Text as TakenTe
 use Rattle.vte_core.specs.Text.{IsRunText}
 use Rattle.vte_core.proofs.bytes.ClassCases.{data_ends_nothing}
 use Rattle.vte_core.proofs.calls.CallEnds.{ends-comes, ends-reads}
-use Rattle.vte_core.proofs.calls.States.{between_characters}
+use Rattle.vte_core.proofs.calls.States.{place-settled_text}
 use Rattle.vte_core.proofs.calls.TextRuns.{reads-text}
 use Rattle.vte_core.proofs.fields.PlaceOfState.{IsPlace, stands-in}
 use Rattle.vte_core.proofs.places.PlaceLeads.{data-put}
@@ -39,21 +39,22 @@ has-nowhere {limit} {bytes} {from} {place} {parser} within starts ends kind =
     }
 
 -- in no other state
-pub outside : (state : State) → ((unfinished : Unfinished) → state ≡ Text unfinished → ⊥) → (state ≡ DeviceData → ⊥)
+pub outside-text_and_data : (state : State) → ((unfinished : Unfinished) → state ≡ Text unfinished → ⊥)
+    → (state ≡ DeviceData → ⊥)
     → IsOutsideTextAndData state
-outside (Text unfinished) no_text no_data = no_text unfinished refl
-outside DeviceData no_text no_data = no_data refl
-outside _ no_text no_data = tt
+outside-text_and_data (Text unfinished) no_text no_data = no_text unfinished refl
+outside-text_and_data DeviceData no_text no_data = no_data refl
+outside-text_and_data _ no_text no_data = tt
 
 -- ---- a text
 
-by_unfinished : (unfinished : Unfinished) → IsSettled (Text unfinished) → Text unfinished ≡ Text Nothing
-by_unfinished Nothing settled = refl
-by_unfinished _ settled = absurd settled
+text-by_unfinished : (unfinished : Unfinished) → IsSettled (Text unfinished) → Text unfinished ≡ Text Nothing
+text-by_unfinished Nothing settled = refl
+text-by_unfinished _ settled = absurd settled
 
 pub settled-text : {state : State} (unfinished : Unfinished) → state ≡ Text unfinished → IsSettled state
     → state ≡ Text Nothing
-settled-text unfinished e settled = e ∙ by_unfinished unfinished (subst IsSettled e settled)
+settled-text unfinished e settled = e ∙ text-by_unfinished unfinished (subst IsSettled e settled)
 
 -- bytes that lead from the parser's place to the same
 has-run : {B : Type 0} {limit : Option ℕ} {bytes : List ℕ} {place : RunRange} {parser : Machine B} (here : Place)
@@ -88,16 +89,17 @@ pub has-text : {B : Type 0} {limit : Option ℕ} {bytes : List ℕ} {from end : 
     → IsRun false bytes from end → HasNoRunAt false bytes end
     → HasRun limit bytes (record { start = from; end = end; kind = OfText }) parser
 has-text {limit} {bytes} {from} {end} {parser} between low high are ended =
-    has-run (InText []) refl (λ place s. between_characters parser place between s)
+    has-run (InText []) refl (λ place s. place-settled_text parser place between s)
     (reads-text limit false (take (end - from) (drop from bytes)) are)
     (record { in_order = omega (arith, low); within = high }) are (low, ended)
 
 -- ---- data
 
-by_data : {B : Type 0} (limit : Option ℕ) (parser : Machine B) (place : Place) → StandsBy limit DeviceData parser place
+data-by_place : {B : Type 0} (limit : Option ℕ) (parser : Machine B) (place : Place)
+    → StandsBy limit DeviceData parser place
     → place ≡ InDeviceData
-by_data limit parser InDeviceData s = refl
-by_data limit parser _ s = absurd s
+data-by_place limit parser InDeviceData s = refl
+data-by_place limit parser _ s = absurd s
 
 reads-data : (limit : Option ℕ) (bytes : List ℕ) (n i : ℕ) → i + n ≤ length bytes → ArePut bytes i (i + n)
     → BytesLead limit InDeviceData (take n (drop i bytes)) (map Put (take n (drop i bytes))) InDeviceData
@@ -119,7 +121,7 @@ pub has-data : {B : Type 0} {limit : Option ℕ} {bytes : List ℕ} {from end : 
     → ArePut bytes from end → (end < length bytes → IsDeviceData (slice_index bytes end) → ⊥)
     → HasRun limit bytes (record { start = from; end = end; kind = OfData }) parser
 has-data {limit} {bytes} {from} {end} {parser} begun low high are ended =
-    has-run InDeviceData tt (λ place s. by_data limit parser place (stands-in begun s))
+    has-run InDeviceData tt (λ place s. data-by_place limit parser place (stands-in begun s))
     (reads-data limit bytes (end - from) from (omega (arith, low, high))
     (λ k above below. are k above (omega (arith, low, below))))
     (record { in_order = omega (arith, low); within = high }) tt (low, ended)
@@ -127,11 +129,11 @@ has-data {limit} {bytes} {from} {end} {parser} begun low high are ended =
 -- ---- nothing open
 
 -- between characters a parser goes on as a new one
-pub anew : {B : Type 0} {limit : Option ℕ} {stream : List ℕ} (parser : Machine B) → parser.state ≡ Text Nothing
+pub reads-anew : {B : Type 0} {limit : Option ℕ} {stream : List ℕ} (parser : Machine B) → parser.state ≡ Text Nothing
     → HasReadWithLimit limit parser stream → HasReadWithLimit limit parser []
-anew {limit} parser begun h = record {
+reads-anew {limit} parser begun h = record {
   place = InText [];
-  stands = subst (StandsAtPlace limit parser) (between_characters parser h.place begun h.stands) h.stands;
+  stands = subst (StandsAtPlace limit parser) (place-settled_text parser h.place begun h.stands) h.stands;
   is_after = after-nothing limit;
 }
 
@@ -172,29 +174,30 @@ record TakesRun (bytes : List ℕ) (end : ℕ) (these : List ℕ) (kind : RunKin
   events : taken_events taken ≡ kind_events kind these
   whole : IsLongestRun bytes end taken
 
-takes : (bytes : List ℕ) (place : RunRange) (kind : RunKind) (taken : Taken) → IsTaken kind (bytes_at bytes place) taken
+takes-by_kind : (bytes : List ℕ) (place : RunRange) (kind : RunKind) (taken : Taken)
+    → IsTaken kind (bytes_at bytes place) taken
     → AreOfKind kind (bytes_at bytes place)
     → length (bytes_at bytes place) ≡ place.end - place.start → IsWholeAt bytes place kind
     → TakesRun bytes place.end (bytes_at bytes place) kind taken
-takes bytes place OfText (TakenText text) same are size whole = record {
+takes-by_kind bytes place OfText (TakenText text) same are size whole = record {
   are = same;
   events = ap (λ (x : List ℕ). map Print (chars x)) same;
   whole = (omega (arith, ap length same, size, whole.0), subst (IsRunText false) (sym same) are.plain, whole.1);
 }
-takes bytes place OfData (Data those) same are size whole = record {
+takes-by_kind bytes place OfData (Data those) same are size whole = record {
   are = same;
   events = ap (map Put) same;
   whole = (omega (arith, ap length same, size, whole.0), whole.1);
 }
-takes bytes place Empty TakenNothing same are size whole =
+takes-by_kind bytes place Empty TakenNothing same are size whole =
     let none : bytes_at bytes place ≡ [] =
     ap (λ n. take n (drop place.start bytes)) (let e : place.end - place.start ≡ 0 = omega (arith, whole) in e) in
     record { are = sym none; events = refl; whole = tt }
-takes bytes place _ _ same are size whole = absurd same
+takes-by_kind bytes place _ _ same are size whole = absurd same
 
-size_at : (bytes : List ℕ) (place : RunRange) → IsRange bytes place.start place.end
+run-size : (bytes : List ℕ) (place : RunRange) → IsRange bytes place.start place.end
     → length (bytes_at bytes place) ≡ place.end - place.start
-size_at bytes place range =
+run-size bytes place range =
     omega (
       arith,
       length-take (place.end - place.start)
@@ -208,14 +211,14 @@ takes-run : {B : Type 0} {limit : Option ℕ} {bytes : List ℕ} {place : RunRan
     → HasRun limit bytes place parser
     → IsTaken place.kind (bytes_at bytes place) taken → TakesRun bytes place.end (bytes_at bytes place) place.kind taken
 takes-run {bytes} {place} taken h is =
-    takes bytes place place.kind taken is h.kind (size_at bytes place h.is_range) h.whole
+    takes-by_kind bytes place place.kind taken is h.kind (run-size bytes place h.is_range) h.whole
 
 stands-run : {B : Type 0} {limit : Option ℕ} {bytes : List ℕ} {run : Run} {place : RunRange} {parser : Machine B}
     → HasRun limit bytes place parser → run.start ≡ place.start
     → run.end ≡ place.end → IsTaken place.kind (bytes_at bytes place) run.taken → IsRunIn bytes run
 stands-run {bytes} {run} {place} h starts ends taken =
     let these = takes-run run.taken h taken in
-    let size = size_at bytes place h.is_range in
+    let size = run-size bytes place h.is_range in
     record {
       end = rw (these.are, size, starts, ends) (omega (arith, h.is_range.in_order));
       within = rw ends h.is_range.within;

@@ -117,10 +117,10 @@ sum_push : (lengths : List ℕ) (n : ℕ) → sum (lengths ++ n ∷ []) ≡ sum 
 sum_push lengths n = sum_by_push (λ (m : ℕ). m) lengths n
 
 -- the last group has what the lengths before its own leave, and more
-cut_last : (rest numbers more : List ℕ) (n m : ℕ) → sum rest + n ≡ length numbers → m ≡ n + length more
+cut_by_lengths-last : (rest numbers more : List ℕ) (n m : ℕ) → sum rest + n ≡ length numbers → m ≡ n + length more
     → cut_by_lengths (rest ++ m ∷ []) (numbers ++ more)
     ≡ cut_by_lengths rest (take (sum rest) numbers) ++ (drop (sum rest) numbers ++ more) ∷ []
-cut_last rest numbers more n m whole size =
+cut_by_lengths-last rest numbers more n m whole size =
     let at = sum rest in
     ap (λ v. cut_by_lengths (rest ++ m ∷ []) (v ++ more)) (sym (take-append-drop at numbers))
     ∙ ap (cut_by_lengths (rest ++ m ∷ [])) (append_assoc (take at numbers) (drop at numbers) more)
@@ -135,28 +135,28 @@ pub record IsPushed (joined : Bool) (lengths rest numbers : List ℕ) (last : Op
       ≡ with_number (cut_by_lengths lengths numbers) (numbered joined value)
   pub lengths_fit : AreLengths (rest ++ (unwrap_or last 0 + 1) ∷ []) (numbers ++ value ∷ [])
 
-one_more : (joined : Bool) (lengths rest numbers : List ℕ) (last : Option ℕ) (value : ℕ)
+cut_by_lengths-more : (joined : Bool) (lengths rest numbers : List ℕ) (last : Option ℕ) (value : ℕ)
     → sum rest + unwrap_or last 0 ≡ length numbers → All (λ n. 0 < n) rest
     → cut_by_lengths rest (take (sum rest) numbers) ++ (drop (sum rest) numbers ++ value ∷ []) ∷ []
     ≡ with_number (cut_by_lengths lengths numbers) (numbered joined value)
     → IsPushed joined lengths rest numbers last value
-one_more joined lengths rest numbers last value whole filled same = record {
+cut_by_lengths-more joined lengths rest numbers last value whole filled same = record {
   room = omega (arith, length_le_sum rest filled);
-  groups = cut_last rest numbers (value ∷ []) (unwrap_or last 0) (unwrap_or last 0 + 1) whole refl ∙ same;
+  groups = cut_by_lengths-last rest numbers (value ∷ []) (unwrap_or last 0) (unwrap_or last 0 + 1) whole refl ∙ same;
   lengths_fit = record {
     whole = omega (arith, sum_push rest (unwrap_or last 0 + 1), length-append numbers (value ∷ []));
     filled = All-push (λ m. 0 < m) rest (unwrap_or last 0 + 1) filled (omega arith);
   };
 }
 
-pushed_alone : (joined : Bool) (lengths rest numbers : List ℕ) (value : ℕ) → AreLengths lengths numbers
+pushed-alone : (joined : Bool) (lengths rest numbers : List ℕ) (value : ℕ) → AreLengths lengths numbers
     → lengths ≡ rest ++ []
     → with_number (cut_by_lengths lengths numbers) (numbered false value)
     ≡ with_number (cut_by_lengths lengths numbers) (numbered joined value)
     → IsPushed joined lengths rest numbers None value
-pushed_alone joined lengths rest numbers value ok parts same =
+pushed-alone joined lengths rest numbers value ok parts same =
     subst (λ rest. IsPushed joined lengths rest numbers None value) (parts ∙ append-nil rest)
-    (one_more joined lengths lengths numbers None value (omega (arith, ok.whole)) ok.filled
+    (cut_by_lengths-more joined lengths lengths numbers None value (omega (arith, ok.whole)) ok.filled
     (rw (
       take_all (sum lengths) numbers (omega (arith, ok.whole)),
       drop_all (sum lengths) numbers
@@ -168,17 +168,17 @@ pub pushed : (joined : Bool) (lengths rest numbers : List ℕ) (last : Option �
     → AreLengths lengths numbers → IsTakenOff joined lengths rest last → IsPushed joined lengths rest numbers last value
 pushed true lengths rest numbers (Some n) value ok taken =
     let whole : sum rest + n ≡ length numbers = sym (sum_push rest n) ∙ ap sum (sym taken.parts) ∙ ok.whole in
-    let old = simp append-nil at (cut_last rest numbers [] n n whole (omega arith)) in
-    one_more true lengths rest numbers (Some n) value whole
+    let old = simp append-nil at (cut_by_lengths-last rest numbers [] n n whole (omega arith)) in
+    cut_by_lengths-more true lengths rest numbers (Some n) value whole
     (All-pop (λ m. 0 < m) lengths rest (Some n) taken.parts ok.filled).0
     (sym (with_number-joins (cut_by_lengths rest (take (sum rest) numbers)) (drop (sum rest) numbers) value)
     ∙ ap (λ groups. with_number groups (numbered true value))
     (sym old ∙ ap (λ those. cut_by_lengths those numbers) (sym taken.parts)))
-pushed true [] rest numbers None value ok taken = pushed_alone true [] rest numbers value ok taken.parts refl
+pushed true [] rest numbers None value ok taken = pushed-alone true [] rest numbers value ok taken.parts refl
 pushed true (n ∷ lengths) rest numbers None value ok taken = absurd (omega (arith, taken.found refl refl))
 pushed false lengths rest numbers (Some n) value ok taken = let h = taken.alone refl in cc
 pushed false lengths rest numbers None value ok taken =
-    pushed_alone false lengths rest numbers value ok taken.parts refl
+    pushed-alone false lengths rest numbers value ok taken.parts refl
 
 -- ---- lengths that are added up one after another
 

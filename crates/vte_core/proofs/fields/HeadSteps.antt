@@ -138,11 +138,11 @@ pub ill_shaped-now : (head : List ℕ) → StaysIllShaped head → is_well_shape
 ill_shaped-now head s = rw append-nil at (s.stays [])
 
 -- at the end of a head that is well shaped
-pub ready : (old new : Collected) (more ignored : Bool) (progress : HeadProgress) (head : List ℕ)
+pub head-ready : (old new : Collected) (more ignored : Bool) (progress : HeadProgress) (head : List ℕ)
     → ((text : List ℕ) → CountsNumbers old text → HoldsNumbers new more text)
     → SameIntermediates old new → HoldsHead old progress head → ignored ≡ (new.too_many_intermediates || more)
     → IsReady new ignored head
-ready old new more ignored progress head settles k h is =
+head-ready old new more ignored progress head settles k h is =
     let parts = held-parts h.marker h.parameters h.intermediates h.is_marker h.are_parameters h.are_intermediates in
     let s = settles h.parameters h.counts in
     let holds = Holds-kept old new (h.marker ++ h.intermediates) k h.holds in

@@ -73,12 +73,12 @@ length_concat_take n pieces =
     let whole = ap concat (sym (take-append-drop n pieces)) ∙ concat-append (take n pieces) (drop n pieces) in
     omega (arith, ap length whole, length-append (concat (take n pieces)) (concat (drop n pieces)))
 
-kept_fits : (limit count : ℕ) (items : List ℕ) → count ≤ limit
+kept-fits : (limit count : ℕ) (items : List ℕ) → count ≤ limit
     → count + length (filter is_data_item (kept_after (Some limit) count items)) ≤ limit
-kept_fits limit count [] within = omega arith
-kept_fits limit count (item ∷ items) within =
-    let byte = kept_fits limit (count + 1) items in
-    let end = kept_fits limit count items within in
+kept-fits limit count [] within = omega arith
+kept-fits limit count (item ∷ items) within =
+    let byte = kept-fits limit (count + 1) items in
+    let end = kept-fits limit count items within in
     grind (arith, byte, end, ltb-true)
 
 pub pieces_fit : (limit : Option ℕ) (items : List ℕ) → FitsStore limit (pieces_of limit items)
@@ -87,7 +87,7 @@ pieces_fit None items = tt
 pieces_fit (Some limit) items =
     let kept = kept_after (Some limit) 0 items in
     let fewer = length_concat_take most_pieces (slice_split (λ b. b == semicolon) kept) in
-    omega (arith, kept_fits limit 0 items (omega arith), pieces_length kept)
+    omega (arith, kept-fits limit 0 items (omega arith), pieces_length kept)
 
 pub few_pieces : (limit : Option ℕ) (items : List ℕ) → length (pieces_of limit items) ≤ most_pieces
 unfolding pieces_of
@@ -128,9 +128,9 @@ split_push (suc n) p (b ∷ items) item =
       | inr joins ↦ rw joins (omega (arith, more, put, had))
     ]
 
-all_kept : (items : List ℕ) (count : ℕ) → kept_after None count items ≡ items
-all_kept [] count = refl
-all_kept (item ∷ items) count = ap (λ those. item ∷ those) (all_kept items _)
+kept-all : (items : List ℕ) (count : ℕ) → kept_after None count items ≡ items
+kept-all [] count = refl
+kept-all (item ∷ items) count = ap (λ those. item ∷ those) (kept-all items _)
 
 -- how much data is kept of a command with these items
 abbrev kept_size : List ℕ → ℕ
@@ -139,4 +139,4 @@ kept_size items = length (concat (pieces_of None items))
 pub pieces_push : (items : List ℕ) (item : ℕ) → kept_size (items ++ item ∷ []) ≤ kept_size items + 1
 unfolding pieces_of kept_items
 pieces_push items item =
-    rw (all_kept items 0, all_kept (items ++ item ∷ []) 0) (split_push most_pieces (λ b. eqb b semicolon) items item)
+    rw (kept-all items 0, kept-all (items ++ item ∷ []) 0) (split_push most_pieces (λ b. eqb b semicolon) items item)

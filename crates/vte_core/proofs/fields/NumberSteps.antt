@@ -7,15 +7,15 @@ use Rattle.vte_core.proofs.fields.Groups.{numbered}
 use Rattle.vte_core.proofs.fields.Parameters.{count_of-grouped, grouped-push, is_digit_no_separator, number_of-push, numbers_are}
 
 -- the numbers of the text, of which the last is being read
-counted : (collected : Collected) (text : List ℕ) (k : CountsNumbers collected text)
+counts-numbers : (collected : Collected) (text : List ℕ) (k : CountsNumbers collected text)
     → numbers text ≡ k.front ++ numbered collected.joined collected.number ∷ []
-counted collected text k =
+counts-numbers collected text k =
     sym (ap numbers (append-nil text)) ∙ k.goes_on []
     ∙ ap (λ n. k.front ++ numbered collected.joined n ∷ []) (sym k.number)
 
-held_count : (collected : Collected) (text : List ℕ) (k : CountsNumbers collected text)
+counts-held : (collected : Collected) (text : List ℕ) (k : CountsNumbers collected text)
     → count_of collected.params ≡ min 32 (length k.front)
-held_count collected text k =
+counts-held collected text k =
     ap count_of k.params ∙ count_of-grouped (take most_numbers k.front) ∙ length-take most_numbers k.front
 
 -- where there is no room for the last number
@@ -24,15 +24,15 @@ pub settles-full : (collected : Collected) (text : List ℕ) → CountsNumbers c
     → HoldsNumbers collected true text
 unfolding groups_of has_too_many_numbers
 settles-full collected text k full =
-    let c = held_count collected text k in
+    let c = counts-held collected text k in
     let last = numbered collected.joined collected.number in
     let n : length (k.front ++ last ∷ []) ≡ length k.front + 1 = length-append k.front (last ∷ []) in
     record {
       groups =
           k.params
-          ∙ rw (counted collected text k)
+          ∙ rw (counts-numbers collected text k)
           (ap grouped (sym (take-append-le most_numbers k.front (last ∷ []) (omega arith))));
-      more = rw (counted collected text k) (grind (arith, nat_tests));
+      more = rw (counts-numbers collected text k) (grind (arith, nat_tests));
     }
 
 -- where there is room for it
@@ -40,17 +40,17 @@ pub settles-push : (old new : Collected) (text : List ℕ) → CountsNumbers old
     → new.params ≡ with_number old.params (numbered old.joined old.number) → HoldsNumbers new false text
 unfolding groups_of has_too_many_numbers
 settles-push old new text k room pushed =
-    let c = held_count old text k in
+    let c = counts-held old text k in
     let last = numbered old.joined old.number in
     let n : length (k.front ++ last ∷ []) ≡ length k.front + 1 = length-append k.front (last ∷ []) in
     let before : old.params ≡ grouped k.front = k.params ∙ ap grouped (take_all most_numbers k.front (omega arith)) in
     let all : take most_numbers (numbers text) ≡ k.front ++ last ∷ [] =
-    rw (counted old text k) (take_all most_numbers (k.front ++ last ∷ []) (omega arith)) in
+    rw (counts-numbers old text k) (take_all most_numbers (k.front ++ last ∷ []) (omega arith)) in
     record {
       groups =
           pushed ∙ ap (λ groups. with_number groups last) before ∙ sym (grouped-push k.front last)
           ∙ ap grouped (sym all);
-      more = rw (counted old text k) (grind (arith, nat_tests));
+      more = rw (counts-numbers old text k) (grind (arith, nat_tests));
     }
 
 -- after a separator
@@ -64,7 +64,7 @@ counts-separator old settled new more text b k s is params joined number = recor
   goes_on =
       λ later. ap numbers (append_assoc text (b ∷ []) later) ∙ k.goes_on (b ∷ later)
       ∙ rw (is, joined, k.number, append_assoc k.front) refl;
-  params = params ∙ s.groups ∙ ap (λ ns. grouped (take most_numbers ns)) (counted old text k);
+  params = params ∙ s.groups ∙ ap (λ ns. grouped (take most_numbers ns)) (counts-numbers old text k);
   number = number;
 }
 

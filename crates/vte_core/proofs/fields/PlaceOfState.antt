@@ -19,14 +19,15 @@ pub stands-by : {B : Type 0} {limit : Option ℕ} {state : State} {parser : Mach
 stands-by {limit} {parser} {place} e by =
     record { by = subst (λ state. StandsBy limit state parser place) (sym e) by }
 
-by_escape : {B : Type 0} (limit : Option ℕ) (state : State) (parser : Machine B) → StandsBy limit state parser AtEscape
+escape-by_state : {B : Type 0} (limit : Option ℕ) (state : State) (parser : Machine B)
+    → StandsBy limit state parser AtEscape
     → HoldsIntermediates parser.collected []
-by_escape limit Escape parser s = s
-by_escape limit _ parser s = absurd s
+escape-by_state limit Escape parser s = s
+escape-by_state limit _ parser s = absurd s
 
 pub stands-escape : {B : Type 0} {limit : Option ℕ} (parser : Machine B) → StandsAtPlace limit parser AtEscape
     → HoldsIntermediates parser.collected []
-stands-escape {limit} parser s = by_escape limit parser.state parser s.by
+stands-escape {limit} parser s = escape-by_state limit parser.state parser s.by
 
 -- in that state there is one shape of places
 pub record InCommandAt {B : Type 0} (limit : Option ℕ) (parser : Machine B) (place : Place) : Type 0 where
@@ -34,46 +35,46 @@ pub record InCommandAt {B : Type 0} (limit : Option ℕ) (parser : Machine B) (p
   pub same : place ≡ InSystemCommand items
   pub keeps : HoldsItems limit parser.command items
 
-by_items : {B : Type 0} (limit : Option ℕ) (parser : Machine B) (place : Place)
+command-by_place : {B : Type 0} (limit : Option ℕ) (parser : Machine B) (place : Place)
     → StandsBy limit SystemCommand parser place → InCommandAt limit parser place
-by_items limit parser (InSystemCommand items) s = record { items = items; same = refl; keeps = s }
-by_items limit parser _ s = absurd s
+command-by_place limit parser (InSystemCommand items) s = record { items = items; same = refl; keeps = s }
+command-by_place limit parser _ s = absurd s
 
 pub in_command : {B : Type 0} {limit : Option ℕ} (parser : Machine B) (place : Place) → parser.state ≡ SystemCommand
     → StandsAtPlace limit parser place → InCommandAt limit parser place
-in_command {limit} parser place e s = by_items limit parser place (stands-in e s)
+in_command {limit} parser place e s = command-by_place limit parser place (stands-in e s)
 
 -- what is true of a place where some parser stands
 abbrev pub IsPlace : Place → Type 0
 IsPlace (InText u) = may_continue u ≡ true
 IsPlace _ = Unit {0}
 
-by_place : {B : Type 0} (limit : Option ℕ) (state : State) (parser : Machine B) (place : Place)
+is_place-by_state : {B : Type 0} (limit : Option ℕ) (state : State) (parser : Machine B) (place : Place)
     → StandsBy limit state parser place → IsPlace place
-by_place limit (Text unfinished) parser (InText u) s = s.1
-by_place limit _ parser (InText u) s = absurd s
-by_place limit _ parser _ s = tt
+is_place-by_state limit (Text unfinished) parser (InText u) s = s.1
+is_place-by_state limit _ parser (InText u) s = absurd s
+is_place-by_state limit _ parser _ s = tt
 
 pub stands-place : {B : Type 0} {limit : Option ℕ} (parser : Machine B) (place : Place)
     → StandsAtPlace limit parser place
     → IsPlace place
-stands-place {limit} parser place s = by_place limit parser.state parser place s.by
+stands-place {limit} parser place s = is_place-by_state limit parser.state parser place s.by
 
 pub may_continue-truncated : (u : List ℕ) → is_truncated u ≡ true → may_continue u ≡ true
 may_continue-truncated [] more = refl
 may_continue-truncated (a ∷ u) more = more
 
-text_open : (limit : Option ℕ) (u : List ℕ) → may_continue u ≡ true
+text_outcome-open : (limit : Option ℕ) (u : List ℕ) → may_continue u ≡ true
     → text_outcome (u ++ []) ≡ leaves (left_at limit (InText u))
-text_open limit [] o = text_nothing
-text_open limit (a ∷ u) o = rw append-nil (text_end (a ∷ u) o)
+text_outcome-open limit [] o = text_nothing
+text_outcome-open limit (a ∷ u) o = rw append-nil (text_end (a ∷ u) o)
 
 -- nothing more tells nothing, and leaves open what is open at the place
 pub rest_outcome-nothing : (limit : Option ℕ) (place : Place) → IsPlace place
     → rest_outcome limit place [] ≡ leaves (left_at limit place)
 unfolding body_outcome executed_events escape_from control_sequence_from device_control_from device_data_outcome
     system_command_from ignored_string_outcome
-rest_outcome-nothing limit (InText u) is = text_open limit u is
+rest_outcome-nothing limit (InText u) is = text_outcome-open limit u is
 rest_outcome-nothing limit (InSystemCommand items) is = simp append-nil
 rest_outcome-nothing limit _ is = refl
 

@@ -34,35 +34,35 @@ holds-saved h r holds =
       too_many_intermediates = r.too_many_intermediates ∙ (h.too_many_intermediates ∙ holds.too_many_intermediates);
     }
 
-same_collected : {B C : Type 0} {saved : Saved} {old : Machine B} {new : Machine C} → HasSaved saved old
+collected-saved : {B C : Type 0} {saved : Saved} {old : Machine B} {new : Machine C} → HasSaved saved old
     → IsRestored saved new → IsInHead old.state
     → IsInHead new.state → old.collected ≡ new.collected
-same_collected h r in_old in_new = grind (arith, r.params in_new _ (h.params in_old))
+collected-saved h r in_old in_new = grind (arith, r.params in_new _ (h.params in_old))
 
-same_items : {B C : Type 0} {saved : Saved} {old : Machine B} {new : Machine C} → HasSaved saved old
+items-saved : {B C : Type 0} {saved : Saved} {old : Machine B} {new : Machine C} → HasSaved saved old
     → IsRestored saved new → old.state ≡ SystemCommand
     → new.state ≡ SystemCommand → SameItems old.command new.command
-same_items h r old_is new_is = record {
+items-saved h r old_is new_is = record {
   bytes = r.bytes new_is ∙ h.bytes old_is;
   ends = r.ends new_is (rw (h.bytes old_is, h.ends old_is) (h.are_ends old_is)) ∙ h.ends old_is;
   lost = r.lost new_is ∙ h.lost old_is;
 }
 
-by_saved : {B C : Type 0} (limit : Option ℕ) {saved : Saved} (state : State) (old : Machine B) (new : Machine C)
+stands_by-saved : {B C : Type 0} (limit : Option ℕ) {saved : Saved} (state : State) (old : Machine B) (new : Machine C)
     (place : Place) → HasSaved saved old → IsRestored saved new
     → old.state ≡ state → new.state ≡ state → StandsBy limit state old place → StandsBy limit state new place
-by_saved limit (Text unfinished) old new (InText u) h r o n s = s
-by_saved limit Escape old new AtEscape h r o n s = holds-saved h r s
-by_saved limit EscapeIntermediate old new (InEscape bytes) h r o n s = holds-saved h r s
-by_saved limit (ControlSequence progress) old new (InControlSequence head) h r o n s =
-    subst (λ collected. StandsInHead collected progress head) (same_collected h r (rw o tt) (rw n tt)) s
-by_saved limit (DeviceControl progress) old new (InDeviceControl head) h r o n s =
-    subst (λ collected. StandsInHead collected progress head) (same_collected h r (rw o tt) (rw n tt)) s
-by_saved limit DeviceData old new InDeviceData h r o n s = tt
-by_saved limit SystemCommand old new (InSystemCommand items) h r o n s =
-    keeps-same limit old.command new.command items (same_items h r o n) s
-by_saved limit IgnoredString old new InIgnoredString h r o n s = tt
-by_saved limit _ old new _ h r o n s = absurd s
+stands_by-saved limit (Text unfinished) old new (InText u) h r o n s = s
+stands_by-saved limit Escape old new AtEscape h r o n s = holds-saved h r s
+stands_by-saved limit EscapeIntermediate old new (InEscape bytes) h r o n s = holds-saved h r s
+stands_by-saved limit (ControlSequence progress) old new (InControlSequence head) h r o n s =
+    subst (λ collected. StandsInHead collected progress head) (collected-saved h r (rw o tt) (rw n tt)) s
+stands_by-saved limit (DeviceControl progress) old new (InDeviceControl head) h r o n s =
+    subst (λ collected. StandsInHead collected progress head) (collected-saved h r (rw o tt) (rw n tt)) s
+stands_by-saved limit DeviceData old new InDeviceData h r o n s = tt
+stands_by-saved limit SystemCommand old new (InSystemCommand items) h r o n s =
+    keeps-same limit old.command new.command items (items-saved h r o n) s
+stands_by-saved limit IgnoredString old new InIgnoredString h r o n s = tt
+stands_by-saved limit _ old new _ h r o n s = absurd s
 
 -- what was saved has read what the machine has
 pub reads_saved : {B : Type 0} (saved : Saved) (machine : Machine B) → HasSaved saved machine
@@ -72,7 +72,7 @@ reads_saved saved machine h stream has_read = record {
     place = has_read.place;
     stands = let same : parser.machine.state ≡ machine.state = r.state machine.state h.state in
         stands-by same
-        (by_saved _ machine.state machine parser.machine has_read.place h r refl same has_read.stands.by);
+        (stands_by-saved _ machine.state machine parser.machine has_read.place h r refl same has_read.stands.by);
     is_after = has_read.is_after;
   };
 }

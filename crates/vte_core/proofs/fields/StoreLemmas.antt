@@ -15,24 +15,24 @@ IsDataItem b = b ≢ semicolon
 -- ---- the pieces if items follow, item by item
 
 module _ (limit : Option ℕ) (bytes ends : List ℕ) where
-  pub after_nothing : pieces_from limit bytes ends [] ≡ cut_pieces bytes ends
-  after_nothing = rw (append-nil bytes, append-nil ends) refl
+  pub pieces_from-nothing : pieces_from limit bytes ends [] ≡ cut_pieces bytes ends
+  pieces_from-nothing = rw (append-nil bytes, append-nil ends) refl
 
   -- without room nothing is kept
-  pub after_full : has_room limit (length bytes) ≡ false → (more : List ℕ)
+  pub pieces_from-full : has_room limit (length bytes) ≡ false → (more : List ℕ)
       → pieces_from limit bytes ends more ≡ cut_pieces bytes ends
-  after_full full [] = after_nothing
-  after_full full (item ∷ more) = rw (full, append-nil bytes, append-nil ends) refl
+  pieces_from-full full [] = pieces_from-nothing
+  pieces_from-full full (item ∷ more) = rw (full, append-nil bytes, append-nil ends) refl
 
-  pub after_byte : has_room limit (length bytes) ≡ true → (item : ℕ) → item ≢ semicolon → (more : List ℕ) →
+  pub pieces_from-byte : has_room limit (length bytes) ≡ true → (item : ℕ) → item ≢ semicolon → (more : List ℕ) →
       pieces_from limit bytes ends (item ∷ more) ≡ pieces_from limit (bytes ++ item ∷ []) ends more
-  after_byte room item other more =
+  pieces_from-byte room item other more =
       let kept = filter is_data_item (kept_after limit (length bytes + 1) more) in
       rw (room, ne_eqb item semicolon other, length-append bytes (item ∷ []), append_assoc bytes (item ∷ []) kept) refl
 
-  after_end : has_room limit (length bytes) ≡ true → (more : List ℕ) →
+  pieces_from-end : has_room limit (length bytes) ≡ true → (more : List ℕ) →
       pieces_from limit bytes ends (semicolon ∷ more) ≡ pieces_from limit bytes (ends ++ length bytes ∷ []) more
-  after_end room more = rw (room, append_assoc ends) refl
+  pieces_from-end room more = rw (room, append_assoc ends) refl
 
 fitting-nothing : (limit : Option ℕ) (count : ℕ) → fitting limit count [] ≡ []
 fitting-nothing None count = refl
@@ -51,22 +51,22 @@ fitting-full (Some limit) count run full =
     let none : limit - count ≡ 0 = omega (arith, ltb-false count limit full) in rw none refl
 
 -- data bytes are kept as far as there is room
-after_run : (limit : Option ℕ) (bytes ends run more : List ℕ) → All IsDataItem run →
+pieces_from-run : (limit : Option ℕ) (bytes ends run more : List ℕ) → All IsDataItem run →
     pieces_from limit bytes ends (run ++ more)
     ≡ pieces_from limit (bytes ++ fitting limit (length bytes) run) ends more
-after_run limit bytes ends [] more none = rw (fitting-nothing limit (length bytes), append-nil bytes) refl
-after_run limit bytes ends (b ∷ run) more none =
-    let rest = after_run limit (bytes ++ b ∷ []) ends run more (All-tail IsDataItem b run none) in
+pieces_from-run limit bytes ends [] more none = rw (fitting-nothing limit (length bytes), append-nil bytes) refl
+pieces_from-run limit bytes ends (b ∷ run) more none =
+    let rest = pieces_from-run limit (bytes ++ b ∷ []) ends run more (All-tail IsDataItem b run none) in
     elim (cases_Bool (has_room limit (length bytes))) [
       | inl room ↦
-          let one = after_byte limit bytes ends room b (All-head IsDataItem b run none) (run ++ more) in
+          let one = pieces_from-byte limit bytes ends room b (All-head IsDataItem b run none) (run ++ more) in
           let kept = fitting-room limit (length bytes) b run room in
           let same : bytes ++ fitting limit (length bytes) (b ∷ run)
           ≡ (bytes ++ b ∷ []) ++ fitting limit (length (bytes ++ b ∷ [])) run =
           rw (kept, length-append bytes (b ∷ []), append_assoc bytes (b ∷ [])) refl in
           rw same (one ∙ rest)
       | inr full ↦
-          let same = after_full limit bytes ends full in
+          let same = pieces_from-full limit bytes ends full in
           rw (fitting-full limit (length bytes) (b ∷ run) full, append-nil bytes)
           (same ((b ∷ run) ++ more) ∙ sym (same more))
     ]
@@ -223,7 +223,7 @@ keeps-run limit old new items run few none bytes ends lost keeps =
       goes_on =
           λ more.
           rw (append_assoc items run more, bytes, ends)
-          (keeps.goes_on (run ++ more) ∙ after_run limit old.bytes old.ends run more none);
+          (keeps.goes_on (run ++ more) ∙ pieces_from-run limit old.bytes old.ends run more none);
       end = rw (bytes, ends, length-append old.bytes kept) end;
       fewer = omega (arith, size, keeps.fewer, fit, count-run items run none);
       lost =
@@ -242,7 +242,7 @@ keeps-end limit old new items few room bytes ends lost keeps = record {
   goes_on =
       λ more.
       rw (append_assoc items (semicolon ∷ []) more, bytes, ends)
-      (keeps.goes_on (semicolon ∷ more) ∙ after_end limit old.bytes old.ends room more);
+      (keeps.goes_on (semicolon ∷ more) ∙ pieces_from-end limit old.bytes old.ends room more);
   end = rw (bytes, ends) (ends-push most_pieces 0 old.ends (length old.bytes) few keeps.end);
   fewer = rw (bytes, count-end items) keeps.fewer;
   lost = rw (bytes, count-end items) (lost ∙ keeps.lost);
@@ -251,7 +251,8 @@ keeps-end limit old new items few room bytes ends lost keeps = record {
 -- the pieces, by what a store holds
 pub pieces_held : (limit : Option ℕ) (held : Stored) (items : List ℕ) → HoldsItems limit held items
     → pieces_of limit items ≡ cut_pieces held.bytes held.ends
-pieces_held limit held items keeps = rw append-nil at (keeps.goes_on [] ∙ after_nothing limit held.bytes held.ends)
+pieces_held limit held items keeps =
+    rw append-nil at (keeps.goes_on [] ∙ pieces_from-nothing limit held.bytes held.ends)
 
 -- all bytes are in them
 pub pieces_stored : (limit : Option ℕ) (held : Stored) (items : List ℕ) → HoldsItems limit held items

@@ -6,7 +6,7 @@ use Rattle.vte_core.proofs.bytes.FirstBytes.{Tests, ascii_breaks}
 use Rattle.vte_core.proofs.shapes.Told.{breaks-broken}
 use Rattle.vte_core.specs.Class.{Escape}
 use Rattle.vte_core.proofs.places.BriefLemmas.{bounded-head, executed_low, two_at_most}
-use Rattle.vte_core.proofs.places.CancelLemmas.{cancel, closing_brief, closing_alone_brief}
+use Rattle.vte_core.proofs.places.CancelLemmas.{byte-cancels, closing_brief, closing_alone_brief}
 use Rattle.vte_core.proofs.bytes.ClassCases.{ends_not_cancel}
 use Rattle.vte_core.proofs.bytes.ClassLemmas.{Spans, spans}
 use Rattle.vte_core.proofs.bytes.PlainKeys.{below_finals}
@@ -15,7 +15,7 @@ use Rattle.vte_core.proofs.places.PlaceLeads.{data-terminator, command-item, com
 use Rattle.vte_core.proofs.fields.PlaceOfState.{IsPlace}
 use Rattle.vte_core.proofs.fields.KeptItems.{few_pieces, pieces_push, some_pieces}
 use Rattle.vte_core.proofs.places.StreamLemmas.{reads-byte, reads-escape, no_escape, cancel_is_no_escape}
-use Rattle.vte_core.proofs.places.TextSteps.{AreQuietEvents, FitsLeft, IsLittle, IsQuietAt, IsText, Steps, steps-text}
+use Rattle.vte_core.proofs.places.TextSteps.{AreQuietEvents, FitsLeft, IsLittle, IsQuietAt, IsText, Steps, step-text}
 
 abbrev IsOutsideText : Place → Type 0
 IsOutsideText (InText u) = ⊥
@@ -27,12 +27,9 @@ HoldsNothing (InSystemCommand (item ∷ items)) = ⊥
 HoldsNothing _ = Unit {0}
 
 -- From outside of text to a place that holds no bytes of a character or a command. Between places that are known this
--- computes, and `outside` proves it.
+-- computes, and `(tt, tt)` proves it.
 abbrev Sequenced : Place → Place → Type 0
 Sequenced place next = IsOutsideText place × HoldsNothing next
-
-outside : Unit {0} × Unit {0}
-outside = (tt, tt)
 
 no_text : (place : Place) → IsOutsideText place → IsText place → ⊥
 no_text (InText u) is text = is
@@ -48,14 +45,14 @@ nothing_open limit (InSystemCommand (item ∷ items)) none = absurd none
 nothing_open limit _ none = (refl, refl, tt)
 
 -- a byte of the class, of which the class says that it is not ESC
-pub plain : (b : ℕ) (k : Class) → class_of b ≡ k → ends_body k ≡ false → eqb b escape ≡ false
-plain b k is no_end = no_escape b (rw is no_end)
+pub no_escape-class : (b : ℕ) (k : Class) → class_of b ≡ k → ends_body k ≡ false → eqb b escape ≡ false
+no_escape-class b k is no_end = no_escape b (rw is no_end)
 
 module _ {limit : Option ℕ} {place next : Place} {b : ℕ} where
-  sequenced_by : {told : List Event} → eqb b escape ≡ false → Sequenced place next → Leads limit place b told next
+  step-sequenced_by : {told : List Event} → eqb b escape ≡ false → Sequenced place next → Leads limit place b told next
       → ((size : Option ℕ) → FitsLeft size (left_at limit place) → AreFromOneByte size told)
       → (IsQuietAt place b → AreQuietEvents told) → Steps limit place b
-  sequenced_by {told} other known leads brief outside_runs =
+  step-sequenced_by {told} other known leads brief outside_runs =
       let none = nothing_open limit next known.1 in
       record {
         told = told;
@@ -70,20 +67,21 @@ module _ {limit : Option ℕ} {place next : Place} {b : ℕ} where
       }
 
   -- by the byte's class
-  sequenced : {told : List Event} {k : Class} → class_of b ≡ k → ends_body k ≡ false → Sequenced place next
+  step-sequenced : {told : List Event} {k : Class} → class_of b ≡ k → ends_body k ≡ false → Sequenced place next
       → Leads limit place b told next
       → ((size : Option ℕ) → FitsLeft size (left_at limit place) → AreFromOneByte size told)
       → (IsQuietAt place b → AreQuietEvents told) → Steps limit place b
-  sequenced is no_end = sequenced_by (plain _ _ is no_end)
+  step-sequenced is no_end = step-sequenced_by (no_escape-class _ _ is no_end)
 
   -- a byte that tells nothing
-  silent : {k : Class} → class_of b ≡ k → ends_body k ≡ false → Sequenced place next → Leads limit place b [] next
+  step-silent : {k : Class} → class_of b ≡ k → ends_body k ≡ false → Sequenced place next → Leads limit place b [] next
       → Steps limit place b
-  silent is no_end known leads = sequenced is no_end known leads (λ _ _. tt) (λ _. tt)
+  step-silent is no_end known leads = step-sequenced is no_end known leads (λ _ _. tt) (λ _. tt)
 
-  executed : class_of b ≡ Control → Sequenced place next → Leads limit place b (Execute b ∷ []) next
+  step-executed : class_of b ≡ Control → Sequenced place next → Leads limit place b (Execute b ∷ []) next
       → Steps limit place b
-  executed is known leads = sequenced is refl known leads (λ _ _. executed_low b (spans b Control is)) (λ _. tt)
+  step-executed is known leads =
+      step-sequenced is refl known leads (λ _ _. executed_low b (spans b Control is)) (λ _. tt)
 
 -- ---- after ESC
 
@@ -91,37 +89,41 @@ step-final : (limit : Option ℕ) (b : ℕ) (k : SequenceKind) → class_of b �
     → Steps limit AtEscape b
 step-final limit b EscapeSequence is k =
     let s = spans b Final is in
-    sequenced is refl outside (escape-end limit b Final is refl k) (λ _ _. (omega arith, s.1, omega arith)) (λ _. tt)
-step-final limit b key is k = silent is refl outside (escape-key limit b key is k refl)
+    step-sequenced is refl (tt, tt) (escape-end limit b Final is refl k) (λ _ _. (omega arith, s.1, omega arith))
+    (λ _. tt)
+step-final limit b key is k = step-silent is refl (tt, tt) (escape-key limit b key is k refl)
 
 step-escape : (limit : Option ℕ) (b : ℕ) (k : Class) → class_of b ≡ k → ends_body k ≡ false → Steps limit AtEscape b
-step-escape limit b Control is no_end = executed is outside (byte-executed limit AtEscape b refl is)
-step-escape limit b Intermediate is no_end = silent is no_end outside (escape-intermediate limit b is)
+step-escape limit b Control is no_end = step-executed is (tt, tt) (byte-executed limit AtEscape b refl is)
+step-escape limit b Intermediate is no_end = step-silent is no_end (tt, tt) (escape-intermediate limit b is)
 step-escape limit b Final is no_end = step-final limit b (sequence_kind b) is refl
-step-escape limit b Delete is no_end = silent is no_end outside (byte-dropped limit AtEscape b Delete refl is refl)
-step-escape limit b High is no_end = silent is no_end outside (byte-dropped limit AtEscape b High refl is refl)
+step-escape limit b Delete is no_end =
+    step-silent is no_end (tt, tt) (byte-dropped limit AtEscape b Delete refl is refl)
+step-escape limit b High is no_end = step-silent is no_end (tt, tt) (byte-dropped limit AtEscape b High refl is refl)
 step-escape limit b Cancel is no_end = cc
 step-escape limit b Escape is no_end = cc
 step-escape limit b k is no_end =
     let s = spans b k is in
-    sequenced is no_end outside (escape-end limit b k is refl (below_finals b (omega arith)))
+    step-sequenced is no_end (tt, tt) (escape-end limit b k is refl (below_finals b (omega arith)))
     (λ _ _. (omega arith, omega arith, omega arith)) (λ _. tt)
 
 -- ---- after ESC and intermediates
 
 step-intermediate : (limit : Option ℕ) (ints : List ℕ) (b : ℕ) (k : Class) → class_of b ≡ k → ends_body k ≡ false
     → Steps limit (InEscape ints) b
-step-intermediate limit ints b Control is no_end = executed is outside (byte-executed limit (InEscape ints) b refl is)
-step-intermediate limit ints b Intermediate is no_end = silent is no_end outside (intermediate-more limit ints b is)
+step-intermediate limit ints b Control is no_end =
+    step-executed is (tt, tt) (byte-executed limit (InEscape ints) b refl is)
+step-intermediate limit ints b Intermediate is no_end =
+    step-silent is no_end (tt, tt) (intermediate-more limit ints b is)
 step-intermediate limit ints b Delete is no_end =
-    silent is no_end outside (byte-dropped limit (InEscape ints) b Delete refl is refl)
+    step-silent is no_end (tt, tt) (byte-dropped limit (InEscape ints) b Delete refl is refl)
 step-intermediate limit ints b High is no_end =
-    silent is no_end outside (byte-dropped limit (InEscape ints) b High refl is refl)
+    step-silent is no_end (tt, tt) (byte-dropped limit (InEscape ints) b High refl is refl)
 step-intermediate limit ints b Cancel is no_end = cc
 step-intermediate limit ints b Escape is no_end = cc
 step-intermediate limit ints b k is no_end =
     let s = spans b k is in
-    sequenced is no_end outside (intermediate-end limit ints b k is refl)
+    step-sequenced is no_end (tt, tt) (intermediate-end limit ints b k is refl)
     (λ _ _. (two_at_most ints, omega arith, omega arith)) (λ _. tt)
 
 -- ---- in the head of a control sequence
@@ -130,38 +132,39 @@ step-control : (limit : Option ℕ) (head : List ℕ) (b : ℕ) (k : Class) → 
     → Steps limit (InControlSequence head) b
 unfolding sequence_event
 step-control limit head b Control is no_end =
-    executed is outside (byte-executed limit (InControlSequence head) b refl is)
+    step-executed is (tt, tt) (byte-executed limit (InControlSequence head) b refl is)
 step-control limit head b Final is no_end = elim (cases_Bool (is_well_shaped (head_of head))) [
   | inl well ↦
-      sequenced is no_end outside (control-dispatched limit head b is well)
+      step-sequenced is no_end (tt, tt) (control-dispatched limit head b is well)
       (λ size _. (bounded-head size (head_of head) b (spans b Final is)).0) (λ _. tt)
-  | inr ill ↦ silent is no_end outside (control-silent limit head b is ill)
+  | inr ill ↦ step-silent is no_end (tt, tt) (control-silent limit head b is ill)
 ]
 step-control limit head b Delete is no_end =
-    silent is no_end outside (byte-dropped limit (InControlSequence head) b Delete refl is refl)
+    step-silent is no_end (tt, tt) (byte-dropped limit (InControlSequence head) b Delete refl is refl)
 step-control limit head b High is no_end =
-    silent is no_end outside (byte-dropped limit (InControlSequence head) b High refl is refl)
+    step-silent is no_end (tt, tt) (byte-dropped limit (InControlSequence head) b High refl is refl)
 step-control limit head b Cancel is no_end = cc
 step-control limit head b Escape is no_end = cc
-step-control limit head b k is no_end = silent is no_end outside (control-head limit head b (rw is refl))
+step-control limit head b k is no_end = step-silent is no_end (tt, tt) (control-head limit head b (rw is refl))
 
 -- ---- in a device control string
 
 step-device : (limit : Option ℕ) (head : List ℕ) (b : ℕ) (k : Class) → class_of b ≡ k → ends_body k ≡ false
     → Steps limit (InDeviceControl head) b
 unfolding sequence_event
-step-device limit head b Control is no_end = silent is no_end outside (device-dropped limit head b Control is refl)
+step-device limit head b Control is no_end =
+    step-silent is no_end (tt, tt) (device-dropped limit head b Control is refl)
 step-device limit head b Final is no_end = elim (cases_Bool (is_well_shaped (head_of head))) [
   | inl well ↦
-      sequenced is no_end outside (device-well_shaped limit head b is well)
+      step-sequenced is no_end (tt, tt) (device-well_shaped limit head b is well)
       (λ size _. (bounded-head size (head_of head) b (spans b Final is)).1) (λ _. tt)
-  | inr ill ↦ silent is no_end outside (device-ill_shaped limit head b is ill)
+  | inr ill ↦ step-silent is no_end (tt, tt) (device-ill_shaped limit head b is ill)
 ]
-step-device limit head b Delete is no_end = silent is no_end outside (device-dropped limit head b Delete is refl)
-step-device limit head b High is no_end = silent is no_end outside (device-dropped limit head b High is refl)
+step-device limit head b Delete is no_end = step-silent is no_end (tt, tt) (device-dropped limit head b Delete is refl)
+step-device limit head b High is no_end = step-silent is no_end (tt, tt) (device-dropped limit head b High is refl)
 step-device limit head b Cancel is no_end = cc
 step-device limit head b Escape is no_end = cc
-step-device limit head b k is no_end = silent is no_end outside (device-head limit head b (rw is refl))
+step-device limit head b k is no_end = step-silent is no_end (tt, tt) (device-head limit head b (rw is refl))
 
 -- ---- in its data
 
@@ -170,17 +173,17 @@ delete_is_no_terminator b s = grind (arith, nat_tests)
 
 step-data : (limit : Option ℕ) (b : ℕ) (k : Class) → class_of b ≡ k → ends_body k ≡ false → Steps limit InDeviceData b
 step-data limit b Delete is no_end =
-    sequenced is no_end outside
+    step-sequenced is no_end (tt, tt)
     (data-dropped limit b (rw is (delete_is_no_terminator b (spans b Delete is))) (rw is refl)) (λ _ _. tt) (λ _. tt)
 step-data limit b High is no_end = elim (cases_Bool (eqb b 0x9c)) [
   | inl ends ↦
-      sequenced is no_end outside (data-terminator limit b is ends) (λ _ _. tt) (λ _. tt)
-  | inr other ↦ silent is no_end outside (data-dropped limit b (rw is other) (rw is refl))
+      step-sequenced is no_end (tt, tt) (data-terminator limit b is ends) (λ _ _. tt) (λ _. tt)
+  | inr other ↦ step-silent is no_end (tt, tt) (data-dropped limit b (rw is other) (rw is refl))
 ]
 step-data limit b Cancel is no_end = cc
 step-data limit b Escape is no_end = cc
 step-data limit b k is no_end =
-    sequenced is no_end outside (data-put limit b (rw is refl)) (λ _ _. rw is refl)
+    step-sequenced is no_end (tt, tt) (data-put limit b (rw is refl)) (λ _ _. rw is refl)
     (λ outside. absurd (false≢true (sym outside ∙ rw is refl)))
 
 -- ---- in an operating system command
@@ -206,16 +209,16 @@ step-command : (limit : Option ℕ) (items : List ℕ) (b : ℕ) (k : Class) →
     → Steps limit (InSystemCommand items) b
 step-command limit items b Control is no_end = elim (cases_Bool (eqb b bell)) [
   | inl ends ↦
-      sequenced is no_end outside (command-bell limit items b is ends)
+      step-sequenced is no_end (tt, tt) (command-bell limit items b is ends)
       (λ _ fits. (few_pieces limit items, fits, some_pieces limit items)) (λ _. tt)
   | inr other ↦
-      step-in_command (plain b Control is no_end) (command-control limit items b is other) (λ _. omega arith)
+      step-in_command (no_escape-class b Control is no_end) (command-control limit items b is other) (λ _. omega arith)
 ]
 step-command limit items b Cancel is no_end = cc
 step-command limit items b Escape is no_end = cc
 step-command limit items b k is no_end =
     let s = spans b k is in
-    step-in_command (plain b k is no_end) (command-item limit items b (omega arith))
+    step-in_command (no_escape-class b k is no_end) (command-item limit items b (omega arith))
     (λ none. rw none (pieces_push items b))
 
 -- ---- any place
@@ -223,7 +226,7 @@ step-command limit items b k is no_end =
 step-ordinary : (limit : Option ℕ) (place : Place) (b : ℕ) (k : Class) → IsPlace place → class_of b ≡ k
     → ends_body k ≡ false
     → Steps limit place b
-step-ordinary limit (InText u) b k placed is no_end = steps-text limit u b (plain b k is no_end) placed
+step-ordinary limit (InText u) b k placed is no_end = step-text limit u b (no_escape-class b k is no_end) placed
 step-ordinary limit AtEscape b k placed is no_end = step-escape limit b k is no_end
 step-ordinary limit (InEscape intermediates) b k placed is no_end = step-intermediate limit intermediates b k is no_end
 step-ordinary limit (InControlSequence head) b k placed is no_end = step-control limit head b k is no_end
@@ -231,33 +234,34 @@ step-ordinary limit (InDeviceControl head) b k placed is no_end = step-device li
 step-ordinary limit InDeviceData b k placed is no_end = step-data limit b k is no_end
 step-ordinary limit (InSystemCommand items) b k placed is no_end = step-command limit items b k is no_end
 step-ordinary limit InIgnoredString b k placed is no_end =
-    silent is no_end outside (ignored-more limit b (rw is (ends_not_cancel k no_end)))
+    step-silent is no_end (tt, tt) (ignored-more limit b (rw is (ends_not_cancel k no_end)))
 
 -- ESC breaks a character
-escape_little : (limit : Option ℕ) (place : Place) → IsPlace place → IsText place
+little-escape : (limit : Option ℕ) (place : Place) → IsPlace place → IsText place
     → breaks (open_at place) (escape ∷ []) ≡ false → IsLittle AtEscape (closing_events_at limit place)
-escape_little limit (InText []) is text unbroken = inl refl
-escape_little limit (InText (a ∷ u)) is text unbroken =
+little-escape limit (InText []) is text unbroken = inl refl
+little-escape limit (InText (a ∷ u)) is text unbroken =
     let tests : Tests (a ∷ u ++ escape ∷ []) false false = ascii_breaks (a ∷ u) escape is (omega arith) in
     absurd (false≢true (sym unbroken ∙ breaks-broken (a ∷ u) escape is tests.is_whole tests.is_open))
-escape_little limit _ is text unbroken = absurd text
+little-escape limit _ is text unbroken = absurd text
 
-closing_others : (limit : Option ℕ) (place : Place) (b : ℕ) → IsQuietAt place b
+quiet-closing : (limit : Option ℕ) (place : Place) (b : ℕ) → IsQuietAt place b
     → AreQuietEvents (closing_events_at limit place)
-closing_others limit (InText u) b outside = absurd outside
-closing_others limit InDeviceData b outside = tt
-closing_others limit (InSystemCommand items) b outside = tt
-closing_others limit _ b outside = tt
+quiet-closing limit (InText u) b outside = absurd outside
+quiet-closing limit InDeviceData b outside = tt
+quiet-closing limit (InSystemCommand items) b outside = tt
+quiet-closing limit _ b outside = tt
 
-cancel_others : (limit : Option ℕ) (place : Place) (b : ℕ) → IsQuietAt place b
+quiet-cancel : (limit : Option ℕ) (place : Place) (b : ℕ) → IsQuietAt place b
     → AreQuietEvents (closing_events_at limit place ++ Execute b ∷ [])
-cancel_others limit (InText u) b outside = absurd outside
-cancel_others limit InDeviceData b outside = (tt, tt)
-cancel_others limit (InSystemCommand items) b outside = (tt, tt)
-cancel_others limit _ b outside = tt
+quiet-cancel limit (InText u) b outside = absurd outside
+quiet-cancel limit InDeviceData b outside = (tt, tt)
+quiet-cancel limit (InSystemCommand items) b outside = (tt, tt)
+quiet-cancel limit _ b outside = tt
 
-by_class : (limit : Option ℕ) (place : Place) (b : ℕ) (k : Class) → IsPlace place → class_of b ≡ k → Steps limit place b
-by_class limit place b Escape placed is =
+step-by_class : (limit : Option ℕ) (place : Place) (b : ℕ) (k : Class) → IsPlace place → class_of b ≡ k
+    → Steps limit place b
+step-by_class limit place b Escape placed is =
     let same : Spans Escape b = spans b Escape is in
     rw same (record {
       told = closing_events_at limit place;
@@ -267,15 +271,15 @@ by_class limit place b Escape placed is =
       brief = λ size fits. closing_alone_brief limit size place fits;
       grows = λ _. omega arith;
       leaves = inl refl;
-      little = escape_little limit place placed;
-      outside_runs = closing_others limit place _;
+      little = little-escape limit place placed;
+      outside_runs = quiet-closing limit place _;
     })
-by_class limit (InText u) b Cancel placed is = steps-text limit u b (cancel_is_no_escape b is) placed
-by_class limit place b Cancel placed is =
-    sequenced_by (cancel_is_no_escape b is) outside (cancel limit place b placed is)
-    (λ size fits. closing_brief limit size place b fits (spans b Cancel is)) (cancel_others limit place b)
-by_class limit place b k placed is = step-ordinary limit place b k placed is refl
+step-by_class limit (InText u) b Cancel placed is = step-text limit u b (cancel_is_no_escape b is) placed
+step-by_class limit place b Cancel placed is =
+    step-sequenced_by (cancel_is_no_escape b is) (tt, tt) (byte-cancels limit place b placed is)
+    (λ size fits. closing_brief limit size place b fits (spans b Cancel is)) (quiet-cancel limit place b)
+step-by_class limit place b k placed is = step-ordinary limit place b k placed is refl
 
 -- Each byte reports at most two events after each place, and leads to a next place.
 pub steps : (limit : Option ℕ) (place : Place) (b : ℕ) → IsPlace place → Steps limit place b
-steps limit place b placed = by_class limit place b (class_of b) placed refl
+steps limit place b placed = step-by_class limit place b (class_of b) placed refl

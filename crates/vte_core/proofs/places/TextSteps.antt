@@ -60,18 +60,19 @@ pub record Steps (limit : Option ℕ) (place : Place) (b : ℕ) : Type 0 where
   -- for `advance_to_run`
   pub outside_runs : IsQuietAt place b → AreQuietEvents told
 
-tiny_of : (next : Place) (told : List Event) → IsLittle next told → IsAtMostOneShort told
-tiny_of next told little = elim little [ inl nothing ↦ subst IsAtMostOneShort (sym nothing) tt | inr closed ↦ closed.1 ]
+little-is_short : (next : Place) (told : List Event) → IsLittle next told → IsAtMostOneShort told
+little-is_short next told little =
+    elim little [ inl nothing ↦ subst IsAtMostOneShort (sym nothing) tt | inr closed ↦ closed.1 ]
 
-leads_little : {limit : Option ℕ} {u v : List ℕ} {b : ℕ} {told : List Event} → IsLittle (InText v) told
+step-little : {limit : Option ℕ} {u v : List ℕ} {b : ℕ} {told : List Event} → IsLittle (InText v) told
     → eqb b escape ≡ false → Leads limit (InText u) b told (InText v)
     → IsPlace (InText v) → Steps limit (InText u) b
-leads_little {limit} {u} {v} {b} {told} little e leads is = record {
+step-little {limit} {u} {v} {b} {told} little e leads is = record {
   told = told;
   next = InText v;
   is_place = is;
   reads = reads-byte limit (InText u) (InText v) b told e leads;
-  brief = λ size _. tiny_brief size told (tiny_of (InText v) told little);
+  brief = λ size _. tiny_brief size told (little-is_short (InText v) told little);
   grows = λ _. omega (arith, text_left limit v);
   leaves = elim little [ inl nothing ↦ inr (inl nothing) | inr closed ↦ inl closed.0 ];
   little = λ _ _. little;
@@ -79,27 +80,27 @@ leads_little {limit} {u} {v} {b} {told} little e leads is = record {
 }
 
 -- the byte ends the character, or belongs to it, or neither
-by_tests : (limit : Option ℕ) (u : List ℕ) (b : ℕ) → eqb b escape ≡ false
+step-by_tests : (limit : Option ℕ) (u : List ℕ) (b : ℕ) → eqb b escape ≡ false
     → (is_well_formed (u ++ b ∷ []) ≡ false → is_truncated (u ++ b ∷ []) ≡ false → Steps limit (InText u) b)
     → Steps limit (InText u) b
-by_tests limit u b e neither = elim (cases_Bool (is_well_formed (u ++ b ∷ []))) [
-  | inl whole ↦ leads_little (inr (refl, short-character (u ++ b ∷ []) whole)) e (text-whole limit u b whole) refl
+step-by_tests limit u b e neither = elim (cases_Bool (is_well_formed (u ++ b ∷ []))) [
+  | inl whole ↦ step-little (inr (refl, short-character (u ++ b ∷ []) whole)) e (text-whole limit u b whole) refl
   | inr part ↦ elim (cases_Bool (is_truncated (u ++ b ∷ []))) [
-    | inl still ↦ leads_little (inl refl) e (text-unfinished limit u b) (may_continue-truncated (u ++ b ∷ []) still)
+    | inl still ↦ step-little (inl refl) e (text-unfinished limit u b) (may_continue-truncated (u ++ b ∷ []) still)
     | inr none ↦ neither part none
   ]
 ]
 
-between : (limit : Option ℕ) (b : ℕ) → eqb b escape ≡ false → Steps limit (InText []) b
-between limit b e =
-    by_tests limit [] b e
-    (λ part none. leads_little (inr (refl, short-malformed b)) e (text-lone limit b part none) refl)
+step-settled : (limit : Option ℕ) (b : ℕ) → eqb b escape ≡ false → Steps limit (InText []) b
+step-settled limit b e =
+    step-by_tests limit [] b e
+    (λ part none. step-little (inr (refl, short-malformed b)) e (text-lone limit b part none) refl)
 
 -- the byte belongs to no character with those before it
-broken : (limit : Option ℕ) (u : List ℕ) (b : ℕ) → eqb b escape ≡ false → is_truncated u ≡ true
+step-broken : (limit : Option ℕ) (u : List ℕ) (b : ℕ) → eqb b escape ≡ false → is_truncated u ≡ true
     → is_well_formed (u ++ b ∷ []) ≡ false → is_truncated (u ++ b ∷ []) ≡ false → Steps limit (InText u) b
-broken limit u b e more part none =
-    let s : Steps limit (InText []) b = between limit b e in
+step-broken limit u b e more part none =
+    let s : Steps limit (InText []) b = step-settled limit b e in
     let little : IsLittle s.next s.told = s.little tt refl in
     record {
       told = Print replacement ∷ s.told;
@@ -110,7 +111,8 @@ broken limit u b e more part none =
             waits-byte limit (InText u) (InText []) b (Print replacement ∷ []) rest e (text_broken u b more part none)
             ∙ ap (tell (Print replacement ∷ [])) (s.reads.reads rest);
       };
-      brief = λ size _. tiny-both size (Print replacement ∷ []) s.told (refl, refl) (tiny_of s.next s.told little);
+      brief =
+          λ size _. tiny-both size (Print replacement ∷ []) s.told (refl, refl) (little-is_short s.next s.told little);
       grows = λ none. omega (arith, s.grows none);
       leaves =
           elim little [
@@ -121,7 +123,8 @@ broken limit u b e more part none =
       outside_runs = λ outside. absurd outside;
     }
 
-pub steps-text : (limit : Option ℕ) (u : List ℕ) (b : ℕ) → eqb b escape ≡ false → may_continue u ≡ true
+pub step-text : (limit : Option ℕ) (u : List ℕ) (b : ℕ) → eqb b escape ≡ false → may_continue u ≡ true
     → Steps limit (InText u) b
-steps-text limit [] b e begun = between limit b e
-steps-text limit (a ∷ u) b e more = by_tests limit (a ∷ u) b e (λ part none. broken limit (a ∷ u) b e more part none)
+step-text limit [] b e begun = step-settled limit b e
+step-text limit (a ∷ u) b e more =
+    step-by_tests limit (a ∷ u) b e (λ part none. step-broken limit (a ∷ u) b e more part none)

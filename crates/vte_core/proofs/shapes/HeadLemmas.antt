@@ -1,7 +1,7 @@
 -- The head of a control sequence and of a device control string, byte by byte: its parts are cut off its front, so a
 -- byte more changes only the last part that was reached.
 use Rattle.vte_core.proofs.Common.{◌≡◌, ℕ, true, false, List, [], ◌∷◌, ◌++◌, refl, arith, nat_tests, list_all, Class, Intermediate, Marker, class_of, Bool, ap, append-nil, is_intermediate, is_marker, is_parameter_text, AreInClass, head_of, head_after, is_well_shaped, IsMarker}
-use Rattle.vte_core.proofs.bytes.ClassCases.{intermediate}
+use Rattle.vte_core.proofs.bytes.ClassCases.{class-intermediate}
 
 -- the bytes don't begin with one of these classes
 abbrev pub BeginsWithout : (Class → Bool) → List ℕ → Type 0
@@ -45,7 +45,7 @@ pub begins-intermediates : (has : Class → Bool) → has Intermediate ≡ false
     → AreInClass is_intermediate intermediates
     → (intermediates ≡ [] → BeginsWithout has more) → BeginsWithout has (intermediates ++ more)
 begins-intermediates has h [] more are none = none refl
-begins-intermediates has h (b ∷ bytes) more are none = rw (intermediate (class_of b) are.0) h
+begins-intermediates has h (b ∷ bytes) more are none = rw (class-intermediate (class_of b) are.0) h
 
 list_all-AreInClass : (bytes : List ℕ) → AreInClass is_intermediate bytes
     → list_all (λ b. is_intermediate (class_of b)) bytes ≡ true

@@ -8,7 +8,7 @@ use Rattle.vte_core.proofs.places.BriefLemmas.{tiny-both}
 use Rattle.vte_core.proofs.places.TextSteps.{text_at}
 use Rattle.vte_core.proofs.streams.Resuming.{added-broken, resumes-after}
 use Rattle.vte_core.proofs.shapes.Told.{breaks_at-byte, breaks_at-settled, starts-settled, starts-broken}
-use Rattle.vte_core.proofs.streams.StreamSteps.{adds, LeadsTo, leads_to, events_grow, bytes_are_brief, opens_silently}
+use Rattle.vte_core.proofs.streams.StreamSteps.{added-byte, LeadsTo, leads_to, events_grow, bytes_are_brief, opens_silently}
 
 -- ---- a byte that belongs to an open character
 
@@ -21,7 +21,7 @@ TellsLittle limit stream b =
 tells_little : (limit : Option ℕ) (stream : List ℕ) (b : ℕ) → (open_character stream ≡ [] → ⊥)
     → breaks (open_character stream) (b ∷ []) ≡ false → TellsLittle limit stream b
 tells_little limit stream b some unbroken =
-    let a = adds limit stream b in
+    let a = added-byte limit stream b in
     let breaks_none : breaks (open_at a.place) (b ∷ []) ≡ false =
     ap (λ u. breaks u (b ∷ [])) (sym a.begun) ∙ unbroken in
     elim (a.step.little (text_at a.place (λ none. some (a.begun ∙ none))) breaks_none) [
@@ -31,9 +31,9 @@ tells_little limit stream b some unbroken =
 
 -- ---- what is told from one position to the next
 
-pub added_both : (limit : Option ℕ) (stream front rest : List ℕ)
+pub added-append : (limit : Option ℕ) (stream front rest : List ℕ)
     → added limit stream (front ++ rest) ≡ added limit stream front ++ added limit (stream ++ front) rest
-added_both limit stream front rest =
+added-append limit stream front rest =
     let es = events limit stream in
     let all : es ++ added limit stream (front ++ rest)
     ≡ es ++ (added limit stream front ++ added limit (stream ++ front) rest) =
@@ -45,8 +45,8 @@ added_both limit stream front rest =
     sym (drop-append_seam es (added limit stream (front ++ rest))) ∙ ap (drop (length es)) all
     ∙ drop-append_seam es (added limit stream front ++ added limit (stream ++ front) rest)
 
-replacement_tiny : IsAtMostOneShort (Print replacement ∷ [])
-replacement_tiny = (refl, refl)
+tiny-replacement : IsAtMostOneShort (Print replacement ∷ [])
+tiny-replacement = (refl, refl)
 
 -- the bytes after a front add what they add to its stream or, after a character that they break,
 -- to the empty one
@@ -56,11 +56,11 @@ pub added_from : (limit : Option ℕ) (stream front rest : List ℕ) (broken : B
     ≡ (added limit stream front ++ (if broken then Print replacement ∷ [] else []))
     ++ added limit (if broken then [] else stream ++ front) rest
 added_from limit stream front rest true is =
-    added_both limit stream front rest
+    added-append limit stream front rest
     ∙ ap (λ (es : List Event). added limit stream front ++ es)
     (rw append-nil at (added-broken limit (stream ++ front) rest [] (is refl)))
     ∙ sym (append_assoc (added limit stream front) (Print replacement ∷ []) (added limit [] rest))
-added_from limit stream front rest false is = rw append-nil (added_both limit stream front rest)
+added_from limit stream front rest false is = rw append-nil (added-append limit stream front rest)
 
 pub after_from : (limit : Option ℕ) (stream rest : List ℕ) (place : Place) (broken : Bool)
     → (broken ≡ true → breaks (open_character stream) rest ≡ true)
@@ -85,13 +85,13 @@ record Added (limit : Option ℕ) (stream bytes : List ℕ) (i : ℕ) : Type 0 w
   tiny : (open_character (stream ++ take i bytes) ≡ [] → ⊥) → IsAtMostOneShort unit
   begun : (before ≡ []) ⊎ AreToldAtStart limit stream bytes i before
 
-opens_tiny : (limit : Option ℕ) (s : List ℕ) (b : ℕ) → (open_character (s ++ b ∷ []) ≡ [] → ⊥)
+tiny-opens : (limit : Option ℕ) (s : List ℕ) (b : ℕ) → (open_character (s ++ b ∷ []) ≡ [] → ⊥)
     → IsAtMostOneShort (added limit s (b ∷ []))
-opens_tiny limit s b some = elim (opens_silently limit s b) [
+tiny-opens limit s b some = elim (opens_silently limit s b) [
   | inl none ↦ absurd (some none)
   | inr told ↦ elim told [
     | inl nothing ↦ subst IsAtMostOneShort (sym nothing) tt
-    | inr once ↦ subst IsAtMostOneShort (sym once) replacement_tiny
+    | inr once ↦ subst IsAtMostOneShort (sym once) tiny-replacement
   ]
 ]
 
@@ -133,7 +133,7 @@ module _ (limit : Option ℕ) (stream bytes : List ℕ) (i : ℕ) (within : i < 
         brief = bytes_are_brief limit from b;
         tiny =
             λ some.
-            opens_tiny limit from b (λ e. some (joined ∙ ends_from here (b ∷ []) (breaks_at stream bytes i) is ∙ e));
+            tiny-opens limit from b (λ e. some (joined ∙ ends_from here (b ∷ []) (breaks_at stream bytes i) is ∙ e));
         begun = inr (record { start = i; earlier = omega arith; starts = starts; events_are = refl });
       }
 
@@ -148,7 +148,7 @@ module _ (limit : Option ℕ) (stream bytes : List ℕ) (i : ℕ) (within : i < 
         before = a.before;
         unit = a.unit ++ last;
         parts =
-            ap (added limit stream) one ∙ added_both limit stream (take i bytes) (b ∷ [])
+            ap (added limit stream) one ∙ added-append limit stream (take i bytes) (b ∷ [])
             ∙ ap (λ (es : List Event). es ++ last) a.parts ∙ append_assoc a.before a.unit last;
         brief = tiny-both limit a.unit last (a.tiny some) little.0;
         tiny =
@@ -210,7 +210,7 @@ tells_units limit stream bytes i within = record {
         → AreFromOneByte limit (a.unit ++ (if t then Print replacement ∷ [] else []))
     by_break true e =
         tiny-both limit a.unit (Print replacement ∷ [])
-        (a.tiny (λ none. false≢true (sym (breaks_at-settled stream bytes i none) ∙ e))) replacement_tiny
+        (a.tiny (λ none. false≢true (sym (breaks_at-settled stream bytes i none) ∙ e))) tiny-replacement
     by_break false e = rw append-nil a.brief
 
 -- ---- what the rest adds

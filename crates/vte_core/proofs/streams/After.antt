@@ -84,6 +84,6 @@ added-reads limit stream bytes place next these a r is =
     ∙ ap (λ es. these ++ es) (events_from-nothing limit next is) ∙ append-nil these
 
 -- a parser between characters of a text has read nothing
-pub begins : {B : Type 0} (limit : Option ℕ) (parser : Machine B) → StandsAtPlace limit parser (InText [])
+pub has_read-nothing : {B : Type 0} (limit : Option ℕ) (parser : Machine B) → StandsAtPlace limit parser (InText [])
     → HasReadWithLimit limit parser []
-begins limit parser s = record { place = InText []; stands = s; is_after = after-nothing limit }
+has_read-nothing limit parser s = record { place = InText []; stands = s; is_after = after-nothing limit }

@@ -6,10 +6,10 @@ use Rattle.vte_core.proofs.shapes.TextLemmas.{text_broken}
 use Rattle.vte_core.proofs.fields.PlaceOfState.{may_continue-truncated, events_from-nothing}
 use Rattle.vte_core.proofs.places.StreamLemmas.{events-after_nothing, reads-byte, waits-byte, outcome_from-escape}
 
-pub after-append : {V : Type 0} (step : V → Event → V) (value : V) (xs ys : List Event)
+pub after_events-append : {V : Type 0} (step : V → Event → V) (value : V) (xs ys : List Event)
     → after step value (xs ++ ys) ≡ after step (after step value xs) ys
-after-append step value [] ys = refl
-after-append step value (x ∷ xs) ys = after-append step (step value x) xs ys
+after_events-append step value [] ys = refl
+after_events-append step value (x ∷ xs) ys = after_events-append step (step value x) xs ys
 
 -- one byte that is no ESC
 pub takes-performs : {V B : Type 0} (step : V → Event → V) (old new : V) (limit : Option ℕ) (place : Place) (byte : ℕ)

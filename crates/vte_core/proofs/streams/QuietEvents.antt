@@ -13,9 +13,9 @@ prints_no_ascii p well long = elim (cases_lt (scalar_of p) 0x80) [
   | inr high ↦ omega (arith, high)
 ]
 
-pub longer : (u : List ℕ) (b : ℕ) → u ≢ [] → 1 < length (u ++ b ∷ [])
-longer [] b some = absurd (some refl)
-longer (a ∷ u) b some = omega (arith, length-append u (b ∷ []))
+pub length-longer : (u : List ℕ) (b : ℕ) → u ≢ [] → 1 < length (u ++ b ∷ [])
+length-longer [] b some = absurd (some refl)
+length-longer (a ∷ u) b some = omega (arith, length-append u (b ∷ []))
 
 pub prints_no_ascii-character : (c : ℕ) → 0x80 ≤ c → All PrintsNoAscii (character_event c ∷ [])
 unfolding character_event
@@ -24,9 +24,9 @@ prints_no_ascii-character c high = elim (cases_Bool (is_control_character c)) [
   | inr is ↦ rw is (All-cons PrintsNoAscii (Print c) [] high (All-nil PrintsNoAscii))
 ]
 
-pub other_control : (c : ℕ) → is_control_character c ≡ true → All IsOutsideRuns (character_event c ∷ [])
+pub quiet-control : (c : ℕ) → is_control_character c ≡ true → All IsOutsideRuns (character_event c ∷ [])
 unfolding character_event
-other_control c is = rw is (All-cons IsOutsideRuns (Execute c) [] tt (All-nil IsOutsideRuns))
+quiet-control c is = rw is (All-cons IsOutsideRuns (Execute c) [] tt (All-nil IsOutsideRuns))
 
 -- U+FFFD isn't ASCII
 prints_no_ascii-event : (event : Event) → IsOutsideRuns event → PrintsNoAscii event

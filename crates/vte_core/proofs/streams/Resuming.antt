@@ -9,28 +9,28 @@ use Rattle.vte_core.proofs.streams.StreamSteps.{leads_to}
 use Rattle.vte_core.proofs.streams.After.{after-open_character, events-told}
 
 -- the next byte is the first of those that are unread
-broken_at : (limit : Option ℕ) (place : Place) (b : ℕ) (unread more : List ℕ) → IsPlace place
+outcome_from-broken : (limit : Option ℕ) (place : Place) (b : ℕ) (unread more : List ℕ) → IsPlace place
     → breaks (open_at place) (b ∷ unread) ≡ true
     → outcome_from limit place (b ∷ more)
     ≡ tell (Print replacement ∷ []) (outcome_from limit (InText []) (b ∷ more))
-broken_at limit (InText []) b unread more is broken = absurd (false≢true broken)
-broken_at limit (InText (a ∷ u)) b unread more is broken =
+outcome_from-broken limit (InText []) b unread more is broken = absurd (false≢true broken)
+outcome_from-broken limit (InText (a ∷ u)) b unread more is broken =
     let parts = and_parts _ _ broken in
     waits-broken limit (a ∷ u) b more is (not-true _ parts.1) (not-true _ parts.0)
-broken_at limit _ b unread more is broken = absurd (false≢true broken)
+outcome_from-broken limit _ b unread more is broken = absurd (false≢true broken)
 
 -- the stream goes on as one that begins with what is unread
-resumes : (limit : Option ℕ) (stream unread more : List ℕ) → breaks (open_character stream) unread ≡ true
+outcome-broken : (limit : Option ℕ) (stream unread more : List ℕ) → breaks (open_character stream) unread ≡ true
     → outcome limit (stream ++ (unread ++ more))
     ≡ tell (events limit stream ++ Print replacement ∷ []) (outcome limit (unread ++ more))
-resumes limit stream [] more broken = absurd (false≢true (sym (breaks-no_byte (open_character stream)) ∙ broken))
-resumes limit stream (b ∷ unread) more broken =
+outcome-broken limit stream [] more broken = absurd (false≢true (sym (breaks-no_byte (open_character stream)) ∙ broken))
+outcome-broken limit stream (b ∷ unread) more broken =
     let a = leads_to limit stream in
     let here : breaks (open_at a.place) (b ∷ unread) ≡ true =
     ap (λ (u : List ℕ). breaks u (b ∷ unread))
     (sym (after-open_character limit stream a.place a.is_after a.is_place)) ∙ broken in
     a.is_after.goes_on (b ∷ (unread ++ more))
-    ∙ ap (tell (events limit stream)) (broken_at limit a.place b unread (unread ++ more) a.is_place here)
+    ∙ ap (tell (events limit stream)) (outcome_from-broken limit a.place b unread (unread ++ more) a.is_place here)
     ∙ sym
     (tell-append (events limit stream) (Print replacement ∷ [])
     (outcome_from limit (InText []) (b ∷ (unread ++ more))))
@@ -41,7 +41,7 @@ events-broken : (limit : Option ℕ) (stream unread more : List ℕ) → breaks 
     → events limit (stream ++ (unread ++ more))
     ≡ (events limit stream ++ Print replacement ∷ []) ++ events limit (unread ++ more)
 events-broken limit stream unread more broken =
-    events-told limit (stream ++ (unread ++ more)) ∙ ap (λ o. o.told) (resumes limit stream unread more broken)
+    events-told limit (stream ++ (unread ++ more)) ∙ ap (λ o. o.told) (outcome-broken limit stream unread more broken)
     ∙ ap (λ es. (events limit stream ++ Print replacement ∷ []) ++ es) (sym (events-told limit (unread ++ more)))
 
 pub added-broken : (limit : Option ℕ) (stream unread more : List ℕ) → breaks (open_character stream) unread ≡ true
@@ -64,7 +64,7 @@ resumes-after limit stream unread place broken a = record {
       let all : events limit (stream ++ unread) ≡ told ++ events limit unread =
       rw append-nil at (events-broken limit stream unread [] broken) in
       ap (outcome limit) (append_assoc stream unread more)
-      ∙ resumes limit stream unread more broken
+      ∙ outcome-broken limit stream unread more broken
       ∙ ap (tell told) (a.goes_on more)
       ∙ sym (tell-append told (events limit unread) (outcome_from limit place more))
       ∙ ap (λ es. tell es (outcome_from limit place more)) (sym all);

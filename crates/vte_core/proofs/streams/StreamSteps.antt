@@ -3,7 +3,7 @@
 use Rattle.vte_core.specs.Laws.{Resyncs, ResyncsAfter, Grows, OpensSilently}
 use Rattle.vte_core.proofs.Common.{◌≡◌, ℕ, ◌+◌, ◌≤◌, inl, inr, Option, None, List, [], ◌∷◌, ◌++◌, arith, open_data_count, drop, length, refl, ap, sym, ◌∙◌, append_assoc, All, All-append, All-cons, All-nil, Cancel, class_of, IsBounded, AreFromOneByte, Event, Place, InText, AtEscape, open_at, events_from, IsAfter, added, events, open_character, escape, BytesLead, InSystemCommand, left_at}
 use Rattle.vte_core.proofs.places.BriefLemmas.{short_bounded}
-use Rattle.vte_core.proofs.places.CancelLemmas.{cancel}
+use Rattle.vte_core.proofs.places.CancelLemmas.{byte-cancels}
 use Rattle.vte_core.proofs.streams.After.{added-after, added-reads, after-events, after-nothing, after-open_character, after-reads}
 use Rattle.vte_core.proofs.places.PlaceSteps.{steps}
 use Rattle.vte_core.proofs.fields.PlaceOfState.{IsPlace}
@@ -12,11 +12,11 @@ use Rattle.vte_core.proofs.places.StreamLemmas.{events-after_nothing, outcome_fr
 use Rattle.vte_core.proofs.places.TextSteps.{FitsLeft, Steps}
 use Rattle.vte_core.proofs.fields.KeptItems.{pieces_fit}
 
-left_fits : (limit : Option ℕ) (place : Place) → FitsLeft limit (left_at limit place)
-left_fits limit (InText []) = tt
-left_fits limit (InText (a ∷ u)) = tt
-left_fits limit (InSystemCommand items) = pieces_fit limit items
-left_fits limit _ = tt
+left-fits : (limit : Option ℕ) (place : Place) → FitsLeft limit (left_at limit place)
+left-fits limit (InText []) = tt
+left-fits limit (InText (a ∷ u)) = tt
+left-fits limit (InSystemCommand items) = pieces_fit limit items
+left-fits limit _ = tt
 
 abbrev pub size_at : Option ℕ → Place → ℕ
 size_at limit place = open_data_count (left_at limit place)
@@ -84,7 +84,7 @@ pub record LeadsTo (limit : Option ℕ) (stream : List ℕ) : Type 0 where
 pub leads_to : (limit : Option ℕ) (stream : List ℕ) → LeadsTo limit stream
 leads_to limit stream =
     let a : Arrives limit limit (InText []) stream =
-    arrives limit limit (InText []) stream refl (λ place _. left_fits limit place) in
+    arrives limit limit (InText []) stream refl (λ place _. left-fits limit place) in
     record {
       place = a.next;
       is_place = a.is_place;
@@ -114,7 +114,8 @@ resyncs_after : (limit : Option ℕ) (end : ℕ) → class_of end ≡ Cancel →
 resyncs_after limit end e stream more =
     let a = leads_to limit stream in
     let last =
-    reads-byte limit a.place (InText []) end _ (cancel_is_no_escape end e) (cancel limit a.place end a.is_place e) in
+    reads-byte limit a.place (InText []) end _ (cancel_is_no_escape end e)
+    (byte-cancels limit a.place end a.is_place e) in
     grows_after limit stream (end ∷ []) more a (InText []) _ refl last
     ∙ ap (λ es. events limit (stream ++ end ∷ []) ++ es) (sym (events-after_nothing limit more))
 
@@ -143,8 +144,8 @@ pub record AddedByByte (limit : Option ℕ) (stream : List ℕ) (b : ℕ) : Type
   pub ends : open_character (stream ++ b ∷ []) ≡ open_at step.next
   pub told : added limit stream (b ∷ []) ≡ step.told
 
-pub adds : (limit : Option ℕ) (stream : List ℕ) (b : ℕ) → AddedByByte limit stream b
-adds limit stream b =
+pub added-byte : (limit : Option ℕ) (stream : List ℕ) (b : ℕ) → AddedByByte limit stream b
+added-byte limit stream b =
     let a = leads_to limit stream in
     let s = steps limit a.place b a.is_place in
     let later = after-reads limit stream (b ∷ []) a.place s.next s.told a.is_after s.reads s.is_place in
@@ -158,11 +159,11 @@ adds limit stream b =
 
 pub bytes_are_brief : (limit : Option ℕ) (stream : List ℕ) (b : ℕ) → AreFromOneByte limit (added limit stream (b ∷ []))
 bytes_are_brief limit stream b =
-    let a = adds limit stream b in rw a.told (a.step.brief limit (left_fits limit a.place))
+    let a = added-byte limit stream b in rw a.told (a.step.brief limit (left-fits limit a.place))
 
 pub opens_silently : (limit : Option ℕ) → OpensSilently limit
 opens_silently limit stream b =
-    let a = adds limit stream b in
+    let a = added-byte limit stream b in
     elim a.step.leaves [
       | inl none ↦ inl (a.ends ∙ none)
       | inr little ↦ elim little [ inl nothing ↦ inr (inl (a.told ∙ nothing)) | inr one ↦ inr (inr (a.told ∙ one)) ]

@@ -1,14 +1,14 @@
 -- A block of ASCII leads from between characters back there; over any other the automaton takes a byte at a time.
 use Rattle.vte_core.proofs.Common.{[], ap, arith, get_or, sym, take, ◌∙◌, ◌∷◌, take_more}
 use Rattle.vte_core.specs.machine.Automaton.{state_code, state_after}
-use Rattle.vte_core.proofs.automaton_states.Readings.{is_between}
+use Rattle.vte_core.proofs.automaton_states.Readings.{state_code-between}
 use Rattle.vte_core.proofs.automaton_states.Steps.{state_after-append, stays_between}
 use Rattle.vte_core.proofs.automaton.state_after_block.Goals as goal
 
 pub returns-then-is_ascii_block : goal.returns-then-is_ascii_block
 returns-then-is_ascii_block c = λ s is.
     let block = c.args.block.now in
-    let from = is_between s (sym is ∙ c.if-state-eq-BETWEEN.true) in
+    let from = state_code-between s (sym is ∙ c.if-state-eq-BETWEEN.true) in
     sym (ap (λ v. state_code (state_after v block)) from
     ∙ ap state_code
     (stays_between block

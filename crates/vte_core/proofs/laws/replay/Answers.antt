@@ -1,7 +1,7 @@
 -- The headline: by induction over the pieces. A call performs what its bytes add, and what is told of a longer stream
 -- is what was told before and what is added (`events_grow`).
 use Rattle.vte_core.proofs.Common.{ℕ, List, Bor, Some, [], ◌∷◌, append-nil, events, flat_map-append, get_or, take_more, take, ap, sym, arith, take_all, flat_map, after}
-use Rattle.vte_core.proofs.streams.Performing.{after-append, events-empty}
+use Rattle.vte_core.proofs.streams.Performing.{after_events-append, events-empty}
 use Rattle.vte_core.proofs.streams.StreamSteps.{events_grow}
 use Rattle.vte_core.proofs.laws.replay.Goals as goal
 
@@ -38,7 +38,7 @@ loop-chunk-preserved g c =
       performed =
           rw (
             events_grow limit stream chunk.now,
-            after-append g.P.Perform.step
+            after_events-append g.P.Perform.step
                 (g.P.Perform.value_of c.args.performer.now) (events limit stream),
             ← before.performed,
           )

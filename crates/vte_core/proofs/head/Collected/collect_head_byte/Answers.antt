@@ -1,13 +1,13 @@
 -- An intermediate is collected, a marker only at the entry, and any other byte comes too late: by the class of the byte
 -- and the part of the head that was reached.
 use Rattle.vte_core.proofs.Common.{◌≡◌, inl, sym, ◌∙◌, Marker, class_of}
-use Rattle.vte_core.proofs.bytes.ClassCases.{intermediate}
+use Rattle.vte_core.proofs.bytes.ClassCases.{class-intermediate}
 use Rattle.vte_core.proofs.fields.HeadSteps.{head-holds, holds-intermediate, holds-marker, ill_shaped-late, left_is_marker}
 use Rattle.vte_core.proofs.head.Collected.collect_head_byte.Goals as goal
 
 pub returns-then-is_intermediate : goal.returns-then-is_intermediate
 returns-then-is_intermediate c = λ head s.
-    let is = intermediate (class_of c.args.byte) (sym c.is_intermediate.ensures ∙ c.if-is_intermediate.true) in
+    let is = class-intermediate (class_of c.args.byte) (sym c.is_intermediate.ensures ∙ c.if-is_intermediate.true) in
     holds-intermediate _ _ c.args.progress head c.args.byte
     (head-holds _ c.args.progress head c.in_default.not-IllShaped s) is c.collect.ensures.numbers
     c.collect.ensures.holds

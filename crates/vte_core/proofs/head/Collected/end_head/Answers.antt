@@ -1,16 +1,16 @@
 -- The last number is settled, so what is held is the whole head: whether too many numbers were given or not.
 use Rattle.vte_core.proofs.Common.{refl}
-use Rattle.vte_core.proofs.fields.HeadSteps.{ready}
+use Rattle.vte_core.proofs.fields.HeadSteps.{head-ready}
 use Rattle.vte_core.proofs.head.Collected.end_head.Goals as goal
 
 pub returns-then-self : goal.returns-then-self
 returns-then-self c =
     λ progress head h.
-    ready _ _ _ _ progress head c.settle_number-too_many_numbers.ensures.settles
+    head-ready _ _ _ _ progress head c.settle_number-too_many_numbers.ensures.settles
     c.settle_number-too_many_numbers.ensures.same h (rw c.if-self.true refl)
 
 pub returns-else-self : goal.returns-else-self
 returns-else-self c =
     λ progress head h.
-    ready _ _ _ _ progress head c.settle_number-too_many_numbers.ensures.settles
+    head-ready _ _ _ _ progress head c.settle_number-too_many_numbers.ensures.settles
     c.settle_number-too_many_numbers.ensures.same h (rw c.if-self.false refl)

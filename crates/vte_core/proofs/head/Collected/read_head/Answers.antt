@@ -1,11 +1,12 @@
--- Each round reads one byte of the head, or all the numbers that stand there, and what was read adds up (`reads-then`).
+-- Each round reads one byte of the head, or all the numbers that stand there, and what was read adds up
+-- (`reads_head-then`).
 use Rattle.vte_core.proofs.Common.{refl, sym, ◌∙◌, arith}
-use Rattle.vte_core.proofs.calls.Heads.{reads-head_byte, reads-nothing, reads-then}
+use Rattle.vte_core.proofs.calls.Heads.{reads_head-byte, reads_head-nothing, reads_head-then}
 use Rattle.vte_core.proofs.head.Collected.read_head.Goals as goal
 
 pub loop-position-init : goal.loop-position-init
 loop-position-init g c =
-    record { reads = reads-nothing c.requires; count = omega arith; least = omega arith; none = refl }
+    record { reads = reads_head-nothing c.requires; count = omega arith; least = omega arith; none = refl }
 
 -- Parameters, of which at least the first byte is read.
 pub loop-position-preserved-then-may_have_parameters : goal.loop-position-preserved-then-may_have_parameters
@@ -17,7 +18,7 @@ loop-position-preserved-then-may_have_parameters g c =
     (rw (← c.at-byte.ensures.value) (sym c.is_parameter_text.ensures ∙ c.if-is_parameter_text.true)) in
     let more = further.0 in
     record {
-      reads = reads-then v.reads (rw further.1 at numbers.reads.head);
+      reads = reads_head-then v.reads (rw further.1 at numbers.reads.head);
       count = omega arith;
       least = omega arith;
       none = v.none;
@@ -30,8 +31,8 @@ loop-position-preserved g c =
     let is = sym c.is_head_byte.ensures ∙ c.if-not-is_head_byte.false in
     record {
       reads =
-          reads-then v.reads
-          (reads-head_byte (omega arith) c.at-byte.ensures.value is c.collect_head_byte-progress.ensures);
+          reads_head-then v.reads
+          (reads_head-byte (omega arith) c.at-byte.ensures.value is c.collect_head_byte-progress.ensures);
       count = omega arith;
       least = omega arith;
       none = v.none;

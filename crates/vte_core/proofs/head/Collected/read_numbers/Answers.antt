@@ -2,7 +2,7 @@
 -- the end either no byte was read, and the part of the head is the old one, or it is that of parameters.
 use Rattle.vte_core.proofs.Common.{refl, sym, ◌∙◌, arith, rules}
 use Rattle.vte_core.specs.machine.Reading.{with_open_number}
-use Rattle.vte_core.proofs.calls.Heads.{part_after-more, part_after-none, reads-nothing, reads-parameter}
+use Rattle.vte_core.proofs.calls.Heads.{part_after-more, part_after-none, reads_head-nothing, reads_head-parameter}
 use Rattle.vte_core.proofs.fields.NumberSteps.{counts-digit, counts-separator}
 use Rattle.vte_core.proofs.head.Collected.read_numbers.Goals.{else-loop-position-test, then-loop-position-test+in_default+else-several, in-Some, in_default+then-several+then-is_separator}
 use Rattle.vte_core.proofs.head.Collected.read_numbers.Goals as goal
@@ -12,7 +12,7 @@ pub loop-position-init : goal.loop-position-init
 loop-position-init g c = record {
   reads =
       rw (part_after-none c.args.reached c.args.from c.args.from refl, c.from-number.ensures)
-      (reads-nothing c.requires.in_order);
+      (reads_head-nothing c.requires.in_order);
   count = omega arith;
   none = refl;
   small = omega arith;
@@ -29,7 +29,7 @@ loop-position-preserved g c =
         | in-Some w ↦
             let is = rw w.in-Some.is at c.digit_of.ensures in
             rw (w.self-is, w.number-is)
-            (reads-parameter c.requires.may (omega arith) c.at-byte.ensures.value is.3
+            (reads_head-parameter c.requires.may (omega arith) c.at-byte.ensures.value is.3
             (record { intermediates = refl; too_many_intermediates = refl })
             (λ text k.
             counts-digit (with_open_number held c.loop-position.number)
@@ -41,7 +41,7 @@ loop-position-preserved g c =
             let separator = w.is_separator.ensures in
             let is = w.if-is_separator.true in
             rw (w.self-is, w.number-is)
-            (reads-parameter c.requires.may (omega arith) c.at-byte.ensures.value (separator.parameter is)
+            (reads_head-parameter c.requires.may (omega arith) c.at-byte.ensures.value (separator.parameter is)
             (record {
               intermediates = settled.same.intermediates;
               too_many_intermediates =

@@ -1,7 +1,7 @@
 -- Each round adds ASCII, or one character that is longer or a kept control, to the run (`scans-run`).
 use Rattle.vte_core.proofs.Common.{arith, subst, sym, ◌∙◌, slice_index, IsPrintedAscii}
 use Rattle.vte_core.proofs.bytes.EachLemmas.{each-one, each-both}
-use Rattle.vte_core.proofs.bytes.Printable.{printed-is, run-none, run-ascii}
+use Rattle.vte_core.proofs.bytes.Printable.{printed-in_range, run-none, run-ascii}
 use Rattle.vte_core.proofs.bytes.SearchLemmas.{scans-run}
 use Rattle.vte_core.proofs.scan.Looks.find_end_up_to.Goals as goal
 
@@ -24,7 +24,7 @@ loop-end-preserved-then-is_printed_ascii g c =
     let bytes = c.args.input.bytes.now in
     let ascii = c.find_ascii_end-end.ensures in
     let printed : IsPrintedAscii (slice_index bytes c.loop-end.end) = subst IsPrintedAscii c.at-byte.ensures.value
-    (printed-is c.at-byte.result (sym c.is_printed_ascii.ensures ∙ c.if-is_printed_ascii.true)) in
+    (printed-in_range c.at-byte.result (sym c.is_printed_ascii.ensures ∙ c.if-is_printed_ascii.true)) in
     record {
       scans = scans-run v.scans (record {
         low = omega (arith, ascii.scans.low);

@@ -2,8 +2,8 @@
 -- continue a character, to the byte that began the last one: the text ends before it.
 use Rattle.vte_core.proofs.Common.{◌≡◌, ◌≢◌, ℕ, ◌+◌, ◌≤◌, ◌<◌, List, take, drop, ap, sym, inl, inr, ◌∙◌, arith, cases_lt, slice_index}
 use Rattle.vte_core.specs.machine.Automaton.{Between, HasScanned, state_after}
-use Rattle.vte_core.proofs.automaton_states.Scanned.{ReadSoFar, standing}
-use Rattle.vte_core.proofs.automaton_states.Readings.{is_between, byte_from, last_end-here, unended, last_end-first}
+use Rattle.vte_core.proofs.automaton_states.Scanned.{ReadSoFar, so_far-all}
+use Rattle.vte_core.proofs.automaton_states.Readings.{state_code-between, byte-from, last_end-here, character-unended, last_end-first}
 use Rattle.vte_core.proofs.scan.Looks.last_end.Goals as goal
 
 -- Between characters: the text ends here.
@@ -11,7 +11,7 @@ pub returns-then-state-eq-BETWEEN : goal.returns-then-state-eq-BETWEEN
 returns-then-state-eq-BETWEEN g c = record {
   last =
       last_end-here (drop c.args.from c.args.input.bytes.now) c.args.at c.requires.read.within
-      (is_between _ (sym c.requires.read.state_is ∙ c.if-state-eq-BETWEEN.true));
+      (state_code-between _ (sym c.requires.read.state_is ∙ c.if-state-eq-BETWEEN.true));
   count = omega arith;
 }
 
@@ -28,8 +28,8 @@ not_yet bytes from at state end b read inside s low is short = elim (cases_lt s.
         arith,
         short,
         ap (slice_index (drop from bytes)) same,
-        byte_from bytes from end b is,
-        (unended (drop from bytes) at state read inside s).first,
+        byte-from bytes from end b is,
+        (character-unended (drop from bytes) at state read inside s).first,
       ))
 ]
 
@@ -37,7 +37,7 @@ not_yet bytes from at state end b read inside s low is short = elim (cases_lt s.
 pub overflow_sub-end-in-loop-end : goal.overflow_sub-end-in-loop-end
 overflow_sub-end-in-loop-end g c =
     let bytes = c.args.input.bytes.now in
-    let s = standing (drop c.args.from bytes) c.args.at c.requires.read.within c.requires.read.going in
+    let s = so_far-all (drop c.args.from bytes) c.args.at c.requires.read.within c.requires.read.going in
     omega (
       arith,
       not_yet bytes c.args.from c.args.at c.args.state c.loop-end.end c.at.result c.requires.read
@@ -67,12 +67,12 @@ pub returns : goal.returns
 returns g c =
     let bytes = c.args.input.bytes.now in
     let text = drop c.args.from bytes in
-    let s = standing text c.args.at c.requires.read.within c.requires.read.going in
+    let s = so_far-all text c.args.at c.requires.read.within c.requires.read.going in
     record {
       last =
           last_end-first text c.args.at c.args.state c.loop-end.end c.requires.read c.if-state-eq-BETWEEN.false s
           (c.loop-end.invariant.from s) c.loop-end.invariant.before
           (omega
-          (arith, c.loop-end-test.false, byte_from bytes c.args.from c.loop-end.end c.at.result c.at.ensures.value));
+          (arith, c.loop-end-test.false, byte-from bytes c.args.from c.loop-end.end c.at.result c.at.ensures.value));
       count = omega (arith, c.loop-end.invariant.count, c.at.ensures.count);
     }

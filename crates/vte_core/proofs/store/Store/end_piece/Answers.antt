@@ -1,7 +1,7 @@
 -- An end is kept if there is room for it; otherwise the item changes nothing that is kept.
 use Rattle.std.proofs.lemmas.Bool.{not-false}
 use Rattle.vte_core.proofs.Common.{◌∷◌, [], ◌++◌, refl, sym, subst, ◌∙◌, arith, eqb-true, eqb-false, not-true, HoldsItems}
-use Rattle.vte_core.proofs.fields.StoreLemmas.{after_full, done-complete, keeps-done, keeps-end}
+use Rattle.vte_core.proofs.fields.StoreLemmas.{pieces_from-full, done-complete, keeps-done, keeps-end}
 use Rattle.vte_core.proofs.store.Store.end_piece.Goals as goal
 use Rattle.vte_core.proofs.store.Store.end_piece.Goals.{else-not-is_full-via-then-not-is_full+else-not-is_full-2, else-not-is_full-via-else-not-is_full}
 
@@ -19,7 +19,8 @@ returns-else-not-is_full-clause-holds g c = λ items keeps.
     subst (λ held. HoldsItems g.B.Buffer.limit held (items ++ 59 ∷ [])) c.self.view_is (elim c.else-not-is_full.branch [
       | else-not-is_full-via-then-not-is_full+else-not-is_full-2 w ↦
           keeps-done _ _ items
-          (after_full _ _ _ (not-true _ (sym w.is_full-then-not-is_full.ensures ∙ w.if-not-is_full-2.false))) before
+          (pieces_from-full _ _ _
+          (not-true _ (sym w.is_full-then-not-is_full.ensures ∙ w.if-not-is_full-2.false))) before
       | else-not-is_full-via-else-not-is_full w ↦
           let all = eqb-true _ _ (sym c.is_full.ensures.value ∙ w.if-not-is_full.false) in
           keeps-done _ _ items (done-complete _ _ items (omega (arith, all)) before) before

@@ -1,6 +1,6 @@
 -- A turn more leads on (`reaches-more`), until all bytes are read or a turn is refused memory.
 use Rattle.vte.proofs.Common.{◌≡◌, ◌+◌, ◌-◌, length, take, drop, arith}
-use Rattle.vte.proofs.turns.EngineTurns.{all_read, has_halted, next-at, reaches-more, reaches-nothing, read_until, rest_size}
+use Rattle.vte.proofs.turns.EngineTurns.{engine_reads-all, reached-halted, next-at, reaches-more, reaches-nothing, engine_reads-until, rest-size}
 use Rattle.vte.proofs.ansi.engine.Engine.read.Goals as goal
 
 -- Before the first turn nothing is read.
@@ -16,7 +16,7 @@ loop-turn-init g c =
 pub loop-turn-preserved : goal.loop-turn-preserved
 loop-turn-preserved g c =
     let before = c.loop-turn.invariant in
-    let size = rest_size c.args.bytes.now c.loop-turn.read before.within in
+    let size = rest-size c.args.bytes.now c.loop-turn.read before.within in
     record {
       within = omega (arith, before.within, c.in-Ok.ensures.within, size);
       some = λ more. omega (arith, before.within, c.in-Ok.ensures.within, size, c.if-read-bytes.false);
@@ -30,7 +30,7 @@ loop-turn-preserved g c =
 pub turn-requires : goal.turn-requires
 turn-requires g c =
     record {
-      some = rw (rest_size c.args.bytes.now c.loop-turn.read c.loop-turn.invariant.within)
+      some = rw (rest-size c.args.bytes.now c.loop-turn.read c.loop-turn.invariant.within)
           (omega (arith, c.loop-turn.invariant.some c.loop-turn-test.true));
     }
 
@@ -38,7 +38,7 @@ turn-requires g c =
 pub returns-then-read-bytes : goal.returns-then-read-bytes
 returns-then-read-bytes g c =
     let before = c.loop-turn.invariant in
-    all_read c.args.bytes.now (λ s at. (
+    engine_reads-all c.args.bytes.now (λ s at. (
     let r =
     before.reaches s at in
     reaches-more _ s c.args.bytes.now r (before.some c.loop-turn-test.true)
@@ -50,18 +50,19 @@ pub returns-in-Err : goal.returns-in-Err
 returns-in-Err g c =
     let b = c.args.bytes.now in
     let read = c.loop-turn.read in
-    let size = rest_size b read c.loop-turn.invariant.within in
+    let size = rest-size b read c.loop-turn.invariant.within in
     let left : length (take (length b - read) (drop read b)) - c.in-Err.refused.read
     ≡ length b - (read + c.in-Err.refused.read) = omega (arith, size) in
-    read_until c.args.bytes.now
+    engine_reads-until c.args.bytes.now
     (λ s at.
     (let r = c.loop-turn.invariant.reaches s at in
-    has_halted _ s b r c.loop-turn.invariant.within (c.in-Err.ensures.turned r.here r.is_at.engine_at).halted))
+    reached-halted _ s b r c.loop-turn.invariant.within (c.in-Err.ensures.turned r.here r.is_at.engine_at).halted))
     (omega (arith, c.loop-turn.invariant.within, c.in-Err.ensures.within, size))
     (rw left at c.in-Err.ensures.lacks)
 
 -- As many turns as bytes have read all of them.
 pub returns : goal.returns
 returns g c =
-    all_read c.args.bytes.now c.loop-turn.invariant.reaches (λ s at. let r = c.loop-turn.invariant.reaches s at in
+    engine_reads-all c.args.bytes.now c.loop-turn.invariant.reaches
+    (λ s at. let r = c.loop-turn.invariant.reaches s at in
     omega (arith, r.enough, c.loop-turn-test.false, c.loop-turn.invariant.within))

@@ -3,7 +3,7 @@
 use Rattle.vte.proofs.Common.{◌≡◌, ◌<◌, length, refl, sym, ◌∙◌, arith, nat_tests, nat_le, most_held, held_of, inr, true, false, and-false, ◌+◌}
 use Rattle.vte.proofs.Common.{meaning_of, engine_meaning, EngineIsAtKeeping}
 use Rattle.vte.proofs.turns.Kinds.{is_held, is_stopped, stop_if_due}
-use Rattle.vte.proofs.turns.Slices.{halted_nothing}
+use Rattle.vte.proofs.turns.Slices.{halted-nothing}
 use Rattle.vte.proofs.turns.EngineTurns.{after-next, ends_turn, kept-next, next-at, stops-next, turned_hold}
 use Rattle.vte.proofs.ansi.engine.Engine.turn.Goals as goal
 use Rattle.vte.proofs.ansi.engine.Engine.turn.Goals.{else-pending-via-else-pending, else-pending-via-then-pending+else-has_room, else-pending-2+else-len-gt0, then-pending-2}
@@ -65,7 +65,7 @@ returns-then-has_room-clause-turned g c = λ s at.
 -- Memory was refused before anything was read.
 pub returns-then-not-reserve-clause-turned : goal.returns-then-not-reserve-clause-turned
 returns-then-not-reserve-clause-turned g c =
-    λ s at. record { turned = tt; halted = halted_nothing _ (kept-next c.reserve.ensures.reserved (next-at at)) }
+    λ s at. record { turned = tt; halted = halted-nothing _ (kept-next c.reserve.ensures.reserved (next-at at)) }
 
 -- Memory was refused for all bytes, which fit the hold.
 pub returns-then-not-reserve-clause-lacks : goal.returns-then-not-reserve-clause-lacks

@@ -1,12 +1,13 @@
 -- What `drive` ensures, with and without memory, put into the contract by the lemmas of `calls/Long`.
 use Rattle.vte_core.proofs.Common.{Err, ap, ◌∙◌, err_from_is_err_and}
-use Rattle.vte_core.proofs.calls.Long.{reads_bytes, reads_refused}
+use Rattle.vte_core.proofs.calls.Long.{advance-read, advance-refused}
 use Rattle.vte_core.proofs.parser.long.LongParser.advance.Goals as goal
 
 pub returns-in_err-drive : goal.returns-in_err-drive
 returns-in_err-drive g c =
     let e = err_from_is_err_and c.from_residual.result c.from_residual.ensures.1 in
-    rw (e.1 ∙ ap Err e.2, ← c.new.ensures) (reads_refused _ c.in_err-drive.ensures.refuses c.in_err-drive.ensures.costs)
+    rw (e.1 ∙ ap Err e.2, ← c.new.ensures)
+    (advance-refused _ c.in_err-drive.ensures.refuses c.in_err-drive.ensures.costs)
 
 pub returns : goal.returns
-returns g c = rw (← c.new.ensures) (reads_bytes c.in_ok-drive.ensures.reads c.in_ok-drive.ensures.costs)
+returns g c = rw (← c.new.ensures) (advance-read c.in_ok-drive.ensures.reads c.in_ok-drive.ensures.costs)

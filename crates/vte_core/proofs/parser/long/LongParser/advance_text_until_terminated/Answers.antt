@@ -1,8 +1,8 @@
 -- What `drive` ensures of a call that may stop, put into the contract by `calls/Long`.
-use Rattle.vte_core.proofs.calls.Long.{reads_until}
+use Rattle.vte_core.proofs.calls.Long.{advance-until}
 use Rattle.vte_core.proofs.parser.long.LongParser.advance_text_until_terminated.Goals as goal
 
 pub returns : goal.returns
 returns g c =
     rw (← c.new.ensures)
-    (reads_until c.drive.result c.drive.ensures.reads c.drive.ensures.refuses c.drive.ensures.costs)
+    (advance-until c.drive.result c.drive.ensures.reads c.drive.ensures.refuses c.drive.ensures.costs)

@@ -1,8 +1,8 @@
 -- As for `advance_text_until_terminated`.
-use Rattle.vte_core.proofs.calls.Long.{reads_until}
+use Rattle.vte_core.proofs.calls.Long.{advance-until}
 use Rattle.vte_core.proofs.parser.long.LongParser.advance_until_terminated.Goals as goal
 
 pub returns : goal.returns
 returns g c =
     rw (← c.new.ensures)
-    (reads_until c.drive.result c.drive.ensures.reads c.drive.ensures.refuses c.drive.ensures.costs)
+    (advance-until c.drive.result c.drive.ensures.reads c.drive.ensures.refuses c.drive.ensures.costs)

@@ -2,8 +2,8 @@
 -- shape with nothing read.
 use Rattle.vte_core.proofs.Common.{false, [], ◌∷◌, refl, ◌∙◌, arith, sequence_kind, EscDispatch, InText, InDeviceControl, InSystemCommand, InIgnoredString}
 use Rattle.vte_core.specs.SequenceKind.{DeviceControl, IgnoredString, SystemCommand}
-use Rattle.vte_core.proofs.bytes.ClassCases.{final}
-use Rattle.vte_core.proofs.calls.Arms.{taken}
+use Rattle.vte_core.proofs.bytes.ClassCases.{class-final}
+use Rattle.vte_core.proofs.calls.Arms.{takes-byte}
 use Rattle.vte_core.proofs.calls.CallEnds.{settled-by}
 use Rattle.vte_core.proofs.fields.PlaceOfState.{stands-escape, stands-text_begun}
 use Rattle.vte_core.proofs.places.PlaceLeads.{escape-key, escape-end}
@@ -14,15 +14,15 @@ use Rattle.vte_core.proofs.parser.machine.Machine.begin_or_dispatch.Goals as goa
 pub returns-then-byte-eq80-clause-takes : goal.returns-then-byte-eq80-clause-takes
 unfolding sequence_kind
 returns-then-byte-eq80-clause-takes g c = λ s.
-    taken [] (InDeviceControl []) refl (record { by = c.begin_head.ensures (stands-escape _ s) })
-    (escape-key _ c.args.byte DeviceControl (final _ c.requires.ends) (rw c.if-byte-eq80.true refl) refl)
+    takes-byte [] (InDeviceControl []) refl (record { by = c.begin_head.ensures (stands-escape _ s) })
+    (escape-key _ c.args.byte DeviceControl (class-final _ c.requires.ends) (rw c.if-byte-eq80.true refl) refl)
 
 -- `]`: a command.
 pub returns-then-byte-eq93-clause-takes : goal.returns-then-byte-eq93-clause-takes
 unfolding sequence_kind
 returns-then-byte-eq93-clause-takes g c = λ s.
-    taken [] (InSystemCommand []) refl (record { by = c.clear.ensures.holds })
-    (escape-key _ c.args.byte SystemCommand (final _ c.requires.ends) (rw c.if-byte-eq93.true refl) refl)
+    takes-byte [] (InSystemCommand []) refl (record { by = c.clear.ensures.holds })
+    (escape-key _ c.args.byte SystemCommand (class-final _ c.requires.ends) (rw c.if-byte-eq93.true refl) refl)
 
 -- `X`, `^` and `_`: an ignored string.
 pub returns-then-begins_ignored_string-clause-takes : goal.returns-then-begins_ignored_string-clause-takes
@@ -30,8 +30,8 @@ returns-then-begins_ignored_string-clause-takes g c = λ s.
     let key =
     other_key c.args.byte c.requires.other c.if-byte-eq80.false c.if-byte-eq93.false
     ∙ rw (← c.begins_ignored_string.ensures, c.if-begins_ignored_string.true) refl in
-    taken [] InIgnoredString refl (record { by = tt })
-    (escape-key _ c.args.byte IgnoredString (final _ c.requires.ends) key refl)
+    takes-byte [] InIgnoredString refl (record { by = tt })
+    (escape-key _ c.args.byte IgnoredString (class-final _ c.requires.ends) key refl)
 
 -- Any other key is the final byte of an escape sequence.
 pub returns-else-begins_ignored_string-clause-takes : goal.returns-else-begins_ignored_string-clause-takes
@@ -41,10 +41,10 @@ returns-else-begins_ignored_string-clause-takes g c = λ s.
     ∙ rw (← c.begins_ignored_string.ensures, c.if-begins_ignored_string.false) refl in
     let d = c.dispatch_escape.ensures in
     let holds = stands-escape _ s in
-    taken (EscDispatch [] false c.args.byte ∷ []) (InText [])
+    takes-byte (EscDispatch [] false c.args.byte ∷ []) (InText [])
     (rw (holds.kept, holds.too_many_intermediates) at d.tells.value)
     (stands-text_begun _ d.text)
-    (escape-end _ c.args.byte _ (final _ c.requires.ends) refl key)
+    (escape-end _ c.args.byte _ (class-final _ c.requires.ends) refl key)
 
 pub returns-else-begins_ignored_string-clause-handles : goal.returns-else-begins_ignored_string-clause-handles
 returns-else-begins_ignored_string-clause-handles g c =

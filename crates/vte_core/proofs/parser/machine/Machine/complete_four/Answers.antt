@@ -5,7 +5,7 @@ use Rattle.vte_core.proofs.Common.{◌≡◌, ℕ, ◌+◌, ◌<◌, ◌≤◌, 
 use Rattle.vte_core.proofs.bytes.CarriedLemmas.{second_broken, third_broken, fourth_broken, spells_four}
 use Rattle.vte_core.proofs.bytes.Printable.{run-append}
 use Rattle.vte_core.proofs.calls.Characters.{completes-broken, completes-then, completes-whole, goes-nowhere, goes-second, goes-third}
-use Rattle.vte_core.proofs.calls.InsideCharacters.{some}
+use Rattle.vte_core.proofs.calls.InsideCharacters.{unfinished-some}
 use Rattle.vte_core.proofs.calls.LeadBytes.{advances-first}
 use Rattle.vte_core.proofs.calls.Stretches.{advances-if}
 use Rattle.vte_core.proofs.calls.TextRuns.{advances-text}
@@ -31,7 +31,7 @@ returns-then-not-may_begin_four-clause-advances g c =
     -- The first byte is a lead byte, C2 to F4, so the call goes on by a character.
     advances-first r.may_read (lead_of_two _ r.lead.low) r.lead.high
     -- No byte more belongs to it (`goes-nowhere`), and the next one breaks it.
-    (completes-broken (goes-nowhere c.args.self.now (some _ _))
+    (completes-broken (goes-nowhere c.args.self.now (unfinished-some _ _))
     -- So the definition says, and U+FFFD is what the code printed.
     (λ more. second_broken c.args.first c.args.second more misfits) r.may_read.begun c.print_char.ensures.value
     -- The next byte is within the call, and the one that was read.

@@ -2,7 +2,7 @@
 use Rattle.vte_core.proofs.Common.{◌≡◌, ℕ, ◌+◌, refl, sym, ◌∙◌, arith}
 use Rattle.vte_core.proofs.bytes.CarriedLemmas.{second_broken, third_broken, spells_three}
 use Rattle.vte_core.proofs.calls.Characters.{completes-all, completes-broken, completes-whole, goes-nowhere, goes-second}
-use Rattle.vte_core.proofs.calls.InsideCharacters.{some}
+use Rattle.vte_core.proofs.calls.InsideCharacters.{unfinished-some}
 use Rattle.vte_core.proofs.parser.machine.Machine.complete_three.Goals as goal
 
 -- Over plain numbers, where `omega` has little to read.
@@ -14,7 +14,7 @@ pub returns-then-not-may_begin_three-clause-completes : goal.returns-then-not-ma
 returns-then-not-may_begin_three-clause-completes g c =
     let r = c.requires.may_read in
     let misfits = sym c.may_begin_three.ensures ∙ c.if-not-may_begin_three.true in
-    completes-broken (goes-nowhere c.args.self.now (some _ _))
+    completes-broken (goes-nowhere c.args.self.now (unfinished-some _ _))
     (λ more. second_broken c.args.first c.args.second more misfits) r.begun c.print_char.ensures.value r.within
     r.looked_at
 

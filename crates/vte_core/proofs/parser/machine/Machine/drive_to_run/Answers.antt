@@ -1,7 +1,7 @@
 -- As for `drive`, a stretch at a time. A run is found in a text or in data, and is returned unread: the bytes before it
 -- have told nothing of a run (`tells-more`).
 use Rattle.vte_core.proofs.Common.{Err, ap, sym, ◌∙◌, arith, rules, err_from_is_err_and}
-use Rattle.vte_core.proofs.calls.ToRun.{comes-nowhere, comes-to_run, has-data, has-text, outside, settled-text}
+use Rattle.vte_core.proofs.calls.ToRun.{comes-nowhere, comes-to_run, has-data, has-text, outside-text_and_data, settled-text}
 use Rattle.vte_core.proofs.calls.BeforeRun.{tells-more}
 use Rattle.vte_core.proofs.parser.machine.Machine.drive_to_run.Goals.{then-loop-position-test+else-not-terminated, else-loop-position-test}
 use Rattle.vte_core.proofs.parser.machine.Machine.drive_to_run.Goals as goal
@@ -66,7 +66,7 @@ loop-position-preserved g c =
       outside_runs =
           λ stream h.
           tells-more (v.outside_runs stream h)
-          (read.outside_runs (outside _ c.in_default.not-Text c.in_default.not-DeviceData) _ stream
+          (read.outside_runs (outside-text_and_data _ c.in_default.not-Text c.in_default.not-DeviceData) _ stream
           (v.stands_at stream h));
       spends = search rules;
     }
@@ -90,7 +90,7 @@ returns-in_err-position-in_default g c =
           λ stream h.
           rw (e.1 ∙ ap Err e.2)
           (tells-more (v.outside_runs stream h)
-          (r.advances.outside_runs (outside _ c.in_default.not-Text c.in_default.not-DeviceData) _ stream
+          (r.advances.outside_runs (outside-text_and_data _ c.in_default.not-Text c.in_default.not-DeviceData) _ stream
           (v.stands_at stream h)));
     }
 

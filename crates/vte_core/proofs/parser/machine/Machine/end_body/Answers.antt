@@ -1,10 +1,10 @@
 -- What is open is told first. Then ESC leads to after ESC, and CAN or SUB is executed and leads to a text.
 use Rattle.vte_core.proofs.Common.{[], ◌∷◌, ◌++◌, refl, sym, ap, ◌∙◌, rules, Execute, InText, closing_events_at}
 use Rattle.vte_core.proofs.bytes.ClassCases.{ends_by_cancel}
-use Rattle.vte_core.proofs.calls.Arms.{performs-escape, taken}
+use Rattle.vte_core.proofs.calls.Arms.{performs-escape, takes-byte}
 use Rattle.vte_core.proofs.fields.PlaceOfState.{stands-place}
-use Rattle.vte_core.proofs.streams.Performing.{after-append, takes-performs}
-use Rattle.vte_core.proofs.places.CancelLemmas.{cancel}
+use Rattle.vte_core.proofs.streams.Performing.{after_events-append, takes-performs}
+use Rattle.vte_core.proofs.places.CancelLemmas.{byte-cancels}
 use Rattle.vte_core.proofs.places.StreamLemmas.{cancel_is_no_escape}
 use Rattle.vte_core.proofs.parser.machine.Machine.end_body.Goals as goal
 
@@ -18,13 +18,13 @@ returns-clause-performs g c = λ place s b.
     let limit = g.B.Buffer.limit in
     let e = ends_by_cancel c.args.byte c.requires c.if-byte-eq-ESCAPE.false in
     takes-performs _ _ _ limit place _ _ (cancel_is_no_escape c.args.byte e)
-    (taken (closing_events_at limit place ++ Execute c.args.byte ∷ []) (InText [])
+    (takes-byte (closing_events_at limit place ++ Execute c.args.byte ∷ []) (InText [])
     (c.execute_control.ensures.value ∙ ap (λ v. step v (Execute c.args.byte)) (c.report_end.ensures.told place s b)
     ∙ sym
-    (after-append step (g.P.CountedPerform.value_of c.args.performer.now) (closing_events_at limit place)
+    (after_events-append step (g.P.CountedPerform.value_of c.args.performer.now) (closing_events_at limit place)
     (Execute c.args.byte ∷ [])))
     (record { by = (refl, refl) })
-    (cancel limit place c.args.byte (stands-place _ place s) e))
+    (byte-cancels limit place c.args.byte (stands-place _ place s) e))
 
 pub returns-clause-handles : goal.returns-clause-handles
 returns-clause-handles g c = search rules

@@ -1,6 +1,6 @@
 -- A malformed head tells nothing. Any other is whole once the last number is settled, and is dispatched.
 use Rattle.vte_core.proofs.Common.{[], ◌∷◌, refl, ap, ◌∙◌, arith, CsiDispatch, head_of, sequence_event, InText}
-use Rattle.vte_core.proofs.bytes.ClassCases.{final}
+use Rattle.vte_core.proofs.bytes.ClassCases.{class-final}
 use Rattle.vte_core.proofs.calls.CallEnds.{settled-by}
 use Rattle.vte_core.proofs.fields.HeadSteps.{dispatched-ready, head-holds, ill_shaped-now}
 use Rattle.vte_core.proofs.places.PlaceLeads.{control-dispatched, control-silent}
@@ -16,7 +16,7 @@ returns-in-IllShaped-clause-takes g c = λ head s.
       next = InText [];
       performed = refl;
       stands = record { by = (refl, refl) };
-      leads = control-silent _ head _ (final _ c.requires.final_byte) ill;
+      leads = control-silent _ head _ (class-final _ c.requires.final_byte) ill;
     }
 
 -- A whole one.
@@ -31,7 +31,7 @@ returns-clause-takes g c = λ head s.
           ∙ ap (g.P.CountedPerform.step (g.P.CountedPerform.value_of c.args.performer.now))
           (dispatched-ready CsiDispatch _ _ head c.args.byte ready);
       stands = stands-text_begun _ d.text;
-      leads = control-dispatched _ head _ (final _ c.requires.final_byte) ready.well_shaped;
+      leads = control-dispatched _ head _ (class-final _ c.requires.final_byte) ready.well_shaped;
     }
 
 pub returns-clause-handles : goal.returns-clause-handles

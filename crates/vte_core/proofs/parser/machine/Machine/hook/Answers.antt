@@ -1,6 +1,6 @@
 -- A malformed head leads to an ignored string. Any other is whole once the last number is settled, and hooks.
 use Rattle.vte_core.proofs.Common.{[], ◌∷◌, refl, ap, ◌∙◌, rules, Hook, head_of, sequence_event, InDeviceData, InIgnoredString}
-use Rattle.vte_core.proofs.bytes.ClassCases.{final}
+use Rattle.vte_core.proofs.bytes.ClassCases.{class-final}
 use Rattle.vte_core.proofs.fields.HeadSteps.{dispatched-ready, head-holds, ill_shaped-now}
 use Rattle.vte_core.proofs.places.PlaceLeads.{device-well_shaped, device-ill_shaped}
 use Rattle.vte_core.proofs.parser.machine.Machine.hook.Goals as goal
@@ -14,7 +14,7 @@ returns-in-IllShaped-clause-takes g c = λ head s.
       next = InIgnoredString;
       performed = refl;
       stands = record { by = tt };
-      leads = device-ill_shaped _ head _ (final _ c.requires) ill;
+      leads = device-ill_shaped _ head _ (class-final _ c.requires) ill;
     }
 
 -- A whole one.
@@ -29,7 +29,7 @@ returns-clause-takes g c = λ head s.
           ∙ ap (g.P.CountedPerform.step (g.P.CountedPerform.value_of c.args.performer.now))
           (dispatched-ready Hook _ _ head c.args.byte f);
       stands = record { by = tt };
-      leads = device-well_shaped _ head _ (final _ c.requires) f.well_shaped;
+      leads = device-well_shaped _ head _ (class-final _ c.requires) f.well_shaped;
     }
 
 pub returns-clause-handles : goal.returns-clause-handles

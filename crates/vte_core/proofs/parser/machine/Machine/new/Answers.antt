@@ -1,7 +1,7 @@
 -- A new machine is at the place where a stream begins.
 use Rattle.vte_core.proofs.Common.{refl}
-use Rattle.vte_core.proofs.streams.After.{begins}
+use Rattle.vte_core.proofs.streams.After.{has_read-nothing}
 use Rattle.vte_core.proofs.parser.machine.Machine.new.Goals as goal
 
 pub returns-clause-reads : goal.returns-clause-reads
-returns-clause-reads g c = begins _ _ (record { by = (refl, refl) })
+returns-clause-reads g c = has_read-nothing _ _ (record { by = (refl, refl) })

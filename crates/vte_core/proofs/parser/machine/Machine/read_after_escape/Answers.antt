@@ -1,9 +1,9 @@
 -- The byte after ESC by its class: a key, an intermediate, another byte that dispatches, a control, or one that is
 -- dropped. In each case the state is that of the place to which the byte leads.
 use Rattle.vte_core.proofs.Common.{false, [], ◌∷◌, refl, sym, ◌∙◌, arith, rules, class_of, EscDispatch, Execute, InText, AtEscape, InEscape}
-use Rattle.vte_core.proofs.bytes.ClassCases.{control, final_ends_nothing, intermediate, left_dispatches, head_ends_nothing}
+use Rattle.vte_core.proofs.bytes.ClassCases.{class-control, final_ends_nothing, class-intermediate, left_dispatches, head_ends_nothing}
 use Rattle.vte_core.proofs.bytes.ClassLemmas.{below_final}
-use Rattle.vte_core.proofs.calls.Arms.{performs-in, at_escape, taken}
+use Rattle.vte_core.proofs.calls.Arms.{performs-in, takes-at_escape, takes-byte}
 use Rattle.vte_core.proofs.calls.CallEnds.{settled-by}
 use Rattle.vte_core.proofs.calls.Sequences.{performs-dropped}
 use Rattle.vte_core.proofs.fields.PlaceOfState.{stands-by, stands-text_begun}
@@ -16,14 +16,14 @@ pub returns-then-is_final-clause-performs : goal.returns-then-is_final-clause-pe
 returns-then-is_final-clause-performs g c =
     let is = sym c.is_final.ensures ∙ c.if-is_final.true in
     performs-in c.requires.begun (final_ends_nothing (class_of c.args.byte) is)
-    (at_escape c.args.self.now (λ holds. c.begin_or_dispatch.ensures.takes (stands-by c.requires.begun holds)))
+    (takes-at_escape c.args.self.now (λ holds. c.begin_or_dispatch.ensures.takes (stands-by c.requires.begun holds)))
 
 -- An intermediate is the first of the sequence.
 pub returns-then-is_intermediate-clause-performs : goal.returns-then-is_intermediate-clause-performs
 returns-then-is_intermediate-clause-performs g c =
-    let is = intermediate _ (sym c.is_intermediate.ensures ∙ c.if-is_intermediate.true) in
+    let is = class-intermediate _ (sym c.is_intermediate.ensures ∙ c.if-is_intermediate.true) in
     performs-in c.requires.begun (rw is refl)
-    (at_escape c.args.self.now (λ holds. taken [] (InEscape (c.args.byte ∷ [])) refl
+    (takes-at_escape c.args.self.now (λ holds. takes-byte [] (InEscape (c.args.byte ∷ [])) refl
     (record { by = c.collect.ensures.holds [] holds }) (escape-intermediate _ c.args.byte is)))
 
 -- Digits, `:`, `;` and markers dispatch: keys begin at `@`, which is later.
@@ -34,8 +34,8 @@ returns-then-is_head_byte-clause-performs g c =
     let ends = left_dispatches (class_of b) head (sym c.is_intermediate.ensures ∙ c.if-is_intermediate.false) in
     let d = c.dispatch_escape.ensures in
     performs-in c.requires.begun (head_ends_nothing (class_of b) head)
-    (at_escape c.args.self.now
-    (λ holds. taken (EscDispatch [] false b ∷ []) (InText [])
+    (takes-at_escape c.args.self.now
+    (λ holds. takes-byte (EscDispatch [] false b ∷ []) (InText [])
     (rw (holds.kept, holds.too_many_intermediates) at d.tells.value)
     (stands-text_begun _ d.text)
     (escape-end _ b _ refl ends (below_finals b (below_final b head)))))
@@ -44,10 +44,10 @@ returns-then-is_head_byte-clause-performs g c =
 pub returns-then-is_plain_control-clause-performs : goal.returns-then-is_plain_control-clause-performs
 returns-then-is_plain_control-clause-performs g c =
     let b = c.args.byte in
-    let is = control _ (sym c.is_plain_control.ensures ∙ c.if-is_plain_control.true) in
+    let is = class-control _ (sym c.is_plain_control.ensures ∙ c.if-is_plain_control.true) in
     performs-in c.requires.begun (rw is refl)
-    (at_escape c.args.self.now
-    (λ holds. taken (Execute b ∷ []) AtEscape c.execute_control.ensures.value (stands-by c.requires.begun holds)
+    (takes-at_escape c.args.self.now
+    (λ holds. takes-byte (Execute b ∷ []) AtEscape c.execute_control.ensures.value (stands-by c.requires.begun holds)
     (byte-executed _ AtEscape b refl is)))
 
 -- What is left is DEL and 80 to FF, which is dropped.

@@ -3,7 +3,7 @@
 use Rattle.vte_core.proofs.Common.{refl, sym, ◌∙◌, arith}
 use Rattle.vte_core.proofs.bytes.CarriedLemmas.{second_broken, second_lone, spells_two}
 use Rattle.vte_core.proofs.calls.Characters.{completes-all, completes-broken, completes-whole, goes-nowhere}
-use Rattle.vte_core.proofs.calls.InsideCharacters.{some}
+use Rattle.vte_core.proofs.calls.InsideCharacters.{unfinished-some}
 use Rattle.vte_core.proofs.calls.LeadBytes.{advances-first}
 use Rattle.vte_core.proofs.parser.machine.Machine.read_character.Goals as goal
 
@@ -11,7 +11,7 @@ use Rattle.vte_core.proofs.parser.machine.Machine.read_character.Goals as goal
 pub returns-then-next-len-clause-advances : goal.returns-then-next-len-clause-advances
 returns-then-next-len-clause-advances g c =
     advances-first c.requires.may_read c.requires.lead c.requires.fits
-    (completes-all (goes-nowhere c.args.self.now (some _ _)) refl (omega arith))
+    (completes-all (goes-nowhere c.args.self.now (unfinished-some _ _)) refl (omega arith))
 
 -- The second byte does not continue it, whatever the first one is: it is broken before that byte.
 pub returns-then-not-is_continuation-clause-advances : goal.returns-then-not-is_continuation-clause-advances
@@ -20,7 +20,7 @@ returns-then-not-is_continuation-clause-advances g c =
     let misfits =
     second_lone c.args.first c.at-second.result (sym c.is_continuation.ensures ∙ c.if-not-is_continuation.true) in
     advances-first r.may_read r.lead r.fits
-    (completes-broken (goes-nowhere c.args.self.now (some _ _))
+    (completes-broken (goes-nowhere c.args.self.now (unfinished-some _ _))
     (λ more. second_broken c.args.first c.at-second.result more misfits)
     r.may_read.begun c.print_char.ensures.value (omega arith) c.at-second.ensures.value)
 
@@ -32,7 +32,8 @@ returns-then-first-lt224-clause-advances g c =
     spells_two c.args.first c.at-second.result r.lead c.if-first-lt224.true
     (sym c.is_continuation.ensures ∙ c.if-not-is_continuation.false) in
     advances-first r.may_read r.lead r.fits
-    (completes-whole (goes-nowhere c.args.self.now (some _ _)) (λ more. (spells.is_whole, c.character_of_two.ensures))
+    (completes-whole (goes-nowhere c.args.self.now (unfinished-some _ _))
+    (λ more. (spells.is_whole, c.character_of_two.ensures))
     r.may_read.begun c.tell_character.ensures.value (omega arith) c.at-second.ensures.value refl)
 
 -- Three bytes.

@@ -1,9 +1,9 @@
 -- The head first. Then nothing is left, or the next byte ends it: final, CAN, SUB or ESC, a control, or one that is
 -- dropped, by its class.
 use Rattle.vte_core.proofs.Common.{[], ◌∷◌, refl, sym, ◌∙◌, rules, class_of, Execute, InControlSequence}
-use Rattle.vte_core.proofs.bytes.ClassCases.{control, final_ends_nothing, left_is_dropped}
-use Rattle.vte_core.proofs.calls.Arms.{taken}
-use Rattle.vte_core.proofs.calls.Heads.{ControlHead, advances-head, advances-past, performs-head}
+use Rattle.vte_core.proofs.bytes.ClassCases.{class-control, final_ends_nothing, left_is_dropped}
+use Rattle.vte_core.proofs.calls.Arms.{takes-byte}
+use Rattle.vte_core.proofs.calls.Heads.{ControlHead, advances-head, advances-past_head, performs-head}
 use Rattle.vte_core.proofs.calls.Stretches.{advances-moved}
 use Rattle.vte_core.proofs.fields.PlaceOfState.{stands-by}
 use Rattle.vte_core.proofs.places.PlaceLeads.{byte-dropped, byte-executed}
@@ -19,7 +19,7 @@ returns-then-is_final g c =
     record {
       advances =
           advances-moved (sym d.next)
-          (advances-past ControlHead c.requires.begun read.reads.head next c.requires.may_go_on
+          (advances-past_head ControlHead c.requires.begun read.reads.head next c.requires.may_go_on
           (performs-head ControlHead c.read_head-head.result.progress refl
           (final_ends_nothing _ (sym c.is_final.ensures ∙ c.if-is_final.true)) d.takes) d.handles.settled);
       moves = search rules;
@@ -40,15 +40,15 @@ returns-in-Some-clause-advances g c =
       -- CAN, SUB or ESC.
       | then-ends_body w ↦
           rw (w.self-is, w.performer-is)
-          (advances-past ControlHead c.requires.begun read.reads.head next c.requires.may_go_on
+          (advances-past_head ControlHead c.requires.begun read.reads.head next c.requires.may_go_on
           w.end_body.ensures.performs w.end_body.ensures.handles.settled)
       -- A control.
       | else-ends_body+then-is_plain_control w ↦
-          let is = control _ (sym w.is_plain_control.ensures ∙ w.if-is_plain_control.true) in
+          let is = class-control _ (sym w.is_plain_control.ensures ∙ w.if-is_plain_control.true) in
           rw (w.self-is, w.performer-is)
-          (advances-past ControlHead c.requires.begun read.reads.head next c.requires.may_go_on
+          (advances-past_head ControlHead c.requires.begun read.reads.head next c.requires.may_go_on
           (performs-head ControlHead progress refl (rw is refl) (λ bytes stands.
-          taken (Execute b ∷ []) (InControlSequence bytes) w.execute_control.ensures.value (stands-by refl stands)
+          takes-byte (Execute b ∷ []) (InControlSequence bytes) w.execute_control.ensures.value (stands-by refl stands)
           (byte-executed _ (InControlSequence bytes) b refl is))) tt)
       -- A byte that is dropped.
       | else-ends_body+else-is_plain_control w ↦
@@ -58,9 +58,9 @@ returns-in-Some-clause-advances g c =
           (sym c.is_final.ensures ∙ c.if-is_final.false) ordinary
           (sym w.is_plain_control.ensures ∙ w.if-is_plain_control.false) in
           rw (w.self-is, w.performer-is)
-          (advances-past ControlHead c.requires.begun read.reads.head next c.requires.may_go_on
+          (advances-past_head ControlHead c.requires.begun read.reads.head next c.requires.may_go_on
           (performs-head ControlHead progress refl ordinary (λ bytes stands.
-          taken [] (InControlSequence bytes) refl (stands-by refl stands)
+          takes-byte [] (InControlSequence bytes) refl (stands-by refl stands)
           (byte-dropped _ (InControlSequence bytes) b _ refl refl dropped))) tt)
     ]
 

@@ -1,8 +1,8 @@
 -- The head first. Then nothing is left, or the next byte hooks, ends the string, or is dropped, by its class.
 use Rattle.vte_core.proofs.Common.{[], refl, sym, ◌∙◌, rules, class_of, InDeviceControl}
 use Rattle.vte_core.proofs.bytes.ClassCases.{final_ends_nothing, left_in_head}
-use Rattle.vte_core.proofs.calls.Arms.{taken}
-use Rattle.vte_core.proofs.calls.Heads.{DeviceHead, advances-head, advances-past, at-none, performs-head}
+use Rattle.vte_core.proofs.calls.Arms.{takes-byte}
+use Rattle.vte_core.proofs.calls.Heads.{DeviceHead, advances-head, advances-past_head, match-none, performs-head}
 use Rattle.vte_core.proofs.fields.PlaceOfState.{stands-by}
 use Rattle.vte_core.proofs.places.PlaceLeads.{device-dropped}
 use Rattle.vte_core.proofs.parser.machine.Machine.read_device_control.Goals.{then-is_final, else-is_final+then-ends_body, else-is_final+else-ends_body}
@@ -20,14 +20,14 @@ returns-in-Some g c =
         -- A final byte hooks.
         | then-is_final w ↦
             rw (w.self-is, w.performer-is)
-            (advances-past DeviceHead c.requires.begun read.reads.head next c.requires.may_go_on
+            (advances-past_head DeviceHead c.requires.begun read.reads.head next c.requires.may_go_on
             (performs-head DeviceHead progress refl
             (final_ends_nothing (class_of b) (sym c.is_final.ensures ∙ w.if-is_final.true)) w.hook.ensures.takes)
             w.hook.ensures.handles.settled)
         -- CAN, SUB or ESC.
         | else-is_final+then-ends_body w ↦
             rw (w.self-is, w.performer-is)
-            (advances-past DeviceHead c.requires.begun read.reads.head next c.requires.may_go_on
+            (advances-past_head DeviceHead c.requires.begun read.reads.head next c.requires.may_go_on
             w.end_body.ensures.performs w.end_body.ensures.handles.settled)
         -- A byte that is dropped.
         | else-is_final+else-ends_body w ↦
@@ -36,9 +36,9 @@ returns-in-Some g c =
             left_in_head (class_of b) (rw c.in-Some.is at read.other)
             (sym c.is_final.ensures ∙ w.if-is_final.false) ordinary in
             rw (w.self-is, w.performer-is)
-            (advances-past DeviceHead c.requires.begun read.reads.head next c.requires.may_go_on
+            (advances-past_head DeviceHead c.requires.begun read.reads.head next c.requires.may_go_on
             (performs-head DeviceHead progress refl ordinary (λ bytes stands.
-            taken [] (InDeviceControl bytes) refl (stands-by refl stands)
+            takes-byte [] (InDeviceControl bytes) refl (stands-by refl stands)
             (device-dropped _ bytes b _ refl dropped))) tt)
       ];
       moves = search rules;
@@ -48,7 +48,7 @@ returns-in-Some g c =
 pub returns : goal.returns
 returns g c =
     let read = c.read_head-head.ensures in
-    let all = at-none _ c.read_head-head.result.next c.in_default.not-Some read.reads.next in
+    let all = match-none _ c.read_head-head.result.next c.in_default.not-Some read.reads.next in
     record {
       advances = advances-head DeviceHead c.requires.begun read.reads.head c.requires.may_go_on refl;
       moves = search rules;

@@ -1,7 +1,7 @@
 -- A call that asks goes on by one data byte; one that does not takes all up to the next byte that is not put.
 use Rattle.vte_core.proofs.Common.{[], ◌∷◌, refl, sym, ◌∙◌, arith, rules, Put, InDeviceData}
 use Rattle.vte_core.proofs.bytes.ClassCases.{data_ends_nothing}
-use Rattle.vte_core.proofs.calls.Arms.{advances-in, in_data, taken}
+use Rattle.vte_core.proofs.calls.Arms.{advances-in, takes-in_data, takes-byte}
 use Rattle.vte_core.proofs.calls.Data.{advances-data, first-put}
 use Rattle.vte_core.proofs.fields.PlaceOfState.{stands-by}
 use Rattle.vte_core.proofs.calls.States.{may_stop-none}
@@ -28,8 +28,8 @@ loop-position-preserved g c =
     record {
       advances = advances-then v.advances
           (advances-part (advances-in v.begun (omega arith) c.at-byte.ensures.value v.may_go_on (data_ends_nothing _ is)
-          (in_data c.loop-position.self
-          (taken (Put c.at-byte.result ∷ []) InDeviceData c.put_byte.ensures.value (stands-by v.begun tt)
+          (takes-in_data c.loop-position.self
+          (takes-byte (Put c.at-byte.result ∷ []) InDeviceData c.put_byte.ensures.value (stands-by v.begun tt)
           (data-put _ c.at-byte.result is))) (settled-by _ _ v.begun tt)));
       may_go_on = (λ does. elim c.else-this-ne0.branch [
         | else-this-ne0-via-then-this-ne0+else-terminated w ↦ sym w.terminated.ensures ∙ w.if-terminated.false
@@ -46,8 +46,8 @@ returns-then-terminated-clause-advances g c =
     let is = sym c.is_device_data.ensures ∙ c.if-not-is_device_data.false in
     advances-then v.advances
     (advances-part (advances-in v.begun (omega arith) c.at-byte.ensures.value v.may_go_on (data_ends_nothing _ is)
-    (in_data c.loop-position.self
-    (taken (Put c.at-byte.result ∷ []) InDeviceData c.put_byte.ensures.value (stands-by v.begun tt)
+    (takes-in_data c.loop-position.self
+    (takes-byte (Put c.at-byte.result ∷ []) InDeviceData c.put_byte.ensures.value (stands-by v.begun tt)
     (data-put _ c.at-byte.result is))) (settled-by _ _ v.begun tt)))
 
 -- A call that does not ask: all data up to the byte that is not put.

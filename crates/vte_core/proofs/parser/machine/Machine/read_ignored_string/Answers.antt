@@ -1,7 +1,7 @@
 -- Bytes of an ignored string lead back to it, one by one (`advances-by`); then it ends, or the bytes do.
 use Rattle.vte_core.proofs.Common.{◌≡◌, ℕ, zero, suc, ◌+◌, ◌-◌, ◌≤◌, [], length, refl, arith, slice_index, Machine, IgnoredString, Advances, MayGoOn, AreIgnored, InIgnoredString, ChunkCall}
 use Rattle.vte_core.proofs.bytes.ClassCases.{ends_not_cancel}
-use Rattle.vte_core.proofs.calls.Arms.{advances-in, in_ignored, taken}
+use Rattle.vte_core.proofs.calls.Arms.{advances-in, takes-in_ignored, takes-byte}
 use Rattle.vte_core.proofs.calls.CallEnds.{settled-by}
 use Rattle.vte_core.proofs.calls.Stretches.{advances-moved, advances-nothing, advances-when, advances-then}
 use Rattle.vte_core.proofs.fields.PlaceOfState.{stands-by}
@@ -18,8 +18,8 @@ advances-by {call} {parser} (suc n) i begun within are may_go_on =
     let ordinary = are i (omega arith) (omega arith) in
     advances-moved (omega arith) (advances-then
     (advances-when tt (advances-in begun (omega (arith, within)) refl may_go_on ordinary
-    (in_ignored parser
-    (taken [] InIgnoredString refl (stands-by begun tt)
+    (takes-in_ignored parser
+    (takes-byte [] InIgnoredString refl (stands-by begun tt)
     (ignored-more _ (slice_index call.bytes i) (ends_not_cancel _ ordinary)))) (settled-by _ _ begun tt)))
     (advances-by n (i + 1) begun (omega (arith, within))
     (λ k low high. are k (omega (arith, low)) (omega (arith, high))) may_go_on))

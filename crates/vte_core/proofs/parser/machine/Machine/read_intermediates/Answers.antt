@@ -1,8 +1,8 @@
 -- The byte after intermediates by its class: another intermediate, a byte that dispatches, one that ends the sequence,
 -- a control, or one that is dropped. In each case the machine is at the place to which the byte leads.
 use Rattle.vte_core.proofs.Common.{[], ◌∷◌, ◌++◌, refl, sym, ◌∙◌, arith, rules, class_of, EscDispatch, Execute, first_two, are_too_many, InText, InEscape}
-use Rattle.vte_core.proofs.bytes.ClassCases.{control, dispatch_ends_nothing, intermediate, left_of_intermediates}
-use Rattle.vte_core.proofs.calls.Arms.{advances-in, in_escape, taken}
+use Rattle.vte_core.proofs.bytes.ClassCases.{class-control, dispatch_ends_nothing, class-intermediate, left_of_intermediates}
+use Rattle.vte_core.proofs.calls.Arms.{advances-in, takes-in_escape, takes-byte}
 use Rattle.vte_core.proofs.calls.CallEnds.{settled-by}
 use Rattle.vte_core.proofs.calls.Stretches.{advances-byte, advances-nothing, advances-when, advances-then}
 use Rattle.vte_core.proofs.fields.PlaceOfState.{stands-by, stands-text_begun}
@@ -30,10 +30,10 @@ loop-position-preserved g c =
       advances = advances-then v.advances (elim c.if-is_intermediate.branch [
         -- An intermediate.
         | then-is_intermediate w ↦
-            let is = intermediate _ (sym c.is_intermediate.ensures ∙ w.if-is_intermediate.true) in
+            let is = class-intermediate _ (sym c.is_intermediate.ensures ∙ w.if-is_intermediate.true) in
             rw w.self-is
             (advances-when tt (advances-in v.begun (omega arith) c.at-byte.ensures.value v.may_go_on (rw is refl)
-            (in_escape parser (λ ints holds. taken [] (InEscape (ints ++ b ∷ [])) refl
+            (takes-in_escape parser (λ ints holds. takes-byte [] (InEscape (ints ++ b ∷ [])) refl
             (stands-by v.begun (w.collect.ensures.holds ints holds)) (intermediate-more _ ints b is)))
             (settled-by _ _ v.begun tt)))
         -- A byte that is dropped.
@@ -45,9 +45,9 @@ loop-position-preserved g c =
             (sym w.is_plain_control.ensures ∙ w.if-is_plain_control.false) in
             rw w.self-is
             (advances-when tt (advances-in v.begun (omega arith) c.at-byte.ensures.value v.may_go_on ordinary
-            (in_escape parser
+            (takes-in_escape parser
             (λ ints holds.
-            taken [] (InEscape ints) refl (stands-by v.begun holds)
+            takes-byte [] (InEscape ints) refl (stands-by v.begun holds)
             (byte-dropped _ (InEscape ints) b _ refl refl dropped))) (settled-by _ _ v.begun tt)))
       ]);
       may_go_on = v.may_go_on;
@@ -68,8 +68,8 @@ returns-then-dispatches_escape-clause-advances g c =
     advances-then v.advances
     (advances-when tt
     (advances-in v.begun (omega arith) c.at-byte.ensures.value v.may_go_on (dispatch_ends_nothing (class_of b) ends)
-    (in_escape c.loop-position.self
-    (λ ints holds. taken (EscDispatch (first_two ints) (are_too_many ints) b ∷ []) (InText [])
+    (takes-in_escape c.loop-position.self
+    (λ ints holds. takes-byte (EscDispatch (first_two ints) (are_too_many ints) b ∷ []) (InText [])
     (rw (holds.kept, holds.too_many_intermediates) at d.tells.value) (stands-text_begun _ d.text)
     (intermediate-end _ ints b _ refl ends))) (settled-by _ _ d.text tt)))
 
@@ -87,9 +87,9 @@ pub returns-then-is_plain_control-clause-advances : goal.returns-then-is_plain_c
 returns-then-is_plain_control-clause-advances g c =
     let v = c.loop-position.invariant in
     let b = c.at-byte.result in
-    let is = control _ (sym c.is_plain_control.ensures ∙ c.if-is_plain_control.true) in
+    let is = class-control _ (sym c.is_plain_control.ensures ∙ c.if-is_plain_control.true) in
     advances-then v.advances
     (advances-when tt (advances-in v.begun (omega arith) c.at-byte.ensures.value v.may_go_on (rw is refl)
-    (in_escape c.loop-position.self
-    (λ ints holds. taken (Execute b ∷ []) (InEscape ints) c.execute_control.ensures.value (stands-by v.begun holds)
+    (takes-in_escape c.loop-position.self
+    (λ ints holds. takes-byte (Execute b ∷ []) (InEscape ints) c.execute_control.ensures.value (stands-by v.begun holds)
     (byte-executed _ (InEscape ints) b refl is))) (settled-by _ _ v.begun tt)))

@@ -1,7 +1,7 @@
 -- ST unhooks and leads to a text; any other byte that is no data and ends nothing is dropped.
 use Rattle.vte_core.proofs.Common.{[], ◌∷◌, refl, sym, ◌∙◌, Unhook, InText, InDeviceData}
 use Rattle.vte_core.proofs.bytes.ClassCases.{ends_no_data, terminator_is_high}
-use Rattle.vte_core.proofs.calls.Arms.{advances-in, in_data, taken}
+use Rattle.vte_core.proofs.calls.Arms.{advances-in, takes-in_data, takes-byte}
 use Rattle.vte_core.proofs.fields.PlaceOfState.{stands-by}
 use Rattle.vte_core.proofs.calls.CallEnds.{settled-by}
 use Rattle.vte_core.proofs.calls.Stretches.{advances-when}
@@ -20,8 +20,8 @@ returns-clause-advances g c =
           let is = w.if-byte-eq-STRING_TERMINATOR.true in
           rw (w.self-is, w.performer-is)
           (advances-when c.requires.other (advances-in r.begun r.within r.looked_at r.may_go_on ordinary
-          (in_data parser
-          (taken (Unhook ∷ []) (InText []) w.unhook.ensures.value (record { by = (refl, refl) })
+          (takes-in_data parser
+          (takes-byte (Unhook ∷ []) (InText []) w.unhook.ensures.value (record { by = (refl, refl) })
           (data-terminator _ c.args.byte (terminator_is_high is) (rw is refl)))) tt))
       -- A byte that is dropped.
       | else-byte-eq-STRING_TERMINATOR w ↦
@@ -30,5 +30,6 @@ returns-clause-advances g c =
           (ends_no_data c.args.byte ordinary w.if-byte-eq-STRING_TERMINATOR.false) c.requires.other in
           rw (w.self-is, w.performer-is)
           (advances-when c.requires.other (advances-in r.begun r.within r.looked_at r.may_go_on ordinary
-          (in_data parser (taken [] InDeviceData refl (stands-by r.begun tt) dropped)) (settled-by _ _ r.begun tt)))
+          (takes-in_data parser (takes-byte [] InDeviceData refl (stands-by r.begun tt) dropped))
+          (settled-by _ _ r.begun tt)))
     ]

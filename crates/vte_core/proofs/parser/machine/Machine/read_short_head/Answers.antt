@@ -1,7 +1,7 @@
 -- Numbers first, then a final byte at once, nothing, or the rest of the head.
 use Rattle.vte_core.proofs.Common.{refl, sym, ◌∙◌, rules}
 use Rattle.vte_core.proofs.bytes.ClassCases.{final_ends_nothing}
-use Rattle.vte_core.proofs.calls.Heads.{ControlHead, advances-head, advances-past, performs-head}
+use Rattle.vte_core.proofs.calls.Heads.{ControlHead, advances-head, advances-past_head, performs-head}
 use Rattle.vte_core.proofs.calls.Stretches.{advances-moved, advances-then}
 use Rattle.vte_core.proofs.parser.machine.Machine.read_short_head.Goals as goal
 
@@ -14,7 +14,7 @@ returns-then-is_final g c =
     record {
       advances =
           advances-moved (sym d.next)
-          (advances-past ControlHead c.requires.begun read.reads.head next c.requires.may_go_on
+          (advances-past_head ControlHead c.requires.begun read.reads.head next c.requires.may_go_on
           (performs-head ControlHead c.read_numbers-head.result.progress refl
           (final_ends_nothing _ (sym c.is_final.ensures ∙ c.if-is_final.true)) d.takes) d.handles.settled);
       moves = search rules;

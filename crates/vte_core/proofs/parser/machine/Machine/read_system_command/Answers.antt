@@ -2,7 +2,7 @@
 -- would have been read.
 use Rattle.vte_core.proofs.Common.{◌≡◌, ◌<◌, length, true, [], ◌∷◌, ◌++◌, refl, sym, subst, ◌∙◌, arith, ne_eqb, Machine, OscDispatch, InText, InSystemCommand, HoldsItems, IsCommandData, pieces_of}
 use Rattle.vte_core.proofs.bytes.ClassCases.{left_is_control}
-use Rattle.vte_core.proofs.calls.Arms.{advances-in, in_system_command, taken}
+use Rattle.vte_core.proofs.calls.Arms.{advances-in, takes-in_system_command, takes-byte}
 use Rattle.vte_core.proofs.fields.PlaceOfState.{keeps-same, stands-by}
 use Rattle.vte_core.proofs.fields.StoreLemmas.{pieces_held}
 use Rattle.vte_core.proofs.calls.CallEnds.{settled-by}
@@ -55,7 +55,7 @@ returns-clause-advances g c =
           let is : byte ≡ 0x3b = w.if-byte-eq59.true in
           rw (w.self-is, w.performer-is)
           (advances-when tt (advances-in begun within here.1 r.may_go_on ordinary
-          (in_system_command after_data (λ items keeps. taken [] (InSystemCommand (items ++ byte ∷ [])) refl
+          (takes-in_system_command after_data (λ items keeps. takes-byte [] (InSystemCommand (items ++ byte ∷ [])) refl
           (stands-by begun
           (subst (λ b. HoldsItems limit w.end_piece.new.self (items ++ b ∷ [])) (sym is)
           (w.end_piece.ensures.holds items keeps)))
@@ -64,8 +64,8 @@ returns-clause-advances g c =
       | else-byte-eq59+then-byte-eq-BELL w ↦
           rw (w.self-is, w.performer-is)
           (advances-when tt (advances-in begun within here.1 r.may_go_on ordinary
-          (in_system_command after_data
-          (λ items keeps. taken (OscDispatch (pieces_of limit items) true ∷ []) (InText [])
+          (takes-in_system_command after_data
+          (λ items keeps. takes-byte (OscDispatch (pieces_of limit items) true ∷ []) (InText [])
           (rw (pieces_held _ _ items keeps) w.dispatch.ensures.value) (record { by = (refl, refl) })
           (command-bell limit items byte (left_is_control byte ordinary no_data w.if-byte-eq59.false)
           (rw w.if-byte-eq-BELL.true refl)))) tt))
@@ -73,7 +73,8 @@ returns-clause-advances g c =
       | else-byte-eq59+else-byte-eq-BELL w ↦
           rw (w.self-is, w.performer-is)
           (advances-when tt (advances-in begun within here.1 r.may_go_on ordinary
-          (in_system_command after_data (λ items keeps. taken [] (InSystemCommand items) refl (stands-by begun keeps)
+          (takes-in_system_command after_data
+          (λ items keeps. takes-byte [] (InSystemCommand items) refl (stands-by begun keeps)
           (command-control limit items byte (left_is_control byte ordinary no_data w.if-byte-eq59.false)
           (ne_eqb _ _ w.if-byte-eq-BELL.false)))) (settled-by _ _ begun tt)))
     ])

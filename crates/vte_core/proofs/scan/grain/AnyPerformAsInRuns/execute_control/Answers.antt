@@ -1,6 +1,6 @@
 -- A control that is kept is a text of one character, whose event is the control.
 use Rattle.vte_core.proofs.Common.{◌≡◌, arith, true, low_scalar, IsScalar, StaysInRun, is_layout, run_event, Execute, ap, sym, refl, ◌∙◌}
-use Rattle.vte_core.proofs.bytes.Printable.{after_character, layout-is_ascii, layout-stays, run_one}
+use Rattle.vte_core.proofs.bytes.Printable.{after-character, layout-is_ascii, layout-stays, run_one}
 use Rattle.vte_core.proofs.scan.grain.AnyPerformAsInRuns.execute_control.Goals as goal
 
 pub print_text-requires-clause-plain : goal.print_text-requires-clause-plain
@@ -19,5 +19,5 @@ returns-then-keeps_layout g c =
     let event : run_event g.P.PerformText.layout c.args.byte ≡ Execute c.args.byte = rw (keeps, layout) refl in
     let step = g.P.Perform.step (g.P.Perform.value_of c.args.self.now) in
     rw (c.encode_utf8.ensures.value, c.from.ensures) at c.print_text.ensures
-    ∙ after_character g.P.PerformText.layout g.P.Perform.step (g.P.Perform.value_of c.args.self.now) c.args.byte scalar
+    ∙ after-character g.P.PerformText.layout g.P.Perform.step (g.P.Perform.value_of c.args.self.now) c.args.byte scalar
     ∙ ap step event
